@@ -62,6 +62,17 @@ fn each_ready_job_of_a_worker_is_run_in_turn(rt: HostRuntime) -> Result<(), Fail
     Ok(())
 }
 
+/// Takes a job of a block and ends it.
+fn end_one(executor: &Executor, seat: &mut ExecSeat, block: usize)
+    requires own { seat.old.table ≡ executor.now.table }
+    requires block { block < 64 * executor.now.shards }
+    ensures { seat.new.table ≡ executor.now.table }
+{
+    if let Some(job) = executor.take(seat, block) {
+        executor.finish(seat, job.place);
+    }
+}
+
 /// Spawns a job at a block, takes it and ends it, so that the block has its bit in the summary word and no job.
 fn pass_by(executor: &Executor, seat: &mut ExecSeat, block: usize)
     requires own { seat.old.table ≡ executor.now.table }
@@ -69,9 +80,7 @@ fn pass_by(executor: &Executor, seat: &mut ExecSeat, block: usize)
     ensures { seat.new.table ≡ executor.now.table }
 {
     executor.spawn(seat, block, 4);
-    if let Some(job) = executor.take(seat, block) {
-        executor.finish(seat, job.place);
-    }
+    end_one(executor, seat, block);
 }
 
 #[test]
@@ -88,17 +97,6 @@ fn blocks_that_others_empty_keep_no_shard_waiting(rt: HostRuntime) -> Result<(),
     }
     assert!(rt; run == 3);
     Ok(())
-}
-
-/// Takes a job of a block and ends it.
-fn end_one(executor: &Executor, seat: &mut ExecSeat, block: usize)
-    requires own { seat.old.table ≡ executor.now.table }
-    requires block { block < 64 * executor.now.shards }
-    ensures { seat.new.table ≡ executor.now.table }
-{
-    if let Some(job) = executor.take(seat, block) {
-        executor.finish(seat, job.place);
-    }
 }
 
 #[test]

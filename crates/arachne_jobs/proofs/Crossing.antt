@@ -6,14 +6,17 @@ use denote.Param.Send.{IsSend, IsSync, sendable, recorded_send, enum_send}
 use Rattle.std.proofs.Crossing as std
 use Rattle.arachne_core.proofs.thread_id.ThreadId.TheSendSync as id
 use Rattle.arachne_join.proofs.Crossing.{sender_send, receiver_send, unused_send}
-use Rattle.arachne_machine.proofs.Crossing.{thread_field_send, detached_send, spares_field_send}
+use Rattle.arachne_machine.proofs.Crossing.{contents_send, thread_field_send, detached_send, spares_field_send}
 use Rattle.arachne_join.proofs.cell.JoinCell.TheSendSync as cell
 use Rattle.arachne_join.proofs.sending_end.SendingEnd.TheSendSync as sending_end
-use Rattle.arachne_jobs.specs.contracts.ends.Link as link
+use Rattle.arachne_jobs.specs.contracts.ends.End as an_end
+use Rattle.arachne_jobs.specs.contracts.ends.WaitEnd as wait_end
 use Rattle.arachne_jobs.specs.contracts.job.Job as job
 use Rattle.arachne_jobs.specs.contracts.left.Left as left
 use Rattle.arachne_jobs.specs.contracts.left.Waiting as waiting
 use Rattle.arachne_jobs.specs.contracts.spares.Spares as spares
+use Rattle.arachne_jobs.specs.contracts.ties.SpareTies as spare_ties
+use Rattle.arachne_jobs.specs.contracts.ties.Ties as ties
 use Rattle.arachne_jobs.specs.contracts.waiting.Ticket as ticket
 use Rattle.arachne_jobs.specs.contracts.waiting.WaitCell as wait_cell
 use Rattle.arachne_jobs.specs.contracts.wanted.Wanted as wanted
@@ -37,11 +40,23 @@ wait_cell_send κ = search (sendable, std.crosses, cell.the_send, cell.the_sync,
 pub ticket_send : (κ : NamedLft) → IsSend (ticket.the_row κ)
 ticket_send κ = search (sendable, std.crosses, cell.the_send, cell.the_sync, left_send, wanted_send, wanted_sync) depth 30
 
-link_send : (κ : NamedLft) → IsSend (link.the_row κ)
-link_send κ = search (sendable, std.crosses, sender_send, receiver_send, detached_send, wait_cell_send, sending_end.the_send, left_send, wanted_send, wanted_sync) depth 40
+wait_cell_field_send : (κ : NamedLft) → IsSend (wait_cell.the_field κ).row
+wait_cell_field_send κ = search (sendable, std.crosses, cell.the_send, cell.the_sync, left_send, wanted_send, wanted_sync) depth 30
+
+wait_end_send : (κ : NamedLft) → IsSend (wait_end.the_row κ)
+wait_end_send κ = search (sendable, std.crosses, wait_cell_field_send, sending_end.the_send, left_send, wanted_send, wanted_sync) depth 40
+
+end_send : IsSend an_end.the_row
+end_send = search (sendable, std.crosses, sender_send, receiver_send, detached_send, wanted_send, wanted_sync) depth 40
+
+ties_send : IsSend ties.the_row
+ties_send = search (sendable, std.crosses, end_send, id.the_field_send) depth 30
 
 pub job_send : (κ : NamedLft) → IsSend (job.the_row κ)
-job_send κ = search (sendable, std.crosses, thread_field_send, link_send, id.the_field_send) depth 30
+job_send κ = search (sendable, std.crosses, thread_field_send, ties_send, contents_send, wait_end_send) depth 30
+
+spare_ties_send : IsSend spare_ties.the_field.row
+spare_ties_send = search (sendable, std.crosses, ties_send) depth 30
 
 pub spares_send : (κ : NamedLft) → IsSend (spares.the_row κ)
-spares_send κ = search (sendable, std.crosses, spares_field_send, unused_send, detached_send) depth 30
+spares_send κ = search (sendable, std.crosses, spares_field_send, spare_ties_send, unused_send, detached_send) depth 30

@@ -8,43 +8,48 @@ ghost use Rattle.arachne_machine.specs.Suspended.{awaited};
 ghost use Rattle.arachne_machine.specs.declared.pause.Pending.TheVariants as pause;
 ghost use Rattle.arachne_jobs.specs.Threads.{IsForking, IsGoing, IsAwaiting, name_of, pause_of, program_of, running_tag_of, tag_of};
 ghost use Rattle.arachne_jobs.specs.Cells.{IsFoundOf, IsFor, IsOf};
-ghost use Rattle.arachne_jobs.specs.Ends.{IsLinked};
+ghost use Rattle.arachne_jobs.specs.Ends.{IsEnd, IsWaitEnd};
 ghost use Rattle.arachne_jobs.specs.Slices.{IsLeft, UsesSteps};
 
-use crate::ends::Link;
+use crate::ends::{End, WaitEnd};
 use crate::fault::JobFault;
 use crate::left::{Found, Waiting};
 use crate::openings::{Asked, Openings};
-use crate::refusal::{Refusal, push};
+use crate::refusal::{Refusal, Unreserved, push, reserve_both};
 use crate::room::Room;
-use crate::slice::{JobOf, RunJob, RunThread, Slice, Unended};
+use crate::slice::{JobOf, RunJob, RunThread, Slice};
 use crate::spares::Spares;
+use crate::ties::Ties;
+use crate::unended::{Unended, look_at, look_in};
 use crate::waiting::{Ticket, WaitCell};
 use crate::wanted::{OutcomeReceiver, Wanted};
 use arachne_contexts::Tagged;
 use arachne_core::{Rest, ThreadId};
 use arachne_lang::{Name, Program};
-use arachne_machine::{Pause, Pending, Thread};
+use arachne_machine::{Contents, Pause, Pending, Thread};
 use std::alloc::{AllocError, Global};
 use std::marker::Model;
 use std::snapshot::Snapshot;
 
-/// A thread of the program, with its links to the cells of outcomes: the first is the one at which it leaves its own,
-/// and the others await those of the children that it has forked and not joined, the newest last. The id is that under
-/// which its parent runs.
+/// A thread of the program, with its ends of the cells of outcomes: the first is the one at which it leaves its own,
+/// and the others await those of the children that it has forked and not joined, the newest last.
 ///
-/// Contracts see the thread and that id.
+/// Contracts see the thread, and the id under which its parent runs.
 #[derive(Drop)]
 pub struct Job<'p> {
     thread: Thread<'p>,
-    links: Vec<Link<'p>>,
-    parent: Option<ThreadId>,
+    /// What ties it to others, where no lifetime is.
+    ties: Box<Ties>,
+    /// Its outcome is written here.
+    contents: Box<Contents>,
+    /// The cells in which threads wait or have waited, one for each of its ends that says so, in their order.
+    waits: Vec<WaitEnd<'p>>,
 }
 
 impl<'p> Model for Job<'p> {
     ghost use Rattle.std.specs.Prelude.{All};
     ghost use Rattle.arachne_jobs.specs.Threads.{Posted, name_of, program_of};
-    ghost use Rattle.arachne_jobs.specs.Ends.{IsLinked};
+    ghost use Rattle.arachne_jobs.specs.Ends.{IsEnd, IsWaitEnd};
 
     ghost Value = { Posted };
 
@@ -53,9 +58,10 @@ impl<'p> Model for Job<'p> {
 
     ghost coded = { Prim.hlevel (codes, expr.the_row.coded) };
 
-    ghost view = { λ j. record { thread = j.thread; parent = j.parent } };
+    ghost view = { λ j. record { thread = j.thread; parent = j.ties.value.parent } };
 
-    ghost invariant = { λ j. All (IsLinked (program_of j.thread) (name_of j.thread)) j.links.items };
+    ghost invariant = { λ j. All (IsEnd (program_of j.thread) (name_of j.thread)) j.ties.value.ends.items
+        × All (IsWaitEnd (program_of j.thread) (name_of j.thread)) j.waits.items };
 }
 
 impl<'p> Tagged for Job<'p> {
@@ -143,7 +149,7 @@ impl<'p> RunJob for Job<'p> {
         let mut child = child;
         child.set_tag(tag);
         let (job, receiver) = Job::of(alloc, child, Some(me), spares)?;
-        self.expect(Link::Awaits(receiver))?;
+        self.expect(End::Awaits(receiver))?;
         self.thread.forked();
         Ok(job)
     }
@@ -162,9 +168,13 @@ impl<'p> RunJob for Job<'p> {
             self.place(child)?;
             return Ok(None);
         }
+        if self.reserve_wait().is_err() {
+            self.place(child)?;
+            return Ok(None);
+        }
         match WaitCell::wait(alloc, child, me) {
             Ok((cell, ticket)) => {
-                self.expect(Link::Waits(cell, None))?;
+                self.expect_waiting(cell)?;
                 self.thread.forked();
                 Ok(Some(ticket))
             }
@@ -175,39 +185,60 @@ impl<'p> RunJob for Job<'p> {
         }
     }
 
-    fn of_ticket(alloc: Global, ticket: Ticket<'p>, _spares: &mut Spares<'p>) -> Option<Job<'p>> {
-        let mut links = Vec::with_capacity(alloc, 2).ok()?;
-        let (waiting, cell, end) = ticket.take(&links)?;
+    fn of_ticket(alloc: Global, ticket: Ticket<'p>, spares: &mut Spares<'p>) -> Option<Job<'p>> {
+        let mut waits = Vec::with_capacity(alloc, 1).ok()?;
+        let mut ties = spares.ties.take(alloc, None).ok()?;
+        let contents = spares.threads.take_contents().ok()?;
+        let Some((waiting, cell, end)) = ticket.take(&waits, &ties, &contents) else {
+            spares.ties.keep(ties);
+            spares.threads.keep_contents(contents);
+            return None;
+        };
         let Waiting { mut thread, parent } = waiting;
         thread.set_spilled();
-        links.push_reserved(Link::Waits(cell, Some(end)));
+        ties.ends.push_reserved(End::Waits);
+        ties.parent = Some(parent);
+        waits.push_reserved(WaitEnd {
+            cell,
+            end: Some(end),
+        });
         Some(Job {
             thread,
-            links,
-            parent: Some(parent),
+            ties,
+            contents,
+            waits,
         })
     }
 
     fn leave(self, spares: &mut Spares<'p>) -> Result<Option<ThreadId>, JobFault> {
         let Job {
             thread,
-            mut links,
-            parent,
+            mut ties,
+            contents,
+            mut waits,
         } = self;
         if thread.pending() != Some(Pending::Ended) {
             return Err(JobFault::Foreign);
         }
-        let Some(link) = links.pop() else {
+        let Some(end) = ties.ends.pop() else {
             return Err(JobFault::Foreign);
         };
-        let outcome = thread.finish_into(&mut spares.threads).detach();
-        match link {
-            Link::Leaves(end) => end.leave(outcome),
-            Link::Waits(cell, end) => match end {
-                Some(end) => cell.leave(end, outcome),
-                None => return Err(JobFault::Foreign),
-            },
-            Link::Awaits(_) => return Err(JobFault::Foreign),
+        let parent = ties.parent;
+        spares.ties.keep(ties);
+        let outcome = thread.finish_into(contents, &mut spares.threads).detach();
+        match end {
+            End::Leaves(end) => end.leave(outcome),
+            End::Waits => {
+                let Some(wait) = waits.pop() else {
+                    return Err(JobFault::Foreign);
+                };
+                let WaitEnd { cell, end } = wait;
+                let Some(end) = end else {
+                    return Err(JobFault::Foreign);
+                };
+                cell.leave(end, outcome);
+            }
+            End::Awaits(_) => return Err(JobFault::Foreign),
         }
         Ok(parent)
     }
@@ -239,13 +270,15 @@ impl<'p> Job<'p> {
             program: Snapshot::of(thread.program()),
             name: Snapshot::of(thread.name()),
         };
-        let mut links = Vec::with_capacity(alloc, 2)?;
+        let mut ties = spares.ties.take(alloc, parent)?;
+        let contents = spares.threads.take_contents()?;
         let (receiver, end) = spares.cells.open(alloc, &wanted)?;
-        links.push_reserved(Link::Leaves(end));
+        ties.ends.push_reserved(End::Leaves(end));
         let job = Job {
             thread,
-            links,
-            parent,
+            ties,
+            contents,
+            waits: Vec::new(alloc),
         };
         Ok((job, receiver))
     }
@@ -297,11 +330,27 @@ impl<'p> Job<'p> {
     }
 
     /// Has this end of a cell too.
-    fn expect(&mut self, link: Link<'p>) -> Result<(), Refusal>
-        requires { IsLinked (program_of self.old.thread) (name_of self.old.thread) link }
+    fn expect(&mut self, end: End) -> Result<(), Refusal>
+        requires { IsEnd (program_of self.old.thread) (name_of self.old.thread) end }
         ensures { self.new ≡ self.old }
     {
-        push(&mut self.links, link)
+        push(&mut self.ties.ends, end)
+    }
+
+    /// Makes room for the cell of a child that waits, so that none is lost for want of memory once it waits.
+    fn reserve_wait(&mut self) -> Result<(), Unreserved>
+        ensures { self.new ≡ self.old }
+    {
+        reserve_both(&mut self.ties.ends, &mut self.waits)
+    }
+
+    /// Awaits the outcome of a child that waits in this cell.
+    fn expect_waiting(&mut self, cell: WaitCell<'p>) -> Result<(), Refusal>
+        requires { IsOf (program_of self.old.thread) cell.key }
+        ensures { self.new ≡ self.old }
+    {
+        self.expect(End::Waits)?;
+        push(&mut self.waits, WaitEnd { cell, end: None })
     }
 
     /// Joins the child that it awaits, if that has ended, and runs it in place, if it waits still. Else it can't go on.
@@ -315,7 +364,8 @@ impl<'p> Job<'p> {
         match self.find(spares)? {
             Found::Outcome(outcome) => {
                 let program = self.thread.program();
-                self.thread.joined(outcome.attach(program))?;
+                self.thread
+                    .joined_into(outcome.attach(program), &mut spares.threads)?;
                 Ok(None)
             }
             Found::Child(child) => {
@@ -331,36 +381,32 @@ impl<'p> Job<'p> {
         ensures same { self.new ≡ self.old }
         ensures found { IfOk result (IsFoundOf (program_of self.old.thread)) }
     {
-        let Some(link) = self.links.pop() else {
+        let Some(end) = self.ties.ends.pop() else {
             return Err(JobFault::Foreign);
         };
-        match look_at(link, spares) {
-            Ok(found) => Ok(found),
-            Err(link) => {
-                self.links.push_reserved(link);
-                Ok(Found::Nothing(Unended { looked: () }))
-            }
+        match end {
+            End::Awaits(receiver) => match look_at(receiver) {
+                Ok((outcome, cell)) => {
+                    spares.cells.give(cell);
+                    Ok(Found::Outcome(outcome))
+                }
+                Err((receiver, unended)) => {
+                    self.ties.ends.push_reserved(End::Awaits(receiver));
+                    Ok(Found::Nothing(unended))
+                }
+            },
+            End::Waits => match self.waits.pop() {
+                Some(WaitEnd { cell, end: None }) => match look_in(cell) {
+                    Ok(found) => Ok(found),
+                    Err((cell, unended)) => {
+                        self.waits.push_reserved(WaitEnd { cell, end: None });
+                        self.ties.ends.push_reserved(End::Waits);
+                        Ok(Found::Nothing(unended))
+                    }
+                },
+                _ => Err(JobFault::Foreign),
+            },
+            End::Leaves(_) => Err(JobFault::Foreign),
         }
-    }
-}
-
-/// What has come to an end of a cell, which is used up then. Where there is nothing the end comes back.
-fn look_at<'p>(link: Link<'p>, spares: &mut Spares<'p>) -> Result<Found<'p>, Link<'p>>
-    ensures found { IfOk result (λ found. (program : Program) → (name : List ℕ) → IsLinked program name link.entry → IsFoundOf program found) }
-    ensures same { IfErr result (λ back. (program : Program) → (name : List ℕ) → IsLinked program name link.entry → IsLinked program name back) }
-{
-    match link {
-        Link::Awaits(receiver) => match receiver.fetch() {
-            Ok((outcome, cell)) => {
-                spares.cells.give(cell);
-                Ok(Found::Outcome(outcome))
-            }
-            Err(receiver) => Err(Link::Awaits(receiver)),
-        },
-        Link::Waits(cell, None) => match cell.find() {
-            Ok(found) => Ok(found),
-            Err(_) => Err(Link::Waits(cell, None)),
-        },
-        link => Err(link),
     }
 }

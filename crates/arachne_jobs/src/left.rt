@@ -1,5 +1,5 @@
 //! What lies in the cell of a child that waits for a place.
-use crate::slice::Unended;
+use crate::unended::Unended;
 use crate::wanted::Wanted;
 use arachne_core::ThreadId;
 use arachne_join::Fits;

@@ -14,6 +14,8 @@ mod room;
 mod slice;
 mod spares;
 mod tags;
+mod ties;
+mod unended;
 mod waiting;
 mod wanted;
 
@@ -22,10 +24,13 @@ pub use fault::JobFault;
 pub use job::Job;
 pub use openings::Openings;
 pub use places::{PlaceLeft, claim_again, finish, give_back};
-pub use queued::{NoRoom, TicketPut, TicketTaken, drop_stale, next_ticket, put_ticket};
+pub use queued::{
+    NoRoom, RoomMade, TicketPut, TicketTaken, has_room, make_room, next_ticket, put_ticket,
+};
 pub use room::Room;
-pub use slice::{JobOf, RunJob, RunSpares, RunThread, RunTicket, Slice, Unended};
+pub use slice::{JobOf, RunJob, RunSpares, RunThread, RunTicket, Slice};
 pub use spares::Spares;
 pub use tags::{BLOCK, Tags};
+pub use unended::Unended;
 pub use waiting::Ticket;
 pub use wanted::{OutcomeReceiver, OutcomeSender, Wanted};

@@ -10,8 +10,8 @@ use arachne_spill::{CAPACITY, SpillPass, SpillQueue};
 use std::snapshot::Snapshot;
 use std::sync::Wait;
 
-/// A child's ticket was put into the queue, and is to be counted. It can't be dropped. [`put_ticket`] alone gives it, and
-/// [`Room::child_waits`](crate::Room::child_waits) takes it.
+/// A child's ticket was put into the queue, and is to be counted. It can't be dropped. [`put_ticket`] alone gives it,
+/// and [`Room::child_waits`](crate::Room::child_waits) takes it.
 pub struct TicketPut {
     uncounted: (),
 }
@@ -28,8 +28,8 @@ pub struct NoRoom {
     seen: (),
 }
 
-/// The child of the ticket with this tag waited no longer, and the ticket is dropped. [`if_live`] alone gives it. It can't
-/// be dropped.
+/// The child of the ticket with this tag waited no longer, and the ticket is dropped. [`if_live`] alone gives it. It
+/// can't be dropped.
 pub(crate) struct Gone {
     tag: Snapshot<u64>,
 }
@@ -150,9 +150,48 @@ fn turn_over<R: Wait, K: RunTicket>(
     }
 }
 
+/// It was seen to that there is room in the queue where that is wanted. [`make_room`] alone gives it, and [`has_room`]
+/// takes it. It can't be dropped.
+pub struct RoomMade {
+    seen: (),
+}
+
+/// Where room is wanted, drops tickets of a full queue whose children are gone.
+#[inline(always)]
+pub fn make_room<R: Wait, K: RunTicket>(
+    rt: &R,
+    tickets: &SpillQueue<K>,
+    room: &Room,
+    pass: &mut SpillPass<K>,
+    is_wanted: bool,
+) -> RoomMade
+    requires { IsPassOf tickets.now pass.old }
+    ensures { IsPassOf tickets.now pass.new }
+{
+    if is_wanted {
+        drop_stale(rt, tickets, room, pass);
+    }
+    RoomMade { seen: () }
+}
+
+/// Whether the queue has room, which is looked at only once it was made.
+#[inline(always)]
+pub fn has_room<R: Wait, K: Tagged + Drop>(
+    rt: &R,
+    tickets: &SpillQueue<K>,
+    pass: &mut SpillPass<K>,
+    made: RoomMade,
+) -> bool
+    requires { IsPassOf tickets.now pass.old }
+    ensures { IsPassOf tickets.now pass.new }
+{
+    let RoomMade { seen: _ } = made;
+    !tickets.is_full(rt, pass)
+}
+
 /// Where the queue is full, drops tickets whose children are gone, the oldest first, until there is room for one. A
 /// ticket whose child waits still goes to the end of the queue.
-pub fn drop_stale<R: Wait, K: RunTicket>(
+fn drop_stale<R: Wait, K: RunTicket>(
     rt: &R,
     tickets: &SpillQueue<K>,
     room: &Room,

@@ -11,6 +11,7 @@ ghost use Rattle.arachne_jobs.specs.Slices.{IsLeft, IsRequest, MayRest, UsesStep
 use crate::fault::JobFault;
 use crate::openings::Openings;
 use crate::room::Room;
+use crate::unended::Unended;
 use crate::wanted::OutcomeReceiver;
 use arachne_contexts::Tagged;
 use arachne_core::{Rest, ThreadId};
@@ -36,12 +37,6 @@ pub enum Slice<Child> {
     Tallies(u64, u64),
     /// It has ended.
     Ends,
-}
-
-/// The cell of the child that a job awaits was looked at, and nothing was there. No job blocks without. It has no bytes.
-#[derive(Drop)]
-pub struct Unended {
-    pub(crate) looked: (),
 }
 
 /// A thread that runs, as its workers see it: its name, whose turn it is, how it rests, and the answer to what it asks

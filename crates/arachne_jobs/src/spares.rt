@@ -1,15 +1,17 @@
 //! What a worker keeps of ended threads for those that begin.
 use crate::slice::RunSpares;
+use crate::ties::SpareTies;
 use crate::wanted::Wanted;
 use arachne_join::SpareCells;
 use arachne_machine::{DetachedOutcome, Spares as SpareThreads};
 use std::alloc::Global;
 
-/// The memory of threads that have ended, and the join cells that nobody uses. Each worker has its own, so that most
-/// forks take memory for a name and a list of links alone.
+/// The memory of threads that have ended, what tied their jobs to others, and the join cells that nobody uses. Each
+/// worker has its own, so that most forks take memory for a long name alone.
 #[derive(Drop)]
 pub struct Spares<'p> {
     pub(crate) threads: SpareThreads<'p>,
+    pub(crate) ties: SpareTies,
     pub(crate) cells: SpareCells<DetachedOutcome, Wanted>,
 }
 
@@ -17,6 +19,7 @@ impl<'p> RunSpares for Spares<'p> {
     fn none(alloc: Global) -> Spares<'p> {
         Spares {
             threads: SpareThreads::new(alloc),
+            ties: SpareTies::new(alloc),
             cells: SpareCells::new(alloc),
         }
     }

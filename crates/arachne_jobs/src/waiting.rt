@@ -6,14 +6,15 @@ ghost use Rattle.arachne_join.specs.declared.view.Role.TheVariants.{Saw};
 ghost use Rattle.arachne_jobs.specs.Cells.{HasNotBegun, IsFor, IsFoundFor, IsWanted};
 ghost use Rattle.arachne_jobs.specs.Threads.{tag_of};
 
-use crate::ends::Link;
+use crate::ends::WaitEnd;
 use crate::left::{Found, Left, Waiting};
 use crate::slice::RunTicket;
+use crate::ties::Ties;
 use crate::wanted::Wanted;
 use arachne_contexts::Tagged;
 use arachne_core::ThreadId;
 use arachne_join::{CellState, JoinCell, Missed, SendingEnd};
-use arachne_machine::{DetachedOutcome, Thread};
+use arachne_machine::{Contents, DetachedOutcome, Thread};
 use std::alloc::{AllocError, Global};
 use std::marker::Model;
 use std::snapshot::Snapshot;
@@ -87,8 +88,8 @@ impl<'p> WaitCell<'p> {
         Ok((WaitCell { cell }, Ticket { cell: ticket, tag }))
     }
 
-    /// What the parent that awaits the child finds. Where there is nothing, the cell was seen in a state in which no child
-    /// waited.
+    /// What the parent that awaits the child finds. Where there is nothing, the cell was seen in a state in which no
+    /// child waited.
     pub(crate) fn find(&self) -> Result<Found<'p>, Missed<Wanted>>
         ensures found { IfOk result (IsFoundFor self.now.key) }
         ensures missed { IfErr result (λ missed. (missed.state ≢ CellState.Waiting) × (missed.receipt ≡ shown self.now.table (Saw missed.state))) }
@@ -132,16 +133,22 @@ impl<'p> RunTicket for Ticket<'p> {
 
 impl<'p> Ticket<'p> {
     /// The child, if it waits still, with its cell and the end with which it leaves its outcome there. It is taken only
-    /// where there is room in the list of its job's ends, so that no want of memory comes between.
+    /// where all that its job takes memory for is there: room in the list of its cells, ties with room for an end, and
+    /// the box of its outcome.
     pub(crate) fn take(
         self,
-        links: &Vec<Link<'p>>,
+        waits: &Vec<WaitEnd<'p>>,
+        ties: &Box<Ties>,
+        contents: &Box<Contents>,
     ) -> Option<(Waiting<'p>, WaitCell<'p>, SendingEnd<Left<'p>, Wanted>)>
-        requires { vec_len links.now + 1 ≤ vec_capacity links.now }
+        requires waits { vec_len waits.now + 1 ≤ vec_capacity waits.now }
+        requires ties { vec_len ties.now.value.ends + 1 ≤ vec_capacity ties.now.value.ends }
         ensures child { IfSome result (λ taken. IsFor taken.0.thread taken.1.key × HasNotBegun taken.0.thread) }
         ensures end { IfSome result (λ taken. taken.2 ≡ taken.1.table) }
     {
-        let _ = links;
+        let _ = waits;
+        let _ = ties;
+        let _ = contents;
         let Ticket { cell, tag: _ } = self;
         match cell.take_back() {
             Ok((left, end)) => match left {

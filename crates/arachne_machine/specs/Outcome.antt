@@ -8,6 +8,7 @@ use Rattle.arachne_lang.specs.Program.{source_of}
 use Rattle.arachne_lang.specs.Effects.{Task, task_value, task_effects, line_of, tabulated}
 use Rattle.arachne_lang.specs.Meaning.{task_of}
 use Rattle.arachne_machine.specs.declared.line.ThreadLine.{ThreadLine}
+use Rattle.arachne_machine.specs.declared.contents.Contents.{Contents}
 
 -- What a task means as the task of the thread of this name: its value, its sum for each ledger, and the thread's line
 -- before the lines of the threads below it.
@@ -43,3 +44,8 @@ meaning_in outcome = record { value = outcome.value; totals = outcome.sums; thre
 -- it is what the thread of its name brings
 abbrev pub IsOfItsName : Finished → Type 0
 IsOfItsName outcome = outcome_of (source_of outcome.program) outcome.name ≡ Some (meaning_in outcome)
+
+-- what callers see of an outcome of this program with these contents
+abbrev pub finished : Program → Contents → Finished
+finished program contents =
+    record { program = program; name = contents.own.name; value = contents.value; sums = contents.sums.items; lines = contents.own ∷ contents.below }

@@ -80,7 +80,8 @@ fn take_turn<'p>(
             Ok(())
         }
         Turn::Ends => {
-            outcomes.push(thread.finish_into(spares))?;
+            let contents = spares.take_contents()?;
+            outcomes.push(thread.finish_into(contents, spares))?;
             Ok(())
         }
     }
@@ -109,7 +110,7 @@ fn go_on<'p>(
         }
         Pause::Joins => {
             let outcome = outcomes.pop().unwrap();
-            match thread.joined(outcome) {
+            match thread.joined_into(outcome, spares) {
                 Ok(()) => Ok(Turn::Goes),
                 Err(NotJoined::Memory(_)) => return Err(AllocError),
                 Err(NotJoined::Foreign(_)) => unreachable!(),

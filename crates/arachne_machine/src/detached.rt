@@ -3,8 +3,7 @@ ghost use Rattle.std.specs.Prelude.{◌≡◌, ◌∷◌, IfOk, IfErr};
 ghost use Rattle.arachne_lang.specs.Program.{source_of};
 ghost use Rattle.arachne_machine.specs.Outcome.{IsOfItsName};
 
-use crate::line::ThreadLine;
-use crate::lines::Lines;
+use crate::contents::Contents;
 use crate::outcome::{Outcome, OutcomeParts};
 use arachne_lang::{Program, Sequence};
 use std::marker::Model;
@@ -16,15 +15,11 @@ use std::snapshot::Snapshot;
 pub struct DetachedOutcome {
     /// It has no bytes.
     pub(crate) program: Snapshot<Program>,
-    pub(crate) value: u64,
-    pub(crate) sums: Vec<u64>,
-    pub(crate) own: ThreadLine,
-    pub(crate) below: Lines,
+    pub(crate) contents: Box<Contents>,
 }
 
 impl Model for DetachedOutcome {
-    ghost use Rattle.std.specs.Prelude.{◌∷◌};
-    ghost use Rattle.arachne_machine.specs.Outcome.{Finished, IsOfItsName};
+    ghost use Rattle.arachne_machine.specs.Outcome.{Finished, IsOfItsName, finished};
 
     ghost Value = { Finished };
 
@@ -33,9 +28,9 @@ impl Model for DetachedOutcome {
 
     ghost coded = { Prim.hlevel (codes, expr.the_row.coded) };
 
-    ghost view = { λ o. record { program = o.program.value; name = o.own.name; value = o.value; sums = o.sums.items; lines = o.own ∷ o.below } };
+    ghost view = { λ o. finished o.program.value o.contents.value };
 
-    ghost invariant = { λ o. IsOfItsName (record { program = o.program.value; name = o.own.name; value = o.value; sums = o.sums.items; lines = o.own ∷ o.below }) };
+    ghost invariant = { λ o. IsOfItsName (finished o.program.value o.contents.value) };
 }
 
 impl DetachedOutcome {
@@ -44,19 +39,9 @@ impl DetachedOutcome {
         requires { source_of program.now ≡ source_of self.program }
         ensures { result ≡ record self { program = program.now } }
     {
-        let DetachedOutcome {
-            program: _,
-            value,
-            sums,
-            own,
-            below,
-        } = self;
         Outcome {
             program,
-            value,
-            sums,
-            own,
-            below,
+            contents: self.contents,
         }
     }
 
@@ -69,26 +54,11 @@ impl DetachedOutcome {
         ensures handed_back { IfErr result (λ outcome. outcome ≡ self) }
         ensures of_its_name { IsOfItsName self }
     {
-        let DetachedOutcome {
-            program,
-            value,
-            sums,
-            own,
-            below,
-        } = self;
-        match below.complete(own) {
-            Ok(lines) => Ok(OutcomeParts {
-                value,
-                sums: Sequence::from(sums),
-                lines: Sequence::from(lines),
-            }),
-            Err((below, own)) => Err(DetachedOutcome {
-                program,
-                value,
-                sums,
-                own,
-                below,
-            }),
+        let DetachedOutcome { program, contents } = self;
+        let mut contents = contents;
+        match contents.take_parts() {
+            Ok(parts) => Ok(parts),
+            Err(_) => Err(DetachedOutcome { program, contents }),
         }
     }
 }

@@ -1,16 +1,17 @@
 //! How children begin in their parent's place, and how they are joined.
+use crate::contents::Contents;
 use crate::frame::{Control, Frame};
 use crate::level::{Level, Parent, move_parents};
 use crate::line::{Ran, ThreadLine};
-use crate::lines::Lines;
 use crate::outcome::Outcome;
 use crate::pause::NotJoined;
 use crate::placing::Placing;
+use crate::spares::Spares;
 use crate::state::{Progress, State};
 use crate::tables::{add_each, zeros};
 use arachne_lang::{Name, Sequence};
 use std::alloc::AllocError;
-use std::mem::{replace, swap};
+use std::mem::swap;
 
 /// How children begin in their parent's place, and how they are joined.
 impl<'p> State<'p> {
@@ -21,6 +22,7 @@ impl<'p> State<'p> {
     ghost use Rattle.arachne_machine.specs.Suspended.{awaited};
     ghost use Rattle.arachne_machine.specs.declared.pause.Pending.TheVariants as pause;
     ghost use Rattle.arachne_machine.specs.Runs.{BeginsHere, Descends, FitsInto, HasParent, JoinsOutcome, KeepsRest, LooksSame, ResumesAs, ResumesParent, StandsBefore, TakesIn, TakesLevels};
+    ghost use Rattle.arachne_lang.specs.Effects.{tabulated};
     ghost use Rattle.arachne_machine.specs.Strands.{Fits};
     ghost use Rattle.arachne_machine.specs.Advance.{IsForeign, handed_back};
 
@@ -97,13 +99,14 @@ impl<'p> State<'p> {
         self.parents.try_reserve(child.parents.len() + 1)?;
         self.frames.try_reserve(child.frames.len())?;
         let place = self.lines.len();
-        let ran = child.own.label.ran;
-        child.own.label.ran = Ran::InPlace;
-        let below = replace(&mut child.lines, Lines::new(self.alloc));
-        if let Err((own, below)) = self.lines.append(child.take_line(), below) {
-            child.lines = below;
-            child.put_back_line(own);
-            child.own.label.ran = ran;
+        let mut own = child.own.take_line(self.alloc);
+        own.ran = Ran::InPlace;
+        if self
+            .lines
+            .append(self.alloc, &mut own, &mut child.lines)
+            .is_err()
+        {
+            child.own.put_back(own);
             return Err(AllocError);
         }
         add_each(&mut self.sums, &child.sums);
@@ -183,7 +186,11 @@ impl<'p> State<'p> {
 
     /// Joins this outcome, where it is that of the child that is awaited. Where it answers an error nothing has changed
     /// but room, and the outcome comes back.
-    pub fn join(&mut self, outcome: Outcome<'p>) -> Result<(), NotJoined<'p>>
+    pub fn join(
+        &mut self,
+        outcome: Outcome<'p>,
+        spares: &mut Spares<'p>,
+    ) -> Result<(), NotJoined<'p>>
         requires joins { pending_of self.old.control ≡ Some pause.Joins }
         requires line { HasLine self.old }
         requires sums { length outcome.sums ≡ length self.old.sums.items }
@@ -192,30 +199,38 @@ impl<'p> State<'p> {
         ensures err { OnErr result (IsSame self.old self.new) }
         ensures handed_back { IfErr result (λ e. handed_back e ≡ outcome.entry) }
     {
-        if !self.awaits(&outcome.own.name) {
+        if !self.awaits(&outcome.contents.own.name) {
             return Err(NotJoined::Foreign(outcome));
         }
         if self.reserve_turn().is_err() {
             return Err(NotJoined::Memory(outcome));
         }
-        let Outcome {
-            program,
-            value,
-            sums,
-            own,
-            below,
-        } = outcome;
-        if let Err((own, below)) = self.lines.append(own, below) {
-            return Err(NotJoined::Memory(Outcome {
-                program,
-                value,
-                sums,
-                own,
-                below,
-            }));
+        let Outcome { program, contents } = outcome;
+        let mut contents = contents;
+        if self.take_contents(&mut contents).is_err() {
+            return Err(NotJoined::Memory(Outcome { program, contents }));
         }
-        add_each(&mut self.sums, &sums);
-        self.resume_joined(value);
+        self.resume_joined(contents.value);
+        spares.keep_contents(contents);
+        Ok(())
+    }
+
+    /// The lines come behind these, and the sums are added. Where memory is refused nothing has changed but room.
+    #[inline(always)]
+    fn take_contents(&mut self, contents: &mut Contents) -> Result<(), AllocError>
+        requires sums { length contents.old.sums.items ≡ length self.old.sums.items }
+        ensures lines { OnOk result (self.new.lines ≡ self.old.lines ++ contents.old.own ∷ contents.old.below) }
+        ensures few { OnOk result (length self.new.lines < 2 ^ 63) }
+        ensures sums { OnOk result ((n : ℕ) (own others : ℕ → ℕ) → self.old.sums.items ≡ tabulated n own → contents.old.sums.items ≡ tabulated n others
+            → self.new.sums.items ≡ tabulated n (λ ledger. own ledger + others ledger)) }
+        ensures value { contents.new.value ≡ contents.old.value }
+        ensures others { self.new ≡ record self.old { lines = self.new.lines; sums = self.new.sums } }
+        ensures err { OnErr result ((self.new.lines ≡ self.old.lines) × (self.new.sums ≡ self.old.sums)) }
+        ensures left { OnErr result (contents.new ≡ contents.old) }
+    {
+        self.lines
+            .append(self.alloc, &mut contents.own, &mut contents.below)?;
+        add_each(&mut self.sums, &contents.sums);
         Ok(())
     }
 

@@ -4,6 +4,7 @@
 mod alone;
 mod answer;
 mod begin;
+mod contents;
 mod detached;
 mod fork;
 mod frame;
@@ -25,6 +26,7 @@ mod turns;
 mod worth;
 
 pub use alone::run_alone;
+pub use contents::Contents;
 pub use detached::DetachedOutcome;
 pub use line::{Ran, ThreadLine};
 pub use outcome::{Outcome, OutcomeParts};

@@ -1,4 +1,5 @@
 //! What is known of a thread that has ended.
+ghost use Rattle.std.specs.Prelude.{◌≡◌};
 ghost use Rattle.arachne_machine.specs.Lines.{HoldsOnceMore};
 
 use crate::tables::add_at;
@@ -39,6 +40,25 @@ pub struct ThreadLine {
 }
 
 impl ThreadLine {
+    /// That of no thread. It allocates nothing.
+    #[inline(always)]
+    pub(crate) fn vacant(alloc: Global) -> ThreadLine {
+        ThreadLine {
+            name: Name::root(alloc),
+            tag: 0,
+            holds: Sequence::from(Vec::new(alloc)),
+            ran: Ran::Slot,
+        }
+    }
+
+    /// Taken out, and that of no thread is left.
+    #[inline(always)]
+    pub(crate) fn take(&mut self, alloc: Global) -> ThreadLine
+        ensures { result ≡ self.old }
+    {
+        replace(self, ThreadLine::vacant(alloc))
+    }
+
     /// Counts that it held this lock once more.
     pub(crate) fn count_hold(&mut self, alloc: Global, lock: u64)
         ensures { HoldsOnceMore self.old self.new lock }

@@ -6,7 +6,7 @@ ghost use Rattle.arachne_machine.specs.Lines.{CountsHoldAt, lines_in};
 use crate::line::ThreadLine;
 use std::alloc::{AllocError, Global};
 use std::marker::Model;
-use std::mem::{replace, swap};
+use std::mem::replace;
 
 /// How many lines at most are moved behind others. More stay in a list of their own.
 const MOST_MOVED: usize = 1000;
@@ -96,102 +96,78 @@ impl Lines {
         }
     }
 
-    /// This line, and behind it those below it. Where memory is refused nothing has changed but room, and they come
-    /// back.
-    pub fn append(&mut self, own: ThreadLine, below: Lines) -> Result<(), (ThreadLine, Lines)>
-        ensures lines { OnOk result (self.new ≡ self.old ++ own ∷ below) }
+    /// This line, and behind it those below it, which are moved here. Where memory is refused nothing has changed but
+    /// room.
+    pub fn append(
+        &mut self,
+        alloc: Global,
+        own: &mut ThreadLine,
+        below: &mut Lines,
+    ) -> Result<(), AllocError>
+        ensures lines { OnOk result (self.new ≡ self.old ++ own.old ∷ below.old) }
         ensures few { OnOk result (length self.new < 2 ^ 63) }
         ensures err { OnErr result (self.new ≡ self.old) }
-        ensures handed_back { IfErr result (λ back. (back.0 ≡ own) × (back.1 ≡ below)) }
+        ensures own { OnErr result (own.new ≡ own.old) }
+        ensures below { OnErr result (below.new ≡ below.old) }
     {
-        let _ = &self.last;
-        let mut below = below;
+        if below.len() >= MOST - self.len() {
+            return Err(AllocError);
+        }
         if !below.earlier.is_empty() || below.last.len() > MOST_MOVED {
-            return self.append_many(own, below);
+            return self.append_many(alloc, own, below);
         }
-        if below.last.len() >= MOST - self.len() {
-            return Err((own, below));
-        }
-        match append_list(&mut self.last, own, &mut below.last) {
-            Ok(()) => Ok(()),
-            Err(own) => Err((own, below)),
-        }
-    }
-
-    /// The same, with no line moved but the first.
-    fn append_many(&mut self, own: ThreadLine, below: Lines) -> Result<(), (ThreadLine, Lines)>
-        ensures lines { OnOk result (self.new ≡ self.old ++ own ∷ below) }
-        ensures few { OnOk result (length self.new < 2 ^ 63) }
-        ensures err { OnErr result (self.new ≡ self.old) }
-        ensures handed_back { IfErr result (λ back. (back.0 ≡ own) × (back.1 ≡ below)) }
-    {
-        if below.len() >= MOST - self.len()
-            || self.last.try_reserve(1).is_err()
-            || self.earlier.try_reserve(below.earlier.len() + 1).is_err()
-        {
-            return Err((own, below));
-        }
-        let Lines {
-            mut earlier,
-            count,
-            last,
-        } = below;
-        self.last.push_reserved(own);
-        self.count = self.count + self.last.len() + count;
-        let list = replace(&mut self.last, last);
-        self.earlier.push_reserved(list);
-        let _ = self.earlier.append(&mut earlier);
+        self.last.try_reserve(below.last.len() + 1)?;
+        self.last.push_reserved(own.take(alloc));
+        let mut last = replace(&mut below.last, Vec::new(alloc));
+        let _ = self.last.append(&mut last);
         Ok(())
     }
 
-    /// This line, and behind it the others, as one list. Where memory is refused they come back.
-    pub fn complete(self, own: ThreadLine) -> Result<Vec<ThreadLine>, (Lines, ThreadLine)>
-        ensures lines { IfOk result (λ list. list.items ≡ own ∷ self) }
-        ensures handed_back { IfErr result (λ back. (back.0 ≡ self) × (back.1 ≡ own)) }
+    /// The same, with no line moved but the first.
+    #[cold]
+    #[inline(never)]
+    fn append_many(
+        &mut self,
+        alloc: Global,
+        own: &mut ThreadLine,
+        below: &mut Lines,
+    ) -> Result<(), AllocError>
+        requires { length below.old + length self.old + 1 < 2 ^ 63 }
+        ensures lines { OnOk result (self.new ≡ self.old ++ own.old ∷ below.old) }
+        ensures few { OnOk result (length self.new < 2 ^ 63) }
+        ensures err { OnErr result (self.new ≡ self.old) }
+        ensures own { OnErr result (own.new ≡ own.old) }
+        ensures below { OnErr result (below.new ≡ below.old) }
     {
-        let alloc = *self.last.allocator();
-        let Ok(mut all) = Vec::with_capacity(alloc, self.len() + 1) else {
-            return Err((self, own));
-        };
-        let Lines {
-            earlier,
-            count: _,
-            mut last,
-        } = self;
-        all.push_reserved(own);
-        move_lines(earlier, &mut all);
-        let _ = all.append(&mut last);
+        self.last.try_reserve(1)?;
+        self.earlier.try_reserve(below.earlier.len() + 1)?;
+        self.last.push_reserved(own.take(alloc));
+        self.count = self.count + self.last.len() + below.count;
+        below.count = 0;
+        let last = replace(&mut below.last, Vec::new(alloc));
+        let list = replace(&mut self.last, last);
+        self.earlier.push_reserved(list);
+        let _ = self.earlier.append(&mut below.earlier);
+        Ok(())
+    }
+
+    /// This line, and behind it the others, as one list. Where memory is refused nothing has changed.
+    pub fn complete(
+        &mut self,
+        alloc: Global,
+        own: &mut ThreadLine,
+    ) -> Result<Vec<ThreadLine>, AllocError>
+        ensures lines { IfOk result (λ list. list.items ≡ own.old ∷ self.old) }
+        ensures err { OnErr result (self.new ≡ self.old) }
+        ensures own { OnErr result (own.new ≡ own.old) }
+    {
+        let mut all = Vec::with_capacity(alloc, self.len() + 1)?;
+        all.push_reserved(own.take(alloc));
+        self.count = 0;
+        move_lines(replace(&mut self.earlier, Vec::new(alloc)), &mut all);
+        let _ = all.append(&mut self.last);
         Ok(all)
     }
-}
-
-/// This line, and behind it the others, come behind a list. Where memory is refused nothing has changed but room.
-#[inline(always)]
-fn append_list(
-    list: &mut Vec<ThreadLine>,
-    own: ThreadLine,
-    others: &mut Vec<ThreadLine>,
-) -> Result<(), ThreadLine>
-    requires { vec_len list.old + vec_len others.old + 1 < 2 ^ 63 }
-    ensures ok { OnOk result (list.new.items ≡ list.old.items ++ own ∷ others.old.items) }
-    ensures err { OnErr result ((list.new.items ≡ list.old.items) × (others.new.items ≡ others.old.items)) }
-    ensures handed_back { IfErr result (λ back. back ≡ own) }
-{
-    if list.is_empty() && !others.is_empty() {
-        return match others.insert(0, own) {
-            Ok(()) => {
-                swap(list, others);
-                Ok(())
-            }
-            Err(refused) => Err(refused.value),
-        };
-    }
-    if list.try_reserve(others.len() + 1).is_err() {
-        return Err(own);
-    }
-    list.push_reserved(own);
-    let _ = list.append(others);
-    Ok(())
 }
 
 /// The line at this place in these lists.

@@ -2,9 +2,9 @@
 ghost use Rattle.std.specs.Prelude.{◌≡◌, ◌∷◌, IfOk, IfErr};
 ghost use Rattle.arachne_machine.specs.Outcome.{IsOfItsName};
 
+use crate::contents::Contents;
 use crate::detached::DetachedOutcome;
 use crate::line::ThreadLine;
-use crate::lines::Lines;
 use arachne_lang::{Name, Program, Sequence};
 use std::marker::Model;
 use std::snapshot::Snapshot;
@@ -14,15 +14,11 @@ use std::snapshot::Snapshot;
 #[derive(Debug, Drop)]
 pub struct Outcome<'p> {
     pub(crate) program: &'p Program,
-    pub(crate) value: u64,
-    pub(crate) sums: Vec<u64>,
-    pub(crate) own: ThreadLine,
-    pub(crate) below: Lines,
+    pub(crate) contents: Box<Contents>,
 }
 
 impl<'p> Model for Outcome<'p> {
-    ghost use Rattle.std.specs.Prelude.{◌∷◌};
-    ghost use Rattle.arachne_machine.specs.Outcome.{Finished, IsOfItsName};
+    ghost use Rattle.arachne_machine.specs.Outcome.{Finished, IsOfItsName, finished};
 
     ghost Value = { Finished };
 
@@ -31,9 +27,9 @@ impl<'p> Model for Outcome<'p> {
 
     ghost coded = { Prim.hlevel (codes, expr.the_row.coded) };
 
-    ghost view = { λ o. record { program = o.program.now; name = o.own.name; value = o.value; sums = o.sums.items; lines = o.own ∷ o.below } };
+    ghost view = { λ o. finished o.program.now o.contents.value };
 
-    ghost invariant = { λ o. IsOfItsName (record { program = o.program.now; name = o.own.name; value = o.value; sums = o.sums.items; lines = o.own ∷ o.below }) };
+    ghost invariant = { λ o. IsOfItsName (finished o.program.now o.contents.value) };
 }
 
 /// An outcome taken apart.
@@ -58,7 +54,7 @@ impl<'p> Outcome<'p> {
     pub fn name(&self) -> &Name
         ensures { result.now ≡ self.now.name }
     {
-        &self.own.name
+        &self.contents.own.name
     }
 
     /// The value.
@@ -66,7 +62,7 @@ impl<'p> Outcome<'p> {
         ensures value { result ≡ self.now.value }
         ensures of_its_name { IsOfItsName self.now }
     {
-        self.value
+        self.contents.value
     }
 
     /// The value, the sums and the lines. It takes memory for the list of lines; where that is refused the outcome
@@ -89,19 +85,9 @@ impl<'p> Outcome<'p> {
     pub fn detach(self) -> DetachedOutcome
         ensures { result ≡ self.entry }
     {
-        let Outcome {
-            program,
-            value,
-            sums,
-            own,
-            below,
-        } = self;
         DetachedOutcome {
-            program: Snapshot::of(program),
-            value,
-            sums,
-            own,
-            below,
+            program: Snapshot::of(self.program),
+            contents: self.contents,
         }
     }
 }

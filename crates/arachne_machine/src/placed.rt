@@ -112,7 +112,8 @@ impl<'p> State<'p> {
     }
 
     /// A child comes back: it waits to run here, and begins before those that were handed back to it; or, where it is
-    /// awaited, it goes on here, and those are the newest of these. Where it answers an error nothing has changed but room.
+    /// awaited, it goes on here, and those are the newest of these. Where it answers an error nothing has changed but
+    /// room.
     pub fn place(
         &mut self,
         placed: &mut Vec<Box<State<'p>>>,

@@ -1,4 +1,5 @@
 //! Memory that ended threads leave for new ones.
+use crate::contents::Contents;
 use crate::state::State;
 use arachne_lang::Program;
 use std::alloc::{AllocError, Global};
@@ -8,11 +9,12 @@ use std::marker::Model;
 const MOST: usize = 64;
 
 /// The memory that ended threads leave for those that begin: their states, with the room of their environments and
-/// frames. It is for the threads of one core.
+/// frames, and the boxes of outcomes that were joined. It is for the threads of one core.
 #[derive(Drop)]
 pub struct Spares<'p> {
     most: usize,
     states: Vec<Box<State<'p>>>,
+    contents: Vec<Box<Contents>>,
 }
 
 impl<'p> Model for Spares<'p> {
@@ -27,6 +29,7 @@ impl<'p> Spares<'p> {
         Spares {
             most: MOST,
             states: Vec::new(alloc),
+            contents: Vec::new(alloc),
         }
     }
 
@@ -35,6 +38,7 @@ impl<'p> Spares<'p> {
         Spares {
             most: 0,
             states: Vec::new(alloc),
+            contents: Vec::new(alloc),
         }
     }
 
@@ -47,6 +51,23 @@ impl<'p> Spares<'p> {
         match self.states.pop() {
             Some(state) => Ok(state),
             None => Ok(Box::new(alloc, State::vacant(alloc, program))?),
+        }
+    }
+
+    /// The box of an outcome that was joined, or a new one where there is none.
+    #[inline(always)]
+    pub fn take_contents(&mut self) -> Result<Box<Contents>, AllocError> {
+        match self.contents.pop() {
+            Some(contents) => Ok(contents),
+            None => Contents::new(*self.contents.allocator()),
+        }
+    }
+
+    /// Keeps what an outcome that was joined leaves, or a box that was taken for nothing, unless there is enough.
+    #[inline(always)]
+    pub fn keep_contents(&mut self, contents: Box<Contents>) {
+        if self.contents.len() < self.most {
+            let _ = self.contents.push(contents);
         }
     }
 

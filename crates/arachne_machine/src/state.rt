@@ -1,4 +1,5 @@
 //! What a thread is between two steps.
+use crate::contents::Contents;
 use crate::frame::{Control, Frame};
 use crate::level::{Level, Parent};
 use crate::line::{Label, Ran, ThreadLine};
@@ -22,6 +23,9 @@ pub struct Own {
 }
 
 impl Own {
+    ghost use Rattle.std.specs.Prelude.{◌≡◌};
+    ghost use Rattle.arachne_machine.specs.Strands.{own_line};
+
     /// That of no thread. It allocates nothing.
     fn vacant(alloc: Global) -> Own {
         Own {
@@ -32,6 +36,36 @@ impl Own {
             },
             holds: Vec::new(alloc),
         }
+    }
+
+    /// The thread's line.
+    #[inline(always)]
+    pub fn take_line(&mut self, alloc: Global) -> ThreadLine
+        ensures line { result ≡ own_line self.old }
+        ensures label { self.new.label ≡ self.old.label }
+    {
+        ThreadLine {
+            name: replace(&mut self.name, Name::root(alloc)),
+            tag: self.label.tag,
+            holds: Sequence::from(replace(&mut self.holds, Vec::new(alloc))),
+            ran: self.label.ran,
+        }
+    }
+
+    /// Takes back its line, but for where it says that the thread ran.
+    pub fn put_back(&mut self, line: ThreadLine)
+        ensures name { self.new.name ≡ line.name }
+        ensures holds { self.new.holds.items ≡ line.holds }
+        ensures label { self.new.label ≡ self.old.label }
+    {
+        let ThreadLine {
+            name,
+            tag: _,
+            holds,
+            ran: _,
+        } = line;
+        self.name = name;
+        self.holds = holds.into_vec();
     }
 }
 
@@ -329,9 +363,9 @@ impl<'p> State<'p> {
         self.lines.at(self.level.place).tag
     }
 
-    /// The outcome of a thread that has ended.
+    /// The outcome of a thread that has ended, in this box.
     #[inline(always)]
-    pub fn finish(&mut self) -> Outcome<'p>
+    pub fn finish(&mut self, contents: Box<Contents>) -> Outcome<'p>
         requires ended { pending_of self.old.control ≡ Some pause.Ended }
         requires alone { self.old.parents.items ≡ [] }
         requires sound { IsSoundState self.old }
@@ -341,47 +375,17 @@ impl<'p> State<'p> {
         ensures lines { result.lines ≡ own_line self.old.own ∷ self.old.lines }
     {
         let value = self.value();
-        Outcome {
-            program: self.program,
+        let mut contents = contents;
+        *contents = Contents {
             value,
             sums: replace(&mut self.sums, Vec::new(self.alloc)),
-            own: self.take_line(),
+            own: self.own.take_line(self.alloc),
             below: replace(&mut self.lines, Lines::new(self.alloc)),
-        }
-    }
-
-    /// The own line of the outermost thread.
-    #[inline(always)]
-    pub fn take_line(&mut self) -> ThreadLine
-        ensures line { result ≡ own_line self.old.own }
-        ensures others { self.new ≡ record self.old { own = self.new.own } }
-    {
-        let vacant = Own::vacant(self.alloc);
-        let Own { name, label, holds } = replace(&mut self.own, vacant);
-        ThreadLine {
-            name,
-            tag: label.tag,
-            holds: Sequence::from(holds),
-            ran: label.ran,
-        }
-    }
-
-    /// Takes back the own line.
-    pub fn put_back_line(&mut self, line: ThreadLine)
-        ensures line { own_line self.new.own ≡ line }
-        ensures others { self.new ≡ record self.old { own = self.new.own } }
-    {
-        let ThreadLine {
-            name,
-            tag,
-            holds,
-            ran,
-        } = line;
-        self.own = Own {
-            name,
-            label: Label { tag, ran },
-            holds: holds.into_vec(),
         };
+        Outcome {
+            program: self.program,
+            contents,
+        }
     }
 
     /// The value of a thread that has ended.

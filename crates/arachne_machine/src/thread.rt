@@ -12,6 +12,7 @@ ghost use Rattle.arachne_lang.specs.Checked.{IsChecked};
 ghost use Rattle.arachne_lang.specs.Program.{source_of};
 ghost use Rattle.arachne_machine.specs.declared.pause.Pending.TheVariants as pause;
 
+use crate::contents::Contents;
 use crate::frame::Control;
 use crate::line::Ran;
 use crate::outcome::Outcome;
@@ -277,12 +278,35 @@ impl<'p> Thread<'p> {
         ensures err { OnErr result (self.new ≡ self.old) }
         ensures handed_back { IfErr result (λ e. handed_back e ≡ outcome.entry) }
     {
-        let _ = &outcome.value;
-        self.state.join(outcome)
+        let mut spares = Spares::none(self.state.alloc);
+        self.joined_into(outcome, &mut spares)
     }
 
-    /// The outcome of a thread that has ended. It takes no memory.
-    pub fn finish(self) -> Outcome<'p>
+    /// The same. What is no longer needed of the outcome is left to threads that begin.
+    pub fn joined_into(
+        &mut self,
+        outcome: Outcome<'p>,
+        spares: &mut Spares<'p>,
+    ) -> Result<(), NotJoined<'p>>
+        requires pending { pending_in self.old ≡ Some pause.Joins }
+        requires program { source_of outcome.program ≡ source_of (whole self.old).program }
+        ensures whole { SameWhole self.old self.new }
+        ensures ok { OnOk result (Joined self.old.running outcome.entry self.new.running) }
+        ensures sums { OnOk result (self.new.sums ≡ added self.old.sums outcome.entry.sums) }
+        ensures others { self.new ≡ record self.old { running = self.new.running; sums = self.new.sums } }
+        ensures pending { OnOk result (pending_in self.new ≡ None) }
+        ensures work { work_in self.new ≡ work_in self.old }
+        ensures foreign { IsForeign result ↔ (awaited self.old.running ≢ Some outcome.entry.name) }
+        ensures err { OnErr result (self.new ≡ self.old) }
+        ensures handed_back { IfErr result (λ e. handed_back e ≡ outcome.entry) }
+    {
+        // The box is looked at so that the proof sees what it points to.
+        let _ = &outcome.contents;
+        self.state.join(outcome, spares)
+    }
+
+    /// The outcome of a thread that has ended, in this box. It takes no memory.
+    pub fn finish(self, contents: Box<Contents>) -> Outcome<'p>
         requires { pending_in self ≡ Some pause.Ended }
         ensures program { result.program ≡ (whole self.entry).program }
         ensures name { result.name ≡ (whole self.entry).name }
@@ -290,11 +314,11 @@ impl<'p> Thread<'p> {
         ensures lines { result.lines ≡ own_line_of (whole self.entry) ∷ (whole self.entry).below }
     {
         let mut spares = Spares::none(self.state.alloc);
-        self.finish_into(&mut spares)
+        self.finish_into(contents, &mut spares)
     }
 
     /// The same. What the thread no longer needs is left to those that begin.
-    pub fn finish_into(self, spares: &mut Spares<'p>) -> Outcome<'p>
+    pub fn finish_into(self, contents: Box<Contents>, spares: &mut Spares<'p>) -> Outcome<'p>
         requires { pending_in self ≡ Some pause.Ended }
         ensures program { result.program ≡ (whole self.entry).program }
         ensures name { result.name ≡ (whole self.entry).name }
@@ -302,7 +326,7 @@ impl<'p> Thread<'p> {
         ensures lines { result.lines ≡ own_line_of (whole self.entry) ∷ (whole self.entry).below }
     {
         let mut state = self.state;
-        let outcome = state.finish();
+        let outcome = state.finish(contents);
         spares.keep(state);
         outcome
     }

@@ -1,5 +1,5 @@
 //! What a worker has beside its seat.
-ghost use Rattle.std.specs.Prelude.{◌≡◌, ◌+◌, ◌<◌, ◌≤◌, [], IfErr, IfOk, None, OnErr};
+ghost use Rattle.std.specs.Prelude.{◌≡◌, ◌+◌, ◌<◌, ◌≤◌, [], IfErr, IfOk, None, OnErr, false};
 ghost use Rattle.std.specs.VecDeque.{deque_capacity, deque_len};
 ghost use Rattle.arachne_pool.specs.Jobs.{one};
 
@@ -114,6 +114,16 @@ impl<J: PoolJob> Bench<J> {
             }
         }
         true
+    }
+
+    /// Whether memory was refused since this was asked last.
+    pub(crate) fn take_short(&mut self) -> bool
+        ensures asked { result ≡ self.old.is_short }
+        ensures same { self.new ≡ record self.old { is_short = false } }
+    {
+        let is_short = self.is_short;
+        self.is_short = false;
+        is_short
     }
 
     /// What another worker has counted is counted here too. Both have told the pool of it.

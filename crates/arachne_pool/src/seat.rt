@@ -311,9 +311,7 @@ impl<'a, H: Wait, J: PoolJob, C: Contexts<Spawned<J>>> PoolDesk for Seat<'a, H, 
     }
 
     fn take_short(&mut self) -> bool {
-        let is_short = self.bench.is_short;
-        self.bench.is_short = false;
-        is_short
+        self.bench.take_short()
     }
 
     fn take_drained(&mut self) -> bool {

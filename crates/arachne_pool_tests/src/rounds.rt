@@ -41,6 +41,8 @@ pub(crate) enum Act {
     Answered(u64),
     /// A round on a core; whether it finds anything.
     Turns(u8, bool),
+    /// A round on a core, which is refused memory.
+    TurnsInNeed(u8),
     /// So many places of a core are taken, and so it is.
     Has(u8, u8, Is),
     /// From now on these orders.
@@ -267,7 +269,9 @@ fn holds<C: Contexts<Spawned<Task>>, R: Wait + Clock>(
             None => false,
         },
         Act::SpawnsMany(jobs, sort) => spawns_many::<C, R>(rt, pool, board, worker, jobs, sort),
-        Act::Turns(core, finds) if core < pool.cores => pool.turn(rt, worker, core) == Ok(finds),
+        Act::Turns(core, _) | Act::TurnsInNeed(core) if core < pool.cores => {
+            is_wanted(act, pool.turn(rt, worker, core))
+        }
         Act::Works(core) if core < pool.cores => pool.work(rt, worker, core).is_ok(),
         Act::Joins(sort, wanted) if pool.cores > 0 => {
             joins::<C, R>(rt, pool, board, worker, sort, wanted)
@@ -285,6 +289,14 @@ fn holds<C: Contexts<Spawned<Task>>, R: Wait + Clock>(
         Act::Counts(count) => worker.tally().spawned == count,
         Act::Fills => fills::<C, R>(rt, pool, board, worker),
         act => is_so::<C, R>(rt, pool, board, act),
+    }
+}
+
+/// Whether a round came out as its act says.
+fn is_wanted(act: Act, turned: Result<bool, PoolFault>) -> bool {
+    match act {
+        Act::Turns(_, finds) => turned == Ok(finds),
+        _ => turned == Err(PoolFault::Memory),
     }
 }
 

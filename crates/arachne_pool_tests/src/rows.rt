@@ -2,7 +2,7 @@
 use crate::board::Board;
 use crate::crew::{Crew, Share};
 use crate::orders::{GRANT, Order, RELEASE};
-use crate::rounds::{Act, Is, Row, begin, end};
+use crate::rounds::{Act, Comes, Is, On, Row, begin, end};
 use crate::spells::Spell;
 use crate::tasks::{Joins, LEAF, PARENT, Sort, Task};
 use arachne_pool::Spawned;
@@ -235,6 +235,40 @@ const ROWS: &[Row] = &[
             Act::Lives(0),
             Act::Has(0, 0, Is::Open),
             Act::Counts(4),
+        ],
+        ..NOTHING
+    },
+    Row {
+        shows: "of two children that wait with their parent the oldest says whether it gets a core for itself",
+        cores: 2,
+        slots: 1,
+        acts: &[
+            Act::Tries(
+                On::Core(0),
+                Sort {
+                    joins: Joins::Never,
+                    forks: 2,
+                    steps: 1,
+                    is_first_exclusive: true,
+                    ..PARENT
+                },
+                Comes::Begins,
+            ),
+            Act::Tries(On::Core(1), LEAF, Comes::Begins),
+            Act::Turns(0, true),
+            Act::Turns(0, true),
+            Act::Turns(0, true),
+            Act::Turns(0, true),
+            Act::Lives(4),
+            Act::Turns(1, true),
+            Act::Has(1, 0, Is::Open),
+            Act::Turns(0, true),
+            Act::Has(1, 1, Is::Alone),
+            Act::Turns(1, true),
+            Act::Turns(1, true),
+            Act::Lives(2),
+            Act::Works(0),
+            Act::Lives(0),
         ],
         ..NOTHING
     },
@@ -505,6 +539,33 @@ const ROWS: &[Row] = &[
             Act::Lives(3),
         ],
         left: (2, 1),
+        alive: 3,
+        ..NOTHING
+    },
+    Row {
+        shows: "a round that is refused memory tells it, and the next one that is refused none does not",
+        cores: 1,
+        slots: 1,
+        acts: &[
+            Act::Spawns(PARENT),
+            Act::Hoards,
+            Act::TurnsInNeed(0),
+            Act::TurnsInNeed(0),
+            Act::Frees,
+            Act::Turns(0, true),
+            Act::Works(0),
+            Act::Lives(0),
+        ],
+        ..NOTHING
+    },
+    Row {
+        shows: "a kernel thread that works returns once the other one is refused memory for a fork, which stops the pool",
+        cores: 2,
+        slots: 1,
+        acts: &[Act::Spawns(ALONE_PARENT), Act::Spawns(ENDLESS)],
+        spells: (Spell::InNeed, Spell::ToTheEnd),
+        then: &[Act::Answered(0), Act::Lives(3)],
+        left: (2, 0),
         alive: 3,
         ..NOTHING
     },

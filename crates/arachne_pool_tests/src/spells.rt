@@ -5,7 +5,8 @@ ghost use Rattle.arachne_pool.specs.Workers.{IsWorkerOf};
 use crate::board::Board;
 use crate::tasks::{LEAF, Sort, Task};
 use arachne_contexts::{Contexts, Seats};
-use arachne_pool::{Pool, Spawned, Worker};
+use arachne_pool::{Pool, PoolFault, Spawned, Worker};
+use arachne_shortage::Hoard;
 use std::sync::atomic::{AtomicU64, Ordering};
 use std::sync::{Arc, Wait};
 use std::thread::yield_now;
@@ -25,6 +26,9 @@ pub(crate) enum Spell {
     ToTheStop,
     /// It works so many rounds. Then it stops the pool.
     Rounds(u32),
+    /// Once a job has begun elsewhere it works on its core while memory is used up, until it is refused some. Where that is
+    /// not told, or has not stopped the pool, an answer comes, and it stops it.
+    InNeed,
     /// It spawns so many leaves, which no worker may keep, and works for no core.
     Spawns(u32),
     /// It spawns so many leaves for core 1, each once that core's kernel thread sleeps and one job alone lives. Then it
@@ -72,6 +76,7 @@ pub(crate) fn work<C: Contexts<Spawned<Task>>, R: Wait + Clock>(
         Spell::Rounds(rounds) if core < pool.cores => {
             turns::<C, R>(rt, pool, &mut worker, core, rounds);
         }
+        Spell::InNeed if core < pool.cores => in_need::<C, R>(rt, pool, board, &mut worker, core),
         Spell::Spawns(jobs) => spawns::<C, R>(rt, pool, board, &mut worker, jobs),
         Spell::Feeds(jobs) if pool.cores > 1 => {
             feeds::<C, R>(rt, pool, board, &mut worker, jobs);
@@ -128,6 +133,27 @@ fn turns<C: Contexts<Spawned<Task>>, R: Wait + Clock>(
         let _ = pool.turn(rt, worker, core);
     }
     pool.stop();
+}
+
+/// `Spell::InNeed`.
+fn in_need<C: Contexts<Spawned<Task>>, R: Wait + Clock>(
+    rt: &R,
+    pool: &Pool<C>,
+    board: &Board,
+    worker: &mut Worker<C::Seat, Task>,
+    core: u8,
+)
+    requires worker { IsWorkerOf C.sits C.idle pool.now.table pool.now.cores worker.old }
+    requires core { core < pool.now.cores }
+    ensures worker { IsWorkerOf C.sits C.idle pool.now.table pool.now.cores worker.new }
+{
+    await_more(rt, pool, &board.begun, 0);
+    let hoard = Hoard::take(board.alloc);
+    let worked = pool.work(rt, worker, core);
+    if hoard.is_err() || worked != Err(PoolFault::Memory) || !pool.is_stopped() {
+        board.answer();
+        pool.stop();
+    }
 }
 
 /// `Spell::Spawns`.

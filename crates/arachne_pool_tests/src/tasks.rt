@@ -24,6 +24,8 @@ pub(crate) struct Sort {
     pub(crate) luggage: usize,
     pub(crate) joins: Joins,
     pub(crate) is_exclusive: bool,
+    /// Its first child is exclusive, whatever it is itself.
+    pub(crate) is_first_exclusive: bool,
 }
 
 /// Which children a job joins, and when.
@@ -47,6 +49,7 @@ pub(crate) const LEAF: Sort = Sort {
     luggage: 0,
     joins: Joins::AtLast,
     is_exclusive: false,
+    is_first_exclusive: false,
 };
 
 /// One that forks a leaf and joins it.
@@ -93,6 +96,8 @@ impl Task {
         let sort = Sort {
             depth: self.sort.depth - 1,
             answers: self.sort.answers.saturating_sub(1),
+            is_exclusive: self.sort.is_exclusive
+                || self.sort.is_first_exclusive && self.forked == 0,
             ..self.sort
         };
         let child = Task::new(sort, &self.board)?;

@@ -1,5 +1,5 @@
 -- What a thread asks for, what may come of it, and where it stops.
-use Rattle.std.specs.Prelude.{◌≡◌, ℕ, Option, None, Some}
+use Rattle.std.specs.Prelude.{◌≡◌, ℕ, Bool, false, true, if◌then◌else◌, Option, None, Some}
 use Rattle.arachne_core.specs.declared.thread_id.ThreadId.{ThreadId}
 use Rattle.arachne_machine.specs.declared.pause.Pending.{Pending}
 use Rattle.arachne_machine.specs.declared.pause.Pending.TheVariants as pause
@@ -18,19 +18,19 @@ IsPassFor lock who pass = (pass.lock ≡ lock) × (pass.who ≡ who)
 
 -- a thread that asks for a lock waits for that one, or has a pass of it; one that frees or adds goes on
 abbrev pub IsServed : Want → Who → Served → Type 0
-IsServed (Asks lock) who (Waits awaited) = awaited ≡ lock
+IsServed (Asks lock) who (Waits awaited unserved) = awaited ≡ lock
 IsServed (Asks lock) who (Holds granted) = IsPassFor lock who granted.pass.value
 IsServed (Asks lock) who (Freed next) = ⊥
 IsServed (Asks lock) who Added = ⊥
-IsServed (Awaits lock) who (Waits awaited) = awaited ≡ lock
+IsServed (Awaits lock) who (Waits awaited unserved) = awaited ≡ lock
 IsServed (Awaits lock) who (Holds granted) = IsPassFor lock who granted.pass.value
 IsServed (Awaits lock) who (Freed next) = ⊥
 IsServed (Awaits lock) who Added = ⊥
-IsServed (Frees lock) who (Waits awaited) = ⊥
+IsServed (Frees lock) who (Waits awaited unserved) = ⊥
 IsServed (Frees lock) who (Holds granted) = ⊥
 IsServed (Frees lock) who (Freed next) = Unit {0}
 IsServed (Frees lock) who Added = ⊥
-IsServed (Tallies ledger amount) who (Waits awaited) = ⊥
+IsServed (Tallies ledger amount) who (Waits awaited unserved) = ⊥
 IsServed (Tallies ledger amount) who (Holds granted) = ⊥
 IsServed (Tallies ledger amount) who (Freed next) = ⊥
 IsServed (Tallies ledger amount) who Added = Unit {0}
@@ -52,6 +52,30 @@ StopsAt stop.Goes pending = pending ≡ None
 StopsAt stop.Spilled pending = pending ≡ None
 StopsAt (stop.Posted post) pending = pending ≡ None
 StopsAt (stop.Wakes next) pending = pending ≡ None
+
+-- it waits for a lock
+abbrev pub is_wait : Stop → Bool
+is_wait (stop.Waits lock) = true
+is_wait stop.Blocks = false
+is_wait stop.Ends = false
+is_wait stop.Goes = false
+is_wait stop.Spilled = false
+is_wait (stop.Posted post) = false
+is_wait (stop.Wakes next) = false
+
+-- whether a thread has a lock once what it asks for is done, or it waits for that, where it had one before or not
+abbrev pub has_lock_after : Want → (waits had : Bool) → Bool
+has_lock_after (Asks lock) waits had = if waits then had else true
+has_lock_after (Awaits lock) waits had = if waits then had else true
+has_lock_after (Frees lock) waits had = false
+has_lock_after (Tallies ledger amount) waits had = had
+
+-- the same by what came of it
+abbrev pub has_lock_by : Served → (had : Bool) → Bool
+has_lock_by (Waits lock unserved) had = had
+has_lock_by (Holds granted) had = true
+has_lock_by (Freed next) had = false
+has_lock_by Added had = had
 
 -- the id of a thread, if there is one
 abbrev pub id_of : Option Who → Option ThreadId

@@ -1,12 +1,15 @@
 -- Whose tokens they are, and what is out with them.
-use Rattle.std.specs.Prelude.{◌≡◌, ◌≤◌, ◌<◌, ℕ, Bool, List, [], ◌∷◌, Option, None, Some, IfSome, length, map}
+use Rattle.std.specs.Prelude.{◌≡◌, ◌≤◌, ◌<◌, ℕ, Bool, List, [], ◌∷◌, Option, None, Some, IfSome, All, length, map}
 use Rattle.arachne_contexts.specs.Out.{Out, Claim, Thread}
 use Rattle.arachne_contexts.specs.declared.held.Held.{Held}
-use Rattle.arachne_ledger.specs.Views.{IsShareOf}
+use Rattle.arachne_weights.specs.Weight.{whole}
+use Rattle.arachne_ledger.specs.Views.{IsShareOf, IsWhole as IsWholeShare}
 use Rattle.arachne_sleep.specs.SleepLocks.{AreSeatsOf}
-use Rattle.arachne_spill.specs.Views.{IsPassOf, QueueView}
+use Rattle.arachne_sleep.specs.Views.{IsWhole as IsWholeSeat}
+use Rattle.arachne_spill.specs.Views.{IsPassOf, IsWhole as IsWholePass, QueueView}
 use Rattle.arachne_arbiter.specs.Orders.{Progress}
 use Rattle.arachne_core.specs.declared.layout.TheConstants.{CORES, SLOTS}
+use Rattle.arachne_run.specs.declared.in_hand.InHand.{InHand}
 use Rattle.arachne_run.specs.declared.machine.Machine.{Machine}
 use Rattle.arachne_run.specs.declared.resources.Holdings.{Holdings}
 use Rattle.arachne_run.specs.declared.resources.Resources.{Resources}
@@ -41,14 +44,23 @@ AreIdle sits idle machine tokens =
     sits machine.table tokens.seat × idle machine.table tokens.seat × IsPassOf machine.tickets tokens.pass
     × AreHoldingsOf machine.resources tokens.holdings × IsArbiterOf machine tokens.arbiter
 
+-- all of what the workers stepped with is back: the seat, the pass, the share and the lock seats
+abbrev pub AreAllBack : {Seat Ticket : Type 0} → (Seat → ℕ) → Tokens Seat Ticket → Type 0
+AreAllBack weight tokens =
+    (weight tokens.seat ≡ whole) × IsWholePass tokens.pass × IsWholeShare tokens.holdings.share × All IsWholeSeat tokens.holdings.lock_seats
+
+-- the table was closed with one thread at least, or more, left in it
+abbrev pub IsAnyLeft : {Thread : Type 0} → (List Thread → Type 0) → Type 0
+IsAnyLeft {Thread} settles = (first : Thread) × (others : List Thread) × settles (first ∷ others)
+
 -- the thread that is held, as the table knows it
 abbrev pub thread_in : {C T H : Type 0} → (T → ℕ) → Held T H → Out C H
 thread_in tag held = Thread held.hold (tag held.value)
 
 -- what is out where this thread, or none, is held
-abbrev pub in_hand : {C T H : Type 0} → (T → ℕ) → Option (Held T H) → List (Out C H)
+abbrev pub in_hand : {C T H : Type 0} → (T → ℕ) → Option (InHand T H) → List (Out C H)
 in_hand tag None = []
-in_hand tag (Some held) = thread_in tag held ∷ []
+in_hand tag (Some thread) = thread_in tag thread.held ∷ []
 
 -- it is out no more, and what else was out is out
 abbrev pub IsSpent : {Seat C H : Type 0} → (Seat → List (Out C H) → Type 0) → Out C H → Seat → Seat → Type 0

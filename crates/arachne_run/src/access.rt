@@ -1,16 +1,17 @@
 //! What a worker does at the locks and the ledgers. A lock is tried again while another kernel thread is at it.
-ghost use Rattle.std.specs.Prelude.{◌≡◌, ◌<◌, Ok, IfOk, IfSome, OnOk, length};
+ghost use Rattle.std.specs.Prelude.{◌≡◌, ◌<◌, ◌≤◌, Err, Ok, IfErr, IfOk, IsOk, OnOk, length};
 ghost use Rattle.arachne_ledger.specs.Sums.{raised};
 ghost use Rattle.arachne_ledger.specs.Views.{IsShareOf};
 ghost use Rattle.arachne_sleep.specs.Calls.{FreeAnswer};
 ghost use Rattle.arachne_sleep.specs.SleepLocks.{AreSeatsOf, ChangesAt};
-ghost use Rattle.arachne_run.specs.Serving.{IsPassFor, IsServed, IsWantOf, StopsAt, id_of};
+ghost use Rattle.arachne_run.specs.Serving.{IsPassFor, IsServed, IsWantOf, StopsAt, has_lock_after, has_lock_by, id_of, is_wait};
 ghost use Rattle.arachne_run.specs.Tokens.{AreHoldingsOf};
+ghost use Rattle.arachne_run.specs.declared.fault.WorkerFault.TheVariants.{Foreign};
 ghost use Rattle.arachne_run.specs.declared.granted.Got.TheVariants as got;
 ghost use Rattle.arachne_run.specs.declared.granted.Granted.{Granted};
 
 use crate::fault::WorkerFault;
-use crate::granted::{self, Got, Granted};
+use crate::granted::{self, Got, Granted, Unserved};
 use crate::resources::{Holdings, Resources};
 use arachne_arbiter::Pace;
 use arachne_core::ThreadId;
@@ -36,9 +37,10 @@ pub(crate) enum Want {
 }
 
 /// What came of what a thread asked for.
+#[derive(Drop)]
 pub(crate) enum Served {
     /// It waits for this lock.
-    Waits(u64),
+    Waits(u64, Unserved),
     /// It holds the lock that it asked for.
     Holds(Granted),
     /// The lock that it had is free, or the thread of this id holds it now.
@@ -52,8 +54,20 @@ pub(crate) enum Served {
 pub(crate) struct Access<'a> {
     resources: &'a Resources,
     holdings: Holdings,
-    /// Whether the thread in hand was granted a lock since it was taken, and has freed none since.
-    pub(crate) has_lock: bool,
+}
+
+impl Served {
+    /// Whether a thread that was served so has a lock, where it had one before or not.
+    #[inline(always)]
+    fn has_lock(&self, had: bool) -> bool
+        ensures { result ≡ has_lock_by self.now had }
+    {
+        match self {
+            Served::Waits(_, _) | Served::Added => had,
+            Served::Holds(_) => true,
+            Served::Freed(_) => false,
+        }
+    }
 }
 
 impl<'a> Model for Access<'a> {
@@ -76,7 +90,6 @@ impl<'a> Access<'a> {
         Access {
             resources,
             holdings,
-            has_lock: false,
         }
     }
 
@@ -87,7 +100,7 @@ impl<'a> Access<'a> {
     }
 
     /// Does what a thread of this id asks for, and tells it so, unless it has to wait. The locks know it by the tag of
-    /// the one that goes on next in its place.
+    /// the one that goes on next in its place. Whether it has a lock is noted.
     pub(crate) fn serve<H: Wait + Clock, T: RunThread>(
         &mut self,
         rt: &H,
@@ -95,20 +108,20 @@ impl<'a> Access<'a> {
         want: Want,
         id: ThreadId,
         thread: &mut T,
+        has_lock: &mut bool,
     ) -> Result<Stop, WorkerFault>
         requires { IsWantOf want (T.pause_of thread.old) }
         ensures same { (self.new ≡ self.old) × (T.tag_of thread.new ≡ T.tag_of thread.old) }
         ensures stops { IfOk result (λ stop. StopsAt stop (T.pause_of thread.new)) }
+        ensures lock { IfOk result (λ stop. has_lock.new ≡ has_lock_after want (is_wait stop) has_lock.old) }
     {
         let tag = thread.running_tag();
-        let stop = match self.do_for(rt, pace, want, Who { tag, id })? {
-            Served::Waits(lock) => return Ok(Stop::Waits(lock)),
-            Served::Holds(_) => {
-                self.has_lock = true;
-                Stop::Goes
-            }
+        let served = self.do_for(rt, pace, want, Who { tag, id })?;
+        *has_lock = served.has_lock(*has_lock);
+        let stop = match served {
+            Served::Waits(lock, _) => return Ok(Stop::Waits(lock)),
             Served::Freed(Some(next)) => Stop::Wakes(next),
-            Served::Freed(None) | Served::Added => Stop::Goes,
+            Served::Holds(_) | Served::Freed(None) | Served::Added => Stop::Goes,
         };
         match thread.answer() {
             Ok(()) => Ok(stop),
@@ -129,17 +142,14 @@ impl<'a> Access<'a> {
     {
         match want {
             Want::Asks(lock) => match self.ask(rt, pace, lock, who)? {
-                Some(granted) => Ok(Served::Holds(granted)),
-                None => Ok(Served::Waits(lock)),
+                Ok(granted) => Ok(Served::Holds(granted)),
+                Err(unserved) => Ok(Served::Waits(lock, unserved)),
             },
             Want::Awaits(lock) => match self.check(rt, pace, lock, who)? {
-                Some(granted) => Ok(Served::Holds(granted)),
-                None => Ok(Served::Waits(lock)),
+                Ok(granted) => Ok(Served::Holds(granted)),
+                Err(unserved) => Ok(Served::Waits(lock, unserved)),
             },
-            Want::Frees(lock) => {
-                self.has_lock = false;
-                Ok(Served::Freed(self.free(rt, pace, lock, who)?))
-            }
+            Want::Frees(lock) => Ok(Served::Freed(self.free(rt, pace, lock, who)?)),
             Want::Tallies(ledger, amount) => {
                 self.add(ledger, amount)?;
                 Ok(Served::Added)
@@ -147,22 +157,22 @@ impl<'a> Access<'a> {
         }
     }
 
-    /// Asks for a lock. None where the thread has to wait for it.
+    /// Asks for a lock. An error within where the thread has to wait for it.
     pub(crate) fn ask<H: Wait + Clock>(
         &mut self,
         rt: &H,
         pace: &mut Pace,
         lock: u64,
         who: Who,
-    ) -> Result<Option<Granted>, WorkerFault>
+    ) -> Result<Result<Granted, Unserved>, WorkerFault>
         ensures same { self.new ≡ self.old }
-        ensures granted { IfOk result (λ found. IfSome found (λ granted. IsPassFor lock who granted.pass.value)) }
+        ensures granted { IfOk result (λ found. IfOk found (λ granted. IsPassFor lock who granted.pass.value)) }
     {
         let mut tries: u32 = 0;
         for _ in rt.forever() {
             match self.try_ask(lock, who)? {
-                Got::Granted(granted) => return Ok(Some(granted)),
-                Got::Waits => return Ok(None),
+                Got::Granted(granted) => return Ok(Ok(granted)),
+                Got::Waits(unserved) => return Ok(Err(unserved)),
                 Got::Refused(fault) => return Err(WorkerFault::from(fault)),
                 Got::Contended => {}
             }
@@ -179,15 +189,15 @@ impl<'a> Access<'a> {
         pace: &mut Pace,
         lock: u64,
         who: Who,
-    ) -> Result<Option<Granted>, WorkerFault>
+    ) -> Result<Result<Granted, Unserved>, WorkerFault>
         ensures same { self.new ≡ self.old }
-        ensures granted { IfOk result (λ found. IfSome found (λ granted. IsPassFor lock who granted.pass.value)) }
+        ensures granted { IfOk result (λ found. IfOk found (λ granted. IsPassFor lock who granted.pass.value)) }
     {
         let mut tries: u32 = 0;
         for _ in rt.forever() {
             match self.try_check(lock, who)? {
-                Got::Granted(granted) => return Ok(Some(granted)),
-                Got::Waits => return Ok(None),
+                Got::Granted(granted) => return Ok(Ok(granted)),
+                Got::Waits(unserved) => return Ok(Err(unserved)),
                 Got::Refused(_) => return Err(WorkerFault::Threads),
                 Got::Contended => {}
             }
@@ -274,6 +284,7 @@ fn free_at(
 ) -> Result<Tried<Result<Freed, NotHolder>>, WorkerFault>
     requires { AreSeatsOf locks.now seats.old }
     ensures own { AreSeatsOf locks.now seats.new }
+    ensures missing { length locks.now ≤ lock → (result ≡ Err Foreign) × (seats.new ≡ seats.old) }
     ensures freed { IfOk result (λ tried. ChangesAt lock seats.old seats.new (λ old new. FreeAnswer lock who old tried new)) }
 {
     let lock = number_of(locks, lock)?;
@@ -295,6 +306,8 @@ fn add_to(ledgers: &Ledgers, share: &mut Share, ledger: u64, amount: u64) -> Res
     requires { IsShareOf ledgers.now share.old }
     ensures own { IsShareOf ledgers.now share.new }
     ensures raised { OnOk result (share.new.sums ≡ raised share.old.sums ledger amount) }
+    ensures there { ledger < ledgers.now.count → IsOk result }
+    ensures missing { ledgers.now.count ≤ ledger → (result ≡ Err Foreign) × (share.new ≡ share.old) }
 {
     if ledger >= ledgers.count() as u64 {
         return Err(WorkerFault::Foreign);
@@ -307,6 +320,8 @@ fn add_to(ledgers: &Ledgers, share: &mut Share, ledger: u64, amount: u64) -> Res
 fn number_of(locks: &SleepLocks, lock: u64) -> Result<u8, WorkerFault>
     ensures there { IfOk result (λ number. number < length locks.now) }
     ensures same { IfOk result (λ number. number ≡ lock) }
+    ensures missing { length locks.now ≤ lock → result ≡ Err Foreign }
+    ensures fault { IfErr result (λ fault. fault ≡ Foreign) }
 {
     if lock >= locks.count() as u64 {
         return Err(WorkerFault::Foreign);

@@ -1,9 +1,10 @@
 //! What is looked at once a run is over.
-ghost use Rattle.std.specs.Prelude.{◌≡◌, ℕ, ◌<◌, ◌≤◌, false, true, Contains, IfOk, IfSome, Ok, OnOk, List, length, map, slice_index, slice_index_or};
+ghost use Rattle.std.specs.Prelude.{◌≡◌, ◌⊎◌, ℕ, ◌<◌, ◌≤◌, false, true, Contains, IfErr, IfNone, IfOk, IfSome, Ok, OnOk, List, length, map, slice_index, slice_index_or};
 ghost use Rattle.arachne_sleep.specs.declared.event.LockEvent.TheVariants.{Grant};
 ghost use Rattle.arachne_sleep.specs.declared.who.Who.{Who};
-ghost use Rattle.arachne_run.specs.Distinct.{AreDistinct, AreMarksOf};
+ghost use Rattle.arachne_run.specs.Distinct.{AreDistinct, AreMarksOf, HasClash};
 ghost use Rattle.arachne_run.specs.Histories.{GrantsAreHolds, IsGrantedAsHeld, grants_to};
+ghost use Rattle.arachne_run.specs.declared.fault.WorkerFault.TheVariants.{Memory, Threads};
 
 use crate::fault::WorkerFault;
 use arachne_machine::ThreadLine;
@@ -18,6 +19,7 @@ pub(crate) fn audit(
 ) -> Result<(), WorkerFault>
     ensures distinct { OnOk result (AreDistinct (map (λ line. line.tag) threads.now)) }
     ensures grants { OnOk result (GrantsAreHolds threads.now (map (λ history. history.items) histories.now)) }
+    ensures fault { IfErr result (λ fault. (fault ≡ Memory) ⊎ (fault ≡ Threads)) }
 {
     let Some(marks) = marks_of(alloc, threads)? else {
         return Err(WorkerFault::Threads);
@@ -29,11 +31,12 @@ pub(crate) fn audit(
     }
 }
 
-/// The marks of the threads' tags, each below 2^64 - 1, if no two are the same. They take a byte for each tag up to the
+/// The marks of the threads' tags, if no two are the same and none is 2^64 - 1. They take a byte for each tag up to the
 /// greatest, and for each thread at least.
 fn marks_of(alloc: Global, threads: &[ThreadLine]) -> Result<Option<Vec<bool>>, AllocError>
     ensures distinct { IfOk result (λ found. IfSome found (λ marks. AreDistinct (map (λ line. line.tag) threads.now))) }
     ensures marks { IfOk result (λ found. IfSome found (λ marks. AreMarksOf (map (λ line. line.tag) threads.now) marks.items)) }
+    ensures none { IfOk result (λ found. IfNone found (HasClash (map (λ line. line.tag) threads.now))) }
 {
     let mut marks = Vec::new(alloc);
     marks.resize(threads.len(), false)?;

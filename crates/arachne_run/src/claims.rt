@@ -1,5 +1,5 @@
 //! Places that a worker keeps.
-ghost use Rattle.std.specs.Prelude.{◌≡◌, [], ◌∷◌, IfErr, MatchOption, OnErr, OnOk};
+ghost use Rattle.std.specs.Prelude.{◌≡◌, [], ◌∷◌, IfErr, MatchOption, OnErr, OnOk, length};
 
 use std::alloc::Global;
 use std::marker::Model;
@@ -31,7 +31,9 @@ impl<K> Claims<K> {
     }
 
     /// How many are kept.
-    pub(crate) fn count(&self) -> usize {
+    pub(crate) fn count(&self) -> usize
+        ensures { result ≡ length self.now }
+    {
         self.claims.len()
     }
 

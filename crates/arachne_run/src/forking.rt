@@ -1,7 +1,7 @@
 //! How threads get their places: the child of a fork is posted at one, waits for one, or runs in its parent's.
 //!
 //! It may touch the table through the seat that it is given, and the queue of those that wait.
-ghost use Rattle.std.specs.Prelude.{◌≡◌, ◌↔◌, ◌<◌, ◌≤◌, [], ◌∷◌, false, IfOk, IsTrue, MatchOption, OnOk, map};
+ghost use Rattle.std.specs.Prelude.{◌≡◌, ◌↔◌, ◌<◌, ◌≤◌, [], ◌∷◌, false, IfOk, IsOk, IsTrue, MatchOption, OnOk, map};
 ghost use Rattle.arachne_contexts.specs.Out.{Claim as a_claim, HasOut};
 ghost use Rattle.arachne_spill.specs.Views.{IsPassOf};
 ghost use Rattle.arachne_run.specs.Serving.{StopsAt};
@@ -14,7 +14,9 @@ use crate::machine::Machine;
 use arachne_arbiter::Pace;
 use arachne_contexts::{Contexts, Held, Identified, Placed};
 use arachne_core::ThreadId;
-use arachne_jobs::{Openings, PlaceLeft, RunJob, Slice, drop_stale, give_back, put_ticket};
+use arachne_jobs::{
+    Openings, PlaceLeft, RunJob, Slice, give_back, has_room, make_room, put_ticket,
+};
 use arachne_lang::Class;
 use arachne_spill::SpillPass;
 use arachne_workers::{Post, Stop};
@@ -42,6 +44,7 @@ pub(crate) fn go_on<H: Wait + Clock, T: RunJob, C: Contexts<T>, R: Rng>(
     seat: &mut C::Seat,
     pass: &mut SpillPass<T::Ticket>,
     held: &mut Held<T, C::Hold>,
+    has_lock: &mut bool,
     forks: &mut Forks<R, T::Spares>,
     access: &mut Access<'_>,
     pace: &mut Pace,
@@ -55,6 +58,7 @@ pub(crate) fn go_on<H: Wait + Clock, T: RunJob, C: Contexts<T>, R: Rng>(
     ensures kept { C.sits machine.now.table seat.new × IsPassOf machine.now.tickets pass.new × (access.new ≡ access.old)
         × OnOk result (C.has machine.now.table seat.new (thread_in T.tag_of held.new ∷ []) × (left.new ≤ left.old)) }
     ensures stops { IfOk result (λ stop. StopsAt stop (T.pause_of held.new.value)) }
+    ensures drawn { IsOk result → forks.new.openings.draws ≡ 0 }
 {
     let room = machine.shared.room();
     let slice = held
@@ -77,7 +81,7 @@ pub(crate) fn go_on<H: Wait + Clock, T: RunJob, C: Contexts<T>, R: Rng>(
         Slice::Tallies(ledger, amount) => Want::Tallies(ledger, amount),
     };
     let id = held.id();
-    access.serve(rt, pace, want, id, &mut held.value)
+    access.serve(rt, pace, want, id, &mut held.value, has_lock)
 }
 
 /// Draws so many words from the chooser.
@@ -109,6 +113,7 @@ fn answer_fork<H: Wait, T: RunJob, C: Contexts<T>, R: Rng>(
     ensures kept { C.sits machine.now.table seat.new × IsPassOf machine.now.tickets pass.new
         × OnOk result (C.has machine.now.table seat.new (thread_in T.tag_of held.new ∷ [])) }
     ensures stops { IfOk result (λ stop. StopsAt stop (T.pause_of held.new.value)) }
+    ensures draws { forks.new.openings.draws ≡ forks.old.openings.draws }
 {
     let (me, room) = (held.id(), machine.shared.room());
     let tag = forks.openings.tags.take(room);
@@ -128,10 +133,9 @@ fn answer_fork<H: Wait, T: RunJob, C: Contexts<T>, R: Rng>(
             Err(_) => Err(WorkerFault::Token),
         };
     }
-    if forks.openings.is_large && class == Class::Normal {
-        drop_stale(rt, &machine.tickets, room, pass);
-    }
-    let waits = may_wait(class, machine.tickets.is_full(rt, pass));
+    let is_wanted = forks.openings.is_large && class == Class::Normal;
+    let made = make_room(rt, &machine.tickets, room, pass, is_wanted);
+    let waits = may_wait(class, has_room(rt, &machine.tickets, pass, made));
     if let Some(ticket) = held.value.put_aside(alloc, me, child, tag, waits)? {
         // Where the queue was filled meanwhile, the child waits without a ticket, for its parent.
         if let Ok(put) = put_ticket(rt, &machine.tickets, pass, ticket) {
@@ -142,12 +146,12 @@ fn answer_fork<H: Wait, T: RunJob, C: Contexts<T>, R: Rng>(
     Ok(Stop::Goes)
 }
 
-/// Whether a child for which no place was found waits for one, by its class and whether the queue is full: one that is to
-/// have a core for itself never does.
-fn may_wait(class: Class, is_full: bool) -> bool
-    ensures { IsTrue result ↔ (class ≡ Class.Normal) × (is_full ≡ false) }
+/// Whether a child for which no place was found waits for one, by its class and whether the queue has room: one that is
+/// to have a core for itself never does.
+fn may_wait(class: Class, has_room: bool) -> bool
+    ensures { IsTrue result ↔ (class ≡ Class.Normal) × IsTrue has_room }
 {
-    class == Class::Normal && !is_full
+    class == Class::Normal && has_room
 }
 
 /// Gives back a place at which nothing was posted. It is to be counted then.

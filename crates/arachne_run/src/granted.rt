@@ -1,12 +1,14 @@
 //! Tries to get a lock, and what shows that a thread holds one.
-ghost use Rattle.std.specs.Prelude.{◌≡◌, ◌<◌, Ok, Some, length};
+ghost use Rattle.std.specs.Prelude.{◌≡◌, ◌<◌, ℕ, Err, None, Ok, Some, length};
 ghost use Rattle.arachne_sleep.specs.Calls.{AskAnswer, CheckAnswer};
 ghost use Rattle.arachne_sleep.specs.SleepLocks.{AreSeatsOf, ChangesAt};
+ghost use Rattle.arachne_sleep.specs.declared.answer.AskFault.{AskFault};
 ghost use Rattle.arachne_sleep.specs.declared.answer.Asked.TheVariants as asked;
 ghost use Rattle.arachne_sleep.specs.declared.answer.Tried.TheVariants.{Answered};
 ghost use Rattle.arachne_run.specs.Serving.{IsPassFor};
 ghost use Rattle.arachne_run.specs.declared.granted.Got.TheVariants as got;
 ghost use Rattle.arachne_run.specs.declared.granted.Granted.{Granted};
+ghost use Rattle.arachne_run.specs.declared.granted.Unserved.{Unserved};
 
 use arachne_sleep::{AskFault, Asked, LockSeats, Pass, SleepLocks, Tried, Who};
 use std::snapshot::Snapshot;
@@ -29,12 +31,19 @@ impl Granted {
     }
 }
 
+/// The thread waits for the lock that it asked for, as the lock said. [`ask`] and [`check`] alone give one, and nobody
+/// waits for a lock without. It has no bytes.
+#[derive(Drop)]
+pub(crate) struct Unserved {
+    told: (),
+}
+
 /// What came of one try to get a lock.
 #[derive(Drop)]
 pub(crate) enum Got {
     Granted(Granted),
     /// The thread waits for it.
-    Waits,
+    Waits(Unserved),
     Refused(AskFault),
     /// Another kernel thread was at the lock. Nothing has changed.
     Contended,
@@ -49,10 +58,14 @@ pub(crate) fn ask(locks: &SleepLocks, seats: &mut LockSeats, lock: u8, who: Who)
     ensures pass { (granted : Granted) → result ≡ got.Granted granted → IsPassFor lock who granted.pass.value }
     ensures listed { (granted : Granted) → result ≡ got.Granted granted
         → ChangesAt lock seats.old seats.new (λ old new. AskAnswer lock who old (Answered (Ok (asked.Granted granted.pass.value))) new) }
+    ensures waits { (unserved : Unserved) → result ≡ got.Waits unserved
+        → (at : ℕ) × ChangesAt lock seats.old seats.new (λ old new. AskAnswer lock who old (Answered (Ok (asked.Queued at))) new) }
+    ensures refused { (fault : AskFault) → result ≡ got.Refused fault
+        → ChangesAt lock seats.old seats.new (λ old new. AskAnswer lock who old (Answered (Err fault)) new) }
 {
     match locks.ask(seats, lock, who) {
         Tried::Answered(Ok(Asked::Granted(pass))) => Got::Granted(Granted::by(pass)),
-        Tried::Answered(Ok(Asked::Queued { at: _ })) => Got::Waits,
+        Tried::Answered(Ok(Asked::Queued { at: _ })) => Got::Waits(Unserved { told: () }),
         Tried::Answered(Err(fault)) => Got::Refused(fault),
         Tried::Contended => Got::Contended,
     }
@@ -67,10 +80,12 @@ pub(crate) fn check(locks: &SleepLocks, seats: &mut LockSeats, lock: u8, who: Wh
     ensures pass { (granted : Granted) → result ≡ got.Granted granted → IsPassFor lock who granted.pass.value }
     ensures listed { (granted : Granted) → result ≡ got.Granted granted
         → ChangesAt lock seats.old seats.new (λ old new. CheckAnswer lock who old (Answered (Some granted.pass.value)) new) }
+    ensures waits { (unserved : Unserved) → result ≡ got.Waits unserved
+        → ChangesAt lock seats.old seats.new (λ old new. CheckAnswer lock who old (Answered None) new) }
 {
     match locks.check(seats, lock, who) {
         Tried::Answered(Some(pass)) => Got::Granted(Granted::by(pass)),
-        Tried::Answered(None) => Got::Waits,
+        Tried::Answered(None) => Got::Waits(Unserved { told: () }),
         Tried::Contended => Got::Contended,
     }
 }

@@ -3,12 +3,14 @@
 
 mod access;
 mod audit;
+mod both;
 mod choosers;
 mod claims;
 mod fault;
 mod forking;
 mod gate;
 mod granted;
+mod in_hand;
 mod machine;
 mod report;
 mod resources;

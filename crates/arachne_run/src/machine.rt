@@ -1,17 +1,21 @@
 //! What the workers of a run share.
-ghost use Rattle.std.specs.Prelude.{◌≡◌, ◌≤◌, ◌⊎◌, ◌↔◌, ◌%◌, ◌^◌, [], All, Err, IfErr, IfOk, IfSome, IsOk, IsTrue, OnOk, length, map, not};
+ghost use Rattle.std.specs.Prelude.{◌≡◌, ◌≢◌, ◌≤◌, ◌⊎◌, ◌↔◌, ◌%◌, ◌^◌, [], All, Err, IfErr, IfOk, IfSome, IsOk, IsSome, IsTrue, None, OnOk, length, map, not};
 ghost use Rattle.arachne_lang.specs.Program.{tree_of};
 ghost use Rattle.arachne_jobs.specs.Classes.{forks_exclusive};
 ghost use Rattle.arachne_policy.specs.Orders.{AreInOrder};
 ghost use Rattle.arachne_workers.specs.Keeping.{MayKeepPlaces};
+ghost use Rattle.arachne_ledger.specs.Views.{IsWhole as IsWholeShare};
 ghost use Rattle.arachne_sleep.specs.History.{IsSound};
 ghost use Rattle.arachne_sleep.specs.OneHolder.{HasOneHolderAtATime};
+ghost use Rattle.arachne_sleep.specs.Views.{IsWhole as IsWholeSeat};
 ghost use Rattle.arachne_spill.specs.Views.{IsPassOf, IsWhole as IsWholePass};
+ghost use Rattle.arachne_weights.specs.Weight.{whole};
 ghost use Rattle.arachne_run.specs.declared.fault.WorkerFault.TheVariants.{Memory, Token};
-ghost use Rattle.arachne_run.specs.Tokens.{AreIdle, IsSetUp};
+ghost use Rattle.arachne_run.specs.Tokens.{AreAllBack, AreHoldingsOf, AreIdle, IsAnyLeft, IsSetUp};
 
+use crate::both::{both, first_of};
 use crate::fault::WorkerFault;
-use crate::resources::{Remains, Resources};
+use crate::resources::{Holdings, Remains, Resources};
 use crate::shared::Shared;
 use crate::tokens::Tokens;
 use arachne_arbiter::{Arbiter, Cores};
@@ -130,6 +134,7 @@ impl<C: Seats + Drop, K: Tagged + Drop> Machine<C, K> {
             × All (λ history. IsSound history.items) closed.0.histories.items × All (λ history. HasOneHolderAtATime history.items) closed.0.histories.items) }
         ensures applied { IfOk result (λ closed. IfSome tokens (λ tokens. IfSome tokens.arbiter (λ progress. closed.1 ≡ progress.applied))) }
         ensures words { IfOk result (λ closed. IfSome tokens (λ tokens. closed.0.words.items ≡ map (λ sum. sum % 2 ^ 64) tokens.holdings.share.sums)) }
+        ensures back { IsOk result → IsSome tokens × IfSome tokens (AreAllBack C.weight) }
     {
         let Machine {
             shared,
@@ -138,31 +143,51 @@ impl<C: Seats + Drop, K: Tagged + Drop> Machine<C, K> {
             table,
             ..
         } = self;
-        if let Some(fault) = shared.into_first_fault() {
-            return Err(fault);
-        }
-        let Some(tokens) = tokens else {
-            return Err(WorkerFault::Token);
-        };
+        let tokens = first_of(shared.into_first_fault(), tokens)?;
         let Tokens {
             seat,
             pass,
             holdings,
             arbiter,
         } = tokens;
-        let remains = resources.close(alloc, holdings);
-        let closed = close_table(rt, alloc, table, tickets, seat, pass);
         let Some(arbiter) = arbiter else {
             return Err(WorkerFault::Token);
         };
-        // A token that is missing is told before memory that was refused.
-        match (remains, closed) {
-            (Ok(remains), Ok(())) => Ok((remains, arbiter.applied())),
-            (Err(WorkerFault::Memory), Err(fault)) => Err(fault),
-            (Err(fault), _) => Err(fault),
-            (Ok(_), Err(fault)) => Err(fault),
-        }
+        let remains = close_all(rt, alloc, resources, table, tickets, seat, pass, holdings)?;
+        Ok((remains, arbiter.applied()))
     }
+}
+
+/// What is left once all workers have ended without a fault. Where not all of what they stepped with is back, a token is
+/// missing, and that is told also where memory was refused.
+fn close_all<H: Wait, T: Tagged + Drop, C: Contexts<T> + Drop, K: Tagged + Drop>(
+    rt: &H,
+    alloc: Global,
+    resources: Resources,
+    table: C,
+    tickets: SpillQueue<K>,
+    seat: C::Seat,
+    pass: SpillPass<K>,
+    holdings: Holdings,
+) -> Result<Remains, WorkerFault>
+    requires seat { C.sits table seat }
+    requires idle { C.idle table seat }
+    requires pass { IsPassOf tickets pass }
+    requires holdings { AreHoldingsOf resources holdings }
+    ensures count { IfOk result (λ remains. length remains.histories.items ≡ length resources.locks) }
+    ensures sound { IfOk result (λ remains. All (λ history. IsSound history.items) remains.histories.items) }
+    ensures one_holder { IfOk result (λ remains. All (λ history. HasOneHolderAtATime history.items) remains.histories.items) }
+    ensures words { IfOk result (λ remains. remains.words.items ≡ map (λ sum. sum % 2 ^ 64) holdings.share.sums) }
+    ensures missing_seat { C.weight seat ≢ whole → result ≡ Err Token }
+    ensures missing_pass { (IsWholePass pass → ⊥) → result ≡ Err Token }
+    ensures missing_share { (IsWholeShare holdings.share → ⊥) → result ≡ Err Token }
+    ensures missing_lock_seat { (All IsWholeSeat holdings.lock_seats → ⊥) → result ≡ Err Token }
+    ensures back { IsOk result → (C.weight seat ≡ whole) × IsWholePass pass × IsWholeShare holdings.share × All IsWholeSeat holdings.lock_seats }
+{
+    let remains = resources.close(alloc, holdings);
+    let closed = close_table(rt, alloc, table, tickets, seat, pass);
+    let (remains, _) = both(remains, closed)?;
+    Ok(remains)
 }
 
 /// Closes the table and the queue of tickets, if each thread that was posted has ended. Where not all of the seat or of
@@ -179,12 +204,32 @@ fn close_table<H: Wait, T: Tagged + Drop, C: Contexts<T> + Drop, K: Tagged + Dro
     requires idle { C.idle table seat }
     requires pass { IsPassOf tickets pass }
     ensures fault { IfErr result (λ fault. (fault ≡ Memory) ⊎ (fault ≡ Token)) }
+    ensures missing_seat { C.weight seat ≢ whole → result ≡ Err Token }
+    ensures missing_pass { (IsWholePass pass → ⊥) → result ≡ Err Token }
+    ensures back { IsOk result → (C.weight seat ≡ whole) × IsWholePass pass }
     ensures none_left { OnOk result (C.settles table seat []) }
 {
     close_queue::<H, K>(rt, &tickets, pass)?;
     if !table.is_whole(&seat) || table.out(&seat) != 0 {
         return Err(WorkerFault::Token);
     }
+    end_table(rt, alloc, table, seat)
+}
+
+/// Closes the table with its whole seat, if no thread is left in it.
+fn end_table<H: Wait, T: Tagged + Drop, C: Contexts<T> + Drop>(
+    rt: &H,
+    alloc: Global,
+    table: C,
+    seat: C::Seat,
+) -> Result<(), WorkerFault>
+    requires seat { C.sits table seat }
+    requires idle { C.idle table seat }
+    requires whole { C.weight seat ≡ whole }
+    ensures none_left { OnOk result (C.settles table seat []) }
+    ensures left { result ≡ Err Token → IsAnyLeft (C.settles table seat) }
+    ensures fault { IfErr result (λ fault. (fault ≡ Memory) ⊎ (fault ≡ Token)) }
+{
     let Ok(rest) = table.close(rt, alloc, seat) else {
         return Err(WorkerFault::Memory);
     };
@@ -204,6 +249,7 @@ fn close_queue<H: Wait, K: Tagged + Drop>(
     requires { IsPassOf tickets.now pass }
     ensures missing { (IsWholePass pass → ⊥) → result ≡ Err Token }
     ensures whole { IsWholePass pass → IsOk result }
+    ensures back { IsOk result → IsWholePass pass }
 {
     let mut rest = pass;
     for _ in 0..CAPACITY {

@@ -1,9 +1,10 @@
 //! What a run brings.
-ghost use Rattle.std.specs.Prelude.{◌≡◌, [], All, IfOk, length, map};
+ghost use Rattle.std.specs.Prelude.{◌≡◌, ◌≢◌, [], All, Err, IfOk, length, map};
 ghost use Rattle.arachne_lang.specs.Program.{source_of};
 ghost use Rattle.arachne_lang.specs.Meaning.{meaning_of};
 ghost use Rattle.arachne_run.specs.Distinct.{AreDistinct};
 ghost use Rattle.arachne_run.specs.Histories.{GrantsAreHolds};
+ghost use Rattle.arachne_run.specs.declared.fault.WorkerFault.TheVariants.{Ledgers, Threads};
 ghost use Rattle.arachne_run.specs.Reports.{histories_in, meaning_in, tags_of};
 
 use crate::audit::audit;
@@ -45,6 +46,8 @@ impl Report {
         ensures histories { IfOk result (λ report. report.histories ≡ remains.histories) }
         ensures grants { IfOk result (λ report. GrantsAreHolds report.threads (histories_in report)) }
         ensures applied { IfOk result (λ report. report.applied ≡ applied) }
+        ensures sums { result ≡ Err Ledgers → outcome.sums ≢ remains.words.items }
+        ensures threads { result ≡ Err Threads → outcome.sums ≡ remains.words.items }
     {
         let Ok(parts) = outcome.into_parts() else {
             return Err(WorkerFault::Memory);

@@ -1,5 +1,5 @@
 //! The ledgers and the locks of a run, and what a worker has of them.
-ghost use Rattle.std.specs.Prelude.{◌≡◌, ◌%◌, ◌^◌, All, Err, IfErr, IfOk, length, map};
+ghost use Rattle.std.specs.Prelude.{◌≡◌, ◌%◌, ◌^◌, All, Err, IfErr, IfOk, IsOk, length, map};
 ghost use Rattle.arachne_ledger.specs.Views.{IsShareOf, IsWhole as IsWholeShare};
 ghost use Rattle.arachne_sleep.specs.History.{IsSound};
 ghost use Rattle.arachne_sleep.specs.OneHolder.{HasOneHolderAtATime};
@@ -8,6 +8,7 @@ ghost use Rattle.arachne_sleep.specs.Views.{IsWhole as IsWholeSeat};
 ghost use Rattle.arachne_run.specs.declared.fault.WorkerFault.TheVariants.{Memory, Token};
 ghost use Rattle.arachne_run.specs.Tokens.{AreHoldingsOf};
 
+use crate::both::both;
 use crate::fault::WorkerFault;
 use arachne_ledger::{Ledgers, Share};
 use arachne_sleep::{History, LockSeats, SleepLocks};
@@ -96,9 +97,14 @@ impl Resources {
         ensures sound { IfOk result (λ remains. All (λ history. IsSound history.items) remains.histories.items) }
         ensures one_holder { IfOk result (λ remains. All (λ history. HasOneHolderAtATime history.items) remains.histories.items) }
         ensures words { IfOk result (λ remains. remains.words.items ≡ map (λ sum. sum % 2 ^ 64) holdings.share.sums) }
+        ensures missing_share { (IsWholeShare holdings.share → ⊥) → result ≡ Err Token }
+        ensures missing_seat { (All IsWholeSeat holdings.lock_seats → ⊥) → result ≡ Err Token }
+        ensures whole { IsWholeShare holdings.share × All IsWholeSeat holdings.lock_seats → IfErr result (λ fault. fault ≡ Memory) }
+        ensures back { IsOk result → IsWholeShare holdings.share × All IsWholeSeat holdings.lock_seats }
     {
-        let histories = closed_locks(alloc, self.locks, holdings.lock_seats)?;
-        let words = closed_words(alloc, self.ledgers, holdings.share)?;
+        let histories = closed_locks(alloc, self.locks, holdings.lock_seats);
+        let words = closed_words(alloc, self.ledgers, holdings.share);
+        let (histories, words) = both(histories, words)?;
         Ok(Remains { words, histories })
     }
 }
@@ -112,6 +118,7 @@ fn closed_locks(
     requires { AreSeatsOf locks seats }
     ensures missing { (All IsWholeSeat seats → ⊥) → result ≡ Err Token }
     ensures whole { All IsWholeSeat seats → IfErr result (λ fault. fault ≡ Memory) }
+    ensures back { IsOk result → All IsWholeSeat seats }
     ensures count { IfOk result (λ histories. length histories.items ≡ length locks) }
     ensures sound { IfOk result (λ histories. All (λ history. IsSound history.items) histories.items) }
     ensures one_holder { IfOk result (λ histories. All (λ history. HasOneHolderAtATime history.items) histories.items) }
@@ -130,6 +137,7 @@ fn closed_words(alloc: Global, ledgers: Ledgers, share: Share) -> Result<Vec<u64
     requires { IsShareOf ledgers share }
     ensures missing { (IsWholeShare share → ⊥) → result ≡ Err Token }
     ensures whole { IsWholeShare share → IfErr result (λ fault. fault ≡ Memory) }
+    ensures back { IsOk result → IsWholeShare share }
     ensures sums { IfOk result (λ words. words.items ≡ map (λ sum. sum % 2 ^ 64) share.sums) }
 {
     if !share.is_whole() {

@@ -3,7 +3,9 @@
 //! With `forking`, for its forks, it alone calls the table while threads run. Its type keeps the bookkeeping: the
 //! thread in hand is out with one seat, the places that are kept with the other, and nothing else is out between two
 //! calls.
-ghost use Rattle.std.specs.Prelude.{◌≡◌, ◌<◌, true, IsTrue};
+ghost use Rattle.std.specs.Prelude.{◌≡◌, ◌≢◌, ◌↔◌, ◌==◌, ◌<◌, if◌then◌else◌, false, true, IsTrue, MatchOption, None, OnOk, Some, map};
+ghost use Rattle.arachne_contexts.specs.Out.{Claim as a_claim};
+ghost use Rattle.arachne_core.specs.declared.thread_id.ThreadId.{ThreadId};
 ghost use Rattle.arachne_run.specs.Tokens.{AreIdle, IsSetUp, ground_of};
 
 use crate::access::Access;
@@ -11,10 +13,11 @@ use crate::claims::Claims;
 use crate::fault::WorkerFault;
 use crate::forking::{Forks, free_place, give_place_back, go_on, post_waiting};
 use crate::gate::Gate;
+use crate::in_hand::{InHand, has_lock, rests_so};
 use crate::machine::Machine;
 use crate::tokens::Tokens;
 use arachne_arbiter::{Arbiter, Pace};
-use arachne_contexts::{Contexts, Held, Moved, Placed, Rested, Taken, Woken};
+use arachne_contexts::{Contexts, Moved, Placed, Taken, Woken};
 use arachne_core::{MarkWord, OccWord, Place, Rest, ThreadId};
 use arachne_jobs::{
     Openings, PlaceLeft, RunJob, RunSpares, RunThread, RunTicket, claim_again, finish, next_ticket,
@@ -41,7 +44,7 @@ pub(crate) struct Seat<'a, H, T: RunJob, C: Contexts<T>, R, G> {
     pub(crate) is_broken: bool,
     /// With it the thread in hand is out.
     pub(crate) seat: C::Seat,
-    pub(crate) held: Option<Held<T, C::Hold>>,
+    pub(crate) held: Option<InHand<T, C::Hold>>,
     /// With it the places that are kept are out.
     pub(crate) spare: C::Seat,
     pub(crate) kept: Claims<C::Claim>,
@@ -172,8 +175,7 @@ impl<'a, H: Wait + Clock, T: RunJob, C: Contexts<T>, R: Rng + Drop, G: Gate> Des
         match table.take(self.rt, &mut self.seat, self.core, index) {
             Taken::Run(held) => {
                 self.gate.turn(self.core, held.id(), held.value.name());
-                self.held = Some(held);
-                self.access.has_lock = false;
+                self.held = Some(InHand::taken(held));
                 Grip::Taken
             }
             Taken::NotReady(_) => Grip::None,
@@ -192,7 +194,7 @@ impl<'a, H: Wait + Clock, T: RunJob, C: Contexts<T>, R: Rng + Drop, G: Gate> Des
         if self.is_broken {
             return Err(Halt::from(WorkerFault::Token));
         }
-        let Some(held) = &mut self.held else {
+        let Some(thread) = &mut self.held else {
             return Err(Halt::from(WorkerFault::Token));
         };
         self.is_broken = true;
@@ -202,7 +204,8 @@ impl<'a, H: Wait + Clock, T: RunJob, C: Contexts<T>, R: Rng + Drop, G: Gate> Des
             self.machine,
             &mut self.seat,
             &mut self.pass,
-            held,
+            &mut thread.held,
+            &mut thread.has_lock,
             &mut self.forks,
             &mut self.access,
             pace,
@@ -214,7 +217,7 @@ impl<'a, H: Wait + Clock, T: RunJob, C: Contexts<T>, R: Rng + Drop, G: Gate> Des
 
     #[inline(always)]
     fn holds(&self) -> bool {
-        self.access.has_lock
+        has_lock(&self.held)
     }
 
     #[inline(always)]
@@ -222,19 +225,18 @@ impl<'a, H: Wait + Clock, T: RunJob, C: Contexts<T>, R: Rng + Drop, G: Gate> Des
         if self.is_broken {
             return Err(Halt::from(WorkerFault::Token));
         }
-        let Some(held) = self.held.take() else {
+        let Some(InHand { held, has_lock }) = self.held.take() else {
             return Err(Halt::from(WorkerFault::Token));
         };
         let Some(rest) = held.value.rest() else {
-            self.held = Some(held);
+            self.held = Some(InHand { held, has_lock });
             return Err(Halt::from(WorkerFault::Foreign));
         };
         let table = &self.machine.table;
         match table.put_back(self.rt, &mut self.seat, held, rest) {
-            Ok(Rested::AsAsked) => Ok(rest),
-            Ok(Rested::WokenMeanwhile) => Ok(Rest::Ready),
+            Ok(rested) => Ok(rests_so(rested, rest)),
             Err(held) => {
-                self.held = Some(held);
+                self.held = Some(InHand { held, has_lock });
                 Err(Halt::from(WorkerFault::Token))
             }
         }
@@ -245,7 +247,7 @@ impl<'a, H: Wait + Clock, T: RunJob, C: Contexts<T>, R: Rng + Drop, G: Gate> Des
         if self.is_broken {
             return Err(Halt::from(WorkerFault::Token));
         }
-        let Some(held) = self.held.take() else {
+        let Some(InHand { held, has_lock }) = self.held.take() else {
             return Err(Halt::from(WorkerFault::Token));
         };
         match finish(self.rt, &self.machine.table, &mut self.seat, held) {
@@ -262,7 +264,7 @@ impl<'a, H: Wait + Clock, T: RunJob, C: Contexts<T>, R: Rng + Drop, G: Gate> Des
                 }
             }
             Err(held) => {
-                self.held = Some(held);
+                self.held = Some(InHand { held, has_lock });
                 Err(Halt::from(WorkerFault::Token))
             }
         }
@@ -356,20 +358,18 @@ impl<'a, H: Wait + Clock, T: RunJob, C: Contexts<T>, R: Rng + Drop, G: Gate> Des
             return Ok(Ticket::Gone);
         }
         self.is_broken = true;
-        let (rt, machine) = (self.rt, self.machine);
-        let (spare, kept) = (&mut self.spare, &mut self.kept);
-        let Some(claim) = free_place::<H, T, C>(rt, machine, spare, kept, self.core)? else {
-            self.is_broken = false;
-            return Ok(Ticket::Gone);
-        };
-        let place = claim.place();
-        let job = T::of_ticket(self.alloc, ticket, &mut self.forks.spares);
-        let posted = post_waiting::<H, T, C>(rt, machine, &mut self.spare, claim, job)?;
+        let posted = post_child::<H, T, C>(
+            self.rt,
+            self.alloc,
+            self.machine,
+            &mut self.spare,
+            &mut self.kept,
+            self.core,
+            ticket,
+            &mut self.forks.spares,
+        )?;
         self.is_broken = false;
-        Ok(match posted {
-            Some(id) => Ticket::Posted(Post { id, place }),
-            None => Ticket::Gone,
-        })
+        Ok(posted)
     }
 
     fn tend(&mut self) -> (Option<usize>, u64) {
@@ -381,21 +381,18 @@ impl<'a, H: Wait + Clock, T: RunJob, C: Contexts<T>, R: Rng + Drop, G: Gate> Des
         let cores = machine.cores::<H, T>(self.rt);
         let workers = machine.shared.workers();
         let receivers = arbiter.tend(&cores, &mut self.seat, workers.parking(), workers.slices());
-        let after = arbiter.applied();
-        let applied = if after != before { Some(after) } else { None };
-        (applied, receivers)
+        (news_of(before, arbiter.applied()), receivers)
     }
 
     #[inline(always)]
-    fn has_orders(&self) -> bool {
+    fn has_orders(&self) -> bool
+        ensures { IsTrue result ↔ (self.now.orders ≢ 0) }
+    {
         self.machine.orders != 0
     }
 
     fn is_waited_for(&self) -> bool {
-        match &self.arbiter {
-            Some(arbiter) => arbiter.applied() < self.machine.orders,
-            None => false,
-        }
+        has_orders_left(&self.arbiter, self.machine.orders)
     }
 
     fn is_drained(&mut self) -> Option<Drained> {
@@ -409,5 +406,61 @@ impl<'a, H: Wait + Clock, T: RunJob, C: Contexts<T>, R: Rng + Drop, G: Gate> Des
     #[inline(always)]
     fn told(&self, event: Event) {
         self.gate.told(self.core, event);
+    }
+}
+
+/// How many orders are applied now, where that are others than before.
+fn news_of(before: usize, after: usize) -> Option<usize>
+    ensures { result ≡ (if after == before then None else Some after) }
+{
+    if after != before { Some(after) } else { None }
+}
+
+/// Whether there is an arbiter, and it has not applied all of so many orders.
+fn has_orders_left(arbiter: &Option<Arbiter>, orders: usize) -> bool
+    ensures { MatchOption arbiter.now (result ≡ false) (λ progress. IsTrue result ↔ (progress.applied < orders)) }
+{
+    match arbiter {
+        Some(arbiter) => arbiter.applied() < orders,
+        None => false,
+    }
+}
+
+/// Posts the child of a ticket, if it waits still and the core has a place.
+fn post_child<H: Wait, T: RunJob, C: Contexts<T>>(
+    rt: &H,
+    alloc: Global,
+    machine: &Machine<C, T::Ticket>,
+    spare: &mut C::Seat,
+    kept: &mut Claims<C::Claim>,
+    core: u8,
+    ticket: T::Ticket,
+    spares: &mut T::Spares,
+) -> Result<Ticket, WorkerFault>
+    requires seat { C.sits machine.now.table spare.old }
+    requires out { C.has machine.now.table spare.old (map a_claim kept.old) }
+    requires set_up { IsSetUp C.core_count C.slot_count machine.now }
+    requires core { core < machine.now.cores }
+    ensures seat { C.sits machine.now.table spare.new }
+    ensures out { OnOk result (C.has machine.now.table spare.new (map a_claim kept.new)) }
+{
+    let Some(claim) = free_place::<H, T, C>(rt, machine, spare, kept, core)? else {
+        return Ok(Ticket::Gone);
+    };
+    let place = claim.place();
+    let job = T::of_ticket(alloc, ticket, spares);
+    let id = post_waiting::<H, T, C>(rt, machine, spare, claim, job)?;
+    Ok(posted_at(id, place))
+}
+
+/// What came of a ticket whose child was posted at a place under this id, or was gone.
+#[inline(always)]
+fn posted_at(id: Option<ThreadId>, place: Place) -> Ticket
+    ensures posted { (posted : ThreadId) → id ≡ Some posted → result ≡ Ticket.Posted (record { id = posted; place = place }) }
+    ensures gone { id ≡ None → result ≡ Ticket.Gone }
+{
+    match id {
+        Some(id) => Ticket::Posted(Post { id, place }),
+        None => Ticket::Gone,
     }
 }

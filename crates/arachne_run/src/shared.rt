@@ -1,5 +1,5 @@
 //! The words of a run that all its workers see.
-ghost use Rattle.std.specs.Prelude.{◌≡◌, IfOk};
+ghost use Rattle.std.specs.Prelude.{◌≡◌, IfOk, MatchOption, Some};
 
 use crate::fault::WorkerFault;
 use arachne_jobs::Room;
@@ -59,14 +59,21 @@ impl Shared {
     /// Stops all workers for a fault, which is recorded if it is the first.
     pub(crate) fn fail<H: Wait>(&self, rt: &H, fault: WorkerFault) {
         let mut first = self.first_fault.lock(rt);
-        if first.is_none() {
-            *first = Some(fault);
-        }
+        keep_first(&mut first, fault);
         self.stop();
     }
 
     /// The fault for which all workers were stopped first.
     pub(crate) fn into_first_fault(self) -> Option<WorkerFault> {
         self.first_fault.into_inner()
+    }
+}
+
+/// Records a fault, if it is the first.
+fn keep_first(first: &mut Option<WorkerFault>, fault: WorkerFault)
+    ensures { MatchOption first.old (first.new ≡ Some fault) (λ before. first.new ≡ Some before) }
+{
+    if first.is_none() {
+        *first = Some(fault);
     }
 }

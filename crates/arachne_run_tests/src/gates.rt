@@ -2,7 +2,7 @@
 use arachne_core::{CORES, ThreadId};
 use arachne_judge::Log;
 use arachne_lang::Name;
-use arachne_run::{Event, Gate, SliceEnd};
+use arachne_run::{Cause, Event, Gate, SliceEnd};
 use std::hint::spin_loop;
 use std::sync::atomic::{AtomicU64, Ordering};
 use std::thread::yield_now;
@@ -52,6 +52,8 @@ pub enum Watching {
     Parked(u8, u64),
     /// It counts the children that wait for a place with a ticket.
     Spills,
+    /// It notes whether a thread was woken since a child of it has ended, and whether one was since it is served.
+    Wakes,
     /// It holds core 0's slice of this number until core 1 has entered its slice 0, and that until an order is applied.
     /// From then on each slice of core 1 follows a taking.
     Anew(u64),
@@ -286,6 +288,7 @@ impl Gate for Watch {
         match event {
             Event::Sliced(_, end) => self.slice_ended(core, end),
             Event::Spilled => self.spilled(),
+            Event::Woken(_, cause) => self.woken(cause),
             Event::MovedAway(receivers) => self.moved_away(receivers),
             Event::Parks => self.parks(core),
             Event::Unparked => self.unparked(core),
@@ -323,6 +326,14 @@ impl Watch {
     fn spilled(&self) {
         if let Watching::Spills = self.watching {
             self.slices.fetch_add(1, Ordering::SeqCst);
+        }
+    }
+
+    fn woken(&self, cause: Cause) {
+        match (self.watching, cause) {
+            (Watching::Wakes, Cause::ChildEnded) => self.zero.store(1, Ordering::SeqCst),
+            (Watching::Wakes, Cause::IsServed) => self.one.store(1, Ordering::SeqCst),
+            _ => {}
         }
     }
 

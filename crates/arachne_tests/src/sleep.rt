@@ -1,5 +1,6 @@
 //! One run of asks, looks and frees, a call a row with its answer.
 mod contended;
+mod long;
 mod several;
 mod shortage;
 

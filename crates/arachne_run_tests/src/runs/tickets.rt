@@ -72,8 +72,29 @@ const KEPT: Row = Row {
     told: "slot slot slot spill ",
 };
 
+/// The root holds the lock for longer than it may at once, so that its child comes to wait for it, and then awaits that.
+const WAKES: Row = Row {
+    shows: "a thread is told as woken for what it waited for",
+    source: Source {
+        ledgers: 0,
+        locks: 1,
+        forks: 0,
+        expr: "(fork n (hold 0 (fold (num 0) (num 2000) (num 2) (var 1))) (hold 0 (fold (num 0) (num 2000) (num 1) (var 1))) (add (var 0) (var 1)))",
+    },
+    forms: FORMS,
+    slots: 5,
+    machines: &[(1, 100, 1)],
+    draws: ZEROS,
+    orders: &[],
+    watching: Watching::Wakes,
+    facts: &[(Fact::Value, 3), (Fact::IsOver, 1)],
+    telling: Telling::Ran,
+    told: "slot slot ",
+};
+
 const ROWS: &[Row] = &[
     WAITS,
+    WAKES,
     Row {
         machines: &[(2, 100, 2)],
         watching: Watching::Meeting(20, 3),

@@ -40,7 +40,7 @@ returns-in-Ok-clause-rests c = λ ts rests.
     let made = c.in_ok-advance_within.ensures.alone alone (c.in_ok-advance_within.ensures.everywhere refl alone) in
     let advanced = rw c.in-Joins.is at made.does in
     let popped : outs ≡ left ++ outcome ∷ [] = rw c.unwrap-outcome.ensures at c.pop.ensures.items in
-    let new = c.joined.new.self in
+    let new = c.joined_into.new.self in
     let both : Rests p (old ∷ ts) (key outcome ∷ map key (reverse left)) = subst (λ l. Rests p (old ∷ ts) (map key l)) (pushed left outs outcome popped) rests in
     let is_ready = ready p old mid.running (ts) outcome (map key (reverse left)) advanced.0 advanced.3 both in
     is_ready.goes_on new (alone_on mid new made.alone (ap (λ v. v.parents) c.in-Ok.ensures.others) (ap (λ v. v.placed) c.in-Ok.ensures.others) c.in-Ok.ensures.ok.here) c.in-Ok.ensures.pending c.in-Ok.ensures.ok
@@ -98,8 +98,8 @@ unwrap-outcome-requires c =
     let some : 0 < length outs = some_outcome old.running.program old mid.running c.requires.rests.0 outs advanced.0 advanced.3 c.requires.rests.1 in
     search rules
 
-pub joined-requires-clause-program : goal.joined-requires-clause-program
-joined-requires-clause-program c =
+pub joined_into-requires-clause-program : goal.joined_into-requires-clause-program
+joined_into-requires-clause-program c =
     let old = c.args.thread.now in
     let p = old.running.program in
     let outs = c.args.outcomes.now.items in

@@ -9,7 +9,7 @@ pub invariant_of-result : goal.invariant_of-result
 invariant_of-result c =
     let t = c.args.self.now in
     let v = c.value-value.result in
-    let lines : c.replace-2.result ≡ t.lines = c.replace-2.ensures.value ∙ ap (λ s. s.lines) c.take_line.ensures.others in
+    let lines : c.replace-2.result ≡ t.lines = c.replace-2.ensures.value in
     let Told : ThreadLine → List ℕ → List ThreadLine → Type 0 = λ own sums below.
     IsOfItsName (record { program = t.program.now; name = own.name; value = v; sums = sums; lines = own ∷ below }) in
     subst (λ own. Told own c.replace.result.items c.replace-2.result) (sym c.take_line.ensures.line)

@@ -11,7 +11,7 @@ use Rattle.arachne_machine.proofs.Nesting.{program_seen, same_whole}
 use Rattle.arachne_machine.proofs.Going.{line_in}
 use Rattle.arachne_machine.proofs.Lasting.{in_both, ok_map, same_kept, same_seen, err_then}
 use Rattle.arachne_machine.proofs.Rejoining.{Rejoined, as_many_sums, rejoined}
-use Rattle.arachne_machine.proofs.thread.Thread.joined.Goals as goal
+use Rattle.arachne_machine.proofs.thread.Thread.joined_into.Goals as goal
 
 pub join-requires-clause-joins : goal.join-requires-clause-joins
 join-requires-clause-joins c = ap (λ s. pending_of s.control) c.deref_mut.ensures.value ∙ ap pending_in c.self.view_is ∙ c.requires.pending

@@ -1,5 +1,0 @@
-use Rattle.arachne_exec_tests.proofs.Newest.{newest}
-use Rattle.arachne_exec_tests.proofs.turns.pass_by.Goals as goal
-
-pub finish-requires-clause-newest : goal.finish-requires-clause-newest
-finish-requires-clause-newest c = newest _ _ _ _ c.in-Some.ensures.hand.1

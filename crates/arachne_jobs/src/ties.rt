@@ -1,0 +1,77 @@
+//! What ties a job to others, in one box, and what ended jobs leave of it.
+ghost use Rattle.std.specs.Prelude.{◌≡◌, ◌≤◌, ◌+◌, [], IfOk, vec_len, vec_capacity};
+
+use crate::ends::End;
+use arachne_core::ThreadId;
+use std::alloc::{AllocError, Global};
+use std::marker::Model;
+
+/// The ends of cells that a job has, the newest last, and the id under which its parent runs. No lifetime is in it.
+#[derive(Drop)]
+pub struct Ties {
+    pub(crate) ends: Vec<End>,
+    pub(crate) parent: Option<ThreadId>,
+}
+
+/// How many ties are kept at most.
+const MOST: usize = 64;
+
+/// The ties of ended jobs, with the room of their lists, for jobs that begin.
+#[derive(Drop)]
+pub struct SpareTies {
+    ties: Vec<Box<Ties>>,
+}
+
+impl Model for SpareTies {
+    ghost use Rattle.std.specs.Prelude.{◌≤◌, vec_len};
+
+    ghost Value = { Unit {0} };
+
+    ghost view = { λ s. tt };
+
+    ghost invariant = { λ s. vec_len s.ties ≤ 64 };
+}
+
+impl SpareTies {
+    /// None so far. It allocates nothing.
+    pub(crate) fn new(alloc: Global) -> SpareTies {
+        SpareTies {
+            ties: Vec::new(alloc),
+        }
+    }
+
+    /// Ties to this parent and to no cell, with room for an end.
+    #[inline(always)]
+    pub(crate) fn take(
+        &mut self,
+        alloc: Global,
+        parent: Option<ThreadId>,
+    ) -> Result<Box<Ties>, AllocError>
+        ensures none { IfOk result (λ ties. ties.value.ends.items ≡ []) }
+        ensures parent { IfOk result (λ ties. ties.value.parent ≡ parent) }
+        ensures room { IfOk result (λ ties. vec_len ties.value.ends + 1 ≤ vec_capacity ties.value.ends) }
+    {
+        let mut ties = match self.ties.pop() {
+            Some(ties) => ties,
+            None => Box::new(
+                alloc,
+                Ties {
+                    ends: Vec::new(alloc),
+                    parent: None,
+                },
+            )?,
+        };
+        ties.ends.clear();
+        ties.ends.try_reserve(2)?;
+        ties.parent = parent;
+        Ok(ties)
+    }
+
+    /// Keeps the ties of an ended job, unless there are enough.
+    #[inline(always)]
+    pub(crate) fn keep(&mut self, ties: Box<Ties>) {
+        if self.ties.len() < MOST {
+            let _ = self.ties.push(ties);
+        }
+    }
+}

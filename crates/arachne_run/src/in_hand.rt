@@ -1,0 +1,49 @@
+//! The thread that a worker has in hand.
+ghost use Rattle.std.specs.Prelude.{◌≡◌, false, MatchOption};
+
+use arachne_contexts::{Held, Rested};
+use arachne_core::Rest;
+
+/// A thread in hand.
+#[derive(Drop)]
+pub(crate) struct InHand<T, H> {
+    pub(crate) held: Held<T, H>,
+    /// Whether it was granted a lock since it was taken, and has freed none since.
+    pub(crate) has_lock: bool,
+}
+
+impl<T, H> InHand<T, H> {
+    /// One that was taken just now. [`Seat::take`](crate::seat::Seat) alone makes it.
+    #[inline(always)]
+    pub(crate) fn taken(held: Held<T, H>) -> InHand<T, H>
+        ensures { result ≡ record { held = held; has_lock = false } }
+    {
+        InHand {
+            held,
+            has_lock: false,
+        }
+    }
+}
+
+/// Whether there is a thread in hand that has a lock.
+#[inline(always)]
+pub(crate) fn has_lock<T, H>(in_hand: &Option<InHand<T, H>>) -> bool
+    ensures { MatchOption in_hand.now (result ≡ false) (λ thread. result ≡ thread.has_lock) }
+{
+    match in_hand {
+        Some(thread) => thread.has_lock,
+        None => false,
+    }
+}
+
+/// How a thread rests that was to be put back so.
+#[inline(always)]
+pub(crate) fn rests_so(rested: Rested, asked: Rest) -> Rest
+    ensures as_asked { rested ≡ Rested.AsAsked → result ≡ asked }
+    ensures woken { rested ≡ Rested.WokenMeanwhile → result ≡ Rest.Ready }
+{
+    match rested {
+        Rested::AsAsked => asked,
+        Rested::WokenMeanwhile => Rest::Ready,
+    }
+}
