@@ -1,0 +1,7 @@
+"""take.py ours|theirs FILE..: resolves each conflict of a file by one side."""
+import sys,re
+side=sys.argv[1]
+for p in sys.argv[2:]:
+    s=open(p).read()
+    s=re.sub(r'<<<<<<< [^\n]*\n(.*?)(?:\|\|\|\|\|\|\| [^\n]*\n.*?)?=======\n(.*?)>>>>>>> [^\n]*\n', lambda m: m.group(1 if side=='ours' else 2), s, flags=re.S)
+    open(p,'w').write(s)
