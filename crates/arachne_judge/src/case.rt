@@ -198,7 +198,8 @@ impl<'r> Case<'r> {
             Event::Unparked => self.unparked(core),
             Event::Applied(orders) => return self.applied(core, orders),
             Event::MovedAway(receivers) => return self.moved_away(core, receivers),
-            Event::Ticket(_) | Event::Overslept => {}
+            // No rule speaks of the others.
+            _ => {}
         }
         if core == 0 {
             self.counted = 0;
