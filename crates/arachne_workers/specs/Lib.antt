@@ -1,3 +1,4 @@
 pub mod Lowest
 pub mod Posts
 pub mod Keeping
+pub mod Due

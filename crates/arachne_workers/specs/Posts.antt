@@ -1,6 +1,7 @@
 -- What becomes of threads that a worker has posted on other cores and not told of.
 use Rattle.std.specs.Prelude.{◌≡◌, ◌≤◌, ◌<◌, ℕ, [], ◌∷◌, ◌++◌, List, Option, None, Some, length}
 use Rattle.arachne_workers.specs.declared.policy.TheConstants.{MOST_KEPT_BACK, TOLD_AT_ONCE}
+use Rattle.arachne_workers.specs.declared.due.Untold.{Untold}
 use Rattle.arachne_workers.specs.declared.queue.Keeping.{Keeping}
 use Rattle.arachne_workers.specs.declared.queue.Keeping.TheVariants.{AtOnce, KeptBack, ForOldest, Refused}
 use Rattle.arachne_workers.specs.declared.queue.Post.{Post}
@@ -15,8 +16,8 @@ IsKeptBack posted before post (ForOldest told) after =
 IsKeptBack posted before post (Refused told refusal) after = (TOLD_AT_ONCE ≤ posted) × (told ∷ after ≡ before ++ post ∷ [])
 
 -- what is to be told of
-abbrev pub told_of : Keeping → Option Post
-told_of (AtOnce post) = Some post
-told_of KeptBack = None
-told_of (ForOldest post) = Some post
-told_of (Refused post refusal) = Some post
+abbrev pub untold_of : Keeping → Option Untold
+untold_of (AtOnce post) = Some (record { post = post })
+untold_of KeptBack = None
+untold_of (ForOldest post) = Some (record { post = post })
+untold_of (Refused post refusal) = Some (record { post = post })

@@ -1,15 +1,17 @@
 //! A slice of a thread, and its end.
-ghost use Rattle.std.specs.Prelude.{◌≡◌, ◌≤◌, ◌+◌, ◌↔◌, ◌⊎◌, false, true, min, IfOk, IsSome};
+ghost use Rattle.std.specs.Prelude.{◌≡◌, ◌≤◌, ◌+◌, min, IfOk, IsSome};
 
-use crate::desk::{Cause, Desk, Event, Halt, SliceEnd, Stop, thin_out};
+use crate::desk::{Desk, Event, Halt, SliceEnd, Stop, thin_out};
+use crate::due::EndedSo;
 use crate::policy;
 use crate::queue::Agenda;
 use crate::sleep::{Shared, Sliced};
 use crate::steps::{Steps, advance};
+use crate::stopping::Running;
 use crate::tending::Tended;
+use crate::turn::{InHand, Leave, Turn};
 use crate::wake::{posted, tell};
 use arachne_arbiter::Pace;
-use arachne_core::{OccWord, Rest};
 use std::sync::Wait;
 use std::time::Clock;
 
@@ -28,94 +30,76 @@ pub struct Worker<'a, H, D> {
     pub desk: D,
 }
 
-/// The thread in hand may have another slice at once. [`Leave::by`] alone gives one.
-#[derive(Drop)]
-struct Leave {
-    given: (),
-}
-
-impl Leave {
-    /// On a core that looks so, by what the thread holds and what else is to go on.
-    #[inline(always)]
-    fn by(now: OccWord, holds: bool, others: bool, takes_ticket: bool) -> Option<Leave>
-        ensures { IsSome result ↔ (now.closed ≡ false) × ((holds ≡ true) ⊎ ((others ≡ false) × (takes_ticket ≡ false))) }
-    {
-        if policy::may_go_on(now, holds, others, takes_ticket) {
-            Some(Leave { given: () })
-        } else {
-            None
-        }
-    }
-}
-
 impl<'a, H: Wait + Clock, D: Desk> Worker<'a, H, D> {
     /// The thread in hand, which was at this index, has a slice, and more as long as others may come to wait for what it
     /// holds or nothing else is to go on. Then it rests, or has ended. Whether it waits.
-    pub(crate) fn turn(&mut self, index: u8, tended: Tended) -> Result<bool, Halt>
+    pub(crate) fn turn(
+        &mut self,
+        index: u8,
+        in_hand: InHand,
+        tended: Tended,
+        running: Running,
+    ) -> Result<bool, Halt>
         ensures { self.new.desk ≡ self.old.desk }
     {
-        let quantum = self.desk.quantum();
-        let mut grace = policy::STEPS_TO_FREE;
-        let mut end = self.slice(quantum, tended)?;
-        for _ in 1..policy::MOST_ALONE {
-            let holds = self.desk.holds();
-            if end != SliceEnd::GoesOn || policy::is_grace_over(holds, grace) {
-                break;
-            }
-            let Some(leave) = self.goes_on() else {
-                break;
-            };
-            let most = policy::most_steps(quantum, holds, grace);
-            grace = policy::grace_left(holds, grace, most);
-            end = self.another_slice(most, leave)?;
-        }
+        let (leave, mut turn) = Turn::begin(in_hand, self.desk.quantum(), running);
+        let end = match self.slices(leave, &mut turn, tended) {
+            Ok(end) => end,
+            Err(halt) => return Err(turn.meets(halt)),
+        };
         if end == SliceEnd::Ended {
-            self.end()?;
+            self.end(turn)?;
             return Ok(false);
         }
-        let rest = self.desk.rest()?;
-        if rest == Rest::Ready {
-            self.agenda.note(index);
-        }
-        Ok(rest == Rest::Blocked)
+        let rest = turn.put_back(&mut self.desk)?;
+        Ok(self.agenda.rests(index, rest))
     }
 
-    /// Whether the thread in hand has another slice at once: it holds what others may come to wait for, or no other is
-    /// known to be ready, no ticket could be taken in the round that found this one, and the workers go on.
-    fn goes_on(&mut self) -> Option<Leave>
+    /// The slices of a turn, from the first one on. How the last one ends.
+    fn slices(&mut self, leave: Leave, turn: &mut Turn, tended: Tended) -> Result<SliceEnd, Halt>
+        ensures { self.new.desk ≡ self.old.desk }
+    {
+        let mut end = self.slice(leave, tended)?;
+        for _ in 1..policy::MOST_ALONE {
+            let Some(leave) = self.goes_on(turn, end) else {
+                break;
+            };
+            let tended = self.tend();
+            end = self.slice(leave, tended)?;
+        }
+        Ok(end)
+    }
+
+    /// Whether the thread in hand has another slice at once after one that has ended so: it holds what others may come to
+    /// wait for, or no other is known to be ready, no ticket could be taken in the round that found this one, and the
+    /// workers go on.
+    fn goes_on(&mut self, turn: &mut Turn, end: SliceEnd) -> Option<Leave>
         ensures desk { self.new.desk ≡ self.old.desk }
         ensures same { (self.new.agenda ≡ self.old.agenda) × (self.new.slices ≡ self.old.slices) }
+        ensures end { IsSome result → end ≡ SliceEnd.GoesOn }
     {
         let holds = self.desk.holds();
+        let most = turn.most(end, holds)?;
         let others = self.agenda.is_any() || self.shared.hints().is_any(self.core);
-        if others && !holds || self.shared.is_stopped() {
+        if others && !holds {
             return None;
         }
+        let running = self.shared.running()?;
         let takes_ticket = !holds && self.desk.may_take_ticket();
-        Leave::by(self.desk.look(), holds, others, takes_ticket)
+        most.leave(self.desk.look(), others, takes_ticket, running)
     }
 
-    /// A further slice of the thread in hand, which may go on at once.
-    fn another_slice(&mut self, most: u32, leave: Leave) -> Result<SliceEnd, Halt>
-        ensures desk { self.new.desk ≡ self.old.desk }
-        ensures number { self.new.slices ≡ min (self.old.slices + 1) u64.MAX }
-        ensures scan { self.new.agenda.scan ≡ self.old.agenda.scan }
-    {
-        let _ = leave;
-        let tended = self.tend();
-        self.slice(most, tended)
-    }
-
-    /// One slice of the thread in hand, before which orders were looked at: it goes on for at most so many steps.
-    fn slice(&mut self, most: u32, tended: Tended) -> Result<SliceEnd, Halt>
+    /// One slice of the thread in hand, before which orders were looked at: it goes on for at most as many steps as it has
+    /// leave for.
+    fn slice(&mut self, leave: Leave, tended: Tended) -> Result<SliceEnd, Halt>
         ensures desk { self.new.desk ≡ self.old.desk }
         ensures number { self.new.slices ≡ min (self.old.slices + 1) u64.MAX }
         ensures scan { self.new.agenda.scan ≡ self.old.agenda.scan }
     {
         self.begin(tended);
-        let sliced = self.spend_quantum(most)?;
-        self.desk.told(Event::Sliced(sliced.steps(), sliced.end()));
-        Ok(self.shared.count_slice(self.core, sliced))
+        let sliced = self.spend(leave)?;
+        let told = sliced.tell(&self.desk);
+        Ok(self.shared.count_slice(self.core, sliced, told))
     }
 
     /// The next slice of the worker begins, before which orders were looked at.
@@ -130,55 +114,64 @@ impl<'a, H: Wait + Clock, D: Desk> Worker<'a, H, D> {
         self.slices = self.slices.saturating_add(1);
     }
 
-    /// The steps of a slice of at most so many, how many they are, and how it ends. Where all are used up, all that the
-    /// worker posted is told of.
-    fn spend_quantum(&mut self, quantum: u32) -> Result<Sliced, Halt>
+    /// The steps of a slice, at most as many as there is leave for: how many they are, and how it ends. Where all are used
+    /// up, all that the worker posted is told of.
+    fn spend(&mut self, leave: Leave) -> Result<Sliced, Halt>
         ensures desk { self.new.desk ≡ self.old.desk }
-        ensures steps { IfOk result (λ sliced. sliced.steps ≤ quantum) }
+        ensures steps { IfOk result (λ sliced. sliced.steps ≤ leave.steps) }
         ensures others { (self.new.slices ≡ self.old.slices) × (self.new.agenda.scan ≡ self.old.agenda.scan) }
     {
         self.agenda.begin_slice();
-        let mut steps = Steps::new(quantum);
-        for _ in 0..quantum {
+        let mut steps = Steps::new(leave.steps());
+        for _ in 0..leave.steps() {
             if steps.left() == 0 {
                 break;
             }
-            let most = steps.left().min(self.agenda.most_steps());
-            let (stop, made) = match advance(&mut self.desk, &mut self.pace, most) {
+            let stretch = self.agenda.stretch(steps.left());
+            let (stopped, made) = match advance(&mut self.desk, &mut self.pace, stretch) {
                 Ok(went) => went,
                 Err(halt) => return Err(steps.untold(halt)),
             };
-            if self.agenda.spend(steps.count(made)) {
-                tell(&mut self.agenda, self.shared);
+            if let Some(telling) = self.agenda.spend(steps.count(made)) {
+                telling.done(tell(&mut self.agenda, self.shared));
             }
-            match stop {
-                Stop::Goes => {}
+            match stopped.stop() {
+                Stop::Goes => stopped.goes(),
                 Stop::Posted(post) => {
-                    posted(&mut self.agenda, self.shared, self.core, post);
+                    let untold = stopped.untold(post);
+                    posted(&mut self.agenda, self.shared, self.core, untold);
                 }
-                Stop::Spilled => self.desk.told(Event::Spilled),
-                Stop::Ends => return Ok(Sliced::new(steps, SliceEnd::Ended)),
-                Stop::Blocks => return Ok(Sliced::new(steps, SliceEnd::AwaitsChild)),
-                Stop::Waits(number) => return Ok(Sliced::new(steps, SliceEnd::Awaits(number))),
-                Stop::Wakes(next) => {
-                    self.wake(next, Cause::IsServed);
+                Stop::Spilled => {
+                    stopped.goes();
+                    self.desk.told(Event::Spilled);
+                }
+                Stop::Ends => {
+                    return Ok(Sliced::new(steps, stopped.ended(SliceEnd::Ended)));
+                }
+                Stop::Blocks => {
+                    return Ok(Sliced::new(steps, stopped.ended(SliceEnd::AwaitsChild)));
+                }
+                Stop::Waits(number) => {
+                    return Ok(Sliced::new(steps, stopped.ended(SliceEnd::Awaits(number))));
+                }
+                Stop::Wakes(id) => {
+                    self.wake(stopped.unwoken(id));
                     steps.pass_free(self.agenda.has_next());
                 }
             }
         }
-        tell(&mut self.agenda, self.shared);
-        Ok(Sliced::new(steps, SliceEnd::GoesOn))
+        let told = tell(&mut self.agenda, self.shared);
+        Ok(Sliced::new(steps, EndedSo::used_up(told)))
     }
 
     /// Ends the thread in hand, and wakes who awaits it. Its place is kept or told of as free before. Then places that are
     /// kept may be given back.
-    fn end(&mut self) -> Result<(), Halt>
+    fn end(&mut self, turn: Turn) -> Result<(), Halt>
         ensures desk { self.new.desk ≡ self.old.desk }
         ensures others { (self.new.slices ≡ self.old.slices) × (self.new.agenda.scan ≡ self.old.agenda.scan) × (self.new.agenda.posts ≡ self.old.agenda.posts) }
     {
-        let before = self.desk.look();
-        if let Some(parent) = self.desk.end(before)? {
-            self.wake(parent, Cause::ChildEnded);
+        if let Some(parent) = turn.end(&mut self.desk)? {
+            self.wake(parent);
         }
         thin_out(&mut self.desk, self.slots)
     }

@@ -1,9 +1,11 @@
 //! What a worker does next: a scan of what may be ready, a ticket, a look at all, and else it waits.
 ghost use Rattle.std.specs.Prelude.{◌≡◌, IsOk};
 
-use crate::desk::{Desk, Event, Grip, Halt, Ticket, give_all_back, thin_out};
+use crate::desk::{Desk, Event, Halt, give_all_back, thin_out};
+use crate::due::{TicketDue, take_ticket};
 use crate::execute::Worker;
 use crate::policy;
+use crate::turn::{Grasp, take};
 use crate::waiting::stay_awake;
 use crate::wake::{posted, tell};
 use arachne_core::SLOTS;
@@ -92,7 +94,7 @@ impl<'a, H: Wait + Clock, D: Desk> Worker<'a, H, D> {
             return Ok(true);
         }
         give_all_back(&mut self.desk)?;
-        tell(&mut self.agenda, self.shared);
+        let told = tell(&mut self.agenda, self.shared);
         if self.desk.is_waited_for() {
             return Ok(false);
         }
@@ -100,7 +102,7 @@ impl<'a, H: Wait + Clock, D: Desk> Worker<'a, H, D> {
             return Ok(false);
         };
         self.desk.told(Event::Parks);
-        self.shared.park(self.rt, self.core, drained);
+        self.shared.park(self.rt, self.core, drained, told);
         self.desk.told(Event::Unparked);
         Ok(true)
     }
@@ -135,18 +137,18 @@ impl<'a, H: Wait + Clock, D: Desk> Worker<'a, H, D> {
         let mut index = index;
         let mut found = false;
         for _ in 0..policy::MOST_IN_TURN {
-            if self.shared.is_stopped() {
+            let Some(running) = self.shared.running() else {
                 break;
-            }
+            };
             let tended = self.tend();
             let mut waits = false;
-            match self.desk.take(index) {
-                Grip::Taken => {
+            match take(&mut self.desk, index) {
+                Grasp::Begins(in_hand) => {
                     found = true;
-                    waits = self.turn(index, tended)?;
+                    waits = self.turn(index, in_hand, tended, running)?;
                 }
-                Grip::None => {}
-                Grip::Lost => self.agenda.note(index),
+                Grasp::None => {}
+                Grasp::Lost => self.agenda.note(index),
             }
             match self.next(waits) {
                 Some(next) => index = next,
@@ -165,16 +167,17 @@ impl<'a, H: Wait + Clock, D: Desk> Worker<'a, H, D> {
         if !self.desk.may_take_ticket() {
             return Ok(false);
         }
-        let ticket = self.desk.take_ticket()?;
-        let Ticket::Posted(post) = ticket else {
-            let found = matches!(ticket, Ticket::Gone);
-            if found {
+        match take_ticket(&mut self.desk)? {
+            TicketDue::NoTicket => Ok(false),
+            TicketDue::TellOfLoss => {
                 self.desk.told(Event::Ticket(false));
+                Ok(true)
             }
-            return Ok(found);
-        };
-        self.desk.told(Event::Ticket(true));
-        posted(&mut self.agenda, self.shared, self.core, post);
-        Ok(true)
+            TicketDue::TellOfPost(untold) => {
+                self.desk.told(Event::Ticket(true));
+                posted(&mut self.agenda, self.shared, self.core, untold);
+                Ok(true)
+            }
+        }
     }
 }

@@ -4,6 +4,7 @@
 
 mod desk;
 mod drained;
+mod due;
 mod execute;
 mod find;
 mod hints;
@@ -12,7 +13,9 @@ mod queue;
 mod refusal;
 mod sleep;
 mod steps;
+mod stopping;
 mod tending;
+mod turn;
 mod waiting;
 mod wake;
 

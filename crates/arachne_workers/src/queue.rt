@@ -7,12 +7,14 @@ ghost use Rattle.std.specs.Int.RustNames.{bit_or};
 ghost use Rattle.arachne_core.specs.declared.layout.TheConstants.{SLOTS};
 ghost use Rattle.arachne_workers.specs.declared.policy.TheConstants.{MOST_KEPT_BACK, PATIENCE, SCANS_BETWEEN_LOOKS};
 ghost use Rattle.arachne_workers.specs.Lowest.{IsLowest};
-ghost use Rattle.arachne_workers.specs.Posts.{IsKeptBack, told_of};
+ghost use Rattle.arachne_workers.specs.Posts.{IsKeptBack, untold_of};
 
+use crate::due::Untold;
 use crate::hints::bit_of;
 use crate::policy;
 use crate::refusal::{Refusal, room_for_one};
-use arachne_core::{Place, SLOTS, ThreadId};
+use crate::wake::Told;
+use arachne_core::{Place, Rest, SLOTS, ThreadId};
 use std::alloc::Global;
 
 /// A thread that was posted, and where it was then.
@@ -22,8 +24,7 @@ pub struct Post {
     pub place: Place,
 }
 
-/// What becomes of a thread that was posted on another core.
-#[derive(Drop)]
+/// What becomes of a thread that was posted on another core. It can't be dropped, so that what is to be told of is.
 pub(crate) enum Keeping {
     /// It is told of at once, since the worker has posted few before.
     AtOnce(Post),
@@ -37,15 +38,44 @@ pub(crate) enum Keeping {
 impl Keeping {
     /// What is to be told of.
     #[inline(always)]
-    pub(crate) fn told(self) -> Option<Post>
-        ensures { result ≡ told_of self }
+    pub(crate) fn untold(self) -> Option<Untold>
+        ensures { result ≡ untold_of self }
     {
         match self {
             Keeping::KeptBack => None,
-            Keeping::AtOnce(post) => Some(post),
-            Keeping::ForOldest(oldest) => Some(oldest),
-            Keeping::Refused(oldest, _) => Some(oldest),
+            Keeping::AtOnce(post) => Some(Untold::kept(post)),
+            Keeping::ForOldest(oldest) => Some(Untold::kept(oldest)),
+            Keeping::Refused(oldest, _) => Some(Untold::kept(oldest)),
         }
+    }
+}
+
+/// At most so many steps are made before the worker looks whether it is to tell of what is kept back.
+/// [`Agenda::stretch`] alone gives it.
+#[derive(Drop)]
+pub(crate) struct Stretch {
+    steps: u32,
+}
+
+impl Stretch {
+    #[inline(always)]
+    pub(crate) fn steps(&self) -> u32
+        ensures { result ≡ self.now.steps }
+    {
+        self.steps
+    }
+}
+
+/// The worker is to tell of all that it keeps back. It can't be dropped.
+pub(crate) struct TellingDue {
+    since: (),
+}
+
+impl TellingDue {
+    #[inline(always)]
+    pub(crate) fn done(self, told: Told) {
+        let _ = told;
+        let TellingDue { since: () } = self;
     }
 }
 
@@ -96,6 +126,18 @@ impl Agenda {
         ensures others { self.new ≡ record self.old { ready = self.new.ready } }
     {
         self.ready |= bit_of(index);
+    }
+
+    /// The thread at an index was put back, and rests so: it is noted if it is ready. Whether it waits.
+    pub(crate) fn rests(&mut self, index: u8, rest: Rest) -> bool
+        ensures waits { IsTrue result ↔ (rest ≡ Rest.Blocked) }
+        ensures ready { rest ≡ Rest.Ready → index < SLOTS → self.new.ready ≡ bit_or self.old.ready (2 ^ index) }
+        ensures others { self.new ≡ record self.old { ready = self.new.ready } }
+    {
+        if rest == Rest::Ready {
+            self.note(index);
+        }
+        rest == Rest::Blocked
     }
 
     /// A scan begins at these indexes and those that were noted.
@@ -201,11 +243,12 @@ impl Agenda {
     }
 
     /// The newest that is kept back, and is no longer.
-    pub(crate) fn take_newest(&mut self) -> Option<Post>
-        ensures newest { MatchOption result ((self.old.posts.items ≡ []) × (self.new.posts.items ≡ [])) (λ newest. self.old.posts.items ≡ self.new.posts.items ++ newest ∷ []) }
+    pub(crate) fn take_newest(&mut self) -> Option<Untold>
+        ensures newest { MatchOption result ((self.old.posts.items ≡ []) × (self.new.posts.items ≡ [])) (λ newest. self.old.posts.items ≡ self.new.posts.items ++ newest.post ∷ []) }
         ensures others { self.new ≡ record self.old { posts = self.new.posts } }
     {
-        self.posts.pop()
+        let newest = self.posts.pop()?;
+        Some(Untold::kept(newest))
     }
 
     /// A slice begins. If nothing is kept back, what is posted from now on may be for as long as anything.
@@ -219,24 +262,27 @@ impl Agenda {
         }
     }
 
-    /// After how many steps at most the worker is to tell of what is kept back.
-    pub(crate) fn most_steps(&self) -> u32
-        ensures { result ≡ max 1 self.now.patience }
+    /// How many steps of so many, which are left of a slice, may be made before the worker is to tell of what is kept back.
+    #[inline(always)]
+    pub(crate) fn stretch(&self, left: u32) -> Stretch
+        ensures { result.steps ≡ min left (max 1 self.now.patience) }
     {
-        self.patience.max(1)
+        Stretch {
+            steps: left.min(self.patience.max(1)),
+        }
     }
 
     /// The worker has made so many steps. Whether it is to tell now of all that is kept back.
-    pub(crate) fn spend(&mut self, steps: u32) -> bool
-        ensures due { IsTrue result ↔ self.old.patience ≤ steps }
-        ensures left { self.new ≡ record self.old { patience = if result then PATIENCE else self.old.patience - steps } }
+    pub(crate) fn spend(&mut self, steps: u32) -> Option<TellingDue>
+        ensures due { IsSome result ↔ self.old.patience ≤ steps }
+        ensures left { MatchOption result (self.new ≡ record self.old { patience = self.old.patience - steps }) (λ _. self.new ≡ record self.old { patience = PATIENCE }) }
     {
         if self.patience <= steps {
             self.patience = policy::PATIENCE;
-            return true;
+            return Some(TellingDue { since: () });
         }
         self.patience -= steps;
-        false
+        None
     }
 }
 

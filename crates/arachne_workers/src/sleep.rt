@@ -1,18 +1,20 @@
 //! What all workers see, and how they sleep, wake one another, park and stop.
-ghost use Rattle.std.specs.Prelude.{◌≡◌, ◌↔◌, ◌<◌, IfOk, IsTrue};
+ghost use Rattle.std.specs.Prelude.{◌≡◌, ◌↔◌, ◌<◌, IfOk, IfSome, IsSome, IsTrue, true};
 ghost use Rattle.std.specs.Int.{bit_at};
 ghost use Rattle.arachne_arbiter.specs.KernelThreads.{counted_cores, parked_cores};
 
-use crate::desk::SliceEnd;
+use crate::desk::{Desk, Event, SliceEnd};
 use crate::drained::Drained;
+use crate::due::{EndedSo, Untold};
 use crate::hints::{Hints, SLEEPS, bit_of};
 use crate::steps::Steps;
+use crate::stopping::{Running, StopWord, StopWritten};
+use crate::wake::Told;
 use arachne_arbiter::{Parking, SliceCounts};
 use arachne_core::{CORES, FULL_MASK, Place};
 use std::alloc::{AllocError, Global};
 use std::marker::Model;
 use std::sync::Wait;
-use std::sync::atomic::{AtomicU64, Ordering};
 use std::time::Duration;
 
 /// A slice that was made: of how many steps, and how it has ended. It can't be dropped, so that each is counted, and
@@ -24,36 +26,45 @@ pub(crate) struct Sliced {
 
 impl Sliced {
     #[inline(always)]
-    pub(crate) fn new(steps: Steps, end: SliceEnd) -> Sliced
-        ensures { result ≡ record { steps = steps.made; end = end } }
+    pub(crate) fn new(steps: Steps, ended: EndedSo) -> Sliced
+        ensures { result ≡ record { steps = steps.made; end = ended.end } }
     {
         Sliced {
             steps: steps.made(),
-            end,
+            end: ended.end(),
         }
     }
 
-    pub(crate) fn steps(&self) -> u32
-        ensures { result ≡ self.now.steps }
-    {
-        self.steps
-    }
-
-    pub(crate) fn end(&self) -> SliceEnd
-        ensures { result ≡ self.now.end }
-    {
-        self.end
-    }
-
-    /// It is counted now. How it has ended.
+    /// What is told of it.
     #[inline(always)]
-    fn counted(self, counted: Counted) -> SliceEnd
+    fn event(&self) -> Event
+        ensures { result ≡ Event.Sliced self.now.steps self.now.end }
+    {
+        Event::Sliced(self.steps, self.end)
+    }
+
+    /// Tells the desk of it.
+    #[inline(always)]
+    pub(crate) fn tell<D: Desk>(&self, desk: &D) -> SliceTold {
+        desk.told(self.event());
+        SliceTold { done: () }
+    }
+
+    /// It is counted now, and was told of. How it has ended.
+    #[inline(always)]
+    fn counted(self, counted: Counted, told: SliceTold) -> SliceEnd
         ensures { result ≡ self.end }
     {
-        let _ = counted;
+        let _ = (counted, told);
         let Sliced { steps: _, end } = self;
         end
     }
+}
+
+/// How a slice has ended was told. [`Sliced::tell`] alone gives one.
+#[derive(Drop)]
+pub(crate) struct SliceTold {
+    done: (),
 }
 
 /// A slice was counted. [`count_on`] alone gives one, and it knows nothing of the slice.
@@ -73,10 +84,38 @@ fn count_on(slices: &SliceCounts, core: u8, cores: usize) -> Counted
     Counted { done: () }
 }
 
+/// The worker of a core sleeps, or is about to, and is to be woken. It can't be dropped.
+struct Sleeper {
+    core: u8,
+}
+
+impl Sleeper {
+    /// That of a core, if it sleeps.
+    #[inline(always)]
+    fn of(core: u8, sleeps: bool) -> Option<Sleeper>
+        ensures sleeps { IsSome result ↔ (sleeps ≡ true) }
+        ensures core { IfSome result (λ sleeper. sleeper.core ≡ core) }
+    {
+        if sleeps { Some(Sleeper { core }) } else { None }
+    }
+}
+
+/// The word of a worker's core says that it is about to sleep. [`Shared::announce`] alone gives one.
+#[derive(Drop)]
+struct Announced {
+    said: (),
+}
+
+/// A worker that is about to sleep, as its word says, was not to stop. [`Shared::unstopped`] alone gives one.
+#[derive(Drop)]
+struct Unstopped {
+    seen: (),
+}
+
 /// The word that stops all workers, the hints, on whose words they sleep, the counts of their slices and their parkers.
 #[derive(Drop)]
 pub struct Shared {
-    stop: AtomicU64,
+    stop: StopWord,
     hints: Hints,
     slices: SliceCounts,
     parking: Parking,
@@ -100,7 +139,7 @@ impl Shared {
         ensures { IfOk result (λ shared. shared ≡ cores) }
     {
         Ok(Shared {
-            stop: AtomicU64::new(0),
+            stop: StopWord::new(),
             hints: Hints::new(alloc, cores)?,
             slices: SliceCounts::new(alloc, cores)?,
             parking: Parking::new(alloc, cores)?,
@@ -129,30 +168,40 @@ impl Shared {
     }
 
     /// A slice has ended on a core. Called by the core's kernel thread alone.
-    pub(crate) fn count_slice(&self, core: u8, sliced: Sliced) -> SliceEnd
+    pub(crate) fn count_slice(&self, core: u8, sliced: Sliced, told: SliceTold) -> SliceEnd
         ensures { result ≡ sliced.end }
     {
-        sliced.counted(count_on(&self.slices, core, self.hints.cores()))
+        sliced.counted(count_on(&self.slices, core, self.hints.cores()), told)
     }
 
     /// The thread at a place may be ready. The core's worker is woken if it sleeps.
     pub fn hint(&self, place: Place) {
-        if self.hints.hint(place.core, bit_of(place.index)) {
-            self.wake(place.core);
+        let sleeps = self.hints.hint(place.core, bit_of(place.index));
+        if let Some(sleeper) = Sleeper::of(place.core, sleeps) {
+            self.wake(sleeper);
         }
+    }
+
+    /// The thread that was posted may be ready, where it was posted.
+    #[inline(always)]
+    pub(crate) fn tell(&self, untold: Untold) {
+        self.hint(untold.post().place);
     }
 
     /// Threads of these cores, a bit for each, may be ready at any index.
     pub fn hint_cores(&self, cores: u64) {
         for core in 0..CORES {
-            if has_core(cores, core) && self.hints.hint(core, FULL_MASK) {
-                self.wake(core);
+            if has_core(cores, core)
+                && let Some(sleeper) = Sleeper::of(core, self.hints.hint(core, FULL_MASK))
+            {
+                self.wake(sleeper);
             }
         }
     }
 
     /// Wakes the worker of a core that sleeps, or is about to.
-    fn wake(&self, core: u8) {
+    fn wake(&self, sleeper: Sleeper) {
+        let Sleeper { core } = sleeper;
         self.hints.end_sleep(core);
         if let Some(word) = self.hints.word(core) {
             word.wake_one();
@@ -161,20 +210,32 @@ impl Shared {
 
     /// Stops all workers, those that sleep or are parked too.
     pub fn stop(&self) {
-        self.stop.store(1, Ordering::SeqCst);
+        self.wake_all(self.stop.write());
+    }
+
+    /// Wakes all workers, so that they see that they are to stop.
+    fn wake_all(&self, written: StopWritten) {
+        written.heeded();
         for core in 0..CORES {
-            self.wake(core);
+            self.wake(Sleeper { core });
         }
         self.parking.unpark_all();
     }
 
     pub fn is_stopped(&self) -> bool {
-        self.stop.load(Ordering::SeqCst) != 0
+        self.running().is_none()
+    }
+
+    /// That the workers go on, unless all are to stop.
+    #[inline(always)]
+    pub(crate) fn running(&self) -> Option<Running> {
+        self.stop.look()
     }
 
     /// Parks the kernel thread of a core that was seen drained, until it is unparked. Called by that kernel thread alone.
-    pub(crate) fn park<H: Wait>(&self, rt: &H, core: u8, drained: Drained) {
-        let _ = drained;
+    /// What it kept back it has told of.
+    pub(crate) fn park<H: Wait>(&self, rt: &H, core: u8, drained: Drained, told: Told) {
+        let _ = (drained, told);
         if usize::from(core) < self.hints.cores() {
             self.parking.park(rt, core);
         }
@@ -182,11 +243,36 @@ impl Shared {
 
     /// A core's worker sleeps for so long, or until a thread of its core may be ready or all workers stop.
     pub(crate) fn sleep<H: Wait>(&self, rt: &H, core: u8, spell: Duration) {
-        // A stop after the look at its word finds that the worker is about to sleep, and wakes it.
-        if self.hints.is_about_to_sleep(core)
-            && !self.is_stopped()
-            && let Some(word) = self.hints.word(core)
+        if let Some(announced) = self.announce(core)
+            && let Some(unstopped) = self.unstopped(announced)
         {
+            self.fall_asleep(rt, core, spell, unstopped);
+        }
+    }
+
+    /// The worker of a core is about to sleep, and its word says so, if nothing was hinted at.
+    #[inline(always)]
+    fn announce(&self, core: u8) -> Option<Announced> {
+        if self.hints.is_about_to_sleep(core) {
+            Some(Announced { said: () })
+        } else {
+            None
+        }
+    }
+
+    /// That a worker that is about to sleep is not to stop. A stop after this look finds that it is about to sleep, and
+    /// wakes it.
+    #[inline(always)]
+    fn unstopped(&self, announced: Announced) -> Option<Unstopped> {
+        let _ = announced;
+        self.running()?;
+        Some(Unstopped { seen: () })
+    }
+
+    #[inline(always)]
+    fn fall_asleep<H: Wait>(&self, rt: &H, core: u8, spell: Duration, unstopped: Unstopped) {
+        let _ = unstopped;
+        if let Some(word) = self.hints.word(core) {
             word.park_timeout(rt, SLEEPS as u32, spell);
         }
     }

@@ -2,8 +2,10 @@
 ghost use Rattle.std.specs.Prelude.{◌≡◌, ◌≤◌, ◌+◌, ◌-◌, if◌then◌else◌, min, IfOk};
 ghost use Rattle.arachne_workers.specs.declared.policy.TheConstants.{STEPS_PAST_FREE};
 
-use crate::desk::{Desk, Halt, Stop};
+use crate::desk::{Desk, Halt};
+use crate::due::Stopped;
 use crate::policy;
+use crate::queue::Stretch;
 use arachne_arbiter::Pace;
 
 /// Steps that the thread in hand has made. It can't be dropped, so that they are counted. [`advance`] alone gives it.
@@ -17,15 +19,16 @@ pub(crate) struct Made {
 pub(crate) fn advance<D: Desk>(
     desk: &mut D,
     pace: &mut Pace,
-    most: u32,
-) -> Result<(Stop, Made), Halt>
-    requires { 1 ≤ most }
+    stretch: Stretch,
+) -> Result<(Stopped, Made), Halt>
+    requires { 1 ≤ stretch.steps }
     ensures desk { desk.new ≡ desk.old }
-    ensures made { IfOk result (λ went. went.1.steps ≤ most) }
+    ensures made { IfOk result (λ went. went.1.steps ≤ stretch.steps) }
 {
+    let most = stretch.steps();
     let mut left = most;
     let stop = desk.advance(pace, &mut left)?;
-    Ok((stop, Made { steps: most - left }))
+    Ok((Stopped::new(stop), Made { steps: most - left }))
 }
 
 /// How many steps a slice has left, and how many were made in it. It can't be dropped or begun anew, so that those that

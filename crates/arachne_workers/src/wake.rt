@@ -1,10 +1,11 @@
 //! Threads that a worker posts or wakes, and how the workers of their cores learn of them.
-ghost use Rattle.std.specs.Prelude.{◌≡◌, ◌≢◌, ◌↔◌, ◌≤◌, ◌<◌, ◌+◌, ◌^◌, [], false, length, min, IfSome, IsSome, None};
+ghost use Rattle.std.specs.Prelude.{◌≡◌, ◌≢◌, ◌↔◌, ◌≤◌, ◌<◌, ◌⊎◌, ◌+◌, ◌^◌, [], false, length, min, IfSome, IsSome, None, Some};
 ghost use Rattle.std.specs.Int.RustNames.{bit_or};
 ghost use Rattle.arachne_core.specs.declared.layout.TheConstants.{SLOTS};
 ghost use Rattle.arachne_workers.specs.declared.policy.TheConstants.{MOST_KEPT_BACK};
 
 use crate::desk::{Cause, Desk, Event};
+use crate::due::{Untold, Unwoken};
 use crate::execute::Worker;
 use crate::queue::{Agenda, Post};
 use crate::sleep::Shared;
@@ -14,14 +15,15 @@ use std::sync::Wait;
 use std::time::Clock;
 
 impl<'a, H: Wait + Clock, D: Desk> Worker<'a, H, D> {
-    /// Wakes the thread of this id, if it has not ended, and has it go on. One that holds a lock goes on here, as
+    /// Wakes a thread, if it has not ended, and has it go on. One that holds a lock goes on here, as
     /// others may wait for it; another one too where its core's worker sleeps: moving it takes less than waking a
     /// kernel thread. If the thread is moved meanwhile, the arbiter says so of its new core.
-    pub(crate) fn wake(&mut self, id: ThreadId, cause: Cause)
+    pub(crate) fn wake(&mut self, unwoken: Unwoken)
         ensures desk { self.new.desk ≡ self.old.desk }
         ensures others { (self.new.agenda ≡ record self.old.agenda { ready = self.new.agenda.ready; next = self.new.agenda.next }) × (self.new.slices ≡ self.old.slices) }
-        ensures next { cause ≢ Cause.IsServed → self.new.agenda.next ≡ self.old.agenda.next }
+        ensures next { unwoken.cause ≢ Cause.IsServed → self.new.agenda.next ≡ self.old.agenda.next }
     {
+        let (id, cause) = unwoken.parts();
         if !desk::wake(self.rt, &mut self.desk, id) {
             return;
         }
@@ -44,11 +46,7 @@ impl<'a, H: Wait + Clock, D: Desk> Worker<'a, H, D> {
             }
             place = here.place();
         }
-        if place.core != self.core {
-            self.shared.hint(place);
-        } else if cause != Cause::IsServed || !self.agenda.goes_next(place.index) {
-            self.agenda.note(place.index);
-        }
+        goes_on_at(&mut self.agenda, self.shared, self.core, place, cause);
     }
 
     /// The index of the core at which a thread is to go on next: one that holds a lock now, or, where a thread came to
@@ -67,7 +65,7 @@ impl<'a, H: Wait + Clock, D: Desk> Worker<'a, H, D> {
             return None;
         }
         for _ in 0..policy::MOST_KEPT_BACK {
-            let Post { id, .. } = self.agenda.take_newest()?;
+            let Post { id, .. } = self.agenda.take_newest()?.post();
             if let Some(mark) = self.desk.mark_of(id.context)
                 && let Some(place) = ready_place(mark, id)
             {
@@ -98,29 +96,54 @@ fn ready_place(mark: MarkWord, id: ThreadId) -> Option<Place>
 
 /// A thread was posted by the worker of a core. The worker of another core is told of it later, unless it is taken back
 /// until then.
-pub(crate) fn posted(agenda: &mut Agenda, shared: &Shared, core: u8, post: Post)
+pub(crate) fn posted(agenda: &mut Agenda, shared: &Shared, core: u8, untold: Untold)
     ensures others { (agenda.new.scan ≡ agenda.old.scan) × (agenda.new.next ≡ agenda.old.next) }
-    ensures here { post.place.core ≡ core → agenda.new ≡ record agenda.old { ready = agenda.new.ready } }
-    ensures noted { post.place.core ≡ core → post.place.index < SLOTS → agenda.new.ready ≡ bit_or agenda.old.ready (2 ^ post.place.index) }
-    ensures elsewhere { post.place.core ≢ core → (agenda.new ≡ record agenda.old { posts = agenda.new.posts; posted = agenda.new.posted })
+    ensures here { untold.post.place.core ≡ core → agenda.new ≡ record agenda.old { ready = agenda.new.ready } }
+    ensures noted { untold.post.place.core ≡ core → untold.post.place.index < SLOTS
+        → agenda.new.ready ≡ bit_or agenda.old.ready (2 ^ untold.post.place.index) }
+    ensures elsewhere { untold.post.place.core ≢ core → (agenda.new ≡ record agenda.old { posts = agenda.new.posts; posted = agenda.new.posted })
         × (agenda.new.posted ≡ min (agenda.old.posted + 1) u32.MAX) }
 {
+    let post = untold.post();
     if post.place.core == core {
         agenda.note(post.place.index);
-    } else if let Some(told) = agenda.keep_back(post).told() {
-        shared.hint(told.place);
+    } else if let Some(due) = agenda.keep_back(post).untold() {
+        shared.tell(due);
     }
 }
 
+/// A thread that was woken goes on at this place: on another core its worker is told, and here it goes before all others
+/// if it is served and no other does.
+fn goes_on_at(agenda: &mut Agenda, shared: &Shared, core: u8, place: Place, cause: Cause)
+    ensures elsewhere { place.core ≢ core → agenda.new ≡ agenda.old }
+    ensures next { place.core ≡ core → place.index < SLOTS → cause ≡ Cause.IsServed → agenda.old.next ≡ None → agenda.new ≡ record agenda.old { next = Some place.index } }
+    ensures noted { place.core ≡ core → place.index < SLOTS → (cause ≡ Cause.ChildEnded) ⊎ IsSome agenda.old.next
+        → agenda.new ≡ record agenda.old { ready = bit_or agenda.old.ready (2 ^ place.index) } }
+    ensures others { (agenda.new ≡ record agenda.old { ready = agenda.new.ready; next = agenda.new.next }) × (cause ≢ Cause.IsServed → agenda.new.next ≡ agenda.old.next) }
+{
+    if place.core != core {
+        shared.hint(place);
+    } else if cause != Cause::IsServed || !agenda.goes_next(place.index) {
+        agenda.note(place.index);
+    }
+}
+
+/// All that was kept back is told of. [`tell`] alone gives one.
+#[derive(Drop)]
+pub(crate) struct Told {
+    all: (),
+}
+
 /// Tells of all that was kept back.
-pub(crate) fn tell(agenda: &mut Agenda, shared: &Shared)
+pub(crate) fn tell(agenda: &mut Agenda, shared: &Shared) -> Told
     ensures others { agenda.new ≡ record agenda.old { posts = agenda.new.posts } }
     ensures all { length agenda.old.posts.items ≤ MOST_KEPT_BACK → agenda.new.posts.items ≡ [] }
 {
     for _ in 0..policy::MOST_KEPT_BACK {
-        let Some(post) = agenda.take_newest() else {
+        let Some(untold) = agenda.take_newest() else {
             break;
         };
-        shared.hint(post.place);
+        shared.tell(untold);
     }
+    Told { all: () }
 }

@@ -1,0 +1,25 @@
+-- What is due by what a call of the desk has returned.
+use Rattle.std.specs.Prelude.{Option, None, Some}
+use Rattle.arachne_workers.specs.declared.desk.SliceEnd.{SliceEnd}
+use Rattle.arachne_workers.specs.declared.desk.SliceEnd.TheVariants.{AwaitsChild, Awaits, Ended}
+use Rattle.arachne_workers.specs.declared.desk.Stop.{Stop}
+use Rattle.arachne_workers.specs.declared.desk.Stop.TheVariants.{Goes, Posted, Spilled, Wakes, Blocks, Waits, Ends}
+use Rattle.arachne_workers.specs.declared.desk.Ticket.{Ticket}
+use Rattle.arachne_workers.specs.declared.due.TicketDue.{TicketDue}
+use Rattle.arachne_workers.specs.declared.due.TicketDue.TheVariants.{NoTicket, TellOfLoss, TellOfPost}
+
+-- how a slice ends whose thread has stopped so, if it does
+abbrev pub ended_at : Stop → Option SliceEnd
+ended_at Goes = None
+ended_at (Posted post) = None
+ended_at Spilled = None
+ended_at (Wakes id) = None
+ended_at Blocks = Some AwaitsChild
+ended_at (Waits number) = Some (Awaits number)
+ended_at Ends = Some Ended
+
+-- what is due where this has come of a look for a ticket
+abbrev pub due_for : Ticket → TicketDue
+due_for Ticket.None = NoTicket
+due_for Ticket.Gone = TellOfLoss
+due_for (Ticket.Posted post) = TellOfPost (record { post = post })

@@ -1,0 +1,155 @@
+//! The turn of a thread that was taken in hand, and the slices that it may have in it.
+ghost use Rattle.std.specs.Prelude.{◌≡◌, ◌↔◌, ◌⊎◌, ◌<◌, ◌-◌, false, true, if◌then◌else◌, min, IfSome, IsSome};
+ghost use Rattle.arachne_workers.specs.declared.policy.TheConstants.{STEPS_TO_FREE};
+
+use crate::desk::{Desk, Grip, Halt, SliceEnd};
+use crate::due::Unwoken;
+use crate::policy;
+use crate::stopping::Running;
+use arachne_core::{OccWord, Rest};
+
+/// A thread was taken in hand, and its turn is to begin. [`take`] alone gives one.
+pub(crate) struct InHand {
+    taken: (),
+}
+
+/// What came of a try to take a thread in hand ([`Grip`]).
+pub(crate) enum Grasp {
+    Begins(InHand),
+    None,
+    Lost,
+}
+
+/// Takes the thread at an index of the core in hand ([`Desk::take`]).
+#[inline(always)]
+pub(crate) fn take<D: Desk>(desk: &mut D, index: u8) -> Grasp
+    ensures { desk.new ≡ desk.old }
+{
+    match desk.take(index) {
+        Grip::Taken => Grasp::Begins(InHand { taken: () }),
+        Grip::None => Grasp::None,
+        Grip::Lost => Grasp::Lost,
+    }
+}
+
+/// The thread in hand may have a slice of at most so many steps, since all workers go on. A [`Turn`] alone gives one, and
+/// each slice uses one up.
+#[derive(Drop)]
+pub(crate) struct Leave {
+    steps: u32,
+}
+
+impl Leave {
+    #[inline(always)]
+    pub(crate) fn steps(&self) -> u32
+        ensures { result ≡ self.now.steps }
+    {
+        self.steps
+    }
+}
+
+/// How many steps a further slice of the thread in hand may have, and whether it is for what the thread holds.
+#[derive(Drop)]
+pub(crate) struct Most {
+    steps: u32,
+    holds: bool,
+}
+
+impl Most {
+    /// Leave for such a slice, on a core that looks so, by what else is to go on.
+    #[inline(always)]
+    pub(crate) fn leave(
+        self,
+        now: OccWord,
+        others: bool,
+        takes_ticket: bool,
+        running: Running,
+    ) -> Option<Leave>
+        ensures given { IsSome result ↔ (now.closed ≡ false) × ((self.holds ≡ true) ⊎ ((others ≡ false) × (takes_ticket ≡ false))) }
+        ensures steps { IfSome result (λ leave. leave.steps ≡ self.steps) }
+    {
+        let _ = running;
+        if policy::may_go_on(now, self.holds, others, takes_ticket) {
+            Some(Leave { steps: self.steps })
+        } else {
+            None
+        }
+    }
+}
+
+/// The turn of the thread in hand: the steps of a slice, and those that are left to it for what it holds. It can't be
+/// dropped, so that the thread is put back or ended.
+pub(crate) struct Turn {
+    quantum: u32,
+    grace: u32,
+}
+
+impl Turn {
+    /// The turn of a thread whose slices have so many steps, and leave for its first slice.
+    #[inline(always)]
+    pub(crate) fn begin(in_hand: InHand, quantum: u32, running: Running) -> (Leave, Turn)
+        ensures first { result.0.steps ≡ quantum }
+        ensures further { result.1 ≡ record { quantum = quantum; grace = STEPS_TO_FREE } }
+    {
+        let InHand { taken: () } = in_hand;
+        let _ = running;
+        let turn = Turn {
+            quantum,
+            grace: policy::STEPS_TO_FREE,
+        };
+        (Leave { steps: quantum }, turn)
+    }
+
+    /// How many steps a further slice may have after one that has ended so. None where the thread doesn't go on, or has
+    /// made all that it may make at once for what it holds.
+    #[inline(always)]
+    pub(crate) fn most(&mut self, end: SliceEnd, holds: bool) -> Option<Most>
+        ensures given { IsSome result ↔ (end ≡ SliceEnd.GoesOn) × ((holds ≡ false) ⊎ (0 < self.old.grace)) }
+        ensures steps { IfSome result (λ most. most ≡ record { steps = if holds then min self.old.quantum self.old.grace else self.old.quantum; holds = holds }) }
+        ensures left { IfSome result (λ most. self.new ≡ record self.old { grace = if holds then self.old.grace - most.steps else self.old.grace }) }
+    {
+        if end != SliceEnd::GoesOn || policy::is_grace_over(holds, self.grace) {
+            return None;
+        }
+        let steps = policy::most_steps(self.quantum, holds, self.grace);
+        self.grace = policy::grace_left(holds, self.grace, steps);
+        Some(Most { steps, holds })
+    }
+
+    /// Puts the thread back ([`Desk::rest`]).
+    #[inline(always)]
+    pub(crate) fn put_back<D: Desk>(self, desk: &mut D) -> Result<Rest, Halt>
+        ensures { desk.new ≡ desk.old }
+    {
+        let Turn {
+            quantum: _,
+            grace: _,
+        } = self;
+        desk.rest()
+    }
+
+    /// Ends the thread ([`Desk::end`]). Who is to be woken for it.
+    #[inline(always)]
+    pub(crate) fn end<D: Desk>(self, desk: &mut D) -> Result<Option<Unwoken>, Halt>
+        ensures { desk.new ≡ desk.old }
+    {
+        let Turn {
+            quantum: _,
+            grace: _,
+        } = self;
+        let before = desk.look();
+        Ok(Unwoken::parent(desk.end(before)?))
+    }
+
+    /// The turn meets a fault.
+    #[inline(always)]
+    pub(crate) fn meets(self, halt: Halt) -> Halt
+        ensures { result ≡ halt }
+    {
+        let Turn {
+            quantum: _,
+            grace: _,
+        } = self;
+        halt
+    }
+}
