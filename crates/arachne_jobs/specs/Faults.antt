@@ -1,4 +1,5 @@
 -- What a job answers where a child was not joined or placed.
+use Rattle.arachne_machine.specs.Outcome.{Finished}
 use Rattle.arachne_machine.specs.declared.pause.NotJoined.{NotJoined}
 use Rattle.arachne_machine.specs.declared.pause.NotJoined.TheVariants as not_joined
 use Rattle.arachne_machine.specs.declared.pause.NotPlaced.{NotPlaced}
@@ -6,7 +7,7 @@ use Rattle.arachne_machine.specs.declared.pause.NotPlaced.TheVariants as not_pla
 use Rattle.arachne_jobs.specs.declared.fault.JobFault.{JobFault}
 use Rattle.arachne_jobs.specs.declared.fault.JobFault.TheVariants.{Memory, Foreign}
 
-abbrev pub of_join : NotJoined → JobFault
+abbrev pub of_join : NotJoined Finished → JobFault
 of_join (not_joined.Foreign outcome) = Foreign
 of_join (not_joined.Memory outcome) = Memory
 

@@ -1,6 +1,6 @@
 //! Why a job can't go on.
 use crate::refusal::Refusal;
-use arachne_machine::{NotJoined, NotPlaced};
+use arachne_machine::{DetachedOutcome, NotJoined, NotPlaced};
 use std::alloc::AllocError;
 use thiserror::Error;
 
@@ -38,13 +38,13 @@ impl From<Refusal> for JobFault {
     }
 }
 
-impl<'p> From<NotJoined<'p>> for JobFault {
+impl From<NotJoined<DetachedOutcome>> for JobFault {
     ghost use Rattle.std.specs.Prelude.{◌≡◌};
     ghost use Rattle.arachne_jobs.specs.Faults.{of_join};
 
     ghost from_gives = { λ fault e. e ≡ of_join fault };
 
-    fn from(fault: NotJoined<'p>) -> JobFault {
+    fn from(fault: NotJoined<DetachedOutcome>) -> JobFault {
         match fault {
             NotJoined::Foreign(_) => JobFault::Foreign,
             NotJoined::Memory(_) => JobFault::Memory,

@@ -225,7 +225,7 @@ impl<'p> RunJob for Job<'p> {
         };
         let parent = ties.parent;
         spares.ties.keep(ties);
-        let outcome = thread.finish_into(contents, &mut spares.threads).detach();
+        let outcome = thread.finish_into(contents, &mut spares.threads);
         match end {
             End::Leaves(end) => end.leave(outcome),
             End::Waits => {
@@ -363,9 +363,7 @@ impl<'p> Job<'p> {
     {
         match self.find(spares)? {
             Found::Outcome(outcome) => {
-                let program = self.thread.program();
-                self.thread
-                    .joined_into(outcome.attach(program), &mut spares.threads)?;
+                self.thread.joined_into(outcome, &mut spares.threads)?;
                 Ok(None)
             }
             Found::Child(child) => {

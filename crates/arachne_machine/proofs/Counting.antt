@@ -28,7 +28,7 @@ use Rattle.arachne_machine.specs.Nested.{IsNested, SameWhole, work_in, works}
 use Rattle.arachne_machine.specs.Kept.{IsKept, nested}
 use Rattle.arachne_machine.proofs.Tabulated.{tabulated-same}
 use Rattle.arachne_machine.proofs.Soundness.{after-sums, counted_seen, sound_counts}
-use Rattle.arachne_machine.proofs.Joining.{counts_hold, counts_tally}
+use Rattle.arachne_machine.proofs.Joining.{LeavesRest, counts_hold, counts_tally}
 use Rattle.arachne_machine.proofs.Nesting.{label_seen, name_seen, program_seen}
 use Rattle.arachne_machine.proofs.Answering.{going, nested_same}
 use Rattle.arachne_machine.proofs.Going.{line_in}
@@ -137,43 +137,84 @@ hold_counted (p ∷ ps) old new lines written place lock there h =
           ap (λ l. by new l) before ∙ ap (λ o. by o (take place lines)) h.0;
     }
 
+-- What an answer that counts leaves: all but the thread's own, the lines, the sums and what comes next.
+record KeepsRest (old new : State) : Type 0 where
+  program : new.program ≡ old.program
+  parents : new.parents.items ≡ old.parents.items
+  level : new.level ≡ old.level
+  frames : new.frames.items ≡ old.frames.items
+  environment : new.environment.items ≡ old.environment.items
+
+-- the body begins
+with_body : (old counted new : State) (body : Bor Expr) → new ≡ record counted { control = Begin body } → KeepsRest old counted → KeepsRest old new
+with_body old counted new body is h = record {
+  program = ap (λ s. s.program) is ∙ h.program;
+  parents = ap (λ s. s.parents.items) is ∙ h.parents;
+  level = ap (λ s. s.level) is ∙ h.level;
+  frames = ap (λ s. s.frames.items) is ∙ h.frames;
+  environment = ap (λ s. s.environment.items) is ∙ h.environment;
+}
+
+-- the same of the innermost
+top_rest : (old new : State) → KeepsRest old new → (top new).own.name ≡ (top old).own.name → (top new).own.label ≡ (top old).own.label → (top new).below ≡ (top old).below →
+    LeavesRest (top old) (top new)
+top_rest old new h name label below = record {
+  program = h.program;
+  name = name;
+  label = label;
+  below = below;
+  forks = ap (λ x. x.forks) h.level;
+  frames = ap (λ x. drop x.start new.frames.items) h.level ∙ ap (drop old.level.start) h.frames;
+  environment = h.environment;
+}
+
+-- the lines below the innermost
+below_rest : (old new : State) (lines : List ThreadLine) → KeepsRest old new → new.lines ≡ lines → (top new).below ≡ below_at (reverse old.parents.items) lines old.level.place
+below_rest old new lines h is =
+    let ps = reverse old.parents.items in
+    ap (λ x. below_at (reverse x) new.lines new.level.place) h.parents ∙ ap (λ x. below_at ps x new.level.place) is ∙ ap (λ x. below_at ps lines x.place) h.level
+
+waits_rest : (old new : State) (own : Own) (lines : List ThreadLine) → KeepsRest old new → new.own ≡ own → new.lines ≡ lines → ending (top new) ≡ ending (top old) →
+    waiting_in new ≡ waiting old.program own (reverse old.parents.items) lines old.frames.items old.level.start old.level.place (ending (top old)).env
+waits_rest old new own lines h own_is lines_are ends =
+    let ps = reverse old.parents.items in
+    let env = (ending (top old)).env in
+    ap (λ e. waiting new.program new.own (reverse new.parents.items) new.lines new.frames.items new.level.start new.level.place e.env) ends
+    ∙ ap (λ x. waiting x new.own (reverse new.parents.items) new.lines new.frames.items new.level.start new.level.place env) h.program
+    ∙ ap (λ x. waiting old.program x (reverse new.parents.items) new.lines new.frames.items new.level.start new.level.place env) own_is
+    ∙ ap (λ x. waiting old.program own (reverse x) new.lines new.frames.items new.level.start new.level.place env) h.parents
+    ∙ ap (λ x. waiting old.program own ps x new.frames.items new.level.start new.level.place env) lines_are
+    ∙ ap (λ x. waiting old.program own ps lines x new.level.start new.level.place env) h.frames
+    ∙ ap (λ x. waiting old.program own ps lines old.frames.items x.start x.place env) h.level
+
+fits_rest : (old new : State) → KeepsRest old new → length new.lines ≡ length old.lines →
+    Fits (reverse old.parents.items) old.level.start old.level.place (length old.frames.items) (length old.lines) →
+    Fits (reverse new.parents.items) new.level.start new.level.place (length new.frames.items) (length new.lines)
+fits_rest old new h many fits =
+    let ps = reverse old.parents.items in
+    subst (λ x. Fits (reverse x) new.level.start new.level.place (length new.frames.items) (length new.lines)) (sym h.parents)
+    (subst (λ x. Fits ps x.start x.place (length new.frames.items) (length new.lines)) (sym h.level)
+    (subst (λ x. Fits ps old.level.start old.level.place (length x) (length new.lines)) (sym h.frames)
+    (subst (λ x. Fits ps old.level.start old.level.place (length old.frames.items) x) (sym many) fits)))
+
 pub hold_past : (old counted new : State) (placed : List (Box State)) (lock : ℕ) (body : Bor Expr) → IsKept old placed → old.control ≡ Asks lock body → CountsHold old counted lock →
     new ≡ record counted { control = Begin body } → Counted old new placed × Counts (pause.Asks lock) (held lock) (top old) (top new)
 hold_past old counted new placed lock body kept asks h is =
     let ps = reverse old.parents.items in
     let h' = hold_counted ps old.own counted.own old.lines counted.lines old.level.place lock (line_in old kept.sound) h.counted in
-    let program : new.program ≡ old.program = ap (λ s. s.program) is ∙ h.program in
-    let parents : new.parents.items ≡ old.parents.items = ap (λ s. s.parents.items) is ∙ h.parents in
-    let level : new.level ≡ old.level = ap (λ s. s.level) is ∙ h.level in
-    let frames : new.frames.items ≡ old.frames.items = ap (λ s. s.frames.items) is ∙ h.frames in
-    let environment : new.environment.items ≡ old.environment.items = ap (λ s. s.environment.items) is ∙ h.environment in
+    let rest = with_body old counted new body is (record { program = h.program; parents = h.parents; level = h.level; frames = h.frames; environment = h.environment }) in
     let lines : new.lines ≡ counted.lines = ap (λ s. s.lines) is in
     let own : new.own ≡ counted.own = ap (λ s. s.own) is in
     let owned : owned_at new.own (reverse new.parents.items) new.lines new.level.place ≡ owned_at counted.own ps counted.lines old.level.place =
-    ap (λ o. owned_at o (reverse new.parents.items) new.lines new.level.place) own ∙ ap (λ x. owned_at counted.own (reverse x) new.lines new.level.place) parents
-    ∙ ap (λ x. owned_at counted.own ps x new.level.place) lines ∙ ap (λ x. owned_at counted.own ps counted.lines x.place) level in
-    let below : (top new).below ≡ (top old).below =
-    ap (λ x. below_at (reverse x) new.lines new.level.place) parents ∙ ap (λ x. below_at ps x new.level.place) lines ∙ ap (λ x. below_at ps counted.lines x.place) level ∙ h'.below in
-    let counts = counts_hold (top old) (top new) lock body asks (ap (λ s. s.control) is) program (ap (λ o. o.name) owned ∙ h'.name) (ap (λ o. o.label) owned ∙ h'.label) below
-    (ap (λ x. x.forks) level) (ap (λ x. drop x.start new.frames.items) level ∙ ap (drop old.level.start) frames) environment
+    ap (λ o. owned_at o (reverse new.parents.items) new.lines new.level.place) own ∙ ap (λ x. owned_at counted.own (reverse x) new.lines new.level.place) rest.parents
+    ∙ ap (λ x. owned_at counted.own ps x new.level.place) lines ∙ ap (λ x. owned_at counted.own ps counted.lines x.place) rest.level in
+    let above = top_rest old new rest (ap (λ o. o.name) owned ∙ h'.name) (ap (λ o. o.label) owned ∙ h'.label) (below_rest old new counted.lines rest lines ∙ h'.below) in
+    let counts = counts_hold (top old) (top new) lock body asks (ap (λ s. s.control) is) above
     (λ n f e. ap (λ o. o.holds) owned ∙ h'.holds n f e) in
-    let waits : waiting_in new ≡ waiting_in old =
-    ap (λ e. waiting new.program new.own (reverse new.parents.items) new.lines new.frames.items new.level.start new.level.place e.env) counts.ending
-    ∙ ap (λ x. waiting x new.own (reverse new.parents.items) new.lines new.frames.items new.level.start new.level.place (ending (top old)).env) program
-    ∙ ap (λ x. waiting old.program x (reverse new.parents.items) new.lines new.frames.items new.level.start new.level.place (ending (top old)).env) own
-    ∙ ap (λ x. waiting old.program counted.own (reverse x) new.lines new.frames.items new.level.start new.level.place (ending (top old)).env) parents
-    ∙ ap (λ x. waiting old.program counted.own ps x new.frames.items new.level.start new.level.place (ending (top old)).env) lines
-    ∙ ap (λ x. waiting old.program counted.own ps counted.lines x new.level.start new.level.place (ending (top old)).env) frames
-    ∙ ap (λ x. waiting old.program counted.own ps counted.lines old.frames.items x.start x.place (ending (top old)).env) level
-    ∙ h'.waits old.program old.frames.items old.level.start (ending (top old)).env in
-    let many : length new.lines ≡ length old.lines = ap length lines ∙ h'.length_is in
-    let fits : Fits (reverse new.parents.items) new.level.start new.level.place (length new.frames.items) (length new.lines) =
-    subst (λ x. Fits (reverse x) new.level.start new.level.place (length new.frames.items) (length new.lines)) (sym parents)
-    (subst (λ x. Fits ps x.start x.place (length new.frames.items) (length new.lines)) (sym level)
-    (subst (λ x. Fits ps old.level.start old.level.place (length x) (length new.lines)) (sym frames)
-    (subst (λ x. Fits ps old.level.start old.level.place (length old.frames.items) x) (sym many) kept.sound.fits))) in (
-      counted_by old new placed (pause.Asks lock) (held lock) kept (ap pending_of asks) refl (λ name next. refl) counts program (ap (λ o. o.name) own ∙ h'.own_name) (ap (λ o. o.label) own ∙ h'.own_label)
-          waits fits many (λ n f e. ap (λ s. s.sums.items) is ∙ h.sums ∙ e ∙ tabulated-same n f (λ ledger. f ledger + 0) (λ k. omega arith)),
+    let waits = waits_rest old new counted.own counted.lines rest own lines counts.ending ∙ h'.waits old.program old.frames.items old.level.start (ending (top old)).env in
+    let many : length new.lines ≡ length old.lines = ap length lines ∙ h'.length_is in (
+      counted_by old new placed (pause.Asks lock) (held lock) kept (ap pending_of asks) refl (λ name next. refl) counts rest.program (ap (λ o. o.name) own ∙ h'.own_name) (ap (λ o. o.label) own ∙ h'.own_label)
+          waits (fits_rest old new rest many kept.sound.fits) many (λ n f e. ap (λ s. s.sums.items) is ∙ h.sums ∙ e ∙ tabulated-same n f (λ ledger. f ledger + 0) (λ k. omega arith)),
       counts,
     )
 
@@ -181,36 +222,18 @@ pub tally_past : (old counted new : State) (placed : List (Box State)) (ledger a
     new ≡ record counted { control = Begin body } → Counted old new placed × Counts (pause.Tallies ledger amount) (tallied ledger amount) (top old) (top new)
 tally_past old counted new placed ledger amount body kept tallies h is =
     let ps = reverse old.parents.items in
-    let program : new.program ≡ old.program = ap (λ s. s.program) is ∙ h.program in
-    let parents : new.parents.items ≡ old.parents.items = ap (λ s. s.parents.items) is ∙ h.parents in
-    let level : new.level ≡ old.level = ap (λ s. s.level) is ∙ h.level in
-    let frames : new.frames.items ≡ old.frames.items = ap (λ s. s.frames.items) is ∙ h.frames in
-    let environment : new.environment.items ≡ old.environment.items = ap (λ s. s.environment.items) is ∙ h.environment in
+    let rest = with_body old counted new body is (record { program = h.program; parents = h.parents; level = h.level; frames = h.frames; environment = h.environment }) in
     let lines : new.lines ≡ old.lines = ap (λ s. s.lines) is ∙ h.lines in
     let own : new.own ≡ old.own = ap (λ s. s.own) is ∙ h.own in
     let owned : (top new).own ≡ (top old).own =
-    ap (λ o. owned_at o (reverse new.parents.items) new.lines new.level.place) own ∙ ap (λ x. owned_at old.own (reverse x) new.lines new.level.place) parents
-    ∙ ap (λ x. owned_at old.own ps x new.level.place) lines ∙ ap (λ x. owned_at old.own ps old.lines x.place) level in
-    let below : (top new).below ≡ (top old).below =
-    ap (λ x. below_at (reverse x) new.lines new.level.place) parents ∙ ap (λ x. below_at ps x new.level.place) lines ∙ ap (λ x. below_at ps old.lines x.place) level in
-    let counts = counts_tally (top old) (top new) ledger amount body tallies (ap (λ s. s.control) is) program (ap (λ o. o.name) owned) (ap (λ o. o.label) owned) below
-    (ap (λ x. x.forks) level) (ap (λ x. drop x.start new.frames.items) level ∙ ap (drop old.level.start) frames) environment
+    ap (λ o. owned_at o (reverse new.parents.items) new.lines new.level.place) own ∙ ap (λ x. owned_at old.own (reverse x) new.lines new.level.place) rest.parents
+    ∙ ap (λ x. owned_at old.own ps x new.level.place) lines ∙ ap (λ x. owned_at old.own ps old.lines x.place) rest.level in
+    let above = top_rest old new rest (ap (λ o. o.name) owned) (ap (λ o. o.label) owned) (below_rest old new old.lines rest lines) in
+    let counts = counts_tally (top old) (top new) ledger amount body tallies (ap (λ s. s.control) is) above
     (λ n f e. ap (λ o. o.holds) owned ∙ e ∙ tabulated-same n f (λ lock. f lock + 0) (λ k. omega arith)) in
-    let waits : waiting_in new ≡ waiting_in old =
-    ap (λ e. waiting new.program new.own (reverse new.parents.items) new.lines new.frames.items new.level.start new.level.place e.env) counts.ending
-    ∙ ap (λ x. waiting x new.own (reverse new.parents.items) new.lines new.frames.items new.level.start new.level.place (ending (top old)).env) program
-    ∙ ap (λ x. waiting old.program x (reverse new.parents.items) new.lines new.frames.items new.level.start new.level.place (ending (top old)).env) own
-    ∙ ap (λ x. waiting old.program old.own (reverse x) new.lines new.frames.items new.level.start new.level.place (ending (top old)).env) parents
-    ∙ ap (λ x. waiting old.program old.own ps x new.frames.items new.level.start new.level.place (ending (top old)).env) lines
-    ∙ ap (λ x. waiting old.program old.own ps old.lines x new.level.start new.level.place (ending (top old)).env) frames
-    ∙ ap (λ x. waiting old.program old.own ps old.lines old.frames.items x.start x.place (ending (top old)).env) level in
-    let many : length new.lines ≡ length old.lines = ap length lines in
-    let fits : Fits (reverse new.parents.items) new.level.start new.level.place (length new.frames.items) (length new.lines) =
-    subst (λ x. Fits (reverse x) new.level.start new.level.place (length new.frames.items) (length new.lines)) (sym parents)
-    (subst (λ x. Fits ps x.start x.place (length new.frames.items) (length new.lines)) (sym level)
-    (subst (λ x. Fits ps old.level.start old.level.place (length x) (length new.lines)) (sym frames)
-    (subst (λ x. Fits ps old.level.start old.level.place (length old.frames.items) x) (sym many) kept.sound.fits))) in (
-      counted_by old new placed (pause.Tallies ledger amount) (tallied ledger amount) kept (ap pending_of tallies) refl (λ name next. refl) counts program (ap (λ o. o.name) own) (ap (λ o. o.label) own)
-          waits fits many (λ n f e. ap (λ s. s.sums.items) is ∙ h.sums n f e),
+    let waits = waits_rest old new old.own old.lines rest own lines counts.ending in
+    let many : length new.lines ≡ length old.lines = ap length lines in (
+      counted_by old new placed (pause.Tallies ledger amount) (tallied ledger amount) kept (ap pending_of tallies) refl (λ name next. refl) counts rest.program (ap (λ o. o.name) own) (ap (λ o. o.label) own)
+          waits (fits_rest old new rest many kept.sound.fits) many (λ n f e. ap (λ s. s.sums.items) is ∙ h.sums n f e),
       counts,
     )

@@ -29,7 +29,7 @@ use Rattle.arachne_machine.specs.Faultless.{IsFaultless, GoesWithoutFault}
 use Rattle.arachne_machine.specs.Steps.{Becomes, IsUnchanged, IsPopped, Enters, Goes, GoesWithin, TurnsFold, TurnsSweep, AfterSteps, pending_of, giving}
 use Rattle.arachne_machine.proofs.Halves.{effects_whole, work_whole, trace_whole}
 use Rattle.arachne_machine.proofs.Ranges.{folded-turn, folded-done, folded_effects-turn, folded_effects-done, folded_work-turn, folded_work-done, folded_trace-turn, folded_trace-done, swept-turn, swept-done, swept_effects-turn, swept_effects-done, swept_work-turn, swept_work-done, swept_trace-turn, swept_trace-done}
-use Rattle.arachne_machine.proofs.Outlooks.{KeepsTop, StepOutlook, Step, at_of, work_at, steps_by, goes_on_by, framed_as, reshaped, later, alone, as_giving}
+use Rattle.arachne_machine.proofs.Outlooks.{KeepsTop, StepOutlook, Step, at_of, work_at, steps_by, goes_on_by, framed_as, reshaped, later, alone, as_giving, given_off}
 
 -- The frame that a value is handed to is taken away, and the thread goes on: with this to do next, or with a new frame.
 pub hands_on : (steps : ℕ) (before mid new : Strand) (v : ℕ) (f : Frame) (k' : Control) → IsPopped f before mid → mid.control ≡ Give v →
@@ -40,7 +40,7 @@ hands_on steps before mid new v f k' popped gives b left none none' locks pendin
     let fs = mid.frames in
     let env = mid.environment in
     goes_on_by steps mid before new (Give v) k' fs (f ∷ []) [] env env
-    (framed_as mid before env (fs ++ f ∷ []) (fs ++ f ∷ []) mid.control (Give v) popped refl gives)
+    (given_off before mid v f popped gives)
     (alone mid new env k' b) refl (left (fs ++ [])) none none' locks pending same
 
 pub hands_to_part : (before mid new : Strand) (v : ℕ) (f g : Frame) (env' : List ℕ) (part : Bor Expr) → IsPopped f before mid → mid.control ≡ Give v →
@@ -51,7 +51,7 @@ hands_to_part before mid new v f g env' part popped gives b none none' locks sam
     let fs = mid.frames in
     let env = mid.environment in
     goes_on_by 1 mid before new (Give v) (Begin part) fs (f ∷ []) (g ∷ []) env env'
-    (framed_as mid before env (fs ++ f ∷ []) (fs ++ f ∷ []) mid.control (Give v) popped refl gives)
+    (given_off before mid v f popped gives)
     b refl refl none none' locks refl same
 
 -- The thread stops at the frame.
@@ -65,7 +65,7 @@ hands_to_stop before mid new v f k' popped gives b left forks here keep same =
     let fs = mid.frames in
     let env = mid.environment in
     steps_by 1 mid before new (Give v) k' fs (f ∷ []) [] env env
-    (framed_as mid before env (fs ++ f ∷ []) (fs ++ f ∷ []) mid.control (Give v) popped refl gives)
+    (given_off before mid v f popped gives)
     (alone mid new env k' b) refl (left (fs ++ [])) forks here keep same
 
 -- Single frames.
@@ -299,10 +299,9 @@ hand_fold_turn before mid outer new v next end body k popped gives dropped turns
     let fs = mid.frames in
     let less = without_newest 2 env in
     let f = FoldTurn next end body in
-    let popped_off = framed_as mid before env (fs ++ f ∷ []) (fs ++ f ∷ []) mid.control (Give v) popped refl gives in
     elim (cases_lt next end) [
       | inl lt ↦ goes_on_by 1 mid before new (Give v) (Begin body) fs (f ∷ []) (FoldTurn (next + 1) end body ∷ []) env (with_newest (with_newest less next) v)
-          popped_off
+          (given_off before mid v f popped gives)
           (reshaped mid new (with_newest (with_newest outer.environment next) v) (with_newest (with_newest less next) v)
           (outer.frames ++ FoldTurn (next + 1) end body ∷ []) (fs ++ FoldTurn (next + 1) end body ∷ []) (Begin body) (Begin body)
           (later mid outer new less (with_newest (with_newest outer.environment next) v) fs (outer.frames ++ FoldTurn (next + 1) end body ∷ []) k (Begin body)
@@ -311,7 +310,7 @@ hand_fold_turn before mid outer new v next end body k popped gives dropped turns
           refl refl refl refl refl refl (fold_on source name env v next end body (Begin body) (FoldTurn (next + 1) end body ∷ []) (with_newest (with_newest less next) v)
           (fold_turn source name less v next end body lt))
       | inr le ↦ goes_on_by 1 mid before new (Give v) (Give v) fs (f ∷ []) [] env less
-          popped_off
+          (given_off before mid v f popped gives)
           (alone mid new less (Give v)
           (reshaped mid new outer.environment less outer.frames fs (Give v) (Give v)
           (later mid outer new less outer.environment fs outer.frames k (Give v) dropped (turns.done le))
@@ -396,10 +395,9 @@ hand_sweep_turn before mid outer new v reduction next end so_far w body k popped
     let less = without_newest 1 env in
     let x = apply (operation_of reduction) so_far v in
     let f = SweepTurn reduction next end so_far body in
-    let popped_off = framed_as mid before env (fs ++ f ∷ []) (fs ++ f ∷ []) mid.control (Give v) popped refl gives in
     elim (cases_lt next end) [
       | inl lt ↦ goes_on_by 1 mid before new (Give v) (Begin body) fs (f ∷ []) (SweepTurn reduction (next + 1) end x body ∷ []) env (with_newest less next)
-          popped_off
+          (given_off before mid v f popped gives)
           (reshaped mid new (with_newest outer.environment next) (with_newest less next)
           (outer.frames ++ SweepTurn reduction (next + 1) end w body ∷ []) (fs ++ SweepTurn reduction (next + 1) end x body ∷ []) (Begin body) (Begin body)
           (later mid outer new less (with_newest outer.environment next) fs (outer.frames ++ SweepTurn reduction (next + 1) end w body ∷ []) k (Begin body)
@@ -410,7 +408,7 @@ hand_sweep_turn before mid outer new v reduction next end so_far w body k popped
           (sweep_on source name env less v so_far reduction next end body (Begin body) (SweepTurn reduction (next + 1) end x body ∷ []) (with_newest less next) refl
           (sweep_turn source name less reduction next end x body lt))
       | inr le ↦ goes_on_by 1 mid before new (Give v) (Give x) fs (f ∷ []) [] env less
-          popped_off
+          (given_off before mid v f popped gives)
           (alone mid new less (Give x)
           (reshaped mid new outer.environment less outer.frames fs (Give w) (Give x)
           (later mid outer new less outer.environment fs outer.frames k (Give w) dropped (turns.done le))

@@ -19,7 +19,7 @@ use Rattle.arachne_machine.specs.Faultless.{IsFaultless, IsFaultlessFrame, IsFau
 use Rattle.arachne_machine.specs.Strands.{Strand}
 use Rattle.arachne_machine.specs.Steps.{AwaitsHere, Becomes, IsPopped, pending_of}
 use Rattle.arachne_machine.proofs.Faultlessness.{faultless-append}
-use Rattle.arachne_machine.proofs.Outlooks.{Any, faultless_at, SameOutlook, KeepsTop, itself, at_of, alone, framed_as, same_end, unjoined_at, here_at, locks_at, keeps_at}
+use Rattle.arachne_machine.proofs.Outlooks.{Any, faultless_at, SameOutlook, KeepsTop, itself, at_of, alone, given_off, same_end, unjoined_at, here_at, locks_at, keeps_at}
 
 awaits_by : (before mid new : Strand) (v number handed : ℕ) (f : Frame) (k' : Control) → IsPopped f before mid → mid.control ≡ Give v →
     Becomes mid new mid.environment mid.frames k' → ((fs : List Frame) → frames_left k' fs ≡ fs) →
@@ -31,9 +31,8 @@ awaits_by before mid new v number handed f k' popped gives b left awaits forks h
     let name = mid.own.name in
     let fs = mid.frames in
     let env = mid.environment in
-    let off = framed_as mid before env (fs ++ f ∷ []) (fs ++ f ∷ []) mid.control (Give v) popped refl gives in
     let on = alone mid new env k' b in
-    let at = at_of mid before (Give v) (fs ++ f ∷ []) env off in
+    let at = at_of mid before (Give v) (fs ++ f ∷ []) env (given_off before mid v f popped gives) in
     let at' = at_of mid new k' (fs ++ []) env on in
     let end = same_end 1 handed [] Any itself source name (Give v) k' fs (f ∷ []) [] env env before new at at' refl (left (fs ++ [])) keep same in
     record {
@@ -61,8 +60,7 @@ kept_top : (before mid : Strand) (v : ℕ) (f : Frame) → IsPopped f before mid
 kept_top before mid v f popped gives h =
     let fs = mid.frames in
     let env = mid.environment in
-    let off = framed_as mid before env (fs ++ f ∷ []) (fs ++ f ∷ []) mid.control (Give v) popped refl gives in
-    let kept = keeps_at (source_of mid.program.now) mid.own.name (Give v) fs (f ∷ []) env before (at_of mid before (Give v) (fs ++ f ∷ []) env off) refl h in
+    let kept = keeps_at (source_of mid.program.now) mid.own.name (Give v) fs (f ∷ []) env before (at_of mid before (Give v) (fs ++ f ∷ []) env (given_off before mid v f popped gives)) refl h in
     (kept.0, kept.1)
 
 pub awaits_join : (before mid new : Strand) (v number : ℕ) (child next : Bor Expr) → IsPopped (JoinHere number child next) before mid → mid.control ≡ Give v →
@@ -103,8 +101,7 @@ freed_top before mid v f popped gives h =
     let source = source_of mid.program.now in
     let fs = mid.frames in
     let env = mid.environment in
-    let off = framed_as mid before env (fs ++ f ∷ []) (fs ++ f ∷ []) mid.control (Give v) popped refl gives in
-    let whole = faultless_at source mid.own.name (Give v) (fs ++ f ∷ []) env before (at_of mid before (Give v) (fs ++ f ∷ []) env off) h in
+    let whole = faultless_at source mid.own.name (Give v) (fs ++ f ∷ []) env before (at_of mid before (Give v) (fs ++ f ∷ []) env (given_off before mid v f popped gives)) h in
     (faultless-append source false fs (f ∷ []) whole.0).1.0
 
 pub join_free : (before mid : Strand) (v number : ℕ) (child next : Bor Expr) → IsPopped (JoinHere number child next) before mid → mid.control ≡ Give v → IsWithoutFault before →

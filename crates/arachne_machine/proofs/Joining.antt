@@ -24,13 +24,13 @@ use Rattle.arachne_machine.specs.Lines.{Gains}
 use Rattle.arachne_machine.specs.Ending.{child_task, joined_env, account_joined, fork_awaited, lock_freed, forks_of, forks_here, releases, frames_left, AwaitsFork}
 use Rattle.arachne_machine.specs.Steps.{Joins, Counts, pending_of, suspended}
 use Rattle.arachne_machine.specs.Suspended.{awaited}
-use Rattle.arachne_machine.proofs.Outlooks.{KeepsTop, SameOutlook, IsAt, Any, unjoined_at, here_at, locks_at, same_end}
+use Rattle.arachne_machine.proofs.Outlooks.{KeepsTop, SameOutlook, IsAt, LeavesFrames, Any, at_itself, unjoined_at, here_at, locks_at, same_end}
 
 joins_by : (old new : Strand) (outcome : Finished) (n : ℕ) (k k' : Control) (gs' : List Frame) (env' : List ℕ) → old.control ≡ k → outcome.name ≡ old.own.name ++ n ∷ [] →
     new.program ≡ old.program → new.own ≡ old.own → new.forks ≡ old.forks → new.control ≡ k' →
     new.frames ≡ old.frames ++ gs' → new.environment ≡ env' →
     Gains old.below outcome.lines new.below →
-    ((fs : List Frame) → frames_left k fs ≡ fs) → ((fs : List Frame) → frames_left k' fs ≡ fs) →
+    LeavesFrames k → LeavesFrames k' →
     fork_awaited k ++ [] ≡ n ∷ (fork_awaited k' ++ forks_of gs') → forks_here gs' ≡ [] → lock_freed k' ++ releases gs' ≡ lock_freed k ++ [] → pending_of k' ≡ None →
     KeepsTop (source_of old.program.now) old.own.name k' gs' env' →
     (outcome.value ≡ task_value (source_of old.program.now).arrays (child_task (source_of old.program.now) old.own.name n) →
@@ -41,7 +41,7 @@ joins_by old new outcome n k k' gs' env' is_k is_name program own forks is_k' fr
     let name = old.own.name in
     let fs = old.frames in
     let env = old.environment in
-    let at : IsAt source name k (fs ++ []) env old = record { source_is = refl; name_is = refl; control_is = is_k; frames_are = sym (append-nil fs); environment_is = refl } in
+    let at : IsAt source name k (fs ++ []) env old = at_itself old k is_k in
     let at' : IsAt source name k' (fs ++ gs') env' new = record {
       source_is = ap (λ p. source_of p.now) program;
       name_is = ap (λ o. o.name) own;
@@ -130,40 +130,48 @@ awaited_child t n k name is_control one is_awaited =
     ap (λ l. option_map (λ number. t.own.name ++ number ∷ []) (slice_get (l ++ forks_of t.frames) 0)) (sym (ap fork_awaited is_control ∙ one)) ∙ is_awaited in
     cc
 
+-- What an answer that counts leaves as it was.
+pub record LeavesRest (old new : Strand) : Type 0 where
+  pub program : new.program ≡ old.program
+  pub name : new.own.name ≡ old.own.name
+  pub label : new.own.label ≡ old.own.label
+  pub below : new.below ≡ old.below
+  pub forks : new.forks ≡ old.forks
+  pub frames : new.frames ≡ old.frames
+  pub environment : new.environment ≡ old.environment
+
 -- An answer that counts, and goes on.
-counts_by : (old new : Strand) (answered : Pending) (effects : Effects) (k k' : Control) → old.control ≡ k → new.control ≡ k' →
-    new.program ≡ old.program → new.own.name ≡ old.own.name → new.own.label ≡ old.own.label → new.below ≡ old.below → new.forks ≡ old.forks →
-    new.frames ≡ old.frames → new.environment ≡ old.environment →
+counts_by : (old new : Strand) (answered : Pending) (effects : Effects) (k k' : Control) → old.control ≡ k → new.control ≡ k' → LeavesRest old new →
     ((n : ℕ) (own : ℕ → ℕ) → old.own.holds ≡ tabulated n own → new.own.holds ≡ tabulated n (λ lock. own lock + effects.holds lock)) →
-    ((fs : List Frame) → frames_left k fs ≡ fs) → ((fs : List Frame) → frames_left k' fs ≡ fs) →
+    LeavesFrames k → LeavesFrames k' →
     fork_awaited k' ≡ fork_awaited k → lock_freed k' ≡ lock_freed k → pending_of k' ≡ None → AwaitsFork (source_of old.program.now) old.own.name k' old.environment →
     SameOutlook 0 0 (At answered ∷ []) Any (after old.own.name effects) (source_of old.program.now) old.own.name k [] old.environment k' [] old.environment →
     Counts answered effects old new
-counts_by old new answered effects k k' is_k is_k' program is_name label below forks frames environment holds left left' awaits locks pending keep outlook =
+counts_by old new answered effects k k' is_k is_k' rest holds left left' awaits locks pending keep outlook =
     let source = source_of old.program.now in
     let name = old.own.name in
     let fs = old.frames in
     let env = old.environment in
-    let at : IsAt source name k (fs ++ []) env old = record { source_is = refl; name_is = refl; control_is = is_k; frames_are = sym (append-nil fs); environment_is = refl } in
+    let at : IsAt source name k (fs ++ []) env old = at_itself old k is_k in
     let at' : IsAt source name k' (fs ++ []) env new = record {
-      source_is = ap (λ p. source_of p.now) program;
-      name_is = is_name;
+      source_is = ap (λ p. source_of p.now) rest.program;
+      name_is = rest.name;
       control_is = is_k';
-      frames_are = frames ∙ sym (append-nil fs);
-      environment_is = environment;
+      frames_are = rest.frames ∙ sym (append-nil fs);
+      environment_is = rest.environment;
     } in
     let end = same_end 0 0 (At answered ∷ []) Any (after name effects) source name k k' fs [] [] env env old new at at' (left (fs ++ [])) (left' (fs ++ [])) (λ h. (keep, tt)) outlook in
     record {
-      program = program;
-      name = is_name;
-      label = label;
-      below = below;
-      forks = forks;
+      program = rest.program;
+      name = rest.name;
+      label = rest.label;
+      below = rest.below;
+      forks = rest.forks;
       unjoined = ap (λ x. fork_awaited x ++ forks_of new.frames) is_k' ∙ ap (λ l. l ++ forks_of new.frames) awaits
-          ∙ ap (λ x. fork_awaited k ++ forks_of x) frames ∙ ap (λ x. fork_awaited x ++ forks_of fs) (sym is_k);
-      here = ap forks_here frames;
+          ∙ ap (λ x. fork_awaited k ++ forks_of x) rest.frames ∙ ap (λ x. fork_awaited x ++ forks_of fs) (sym is_k);
+      here = ap forks_here rest.frames;
       locks = ap (λ x. lock_freed x ++ releases new.frames) is_k' ∙ ap (λ l. l ++ releases new.frames) locks
-          ∙ ap (λ x. lock_freed k ++ releases x) frames ∙ ap (λ x. lock_freed x ++ releases fs) (sym is_k);
+          ∙ ap (λ x. lock_freed k ++ releases x) rest.frames ∙ ap (λ x. lock_freed x ++ releases fs) (sym is_k);
       pending = ap pending_of is_k' ∙ pending;
       holds = holds;
       ending = end.ending;
@@ -174,20 +182,16 @@ counts_by old new answered effects k k' is_k is_k' program is_name label below f
       keeps = end.keeps;
     }
 
-pub counts_hold : (old new : Strand) (lock : ℕ) (body : Bor Expr) → old.control ≡ Asks lock body → new.control ≡ Begin body →
-    new.program ≡ old.program → new.own.name ≡ old.own.name → new.own.label ≡ old.own.label → new.below ≡ old.below → new.forks ≡ old.forks →
-    new.frames ≡ old.frames → new.environment ≡ old.environment →
+pub counts_hold : (old new : Strand) (lock : ℕ) (body : Bor Expr) → old.control ≡ Asks lock body → new.control ≡ Begin body → LeavesRest old new →
     ((n : ℕ) (own : ℕ → ℕ) → old.own.holds ≡ tabulated n own → new.own.holds ≡ tabulated n (λ other. own other + (held lock).holds other)) →
     Counts (pause.Asks lock) (held lock) old new
-counts_hold old new lock body asks begins program is_name label below forks frames environment holds =
-    counts_by old new (pause.Asks lock) (held lock) (Asks lock body) (Begin body) asks begins program is_name label below forks frames environment holds
+counts_hold old new lock body asks begins rest holds =
+    counts_by old new (pause.Asks lock) (held lock) (Asks lock body) (Begin body) asks begins rest holds
     (λ fs. refl) (λ fs. refl) refl refl refl tt (record { ending = refl; account = λ a any. refl; work = omega arith; trace = refl; faultless = λ held h. (tt, h.1.1) })
 
-pub counts_tally : (old new : Strand) (ledger amount : ℕ) (body : Bor Expr) → old.control ≡ Tallies ledger amount body → new.control ≡ Begin body →
-    new.program ≡ old.program → new.own.name ≡ old.own.name → new.own.label ≡ old.own.label → new.below ≡ old.below → new.forks ≡ old.forks →
-    new.frames ≡ old.frames → new.environment ≡ old.environment →
+pub counts_tally : (old new : Strand) (ledger amount : ℕ) (body : Bor Expr) → old.control ≡ Tallies ledger amount body → new.control ≡ Begin body → LeavesRest old new →
     ((n : ℕ) (own : ℕ → ℕ) → old.own.holds ≡ tabulated n own → new.own.holds ≡ tabulated n (λ lock. own lock + (tallied ledger amount).holds lock)) →
     Counts (pause.Tallies ledger amount) (tallied ledger amount) old new
-counts_tally old new ledger amount body tallies begins program is_name label below forks frames environment holds =
-    counts_by old new (pause.Tallies ledger amount) (tallied ledger amount) (Tallies ledger amount body) (Begin body) tallies begins program is_name label below forks frames environment holds
+counts_tally old new ledger amount body tallies begins rest holds =
+    counts_by old new (pause.Tallies ledger amount) (tallied ledger amount) (Tallies ledger amount body) (Begin body) tallies begins rest holds
     (λ fs. refl) (λ fs. refl) refl refl refl tt (record { ending = refl; account = λ a any. refl; work = omega arith; trace = refl; faultless = λ held h. (tt, h.1.1) })

@@ -8,14 +8,14 @@ use Rattle.arachne_lang.specs.Program.{source_of}
 use Rattle.arachne_machine.specs.declared.frame.Frame.{Frame}
 use Rattle.arachne_machine.specs.declared.frame.Frame.TheVariants.{Join, Merge, JoinHere, MergeHere}
 use Rattle.arachne_machine.specs.declared.frame.Control.{Control}
-use Rattle.arachne_machine.specs.declared.frame.Control.TheVariants.{Begin, Awaits, AwaitsHalf}
+use Rattle.arachne_machine.specs.declared.frame.Control.TheVariants.{Begin, Give, Awaits, AwaitsHalf}
 use Rattle.arachne_machine.specs.Trace.{Event, At, with_steps}
 use Rattle.arachne_machine.specs.declared.pause.Pending.TheVariants as pause
 use Rattle.arachne_machine.specs.Strands.{Strand}
 use Rattle.arachne_machine.specs.Account.{Account}
 use Rattle.arachne_machine.specs.Ending.{Status, resume, resume_account, resume_work, resume_trace, begun, begun_account, begun_work, begun_trace, fork_awaited, lock_freed, forks_of, releases, frames_left, ending, account_at_end, work_left, trace_left, unjoined_of, here_of, locks_of, fork_of, fork_here, forks_here, AwaitsFork, KeepsFork, KeepForks, KeepsForks}
 use Rattle.arachne_machine.specs.Faultless.{GoesWithoutFault, IsWithoutFault}
-use Rattle.arachne_machine.specs.Steps.{Becomes, Goes, AfterSteps, pending_of, beginning, giving}
+use Rattle.arachne_machine.specs.Steps.{Becomes, Goes, AfterSteps, IsPopped, pending_of, beginning, giving}
 use Rattle.arachne_machine.proofs.Faultlessness.{faultless_above}
 use Rattle.arachne_machine.proofs.Frames.{resume-append, resume_account-append, resume_work-append, resume_trace-append, with_steps-append, forks_of-append, forks_here-append, releases-append}
 
@@ -41,6 +41,14 @@ pub record IsAt (source : Source) (name : List ℕ) (k : Control) (fs : List Fra
   pub control_is : t.control ≡ k
   pub frames_are : t.frames ≡ fs
   pub environment_is : t.environment ≡ env
+
+-- the thread itself, with what it does next
+pub at_itself : (old : Strand) (k : Control) → old.control ≡ k → IsAt (source_of old.program.now) old.own.name k (old.frames ++ []) old.environment old
+at_itself old k is_k = record { source_is = refl; name_is = refl; control_is = is_k; frames_are = sym (append-nil old.frames); environment_is = refl }
+
+-- the frames that there are stay below what this control does next
+abbrev pub LeavesFrames : Control → Type 0
+LeavesFrames k = (fs : List Frame) → frames_left k fs ≡ fs
 
 pub ending_at : (source : Source) (name : List ℕ) (k : Control) (fs : List Frame) (env : List ℕ) (t : Strand) → IsAt source name k fs env t →
     ending t ≡ resume source name (frames_left k fs) (begun source name k env)
@@ -372,6 +380,10 @@ reshaped mid t env env' fs fs' k k' b d e f = record {
 
 pub framed_as : (mid t : Strand) (env : List ℕ) (fs fs' : List Frame) (k k' : Control) → Becomes mid t env fs k → fs ≡ fs' → k ≡ k' → Becomes mid t env fs' k'
 framed_as mid t env fs fs' k k' b e f = reshaped mid t env env fs fs' k k' b refl e f
+
+-- where the newest frame was taken away, what there was is what is left with that frame
+pub given_off : (before mid : Strand) (v : ℕ) (f : Frame) → IsPopped f before mid → mid.control ≡ Give v → Becomes mid before mid.environment (mid.frames ++ f ∷ []) (Give v)
+given_off before mid v f popped gives = framed_as mid before mid.environment (mid.frames ++ f ∷ []) (mid.frames ++ f ∷ []) mid.control (Give v) popped refl gives
 
 -- what it is to hand on does not matter to what it becomes
 pub as_giving : (t new : Strand) (v : ℕ) (env : List ℕ) (fs : List Frame) (k : Control) → Becomes t new env fs k → Becomes (giving t v) new env fs k

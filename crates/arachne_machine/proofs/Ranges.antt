@@ -12,6 +12,9 @@ use Rattle.arachne_machine.specs.Trace.{Event, in_turn, trace_of}
 use Rattle.arachne_machine.specs.Turns.{folded, folded_effects, folded_work, folded_trace, swept, swept_effects, swept_work, swept_trace}
 use Rattle.arachne_machine.proofs.Accounts.{after-nothing, after-sequence}
 
+add_none : (n : ℕ) → n + 0 ≡ n
+add_none n = omega arith
+
 turns-first : (step : ℕ → ℕ → ℕ) (n v : ℕ) → turns step (suc n) v ≡ turns (λ j. step (suc j)) n (step 0 v)
 turns-first step zero v = refl
 turns-first step (suc n) v = ap (step (suc n)) (turns-first step n v)
@@ -82,7 +85,7 @@ pub folded_effects-turn : (arrays : List (List ℕ)) (locks : ℕ) (body : Tree)
 folded_effects-turn arrays locks body env next end v name a lt =
     let G : ℕ → ℕ → Effects = λ i s. effects_of arrays locks body (with_newest (with_newest env i) s) in
     let n = end - (next + 1) in
-    let first : next + 0 ≡ next = omega arith in
+    let first = add_none next in
     ap (λ m. after name (folded_effects arrays locks body env next m v) a) (some_left next end lt)
     ∙ effects-first name (λ j. G (next + j) (folded arrays body env next j v)) n a
     ∙ ap (λ i. after name (turns_effects (λ j. G (next + suc j) (folded arrays body env next (suc j) v)) n) (after name (G i v) a)) first
@@ -100,7 +103,7 @@ pub folded_work-turn : (arrays : List (List ℕ)) (body : Tree) (env : Environme
 folded_work-turn arrays body env next end v lt =
     let G : ℕ → ℕ → ℕ = λ i s. work_of arrays body (with_newest (with_newest env i) s) in
     let n = end - (next + 1) in
-    let first : next + 0 ≡ next = omega arith in
+    let first = add_none next in
     ap (λ m. folded_work arrays body env next m v) (some_left next end lt)
     ∙ total-first (λ j. G (next + j) (folded arrays body env next j v)) n
     ∙ ap (λ i. G i v + total (λ j. G (next + suc j) (folded arrays body env next (suc j) v)) n) first
@@ -116,7 +119,7 @@ pub folded_trace-turn : (arrays : List (List ℕ)) (body : Tree) (env : Environm
 folded_trace-turn arrays body env next end v lt =
     let G : ℕ → ℕ → List Event = λ i s. trace_of arrays body (with_newest (with_newest env i) s) in
     let n = end - (next + 1) in
-    let first : next + 0 ≡ next = omega arith in
+    let first = add_none next in
     ap (λ m. folded_trace arrays body env next m v) (some_left next end lt)
     ∙ in_turn-first (λ j. G (next + j) (folded arrays body env next j v)) n
     ∙ ap (λ i. G i v ++ in_turn (λ j. G (next + suc j) (folded arrays body env next (suc j) v)) n) first
@@ -146,7 +149,7 @@ pub swept_effects-turn : (arrays : List (List ℕ)) (locks : ℕ) (body : Tree) 
 swept_effects-turn arrays locks body env next end name a lt =
     let G : ℕ → Effects = λ i. effects_of arrays locks body (with_newest env i) in
     let n = end - (next + 1) in
-    let first : next + 0 ≡ next = omega arith in
+    let first = add_none next in
     ap (λ m. after name (swept_effects arrays locks body env next m) a) (some_left next end lt)
     ∙ effects-first name (λ j. G (next + j)) n a
     ∙ ap (λ i. after name (turns_effects (λ j. G (next + suc j)) n) (after name (G i) a)) first
@@ -163,7 +166,7 @@ pub swept_work-turn : (arrays : List (List ℕ)) (body : Tree) (env : Environmen
 swept_work-turn arrays body env next end lt =
     let G : ℕ → ℕ = λ i. work_of arrays body (with_newest env i) in
     let n = end - (next + 1) in
-    let first : next + 0 ≡ next = omega arith in
+    let first = add_none next in
     ap (λ m. swept_work arrays body env next m) (some_left next end lt)
     ∙ total-first (λ j. G (next + j)) n
     ∙ ap (λ i. G i + total (λ j. G (next + suc j)) n) first
@@ -178,7 +181,7 @@ pub swept_trace-turn : (arrays : List (List ℕ)) (body : Tree) (env : Environme
 swept_trace-turn arrays body env next end lt =
     let G : ℕ → List Event = λ i. trace_of arrays body (with_newest env i) in
     let n = end - (next + 1) in
-    let first : next + 0 ≡ next = omega arith in
+    let first = add_none next in
     ap (λ m. swept_trace arrays body env next m) (some_left next end lt)
     ∙ in_turn-first (λ j. G (next + j)) n
     ∙ ap (λ i. G i ++ in_turn (λ j. G (next + suc j)) n) first

@@ -15,7 +15,7 @@ use Rattle.arachne_machine.specs.declared.state.State.{State}
 use Rattle.arachne_machine.specs.Account.{with_fork}
 use Rattle.arachne_machine.specs.Ending.{unjoined_of, work_left}
 use Rattle.arachne_machine.specs.Steps.{pending_of, suspended, task_begun, top, waiting_in}
-use Rattle.arachne_machine.specs.Runs.{IsByItself, last_of, outermost_in}
+use Rattle.arachne_machine.specs.Runs.{IsByItself, RunsOn, last_of, outermost_in}
 use Rattle.arachne_machine.specs.Suspended.{IsFresh}
 use Rattle.arachne_machine.specs.Trace.{At, task_trace}
 use Rattle.arachne_machine.specs.Work.{task_work}
@@ -28,6 +28,10 @@ use Rattle.arachne_machine.proofs.Levels.{alone_waiting, last_same, leaves_waiti
 use Rattle.arachne_machine.proofs.Nesting.{pauses_seen, program_seen, same_whole, whole_seen}
 use Rattle.arachne_machine.proofs.Lasting.{stopped_pending}
 use Rattle.arachne_machine.proofs.Handed.{kept_sound, none_parents, none_placed, paused}
+
+-- one that is alone stays so
+all_alone : {Q : Type 0} → {had left : ℕ} → {old new : State} → {ps qs : List (Box State)} → Went Q had left old ps new qs → IsAlone (nested old ps) → (qs ≡ []) × RunsOn Q had left 0 old new
+all_alone w alone = w.by_itself (none_placed _ alone.1)
 
 -- What callers see of it.
 pub record Shown (Q : Type 0) (had left : ℕ) (old : State) (ps : List (Box State)) (gives : Pause) (new : State) (qs : List (Box State)) : Type 0 where
@@ -64,7 +68,7 @@ shown_budget Q had left old new ps qs w none_left = record {
   elsewhere = tt;
   within = λ checked. tt;
   alone = λ alone places.
-      let b = w.by_itself (none_placed ps alone.1) in
+      let b = all_alone w alone in
       let r = b.1 in
       let g = r.runs.by_itself (by_itself old ps alone) (sym (whole_forks new qs) ∙ places ∙ whole_forks old ps) in
       let all : r.made ≡ had = omega (arith, r.counted, none_left) in
@@ -104,7 +108,7 @@ shown_stop Q had beside left old new ps qs next one p =
       charged = omega (arith, w.work, at.work, w.counted, one);
       within = λ checked. pauses_seen new at.kept.sound (subst (λ p. IsChecked (source_of p.now)) (sym (l.program ∙ w.program)) checked);
       alone = λ alone places.
-          let b = w.by_itself (none_placed ps alone.1) in
+          let b = all_alone w alone in
           let r = b.1 in
           let g = r.runs.by_itself (by_itself old ps alone) (sym forks ∙ sym (whole_forks new qs) ∙ places ∙ whole_forks old ps) in
           record {
@@ -213,7 +217,7 @@ shown_fork Q had beside left old new ps qs class child was one f =
       elsewhere = tt;
       within = λ checked. pauses_seen new sound (subst (λ p. IsChecked (source_of p.now)) (sym (l.program ∙ w.program)) checked);
       alone = λ alone places.
-          let b = w.by_itself (none_placed ps alone.1) in
+          let b = all_alone w alone in
           let r = b.1 in
           let none : new.parents.items ≡ [] = none_parents new places.0 in
           let before : last.parents.items ≡ [] = sym l.parents ∙ none in
@@ -228,7 +232,7 @@ shown_fork Q had beside left old new ps qs class child was one f =
             holds = ap (λ o. o.holds) (g.own ∙ go.goes.own);
           };
       everywhere = λ q alone.
-          let b = w.by_itself (none_placed ps alone.1) in
+          let b = all_alone w alone in
           let by = by_itself old ps alone in
           let same = b.1.places_none q by in
           let go = b.1.runs.by_itself by same in
@@ -264,7 +268,7 @@ shown_refusal Q had left old new ps qs w some = record {
   rest = w.rest;
   pending = w.running;
   alone = λ alone places.
-      let b = w.by_itself (none_placed ps alone.1) in
+      let b = all_alone w alone in
       let r = b.1 in
       let g = r.runs.by_itself (by_itself old ps alone) (sym (whole_forks new qs) ∙ places ∙ whole_forks old ps) in
       record {

@@ -164,34 +164,29 @@ sound_same old new account account' s g =
       keeps = g.keeps s.keeps;
     }
 
-pub sound_goes : (n : ℕ) (answered : List Event) (old new : Strand) (account : Account) → IsSound old account → Goes n answered old new → IsSound new account
-sound_goes n answered old new account s g = sound_same old new account account s (record {
-  program = ap (λ p. source_of p.now) g.program;
-  name = ap (λ o. o.name) g.own;
-  holds = λ locks h. ap (λ o. o.holds) g.own ∙ h;
-  lines = λ h. ap (map named_holds) g.below ∙ h;
-  forks = λ h. g.forks ∙ h;
-  ending = g.ending;
-  whole = g.account account;
-  numbered = λ h. (omega (arith, h.0, g.forks, ap length g.below, ap length g.unjoined), omega (arith, h.1, ap length g.below));
-  faultless = g.faultless;
-  keeps = g.keeps;
+-- one that has its own as before, and comes to the same, stays sound
+sound_stays : (old new : Strand) (account : Account) → IsSound old account → new.program ≡ old.program → new.own ≡ old.own → new.below ≡ old.below → new.forks ≡ old.forks →
+    unjoined_of new ≡ unjoined_of old → ending new ≡ ending old → ((a : Account) → account_at_end new a ≡ account_at_end old a) → (IsWithoutFault old → IsWithoutFault new) →
+    (KeepsForks old → KeepsForks new) → IsSound new account
+sound_stays old new account s program own below forks unjoined ends counts faultless keeps = sound_same old new account account s (record {
+  program = ap (λ p. source_of p.now) program;
+  name = ap (λ o. o.name) own;
+  holds = λ locks h. ap (λ o. o.holds) own ∙ h;
+  lines = λ h. ap (map named_holds) below ∙ h;
+  forks = λ h. forks ∙ h;
+  ending = ends;
+  whole = counts account;
+  numbered = λ h. (omega (arith, h.0, forks, ap length below, ap length unjoined), omega (arith, h.1, ap length below));
+  faultless = faultless;
+  keeps = keeps;
 })
+
+pub sound_goes : (n : ℕ) (answered : List Event) (old new : Strand) (account : Account) → IsSound old account → Goes n answered old new → IsSound new account
+sound_goes n answered old new account s g = sound_stays old new account s g.program g.own g.below g.forks g.unjoined g.ending g.account g.faultless g.keeps
 
 -- so is one that awaits a child that runs here
 pub sound_awaits : (number handed : ℕ) (old new : Strand) (account : Account) → IsSound old account → AwaitsHere number handed old new → IsSound new account
-sound_awaits number handed old new account s g = sound_same old new account account s (record {
-  program = ap (λ p. source_of p.now) g.program;
-  name = ap (λ o. o.name) g.own;
-  holds = λ locks h. ap (λ o. o.holds) g.own ∙ h;
-  lines = λ h. ap (map named_holds) g.below ∙ h;
-  forks = λ h. g.forks ∙ h;
-  ending = g.ending;
-  whole = g.account account;
-  numbered = λ h. (omega (arith, h.0, g.forks, ap length g.below, ap length g.unjoined), omega (arith, h.1, ap length g.below));
-  faultless = g.faultless;
-  keeps = g.keeps;
-})
+sound_awaits number handed old new account s g = sound_stays old new account s g.program g.own g.below g.forks g.unjoined g.ending g.account g.faultless g.keeps
 
 -- the child that a thread forks next is the child of that number of its task
 next_made : (t : Strand) (account : Account) (s : IsSound t account) (made : Child) (rest : List Child) → (account_at_end t account).children ≡ account.children ++ made ∷ rest →

@@ -30,7 +30,7 @@ use Rattle.arachne_machine.proofs.Accounts.{after-sequence, after-forked, after-
 use Rattle.arachne_machine.proofs.Frames.{Grows-frames}
 use Rattle.arachne_machine.proofs.Halves.{value_split, effects_split, work_split, trace_split}
 use Rattle.arachne_machine.proofs.Faultlessness.{no_faults-append, within_none}
-use Rattle.arachne_machine.proofs.Outlooks.{KeepsTop, SameOutlook, IsAt, account_at, faultless_at, unjoined_at, here_at, locks_at, same_end}
+use Rattle.arachne_machine.proofs.Outlooks.{KeepsTop, SameOutlook, IsAt, LeavesFrames, at_itself, account_at, faultless_at, unjoined_at, here_at, locks_at, same_end}
 
 -- the task of a child that is there
 pub child_task-found : (source : Source) (name : List ℕ) (n : ℕ) (task : Task) → task_of source (name ++ n ∷ []) ≡ Some task → child_task source name n ≡ task
@@ -53,13 +53,23 @@ ForksNext source name made k env = (a : Account) → (rest : List Child) × ((be
 abbrev pub made_as : Class → Control → List ℕ → Child
 made_as class begins env = record { class = class; task = task_begun begins env }
 
+-- where its program has such a child, the thread keeps what it has with this control and this frame
+abbrev pub KeepsItsFork : Strand → Control → Control → Frame → Type 0
+KeepsItsFork old begins k' f = task_of (source_of old.program.now) (old.own.name ++ old.forks ∷ []) ≡ Some (task_begun begins old.environment) →
+    KeepsTop (source_of old.program.now) old.own.name k' (f ∷ []) old.environment
+
+abbrev pub HasNext : Class → Strand → Control → Control → Type 0
+HasNext class old begins k = ForksNext (source_of old.program.now) old.own.name (made_as class begins old.environment) k old.environment
+
+-- by the program, the child's task is what it begins with
+abbrev pub FindsTask : Strand → Control → Type 0
+FindsTask old begins = child_task (source_of old.program.now) old.own.name old.forks ≡ task_begun begins old.environment
+
 pub forks_by : (class : Class) (handed : ℕ) (answered : List Event) (old new : Strand) (begins k k' : Control) (f : Frame) → old.control ≡ k → PushesFork old new f k' →
-    ((fs : List Frame) → frames_left k fs ≡ fs) → ((fs : List Frame) → frames_left k' fs ≡ fs) →
+    LeavesFrames k → LeavesFrames k' →
     fork_awaited k' ++ forks_of (f ∷ []) ≡ old.forks ∷ (fork_awaited k ++ []) → lock_freed k' ++ releases (f ∷ []) ≡ lock_freed k ++ [] →
-    (task_of (source_of old.program.now) (old.own.name ++ old.forks ∷ []) ≡ Some (task_begun begins old.environment) →
-    KeepsTop (source_of old.program.now) old.own.name k' (f ∷ []) old.environment) →
-    ForksNext (source_of old.program.now) old.own.name (made_as class begins old.environment) k old.environment →
-    (child_task (source_of old.program.now) old.own.name old.forks ≡ task_begun begins old.environment →
+    KeepsItsFork old begins k' f → HasNext class old begins k →
+    (FindsTask old begins →
     ForkOutlook (source_of old.program.now) old.own.name old.forks handed answered (made_as class begins old.environment) k old.environment k' f) →
     GoesToFork 1 handed answered (forks_here (f ∷ [])) old new (made_as class begins old.environment)
 forks_by class handed answered old new begins k k' f is_k pushed left left' forks locks keep next outlook =
@@ -70,7 +80,7 @@ forks_by class handed answered old new begins k k' f is_k pushed left left' fork
     let n = old.forks in
     let task = task_begun begins env in
     let made = made_as class begins env in
-    let at : IsAt source name k (fs ++ []) env old = record { source_is = refl; name_is = refl; control_is = is_k; frames_are = sym (append-nil fs); environment_is = refl } in
+    let at : IsAt source name k (fs ++ []) env old = at_itself old k is_k in
     let at' : IsAt source name k' (fs ++ f ∷ []) env new = record {
       source_is = ap (λ p. source_of p.now) pushed.program;
       name_is = ap (λ o. o.name) pushed.own;
@@ -113,14 +123,12 @@ forks_by class handed answered old new begins k k' f is_k pushed left left' fork
 
 -- A child that was made in a state of its own.
 pub gives_by : (class : Class) (old new child : Strand) (begins k k' : Control) (f : Frame) → old.control ≡ k → SpawnsChild old new child begins f k' →
-    ((fs : List Frame) → frames_left k fs ≡ fs) → ((fs : List Frame) → frames_left k' fs ≡ fs) →
+    LeavesFrames k → LeavesFrames k' →
     fork_awaited k' ++ forks_of (f ∷ []) ≡ old.forks ∷ (fork_awaited k ++ []) → forks_here (f ∷ []) ≡ [] → lock_freed k' ++ releases (f ∷ []) ≡ lock_freed k ++ [] →
     pending_of k' ≡ Some pause.Forks →
     ((held : Bool) → IsFaultlessNext (source_of old.program.now) held k → IsFaultlessNext (source_of old.program.now) false begins) →
-    (task_of (source_of old.program.now) (old.own.name ++ old.forks ∷ []) ≡ Some (task_begun begins old.environment) →
-    KeepsTop (source_of old.program.now) old.own.name k' (f ∷ []) old.environment) →
-    ForksNext (source_of old.program.now) old.own.name (made_as class begins old.environment) k old.environment →
-    (child_task (source_of old.program.now) old.own.name old.forks ≡ task_begun begins old.environment →
+    KeepsItsFork old begins k' f → HasNext class old begins k →
+    (FindsTask old begins →
     ForkOutlook (source_of old.program.now) old.own.name old.forks (task_work (source_of old.program.now).arrays (task_begun begins old.environment)) []
     (made_as class begins old.environment) k old.environment k' f) →
     GivesChild 1 old new child (made_as class child.control child.environment)
@@ -130,7 +138,7 @@ gives_by class old new child begins k k' f is_k spawned left left' forks here lo
     let fs = old.frames in
     let env = old.environment in
     let task = task_begun begins env in
-    let at : IsAt source name k (fs ++ []) env old = record { source_is = refl; name_is = refl; control_is = is_k; frames_are = sym (append-nil fs); environment_is = refl } in
+    let at : IsAt source name k (fs ++ []) env old = at_itself old k is_k in
     let forked = forks_by class (task_work source.arrays task) [] old new begins k k' f is_k spawned.pushed left left' forks locks keep next outlook in
     let counted = subst (λ w. GoesToFork 1 w [] (forks_here (f ∷ [])) old new (made_as class begins env)) (sym spawned.fresh.work) forked in
     let elsewhere = subst (λ l. GoesToFork 1 (work_left child) [] l old new (made_as class begins env)) here counted in
@@ -153,8 +161,12 @@ fork_parts source held child during next class h =
     let both = no_faults-append (within (tree_of child.now)) (within (tree_of during.now)) parts.0 in
     (within_none held fault.WithinHold h.1.0, (h.0, both.0), (h.0, both.1), (h.0 + 2, parts.1))
 
+-- the expression is a fork of these
+abbrev pub IsFork : Bor Expr → Class → Bor Expr → Bor Expr → Bor Expr → Type 0
+IsFork expr class child during next = tree_of expr.now ≡ Fork class (tree_of child.now) (tree_of during.now) (tree_of next.now)
+
 -- The fork of an expression.
-fork_outlook : (source : Source) (name env : List ℕ) (n : ℕ) (expr child during next : Bor Expr) (class : Class) → tree_of expr.now ≡ Fork class (tree_of child.now) (tree_of during.now) (tree_of next.now) →
+fork_outlook : (source : Source) (name env : List ℕ) (n : ℕ) (expr child during next : Bor Expr) (class : Class) → IsFork expr class child during next →
     child_task source name n ≡ Evaluate (tree_of child.now) env →
     ForkOutlook source name n (work_of source.arrays (tree_of child.now) env) [] (record { class = class; task = Evaluate (tree_of child.now) env }) (Begin expr) env (Forked during) (Join n next)
 fork_outlook source name env n expr child during next class h found =
@@ -189,7 +201,7 @@ fork_outlook source name env n expr child during next class h found =
 
 -- The child of one that is no pause stays here.
 fork_here_outlook : (source : Source) (name env : List ℕ) (n : ℕ) (expr child during next : Bor Expr) (class : Class) →
-    tree_of expr.now ≡ Fork class (tree_of child.now) (tree_of during.now) (tree_of next.now) → child_task source name n ≡ Evaluate (tree_of child.now) env →
+    IsFork expr class child during next → child_task source name n ≡ Evaluate (tree_of child.now) env →
     ForkOutlook source name n 0 (At pause.Forks ∷ []) (record { class = class; task = Evaluate (tree_of child.now) env }) (Begin expr) env (Begin during) (JoinHere n child next)
 fork_here_outlook source name env n expr child during next class h found =
     let given = fork_outlook source name env n expr child during next class h found in
@@ -204,7 +216,7 @@ fork_here_outlook source name env n expr child during next class h found =
     }
 
 fork_next : (source : Source) (name env : List ℕ) (expr first during next : Bor Expr) (class : Class) →
-    tree_of expr.now ≡ Fork class (tree_of first.now) (tree_of during.now) (tree_of next.now) →
+    IsFork expr class first during next →
     ForksNext source name (record { class = class; task = Evaluate (tree_of first.now) env }) (Begin expr) env
 fork_next source name env expr first during next class h a =
     let A = source.arrays in
@@ -216,7 +228,7 @@ fork_next source name env expr first during next class h a =
     )
 
 pub goes_to_fork : (old new child : Strand) (expr first during next : Bor Expr) (class : Class) → old.control ≡ Begin expr →
-    tree_of expr.now ≡ Fork class (tree_of first.now) (tree_of during.now) (tree_of next.now) →
+    IsFork expr class first during next →
     SpawnsChild old new child (Begin first) (Join old.forks next) (Forked during) →
     GivesChild 1 old new child (made_as class child.control child.environment)
 goes_to_fork old new child expr first during next class begins h spawned =
@@ -234,7 +246,7 @@ goes_to_fork old new child expr first during next class begins h spawned =
 
 -- A fork whose child will run here.
 pub places_fork : (old new : Strand) (expr first during next : Bor Expr) (class : Class) → old.control ≡ Begin expr →
-    tree_of expr.now ≡ Fork class (tree_of first.now) (tree_of during.now) (tree_of next.now) →
+    IsFork expr class first during next →
     PushesFork old new (JoinHere old.forks first next) (Begin during) →
     PlacesChild 1 old new (made_as class (Begin first) old.environment)
 places_fork old new expr first during next class begins h pushed =
@@ -250,9 +262,13 @@ places_fork old new expr first during next class begins h pushed =
       pending = ap pending_of pushed.control_is;
     }
 
+-- where a part of a sweep is split
+abbrev pub halfway : Stretch → ℕ
+halfway stretch = stretch.first + (stretch.end - stretch.first) / 2
+
 -- The split of a part of a sweep.
 half_outlook : (source : Source) (name env : List ℕ) (n : ℕ) (stretch : Stretch) (middle : ℕ) → max 1 stretch.grain < stretch.end - stretch.first →
-    middle ≡ stretch.first + (stretch.end - stretch.first) / 2 →
+    middle ≡ halfway stretch →
     child_task source name n ≡ stretch_task (record stretch { end = middle }) env →
     ForkOutlook source name n (task_work source.arrays (stretch_task (record stretch { end = middle }) env)) []
     (record { class = Normal; task = stretch_task (record stretch { end = middle }) env }) (Cover stretch) env (Halved (record stretch { first = middle })) (Merge n stretch.reduction)
@@ -295,7 +311,7 @@ half_outlook source name env n stretch middle lt is found =
 
 -- The left half stays here.
 half_here_outlook : (source : Source) (name env : List ℕ) (n : ℕ) (stretch : Stretch) (middle : ℕ) → max 1 stretch.grain < stretch.end - stretch.first →
-    middle ≡ stretch.first + (stretch.end - stretch.first) / 2 →
+    middle ≡ halfway stretch →
     child_task source name n ≡ stretch_task (record stretch { end = middle }) env →
     ForkOutlook source name n 0 (At pause.Forks ∷ []) (record { class = Normal; task = stretch_task (record stretch { end = middle }) env }) (Cover stretch) env
     (Cover (record stretch { first = middle })) (MergeHere n (record stretch { end = middle }))
@@ -310,7 +326,7 @@ half_here_outlook source name env n stretch middle lt is found =
     }
 
 half_next : (source : Source) (name env : List ℕ) (stretch : Stretch) (middle : ℕ) → max 1 stretch.grain < stretch.end - stretch.first →
-    middle ≡ stretch.first + (stretch.end - stretch.first) / 2 →
+    middle ≡ halfway stretch →
     ForksNext source name (record { class = Normal; task = stretch_task (record stretch { end = middle }) env }) (Cover stretch) env
 half_next source name env stretch middle lt is a =
     let A = source.arrays in
@@ -329,7 +345,7 @@ half_next source name env stretch middle lt is a =
     )
 
 pub goes_to_half : (old new child : Strand) (stretch : Stretch) (middle : ℕ) → old.control ≡ Cover stretch → max 1 stretch.grain < stretch.end - stretch.first →
-    middle ≡ stretch.first + (stretch.end - stretch.first) / 2 →
+    middle ≡ halfway stretch →
     SpawnsChild old new child (Cover (record stretch { end = middle })) (Merge old.forks stretch.reduction) (Halved (record stretch { first = middle })) →
     GivesChild 1 old new child (made_as Normal child.control child.environment)
 goes_to_half old new child stretch middle covers lt is spawned =
@@ -346,7 +362,7 @@ goes_to_half old new child stretch middle covers lt is spawned =
 
 -- A split whose left half will run here.
 pub places_half : (old new : Strand) (stretch : Stretch) (middle : ℕ) → old.control ≡ Cover stretch → max 1 stretch.grain < stretch.end - stretch.first →
-    middle ≡ stretch.first + (stretch.end - stretch.first) / 2 →
+    middle ≡ halfway stretch →
     PushesFork old new (MergeHere old.forks (record stretch { end = middle })) (Cover (record stretch { first = middle })) →
     PlacesChild 1 old new (made_as Normal (Cover (record stretch { end = middle })) old.environment)
 places_half old new stretch middle covers lt is pushed =

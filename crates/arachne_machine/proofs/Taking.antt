@@ -255,6 +255,16 @@ with_frame source name t u f v k at at' left one h =
     at_faultless source name (Give v) (t.frames ++ f ∷ []) t.environment u at'
     (append-faultless source false t.frames (f ∷ []) was.0 (one was.1, tt), tt)
 
+-- the thread that stands there, with that frame
+at_frame : (t u : Strand) (f : Frame) (v : ℕ) → Becomes t u t.environment (t.frames ++ f ∷ []) (Give v) → IsAt (source_of t.program.now) t.own.name (Give v) (t.frames ++ f ∷ []) t.environment u
+at_frame t u f v b = record {
+  source_is = ap (λ p. source_of p.now) b.program;
+  name_is = ap (λ o. o.name) b.own;
+  control_is = b.control_is;
+  frames_are = b.frames_are;
+  environment_is = b.environment_is;
+}
+
 unstepped_at : (old new : State) (k : Control) → old.control ≡ k → IsSoundState old → StandsBefore k old new → Unstepped old new
 unstepped_at old new (Awaits n v next) is s changed =
     let le = start_in old s in
@@ -264,13 +274,7 @@ unstepped_at old new (Awaits n v next) is s changed =
     let b = top_becomes old new _ _ _ changed le in
     let source = source_of old.program.now in
     let at : IsAt source t.own.name (Awaits n v next) t.frames t.environment t = record { source_is = refl; name_is = refl; control_is = is; frames_are = refl; environment_is = refl } in
-    let at' : IsAt source t.own.name (Give v) (t.frames ++ f ∷ []) t.environment u = record {
-      source_is = ap (λ p. source_of p.now) b.program;
-      name_is = ap (λ o. o.name) b.own;
-      control_is = b.control_is;
-      frames_are = b.frames_are;
-      environment_is = b.environment_is;
-    } in
+    let at' = at_frame t u f v b in
     unstepped_by old new f v s changed (hand_join u (giving t v) t v n next (popped_by t u f v b) refl (stepped_by t v (Awaits n v next) is))
     (with_frame source t.own.name t u f v (Awaits n v next) at at' refl (λ h. h))
     (λ h. let was = keeps_there source t.own.name (Awaits n v next) t.frames t.environment t at h in
@@ -283,13 +287,7 @@ unstepped_at old new (AwaitsHalf n v reduction) is s changed =
     let b = top_becomes old new _ _ _ changed le in
     let source = source_of old.program.now in
     let at : IsAt source t.own.name (AwaitsHalf n v reduction) t.frames t.environment t = record { source_is = refl; name_is = refl; control_is = is; frames_are = refl; environment_is = refl } in
-    let at' : IsAt source t.own.name (Give v) (t.frames ++ f ∷ []) t.environment u = record {
-      source_is = ap (λ p. source_of p.now) b.program;
-      name_is = ap (λ o. o.name) b.own;
-      control_is = b.control_is;
-      frames_are = b.frames_are;
-      environment_is = b.environment_is;
-    } in
+    let at' = at_frame t u f v b in
     unstepped_by old new f v s changed (hand_merge u (giving t v) t v n reduction (popped_by t u f v b) refl (stepped_by t v (AwaitsHalf n v reduction) is))
     (with_frame source t.own.name t u f v (AwaitsHalf n v reduction) at at' refl (λ h. h))
     (λ h. let was = keeps_there source t.own.name (AwaitsHalf n v reduction) t.frames t.environment t at h in

@@ -7,13 +7,14 @@ use Rattle.arachne_lang.specs.Tree.{Source, Tree}
 use Rattle.arachne_lang.specs.Program.{source_of, tree_of}
 use Rattle.arachne_lang.specs.Value.{apply, operation_of, with_newest}
 use Rattle.arachne_machine.specs.declared.frame.Frame.TheVariants.{FoldTurn, SweepTurn}
+use Rattle.arachne_machine.specs.declared.frame.Control.{Control}
 use Rattle.arachne_machine.specs.declared.frame.Control.TheVariants.{Begin, Give}
 use Rattle.arachne_machine.specs.declared.state.State.{State}
 use Rattle.arachne_machine.specs.declared.state.Progress.{Progress}
 use Rattle.arachne_machine.specs.declared.state.Progress.TheVariants as part
 use Rattle.arachne_machine.specs.Pure.{IsWorth}
 use Rattle.arachne_machine.specs.Strands.{Strand}
-use Rattle.arachne_machine.specs.Steps.{AfterSteps, ComesToFold, ComesToSweep, IsSame, IsUnchanged, Makes, Reaches, TurnsFold, TurnsSweep, giving, top}
+use Rattle.arachne_machine.specs.Steps.{AfterSteps, Becomes, ComesToFold, ComesToSweep, IsSame, IsUnchanged, Makes, Reaches, TurnsFold, TurnsSweep, giving, top}
 use Rattle.arachne_machine.specs.Runs.{IsOneStep, seen_in}
 use Rattle.arachne_machine.proofs.Handings.{hand_fold_turn, hand_sweep_turn, without-one, without-two}
 use Rattle.arachne_machine.proofs.Openings.{Opens, goes_to_value, open_pure}
@@ -64,6 +65,18 @@ same_then a b c p q = record {
   control_is = q.control_is ∙ p.control_is;
 }
 
+-- what one comes to that has as much
+done_of_same : (t u on : Strand) (k : Control) → IsUnchanged t u → Becomes u on u.environment u.frames k → Becomes t on t.environment t.frames k
+done_of_same t u on k same b = record {
+  program = b.program ∙ same.program;
+  own = b.own ∙ same.own;
+  below = b.below ∙ same.below;
+  forks = b.forks ∙ same.forks;
+  environment_is = b.environment_is ∙ same.environment_is;
+  frames_are = b.frames_are ∙ same.frames_are;
+  control_is = b.control_is;
+}
+
 -- Folds.
 abbrev in_fold : Strand → ℕ → ℕ → Bor Expr → ℕ → Strand
 in_fold t next end body so_far = record t {
@@ -103,17 +116,7 @@ fold_of_same t u on next end so_far body same turns = record {
         frames_are = b.frames_are ∙ ap (λ fs. fs ++ FoldTurn (next + 1) end body ∷ []) same.frames_are;
         control_is = b.control_is;
       };
-  done = λ le.
-      let b = turns.done le in
-      record {
-        program = b.program ∙ same.program;
-        own = b.own ∙ same.own;
-        below = b.below ∙ same.below;
-        forks = b.forks ∙ same.forks;
-        environment_is = b.environment_is ∙ same.environment_is;
-        frames_are = b.frames_are ∙ same.frames_are;
-        control_is = b.control_is;
-      };
+  done = λ le. done_of_same t u on (Give so_far) same (turns.done le);
 }
 
 -- Sweeps.
@@ -156,17 +159,7 @@ sweep_of_same t u on reduction next end so_far body same turns = record {
         frames_are = b.frames_are ∙ ap (λ fs. fs ++ SweepTurn reduction (next + 1) end so_far body ∷ []) same.frames_are;
         control_is = b.control_is;
       };
-  done = λ le.
-      let b = turns.done le in
-      record {
-        program = b.program ∙ same.program;
-        own = b.own ∙ same.own;
-        below = b.below ∙ same.below;
-        forks = b.forks ∙ same.forks;
-        environment_is = b.environment_is ∙ same.environment_is;
-        frames_are = b.frames_are ∙ same.frames_are;
-        control_is = b.control_is;
-      };
+  done = λ le. done_of_same t u on (Give so_far) same (turns.done le);
 }
 
 -- What was come to is what a step makes of it: the value is handed on in a further one.

@@ -113,12 +113,12 @@ abbrev pub IsCharged : ℕ → ℕ → Nested → Pause → Nested → Type 0
 IsCharged had left old pause new = work_in new + given pause + had ≡ work_in old + left
 
 -- the outcome that was refused
-abbrev pub handed_back : NotJoined → Finished
+abbrev pub handed_back : NotJoined Finished → Finished
 handed_back (refused.Foreign outcome) = outcome
 handed_back (refused.Memory outcome) = outcome
 
 -- it was refused as that of another thread
-abbrev pub IsForeign : Result (Unit {0}) NotJoined → Type 0
+abbrev pub IsForeign : Result (Unit {0}) (NotJoined Finished) → Type 0
 IsForeign (Ok done) = ⊥
 IsForeign (Err (refused.Foreign outcome)) = Unit {0}
 IsForeign (Err (refused.Memory outcome)) = ⊥

@@ -7,8 +7,8 @@ ghost use Rattle.arachne_machine.specs.Nested.{Nested, pending_in};
 ghost use Rattle.arachne_machine.specs.Alone.{OnEnd, Rests, RestsAfter, key, turns_after, turns_left};
 ghost use Rattle.arachne_machine.specs.declared.pause.Pending.TheVariants as pause;
 
+use crate::detached::DetachedOutcome;
 use crate::line::ThreadLine;
-use crate::outcome::Outcome;
 use crate::pause::{NotJoined, Pause};
 use crate::placing::Everywhere;
 use crate::spares::Spares;
@@ -28,14 +28,14 @@ pub fn run_alone(alloc: Global, program: &Program, budget: u32) -> Result<Meanin
 }
 
 /// The outcome of a root thread, which runs with all threads below it.
-fn run_all<'p>(alloc: Global, root: Thread<'p>, budget: u32) -> Result<Outcome<'p>, AllocError>
+fn run_all<'p>(alloc: Global, root: Thread<'p>, budget: u32) -> Result<DetachedOutcome, AllocError>
     requires some { 1 ≤ budget }
     requires rests { Rests root.running.program (root ∷ []) [] }
     ensures { IfOk result (λ outcome. key outcome ≡ (root.entry.running.program, [])) }
 {
     let mut threads = Vec::new(alloc);
     threads.push(root)?;
-    let mut outcomes: Vec<Outcome> = Vec::new(alloc);
+    let mut outcomes: Vec<DetachedOutcome> = Vec::new(alloc);
     let mut spares = Spares::new(alloc);
     while let Some(thread) = threads.pop() {
         take_turn(&mut threads, &mut outcomes, &mut spares, thread, budget)?;
@@ -58,7 +58,7 @@ enum Turn<'p> {
 /// joins it. The outcomes that were brought last are those of the newest thread's children, and so on.
 fn take_turn<'p>(
     threads: &mut Vec<Thread<'p>>,
-    outcomes: &mut Vec<Outcome<'p>>,
+    outcomes: &mut Vec<DetachedOutcome>,
     spares: &mut Spares<'p>,
     mut thread: Thread<'p>,
     budget: u32,
@@ -90,7 +90,7 @@ fn take_turn<'p>(
 /// The newest thread goes on for so many steps, and is answered, unless it has ended.
 fn go_on<'p>(
     thread: &mut Thread<'p>,
-    outcomes: &mut Vec<Outcome<'p>>,
+    outcomes: &mut Vec<DetachedOutcome>,
     spares: &mut Spares<'p>,
     budget: u32,
 ) -> Result<Turn<'p>, AllocError>
@@ -133,9 +133,9 @@ fn go_on<'p>(
 }
 
 /// The meaning that an outcome has.
-fn meaning(alloc: Global, outcome: Outcome) -> Result<Meaning, AllocError>
-    ensures means { IfOk result (λ meaning. meaning ≡ meaning_in outcome.entry) }
-    ensures of_its_name { IsOfItsName outcome.entry }
+fn meaning(alloc: Global, outcome: DetachedOutcome) -> Result<Meaning, AllocError>
+    ensures means { IfOk result (λ meaning. meaning ≡ meaning_in outcome) }
+    ensures of_its_name { IsOfItsName outcome }
 {
     let Ok(parts) = outcome.into_parts() else {
         return Err(AllocError);

@@ -1,4 +1,4 @@
-//! What an outcome brings, in a box that is there before its thread ends.
+//! What an outcome brings beside its program.
 ghost use Rattle.std.specs.Prelude.{◌≡◌, ◌∷◌, IfOk, OnErr};
 
 use crate::line::ThreadLine;
@@ -8,8 +8,8 @@ use arachne_lang::Sequence;
 use std::alloc::{AllocError, Global};
 use std::mem::replace;
 
-/// What an outcome brings beside its program. Whoever has a thread end brings a box for it, and only that box is moved
-/// from the thread that ends to the one that joins it.
+/// What an outcome brings beside its program. Of a [`crate::DetachedOutcome`] it lies in a box that was there before the
+/// thread ended, and only that box is moved from the thread that ends to the one that joins it.
 #[derive(Debug, Drop)]
 pub struct Contents {
     pub(crate) value: u64,

@@ -1,16 +1,15 @@
-//! An outcome without a reference to its program, for cells whose type has no lifetime.
+//! An outcome in a box, without a reference to its program, for cells whose type has no lifetime.
 ghost use Rattle.std.specs.Prelude.{◌≡◌, ◌∷◌, IfOk, IfErr};
-ghost use Rattle.arachne_lang.specs.Program.{source_of};
 ghost use Rattle.arachne_machine.specs.Outcome.{IsOfItsName};
 
 use crate::contents::Contents;
-use crate::outcome::{Outcome, OutcomeParts};
+use crate::outcome::OutcomeParts;
 use arachne_lang::{Program, Sequence};
 use std::marker::Model;
 use std::snapshot::Snapshot;
 
-/// An outcome without a reference to its program. Contracts see the program still, and what they see of it is as with
-/// `Outcome`.
+/// An outcome in a box, without a reference to its program. Contracts see the program still, and what they see of it is
+/// as with `Outcome`.
 #[derive(Drop)]
 pub struct DetachedOutcome {
     /// It has no bytes.
@@ -34,17 +33,6 @@ impl Model for DetachedOutcome {
 }
 
 impl DetachedOutcome {
-    /// The outcome with a reference to this program, which is equal to its own.
-    pub fn attach<'p>(self, program: &'p Program) -> Outcome<'p>
-        requires { source_of program.now ≡ source_of self.program }
-        ensures { result ≡ record self { program = program.now } }
-    {
-        Outcome {
-            program,
-            contents: self.contents,
-        }
-    }
-
     /// The value, the sums and the lines. It takes memory for the list of lines; where that is refused the outcome
     /// comes back.
     pub fn into_parts(self) -> Result<OutcomeParts, DetachedOutcome>

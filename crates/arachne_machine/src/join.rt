@@ -3,19 +3,25 @@ use crate::contents::Contents;
 use crate::frame::{Control, Frame};
 use crate::level::{Level, Parent, move_parents};
 use crate::line::{Ran, ThreadLine};
-use crate::outcome::Outcome;
-use crate::pause::NotJoined;
 use crate::placing::Placing;
-use crate::spares::Spares;
 use crate::state::{Progress, State};
 use crate::tables::{add_each, zeros};
 use arachne_lang::{Name, Sequence};
 use std::alloc::AllocError;
 use std::mem::swap;
 
+/// Why an outcome was not joined.
+#[derive(Clone, Copy)]
+pub enum Unjoined {
+    /// It is not that of the child that is awaited.
+    Foreign,
+    /// Memory was refused.
+    Memory,
+}
+
 /// How children begin in their parent's place, and how they are joined.
 impl<'p> State<'p> {
-    ghost use Rattle.std.specs.Prelude.{◌≡◌, ◌≢◌, ◌+◌, ◌≤◌, ◌<◌, ◌^◌, ◌∷◌, ◌++◌, ◌↔◌, [], ℕ, length, reverse, vec_len, vec_capacity, Some, IsTrue, IfOk, IfErr, OnOk, OnErr};
+    ghost use Rattle.std.specs.Prelude.{◌≡◌, ◌≢◌, ◌+◌, ◌≤◌, ◌<◌, ◌^◌, ◌∷◌, ◌++◌, ◌↔◌, [], ℕ, length, reverse, vec_len, vec_capacity, Err, Some, IsTrue, IfOk, OnOk, OnErr};
     ghost use Rattle.arachne_machine.specs.declared.frame.Frame.TheVariants as frames;
     ghost use Rattle.arachne_machine.specs.declared.frame.Control.TheVariants as control;
     ghost use Rattle.arachne_machine.specs.Steps.{Changes, HasLine, HasRoom, IsSame, OnValue, pending_of, suspended, top};
@@ -24,7 +30,9 @@ impl<'p> State<'p> {
     ghost use Rattle.arachne_machine.specs.Runs.{BeginsHere, Descends, FitsInto, HasParent, JoinsOutcome, KeepsRest, LooksSame, ResumesAs, ResumesParent, StandsBefore, TakesIn, TakesLevels};
     ghost use Rattle.arachne_lang.specs.Effects.{tabulated};
     ghost use Rattle.arachne_machine.specs.Strands.{Fits};
-    ghost use Rattle.arachne_machine.specs.Advance.{IsForeign, handed_back};
+    ghost use Rattle.arachne_lang.specs.declared.program.Program.{Program};
+    ghost use Rattle.arachne_machine.specs.Outcome.{finished};
+    ghost use Rattle.arachne_machine.specs.declared.join.Unjoined.TheVariants.{Foreign};
 
     /// Whether the innermost thread awaits the child of this name.
     pub fn awaits(&self, name: &Name) -> bool
@@ -184,34 +192,27 @@ impl<'p> State<'p> {
         self.frames.push_reserved(Frame::Restore(length));
     }
 
-    /// Joins this outcome, where it is that of the child that is awaited. Where it answers an error nothing has changed
-    /// but room, and the outcome comes back.
-    pub fn join(
-        &mut self,
-        outcome: Outcome<'p>,
-        spares: &mut Spares<'p>,
-    ) -> Result<(), NotJoined<'p>>
+    /// Joins what an outcome brings, where it is that of the child that is awaited. Where it answers an error nothing
+    /// has changed but room.
+    pub fn join(&mut self, contents: &mut Contents) -> Result<(), Unjoined>
         requires joins { pending_of self.old.control ≡ Some pause.Joins }
         requires line { HasLine self.old }
-        requires sums { length outcome.sums ≡ length self.old.sums.items }
-        ensures ok { OnOk result (JoinsOutcome self.old outcome.entry self.new) }
-        ensures foreign { IsForeign result ↔ (awaited (suspended (top self.old)) ≢ Some outcome.entry.name) }
+        requires sums { length contents.old.sums.items ≡ length self.old.sums.items }
+        ensures ok { (program : Program) → OnOk result (JoinsOutcome self.old (finished program contents.old) self.new) }
+        ensures foreign { (result ≡ Err Foreign) ↔ (awaited (suspended (top self.old)) ≢ Some contents.old.own.name) }
         ensures err { OnErr result (IsSame self.old self.new) }
-        ensures handed_back { IfErr result (λ e. handed_back e ≡ outcome.entry) }
+        ensures left { OnErr result (contents.new ≡ contents.old) }
     {
-        if !self.awaits(&outcome.contents.own.name) {
-            return Err(NotJoined::Foreign(outcome));
+        if !self.awaits(&contents.own.name) {
+            return Err(Unjoined::Foreign);
         }
         if self.reserve_turn().is_err() {
-            return Err(NotJoined::Memory(outcome));
+            return Err(Unjoined::Memory);
         }
-        let Outcome { program, contents } = outcome;
-        let mut contents = contents;
-        if self.take_contents(&mut contents).is_err() {
-            return Err(NotJoined::Memory(Outcome { program, contents }));
+        if self.take_contents(contents).is_err() {
+            return Err(Unjoined::Memory);
         }
         self.resume_joined(contents.value);
-        spares.keep_contents(contents);
         Ok(())
     }
 

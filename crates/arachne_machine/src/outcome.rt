@@ -3,18 +3,16 @@ ghost use Rattle.std.specs.Prelude.{◌≡◌, ◌∷◌, IfOk, IfErr};
 ghost use Rattle.arachne_machine.specs.Outcome.{IsOfItsName};
 
 use crate::contents::Contents;
-use crate::detached::DetachedOutcome;
 use crate::line::ThreadLine;
 use arachne_lang::{Name, Program, Sequence};
 use std::marker::Model;
-use std::snapshot::Snapshot;
 
 /// What a thread brings in the end: its value, the ledger sums, and the lines of itself and of all threads
 /// below it. It is what the program means for the thread of its name.
 #[derive(Debug, Drop)]
 pub struct Outcome<'p> {
     pub(crate) program: &'p Program,
-    pub(crate) contents: Box<Contents>,
+    pub(crate) contents: Contents,
 }
 
 impl<'p> Model for Outcome<'p> {
@@ -27,9 +25,9 @@ impl<'p> Model for Outcome<'p> {
 
     ghost coded = { Prim.hlevel (codes, expr.the_row.coded) };
 
-    ghost view = { λ o. finished o.program.now o.contents.value };
+    ghost view = { λ o. finished o.program.now o.contents };
 
-    ghost invariant = { λ o. IsOfItsName (finished o.program.now o.contents.value) };
+    ghost invariant = { λ o. IsOfItsName (finished o.program.now o.contents) };
 }
 
 /// An outcome taken apart.
@@ -74,20 +72,11 @@ impl<'p> Outcome<'p> {
         ensures handed_back { IfErr result (λ outcome. outcome ≡ self.entry) }
         ensures of_its_name { IsOfItsName self.entry }
     {
-        let program = self.program;
-        match self.detach().into_parts() {
+        let Outcome { program, contents } = self;
+        let mut contents = contents;
+        match contents.take_parts() {
             Ok(parts) => Ok(parts),
-            Err(outcome) => Err(outcome.attach(program)),
-        }
-    }
-
-    /// The outcome without the reference to its program.
-    pub fn detach(self) -> DetachedOutcome
-        ensures { result ≡ self.entry }
-    {
-        DetachedOutcome {
-            program: Snapshot::of(self.program),
-            contents: self.contents,
+            Err(_) => Err(Outcome { program, contents }),
         }
     }
 }

@@ -1,5 +1,4 @@
 //! Why a thread pauses, and which pauses are not answered.
-use crate::outcome::Outcome;
 use crate::thread::Thread;
 use arachne_lang::Class;
 use std::fmt;
@@ -39,14 +38,24 @@ pub enum Pending {
 }
 
 /// Why an outcome was not joined. It comes back.
-#[derive(Debug, Drop, Error)]
-pub enum NotJoined<'p> {
+#[derive(Drop, Error)]
+pub enum NotJoined<O> {
     /// It is not that of the child that is awaited.
     #[error("the outcome of another thread")]
-    Foreign(Outcome<'p>),
+    Foreign(O),
     /// Memory was refused.
     #[error("out of memory")]
-    Memory(Outcome<'p>),
+    Memory(O),
+}
+
+/// Says why, without the outcome.
+impl<O> fmt::Debug for NotJoined<O> {
+    fn fmt<W: fmt::Write>(&self, f: &mut fmt::Formatter<W>) -> fmt::Result {
+        match self {
+            NotJoined::Foreign(_) => write!(f, "Foreign"),
+            NotJoined::Memory(_) => write!(f, "Memory"),
+        }
+    }
 }
 
 /// Why a child was not placed. It comes back.

@@ -5,7 +5,7 @@ use arachne_lang::Program;
 use std::alloc::{AllocError, Global};
 use std::marker::Model;
 
-/// How many states are kept at most.
+/// How many states are kept at most, and how many boxes.
 const MOST: usize = 64;
 
 /// The memory that ended threads leave for those that begin: their states, with the room of their environments and
@@ -18,9 +18,13 @@ pub struct Spares<'p> {
 }
 
 impl<'p> Model for Spares<'p> {
+    ghost use Rattle.std.specs.Prelude.{◌≤◌, vec_len};
+
     ghost Value = { Unit {0} };
 
     ghost view = { λ s. tt };
+
+    ghost invariant = { λ s. (s.most ≤ 64) × (vec_len s.states ≤ 64) × (vec_len s.contents ≤ 64) };
 }
 
 impl<'p> Spares<'p> {

@@ -4,7 +4,6 @@ use crate::frame::{Control, Frame};
 use crate::level::{Level, Parent};
 use crate::line::{Label, Ran, ThreadLine};
 use crate::lines::Lines;
-use crate::outcome::Outcome;
 use crate::pause::Pending;
 use crate::placing::Placing;
 use crate::spares::Spares;
@@ -112,6 +111,7 @@ impl<'p> State<'p> {
     ghost use Rattle.arachne_lang.specs.Effects.{tabulated};
     ghost use Rattle.arachne_machine.specs.Sound.{IsSoundState};
     ghost use Rattle.arachne_machine.specs.Strands.{owned_of, own_line};
+    ghost use Rattle.arachne_machine.specs.Outcome.{IsOfItsName, finished};
     ghost use Rattle.arachne_machine.specs.Steps.{pending_of, top, HasLine, IsLeftOver, IsRenewed, IsSame, OnValue};
     ghost use Rattle.arachne_machine.specs.Runs.{Advances, Comes, RunsOn, current_in};
     ghost use Rattle.arachne_machine.specs.declared.line.Ran.TheVariants as ways;
@@ -363,28 +363,22 @@ impl<'p> State<'p> {
         self.lines.at(self.level.place).tag
     }
 
-    /// The outcome of a thread that has ended, in this box.
+    /// What the outcome of a thread that has ended brings, of which nothing is left here.
     #[inline(always)]
-    pub fn finish(&mut self, contents: Box<Contents>) -> Outcome<'p>
+    pub fn finish(&mut self) -> Contents
         requires ended { pending_of self.old.control ≡ Some pause.Ended }
         requires alone { self.old.parents.items ≡ [] }
         requires sound { IsSoundState self.old }
-        ensures program { result.program ≡ self.old.program.now }
-        ensures name { result.name ≡ self.old.own.name }
-        ensures sums { result.sums ≡ self.old.sums.items }
-        ensures lines { result.lines ≡ own_line self.old.own ∷ self.old.lines }
+        ensures sums { result.sums.items ≡ self.old.sums.items }
+        ensures own { result.own ≡ own_line self.old.own }
+        ensures below { result.below ≡ self.old.lines }
+        ensures of_its_name { IsOfItsName (finished self.old.program.now result) }
     {
-        let value = self.value();
-        let mut contents = contents;
-        *contents = Contents {
-            value,
+        Contents {
+            value: self.value(),
             sums: replace(&mut self.sums, Vec::new(self.alloc)),
             own: self.own.take_line(self.alloc),
             below: replace(&mut self.lines, Lines::new(self.alloc)),
-        };
-        Outcome {
-            program: self.program,
-            contents,
         }
     }
 

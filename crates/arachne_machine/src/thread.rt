@@ -1,19 +1,23 @@
 //! A thread with those that run in its place, as callers advance, answer and join it.
-ghost use Rattle.std.specs.Prelude.{◌≡◌, ◌≢◌, ◌↔◌, ◌≤◌, ◌+◌, ◌-◌, ℕ, ◌∷◌, [], ◌++◌, true, None, Some, IfOk, IfSome, OnOk, IfErr, OnErr, IsTrue};
+ghost use Rattle.std.specs.Prelude.{◌≡◌, ◌≢◌, ◌↔◌, ◌≤◌, ◌+◌, ◌-◌, ℕ, ◌∷◌, [], ◌++◌, true, Err, None, Some, IfOk, IfSome, OnOk, IfErr, OnErr, IsTrue};
 ghost use Rattle.arachne_lang.specs.Effects.{tabulated};
 ghost use Rattle.arachne_machine.specs.Suspended.{IsAnswered, IsAsk, IsFree, IsFresh, IsNext, IsTally, Joined, SameThread, added, awaited, own_line_of, raised};
 ghost use Rattle.arachne_machine.specs.Advance.{AdvancedAlone, AwaitsAt, Moves, PlacesNone, RefusedAlone, IsForeign, IsCharged, IsNotAwaited, IsSpentAt, PausesAt, child_back, handed_back, pause_seen};
 ghost use Rattle.arachne_machine.specs.Nested.{AwaitsElsewhere, FallsBy, IsAlone, IsChildOf, IsNested, IsPlacing, IsRest, MayBePlaced, Nested, PlacesAtFork, SameWhole, alone, begun_in, pending_in, spilled_of, whole, with_tag, work_in};
 ghost use Rattle.arachne_machine.specs.Faultless.{PausesWithin};
 ghost use Rattle.arachne_machine.specs.Kept.{IsSoundChild, nested};
+ghost use Rattle.arachne_machine.specs.Outcome.{IsOfItsName, finished};
 ghost use Rattle.arachne_machine.specs.Trace.{At, trace_of};
 ghost use Rattle.arachne_machine.specs.Work.{work_of};
 ghost use Rattle.arachne_lang.specs.Checked.{IsChecked};
 ghost use Rattle.arachne_lang.specs.Program.{source_of};
 ghost use Rattle.arachne_machine.specs.declared.pause.Pending.TheVariants as pause;
+ghost use Rattle.arachne_machine.specs.declared.join.Unjoined.TheVariants as unjoined;
 
 use crate::contents::Contents;
+use crate::detached::DetachedOutcome;
 use crate::frame::Control;
+use crate::join::Unjoined;
 use crate::line::Ran;
 use crate::outcome::Outcome;
 use crate::pause::{NotJoined, NotPlaced, Pause, Pending};
@@ -24,6 +28,7 @@ use crate::state::State;
 use arachne_lang::{Class, Name, Program};
 use std::alloc::{AllocError, Global};
 use std::marker::Model;
+use std::snapshot::Snapshot;
 
 /// A thread of a program between two steps, with the threads that run in its place: a child that was placed
 /// here runs once its parent awaits it, and its parent goes on once it has ended. It is not cloned: each thread
@@ -265,7 +270,7 @@ impl<'p> Thread<'p> {
 
     /// Joins the outcome of the child that is awaited. Where it answers an error nothing has changed, and the
     /// outcome comes back.
-    pub fn joined(&mut self, outcome: Outcome<'p>) -> Result<(), NotJoined<'p>>
+    pub fn joined(&mut self, outcome: Outcome<'p>) -> Result<(), NotJoined<Outcome<'p>>>
         requires pending { pending_in self.old ≡ Some pause.Joins }
         requires program { source_of outcome.program ≡ source_of (whole self.old).program }
         ensures whole { SameWhole self.old self.new }
@@ -278,47 +283,71 @@ impl<'p> Thread<'p> {
         ensures err { OnErr result (self.new ≡ self.old) }
         ensures handed_back { IfErr result (λ e. handed_back e ≡ outcome.entry) }
     {
-        let mut spares = Spares::none(self.state.alloc);
-        self.joined_into(outcome, &mut spares)
+        let Outcome { program, contents } = outcome;
+        let mut contents = contents;
+        match self.join(&Snapshot::of(program), &mut contents) {
+            Ok(()) => Ok(()),
+            Err(Unjoined::Foreign) => Err(NotJoined::Foreign(Outcome { program, contents })),
+            Err(Unjoined::Memory) => Err(NotJoined::Memory(Outcome { program, contents })),
+        }
     }
 
-    /// The same. What is no longer needed of the outcome is left to threads that begin.
+    /// The same for an outcome in a box. The box is left to threads that begin.
     pub fn joined_into(
         &mut self,
-        outcome: Outcome<'p>,
+        outcome: DetachedOutcome,
         spares: &mut Spares<'p>,
-    ) -> Result<(), NotJoined<'p>>
+    ) -> Result<(), NotJoined<DetachedOutcome>>
         requires pending { pending_in self.old ≡ Some pause.Joins }
         requires program { source_of outcome.program ≡ source_of (whole self.old).program }
         ensures whole { SameWhole self.old self.new }
-        ensures ok { OnOk result (Joined self.old.running outcome.entry self.new.running) }
-        ensures sums { OnOk result (self.new.sums ≡ added self.old.sums outcome.entry.sums) }
+        ensures ok { OnOk result (Joined self.old.running outcome self.new.running) }
+        ensures sums { OnOk result (self.new.sums ≡ added self.old.sums outcome.sums) }
         ensures others { self.new ≡ record self.old { running = self.new.running; sums = self.new.sums } }
         ensures pending { OnOk result (pending_in self.new ≡ None) }
         ensures work { work_in self.new ≡ work_in self.old }
-        ensures foreign { IsForeign result ↔ (awaited self.old.running ≢ Some outcome.entry.name) }
+        ensures foreign { IsForeign result ↔ (awaited self.old.running ≢ Some outcome.name) }
         ensures err { OnErr result (self.new ≡ self.old) }
-        ensures handed_back { IfErr result (λ e. handed_back e ≡ outcome.entry) }
+        ensures handed_back { IfErr result (λ e. handed_back e ≡ outcome) }
     {
-        // The box is looked at so that the proof sees what it points to.
-        let _ = &outcome.contents;
-        self.state.join(outcome, spares)
+        let DetachedOutcome { program, contents } = outcome;
+        let mut contents = contents;
+        match self.join(&program, &mut contents) {
+            Ok(()) => {
+                spares.keep_contents(contents);
+                Ok(())
+            }
+            Err(Unjoined::Foreign) => Err(NotJoined::Foreign(DetachedOutcome {
+                program,
+                contents,
+            })),
+            Err(Unjoined::Memory) => Err(NotJoined::Memory(DetachedOutcome { program, contents })),
+        }
     }
 
-    /// The outcome of a thread that has ended, in this box. It takes no memory.
-    pub fn finish(self, contents: Box<Contents>) -> Outcome<'p>
-        requires { pending_in self ≡ Some pause.Ended }
-        ensures program { result.program ≡ (whole self.entry).program }
-        ensures name { result.name ≡ (whole self.entry).name }
-        ensures sums { result.sums ≡ self.entry.sums }
-        ensures lines { result.lines ≡ own_line_of (whole self.entry) ∷ (whole self.entry).below }
+    /// The same for what an outcome of this program brings. Where it answers an error nothing has changed.
+    #[inline(always)]
+    fn join(&mut self, program: &Snapshot<Program>, contents: &mut Contents) -> Result<(), Unjoined>
+        requires pending { pending_in self.old ≡ Some pause.Joins }
+        requires program { source_of program.now.value ≡ source_of (whole self.old).program }
+        requires of_its_name { IsOfItsName (finished program.now.value contents.old) }
+        ensures whole { SameWhole self.old self.new }
+        ensures ok { OnOk result (Joined self.old.running (finished program.now.value contents.old) self.new.running) }
+        ensures sums { OnOk result (self.new.sums ≡ added self.old.sums contents.old.sums.items) }
+        ensures others { self.new ≡ record self.old { running = self.new.running; sums = self.new.sums } }
+        ensures pending { OnOk result (pending_in self.new ≡ None) }
+        ensures work { work_in self.new ≡ work_in self.old }
+        ensures foreign { (result ≡ Err unjoined.Foreign) ↔ (awaited self.old.running ≢ Some contents.old.own.name) }
+        ensures err { OnErr result (self.new ≡ self.old) }
+        ensures left { OnErr result (contents.new ≡ contents.old) }
     {
-        let mut spares = Spares::none(self.state.alloc);
-        self.finish_into(contents, &mut spares)
+        // What the proof speaks of: it has no bytes.
+        let _ = program;
+        self.state.join(contents)
     }
 
-    /// The same. What the thread no longer needs is left to those that begin.
-    pub fn finish_into(self, contents: Box<Contents>, spares: &mut Spares<'p>) -> Outcome<'p>
+    /// The outcome of a thread that has ended. It takes no memory.
+    pub fn finish(self) -> Outcome<'p>
         requires { pending_in self ≡ Some pause.Ended }
         ensures program { result.program ≡ (whole self.entry).program }
         ensures name { result.name ≡ (whole self.entry).name }
@@ -326,9 +355,26 @@ impl<'p> Thread<'p> {
         ensures lines { result.lines ≡ own_line_of (whole self.entry) ∷ (whole self.entry).below }
     {
         let mut state = self.state;
-        let outcome = state.finish(contents);
+        Outcome {
+            program: state.program,
+            contents: state.finish(),
+        }
+    }
+
+    /// The same in this box. What the thread no longer needs is left to those that begin.
+    pub fn finish_into(self, contents: Box<Contents>, spares: &mut Spares<'p>) -> DetachedOutcome
+        requires { pending_in self ≡ Some pause.Ended }
+        ensures program { result.program ≡ (whole self.entry).program }
+        ensures name { result.name ≡ (whole self.entry).name }
+        ensures sums { result.sums ≡ self.entry.sums }
+        ensures lines { result.lines ≡ own_line_of (whole self.entry) ∷ (whole self.entry).below }
+    {
+        let mut state = self.state;
+        let mut contents = contents;
+        let program = Snapshot::of(state.program);
+        *contents = state.finish();
         spares.keep(state);
-        outcome
+        DetachedOutcome { program, contents }
     }
 }
 

@@ -7,7 +7,7 @@ ghost use Rattle.arachne_machine.specs.Nested.{IsChildOf, pending_in};
 use super::shortage::Memory;
 use arachne_lang::{Class, Program};
 use arachne_machine::{
-    Contents, NotJoined, NotPlaced, Outcome, OutcomeParts, Pause, Pending, Placing, Spares, Thread,
+    NotJoined, NotPlaced, Outcome, OutcomeParts, Pause, Pending, Placing, Spares, Thread,
 };
 use std::alloc::Global;
 
@@ -307,19 +307,15 @@ fn await_child(family: &mut Family, round: &mut Round) -> bool {
     begin(thread, children, round)
 }
 
-/// The outcome of the last thread, which has ended. Where memory is refused it stays, and its end is asked for again.
-fn end(family: &mut Family, round: &mut Round) -> bool {
-    let Ok(contents) = Contents::new(*family.outcomes.allocator()) else {
-        round.memory.spare();
-        return true;
-    };
+/// The outcome of the last thread, which has ended.
+fn end(family: &mut Family) -> bool {
     let Some(thread) = family.threads.pop() else {
         return false;
     };
     let Some(Pending::Ended) = thread.pending() else {
         return lose_thread(thread);
     };
-    family.outcomes.push(thread.finish(contents)).is_ok()
+    family.outcomes.push(thread.finish()).is_ok()
 }
 
 /// Makes one call of the last thread.
@@ -341,7 +337,7 @@ fn step(alloc: Global, family: &mut Family, round: &mut Round) -> bool {
         }
         None => go_on_apart(alloc, thread, children, round),
         Some(Pending::Joins) => await_child(family, round),
-        Some(Pending::Ended) => end(family, round),
+        Some(Pending::Ended) => end(family),
         _ => {
             answer(thread);
             true

@@ -5,14 +5,14 @@ use Rattle.arachne_machine.specs.Strands.{own_line}
 use Rattle.arachne_machine.proofs.Answering.{ended_means}
 use Rattle.arachne_machine.proofs.state.State.finish.Goals as goal
 
-pub invariant_of-result : goal.invariant_of-result
-invariant_of-result c =
+pub returns-clause-of_its_name : goal.returns-clause-of_its_name
+returns-clause-of_its_name c =
     let t = c.args.self.now in
-    let v = c.value-value.result in
+    let v = c.value.result in
     let lines : c.replace-2.result ≡ t.lines = c.replace-2.ensures.value in
     let Told : ThreadLine → List ℕ → List ThreadLine → Type 0 = λ own sums below.
     IsOfItsName (record { program = t.program.now; name = own.name; value = v; sums = sums; lines = own ∷ below }) in
     subst (λ own. Told own c.replace.result.items c.replace-2.result) (sym c.take_line.ensures.line)
     (subst (λ below. Told (own_line t.own) c.replace.result.items below) (sym lines)
     (subst (λ sums. Told (own_line t.own) sums.items t.lines) (sym c.replace.ensures.value)
-    (ended_means t v c.requires.sound c.requires.alone c.value-value.ensures)))
+    (ended_means t v c.requires.sound c.requires.alone c.value.ensures)))

@@ -1,94 +1,52 @@
-use Rattle.std.proofs.Common.{ap, sym, ◌∙◌, subst}
+-- A free is answered: the thread goes on past it, the lock is the newest that it held, and as callers see it all else is
+-- as it was.
+use Rattle.std.proofs.Common.{◌≡◌, ◌∷◌, ap, sym, ◌∙◌, subst}
 use Rattle.arachne_machine.specs.Kept.{nested}
-use Rattle.arachne_machine.specs.Nested.{Nested, SameWhole, work_in}
-use Rattle.arachne_machine.specs.Steps.{Turns, suspended, top}
-use Rattle.arachne_machine.specs.Suspended.{IsAnswered, SameThread}
+use Rattle.arachne_machine.specs.Steps.{Turns, pending_of, top}
+use Rattle.arachne_machine.specs.Ending.{locks_of}
 use Rattle.arachne_machine.specs.declared.frame.Control.TheVariants.{Give}
-use Rattle.arachne_machine.specs.Steps.{pending_of}
-use Rattle.arachne_machine.proofs.Answering.{free_past}
+use Rattle.arachne_machine.proofs.Answering.{IsPast, SeenAnswered, free_past}
+use Rattle.arachne_machine.proofs.thread.Thread.freed.Goals.{After-freed}
 use Rattle.arachne_machine.proofs.thread.Thread.freed.Goals as goal
 
-pub invariant_of-self : goal.invariant_of-self
-invariant_of-self c =
-    let t = c.self.inside.state.value in
+past : (c : goal.After-freed) → IsPast c.self.inside.state.value c.freed.new.self c.self.inside.placed.items × (locks_of (top c.self.inside.state.value) ≡ c.freed.ensures.0 ∷ locks_of (top c.freed.new.self))
+past c =
     let new = c.freed.new.self in
     let is = c.deref_mut.ensures.value in
-    let past = free_past t new c.self.inside.placed.items c.freed.ensures.0 c.freed.ensures.1 c.self.invariant (ap (λ s. s.control) (sym is) ∙ c.freed.ensures.2)
-    (subst (λ s. Turns s new (Give c.freed.ensures.1)) is c.freed.ensures.3) in
-    past.0.kept
+    let e = c.freed.ensures in
+    free_past c.self.inside.state.value new c.self.inside.placed.items e.0 e.1 c.self.invariant (ap (λ s. s.control) (sym is) ∙ e.2) (subst (λ s. Turns s new (Give e.1)) is e.3)
+
+-- what callers see of it
+seen : (c : goal.After-freed) → SeenAnswered c.args.self.now (nested c.freed.new.self c.self.inside.placed.items)
+seen c = subst (λ v. SeenAnswered v (nested c.freed.new.self c.self.inside.placed.items)) c.self.view_is (past c).0.seen
+
+pub invariant_of-self : goal.invariant_of-self
+invariant_of-self c = (past (goal.at.invariant_of-self c).After-freed).0.kept
 
 pub returns-clause-whole : goal.returns-clause-whole
-returns-clause-whole c =
-    let t = c.self.inside.state.value in
-    let new = c.freed.new.self in
-    let is = c.deref_mut.ensures.value in
-    let past = free_past t new c.self.inside.placed.items c.freed.ensures.0 c.freed.ensures.1 c.self.invariant (ap (λ s. s.control) (sym is) ∙ c.freed.ensures.2)
-    (subst (λ s. Turns s new (Give c.freed.ensures.1)) is c.freed.ensures.3) in
-    subst (λ v. SameWhole v (nested new c.self.inside.placed.items)) c.self.view_is past.0.seen.whole
+returns-clause-whole c = (seen (goal.at.returns-clause-whole c).After-freed).whole
 
 pub returns-clause-same : goal.returns-clause-same
-returns-clause-same c =
-    let t = c.self.inside.state.value in
-    let new = c.freed.new.self in
-    let is = c.deref_mut.ensures.value in
-    let past = free_past t new c.self.inside.placed.items c.freed.ensures.0 c.freed.ensures.1 c.self.invariant (ap (λ s. s.control) (sym is) ∙ c.freed.ensures.2)
-    (subst (λ s. Turns s new (Give c.freed.ensures.1)) is c.freed.ensures.3) in
-    subst (λ v. SameThread v.running (suspended (top new))) c.self.view_is past.0.seen.same
+returns-clause-same c = (seen (goal.at.returns-clause-same c).After-freed).same
 
 pub returns-clause-holds : goal.returns-clause-holds
-returns-clause-holds c =
-    let t = c.self.inside.state.value in
-    let new = c.freed.new.self in
-    let is = c.deref_mut.ensures.value in
-    let past = free_past t new c.self.inside.placed.items c.freed.ensures.0 c.freed.ensures.1 c.self.invariant (ap (λ s. s.control) (sym is) ∙ c.freed.ensures.2)
-    (subst (λ s. Turns s new (Give c.freed.ensures.1)) is c.freed.ensures.3) in
-    past.0.seen.holds ∙ ap (λ v. v.running.holds) c.self.view_is
+returns-clause-holds c = (seen (goal.at.returns-clause-holds c).After-freed).holds
 
 pub returns-clause-locks : goal.returns-clause-locks
-returns-clause-locks c =
-    let t = c.self.inside.state.value in
-    let new = c.freed.new.self in
-    let is = c.deref_mut.ensures.value in
-    let past = free_past t new c.self.inside.placed.items c.freed.ensures.0 c.freed.ensures.1 c.self.invariant (ap (λ s. s.control) (sym is) ∙ c.freed.ensures.2)
-    (subst (λ s. Turns s new (Give c.freed.ensures.1)) is c.freed.ensures.3) in (
-      c.freed.ensures.0,
-      ap (λ v. v.running.pending) (sym c.self.view_is) ∙ ap (λ s. pending_of s.control) (sym is) ∙ ap pending_of c.freed.ensures.2,
-      ap (λ v. v.running.locks) (sym c.self.view_is) ∙ past.1,
-    )
+returns-clause-locks c = (
+  c.freed.ensures.0,
+  ap (λ v. v.running.pending) (sym c.self.view_is) ∙ ap (λ s. pending_of s.control) (sym c.deref_mut.ensures.value) ∙ ap pending_of c.freed.ensures.2,
+  ap (λ v. v.running.locks) (sym c.self.view_is) ∙ (past (goal.at.returns-clause-locks c).After-freed).1,
+)
 
 pub returns-clause-others : goal.returns-clause-others
-returns-clause-others c =
-    let t = c.self.inside.state.value in
-    let new = c.freed.new.self in
-    let is = c.deref_mut.ensures.value in
-    let past = free_past t new c.self.inside.placed.items c.freed.ensures.0 c.freed.ensures.1 c.self.invariant (ap (λ s. s.control) (sym is) ∙ c.freed.ensures.2)
-    (subst (λ s. Turns s new (Give c.freed.ensures.1)) is c.freed.ensures.3) in
-    let with_new : Nested → Nested = λ v. record v { running = suspended (top new) } in
-    past.0.seen.others ∙ ap with_new c.self.view_is
+returns-clause-others c = (seen (goal.at.returns-clause-others c).After-freed).others
 
 pub returns-clause-pending : goal.returns-clause-pending
-returns-clause-pending c =
-    let t = c.self.inside.state.value in
-    let new = c.freed.new.self in
-    let is = c.deref_mut.ensures.value in
-    let past = free_past t new c.self.inside.placed.items c.freed.ensures.0 c.freed.ensures.1 c.self.invariant (ap (λ s. s.control) (sym is) ∙ c.freed.ensures.2)
-    (subst (λ s. Turns s new (Give c.freed.ensures.1)) is c.freed.ensures.3) in
-    past.0.pending
+returns-clause-pending c = (past (goal.at.returns-clause-pending c).After-freed).0.pending
 
 pub returns-clause-work : goal.returns-clause-work
-returns-clause-work c =
-    let t = c.self.inside.state.value in
-    let new = c.freed.new.self in
-    let is = c.deref_mut.ensures.value in
-    let past = free_past t new c.self.inside.placed.items c.freed.ensures.0 c.freed.ensures.1 c.self.invariant (ap (λ s. s.control) (sym is) ∙ c.freed.ensures.2)
-    (subst (λ s. Turns s new (Give c.freed.ensures.1)) is c.freed.ensures.3) in
-    past.0.seen.work ∙ ap work_in c.self.view_is
+returns-clause-work c = (seen (goal.at.returns-clause-work c).After-freed).work
 
 pub returns-clause-trace : goal.returns-clause-trace
-returns-clause-trace c =
-    let t = c.self.inside.state.value in
-    let new = c.freed.new.self in
-    let is = c.deref_mut.ensures.value in
-    let past = free_past t new c.self.inside.placed.items c.freed.ensures.0 c.freed.ensures.1 c.self.invariant (ap (λ s. s.control) (sym is) ∙ c.freed.ensures.2)
-    (subst (λ s. Turns s new (Give c.freed.ensures.1)) is c.freed.ensures.3) in
-    subst (λ v. IsAnswered v.running (suspended (top new))) c.self.view_is past.0.seen.trace
+returns-clause-trace c = (seen (goal.at.returns-clause-trace c).After-freed).trace
