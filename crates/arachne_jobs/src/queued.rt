@@ -1,6 +1,6 @@
 //! Tickets that are put into the queue and taken out, each of which is counted.
-ghost use Rattle.std.specs.Prelude.{◌≡◌, ◌++◌, ◌∷◌, [], IfErr, IfNone, IfOk, IfSome, OnErr, OnOk};
-ghost use Rattle.arachne_spill.specs.Views.{IsPassOf};
+ghost use Rattle.std.specs.Prelude.{◌≡◌, ◌↔◌, ◌++◌, ◌∷◌, [], ℕ, false, IfErr, IfNone, IfOk, IfSome, OnErr, OnOk};
+ghost use Rattle.arachne_spill.specs.Views.{HasCounted, IsPassOf, capacity};
 ghost use Rattle.arachne_jobs.specs.Queued.{HasTurned};
 
 use crate::room::Room;
@@ -174,7 +174,7 @@ pub fn make_room<R: Wait, K: RunTicket>(
     RoomMade { seen: () }
 }
 
-/// Whether the queue has room, which is looked at only once it was made.
+/// Whether the queue had room at one moment of the call, which is looked at only once room was made.
 #[inline(always)]
 pub fn has_room<R: Wait, K: Tagged + Drop>(
     rt: &R,
@@ -183,7 +183,8 @@ pub fn has_room<R: Wait, K: Tagged + Drop>(
     made: RoomMade,
 ) -> bool
     requires { IsPassOf tickets.now pass.old }
-    ensures { IsPassOf tickets.now pass.new }
+    ensures same { pass.new ≡ pass.old }
+    ensures counted { (count : ℕ) × ((result ≡ false) ↔ (count ≡ capacity)) × HasCounted K.tag_of pass.old count }
 {
     let RoomMade { seen: _ } = made;
     !tickets.is_full(rt, pass)

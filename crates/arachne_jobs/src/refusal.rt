@@ -1,5 +1,5 @@
 //! That memory was refused.
-ghost use Rattle.std.specs.Prelude.{◌≡◌, ◌++◌, ◌∷◌, [], OnErr, OnOk};
+ghost use Rattle.std.specs.Prelude.{◌≡◌, ◌<◌, ◌++◌, ◌∷◌, [], OnErr, OnOk, vec_capacity, vec_len};
 
 /// Memory was refused. [`push`] alone gives it. It has no bytes.
 #[derive(Drop)]
@@ -21,6 +21,7 @@ pub(crate) fn reserve_both<A: Drop, B: Drop>(
 ) -> Result<(), Unreserved>
     ensures one { one.new.items ≡ one.old.items }
     ensures other { other.new.items ≡ other.old.items }
+    ensures room { OnOk result ((vec_len one.new < vec_capacity one.new) × (vec_len other.new < vec_capacity other.new)) }
 {
     match one.try_reserve(1) {
         Ok(()) => {}

@@ -1,5 +1,5 @@
 //! What a worker does with a job: it runs a part of a slice, and answers what that asks for.
-ghost use Rattle.std.specs.Prelude.{◌≡◌, ◌≤◌, [], false, IfOk, IfSome, OnOk};
+ghost use Rattle.std.specs.Prelude.{◌≡◌, ◌≤◌, [], false, IfOk, IfSome, IsSome, OnOk};
 ghost use Rattle.arachne_lang.specs.Program.{source_of};
 ghost use Rattle.arachne_lang.specs.Checked.{IsChecked};
 ghost use Rattle.std.specs.Prelude.{ℕ, List, Option, None, Some};
@@ -149,9 +149,10 @@ pub trait RunJob: RunThread {
         ensures ticket { IfOk result (λ made. IfSome made (λ ticket. Self.Ticket.tag_of ticket ≡ tag)) }
         ensures asked { waits ≡ false → IfOk result (λ made. made ≡ None) };
 
-    /// The job of a ticket's child, if that waits still. Where memory is refused there is none, and the child waits on
-    /// for its parent.
-    fn of_ticket(alloc: Global, ticket: Self::Ticket, spares: &mut Self::Spares) -> Option<Self>;
+    /// The job of a ticket's child, if that waits still, which has a parent. Where memory is refused there is none, and
+    /// the child waits on for its parent.
+    fn of_ticket(alloc: Global, ticket: Self::Ticket, spares: &mut Self::Spares) -> Option<Self>
+        ensures { IfSome result (λ job. IsSome (Self.parent_of job)) };
 
     /// Leaves the outcome for its parent, which is to be woken; the root has none. `Foreign` where it has not ended.
     fn leave(self, spares: &mut Self::Spares) -> Result<Option<ThreadId>, JobFault>
