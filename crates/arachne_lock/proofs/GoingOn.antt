@@ -1,7 +1,7 @@
 -- Each call's answer makes of a sound history and of the state that it leaves a sound history and the state that that
 -- leaves.
-use Rattle.std.proofs.Common.{◌≡◌, ℕ, ◌+◌, ◌%◌, ◌^◌, inl, inr, List, [], ◌∷◌, ◌++◌, length, refl, sym, ◌∙◌, ap, subst, arith, append_assoc, length-append, Option, None, Some}
-use Rattle.std.specs.Prelude.{Contains, slice_get, drop, is_some, true, false}
+use Rattle.std.proofs.Common.{◌≡◌, ℕ, ◌+◌, ◌%◌, ◌^◌, List, [], ◌∷◌, ◌++◌, length, refl, sym, ◌∙◌, ap, subst, append_assoc, length-append, Option, None, Some}
+use Rattle.std.specs.Prelude.{Contains, slice_get, is_some, true}
 use Rattle.std.specs.Result.{is_ok}
 use Rattle.std.specs.declared.result.Result.{Result}
 use Rattle.std.specs.declared.result.Result.TheVariants.{Ok, Err}
@@ -12,7 +12,6 @@ use Rattle.std.proofs.lemmas.Option.{same_Some, none-some}
 use Rattle.arachne_lock.specs.declared.answer.Asked.{Asked}
 use Rattle.arachne_lock.specs.declared.answer.Asked.TheVariants.{Granted, Queued}
 use Rattle.arachne_lock.specs.declared.answer.AskFault.{AskFault}
-use Rattle.arachne_lock.specs.declared.answer.AskFault.TheVariants.{AlreadyIn}
 use Rattle.arachne_lock.specs.declared.answer.Freed.{Freed}
 use Rattle.arachne_lock.specs.declared.answer.NotHolder.{NotHolder}
 use Rattle.arachne_lock.specs.declared.answer.Withdrawn.{Withdrawn}
@@ -22,7 +21,7 @@ use Rattle.arachne_lock.specs.declared.event.LockEvent.{LockEvent}
 use Rattle.arachne_lock.specs.declared.event.LockEvent.TheVariants.{Ask, Grant, Free, Leave}
 use Rattle.arachne_lock.specs.Law.{Holding, IsIn, IsNeverIdle, after, without}
 use Rattle.arachne_lock.specs.History.{replay, IsLawful, IsSound, HoldsSince}
-use Rattle.arachne_lock.specs.State.{Lock, unused, holder_of, holding_of, IsLeftBy, later, handed, IsAsked, IsFreed, IsWithdrawn, IsChecked}
+use Rattle.arachne_lock.specs.State.{Lock, unused, holder_of, IsLeftBy, later, handed, IsAsked, IsFreed, IsWithdrawn, IsChecked}
 use Rattle.arachne_lock.specs.Deeds.{asked_events, handed_events, freed_events, withdrawn_events}
 use Rattle.arachne_lock.proofs.Histories.{replay-push, IsLawful-push, HoldsSince-quiet, HoldsSince-grant}
 

@@ -8,14 +8,14 @@ use Rattle.arachne_lock.specs.State.{Lock, IsLeftBy}
 use Rattle.arachne_lock.specs.Logs.{taken_log, given_back_log, answered_log}
 use Rattle.arachne_lock.specs.Views.{Guarded, SeatView, with_log}
 use Rattle.arachne_lock.specs.Steps.{Mine, idle, with_guard, GoesOnFrom, Comes, HasTaken, Visits, IsReturnable}
-use Rattle.arachne_lock.specs.Calls.{IsCallOn, HasCalled}
+use Rattle.arachne_lock.specs.Calls.{HasCalled}
 use Rattle.arachne_lock.proofs.GoingOn.{Leaves}
 
 guarded-in : (lock : ℕ) (a b : Guarded) → ◌≡◌ {A = List (ℕ × Guarded)} ((lock, a) ∷ []) ((lock, b) ∷ []) → a ≡ b
 guarded-in lock a b e = ap (λ (x : List (ℕ × Guarded)). (get_or x 0 (0, a)).1) e
 
 -- the guard was taken, the state that came was changed, by a call that adds these events, and the guard was given back
-module _ (lock : ℕ) (l : SeatLog) (taken visited : Mine) (old new : Guarded) (events : List LockEvent) (come : HasTaken lock l taken) (visits : Visits lock taken visited old new) (added : new.events ≡ events)
+module _ (lock : ℕ) (l : SeatLog) {from to : TableId} (taken visited : Mine) (old new : Guarded) (events : List LockEvent) (come : HasTaken lock l taken) (visits : Visits lock from to taken visited old new) (added : new.events ≡ events)
     (goes : (h : List LockEvent) → Leaves h old.lock → Leaves (h ++ events) new.lock) where
   abbrev pub history : List LockEvent
   history = come.0

@@ -2,7 +2,7 @@
 use Rattle.std.proofs.Common.{◌≡◌, ℕ, Bool, true, false, cond, ◌||◌, List, [], ◌∷◌, ◌++◌, ◌↔◌, IsTrue, inl, inr, refl, sym, ◌∙◌, ap, eqb-true, nat_eq}
 use Rattle.std.specs.Prelude.{Contains, filter, not}
 use Rattle.std.specs.List.{list_any, IsDistinct, AllByRecursion}
-use Rattle.std.proofs.lemmas.Bool.{cases_Bool, true≢false}
+use Rattle.std.proofs.lemmas.Bool.{cases_Bool}
 use Rattle.std.proofs.lemmas.Cmp.{nat_eq_equiv}
 use Rattle.std.proofs.lemmas.List.Elements.{All-from_recursion, All-weaker}
 use Rattle.std.proofs.lemmas.List.Folds.{list_any_none, list_any-append}

@@ -3,7 +3,7 @@ use Rattle.std.specs.Prelude.{◌≡◌, ◌↔◌, ℕ, ◌+◌, ◌%◌, ◌^�
 use Rattle.std.specs.declared.option.Option.{Option}
 use Rattle.std.specs.declared.option.Option.TheVariants.{None, Some}
 use Rattle.std.specs.declared.result.Result.{Result}
-use Rattle.std.specs.declared.result.Result.TheVariants.{Ok, Err}
+use Rattle.std.specs.declared.result.Result.TheVariants.{Err}
 use Rattle.arachne_lock.specs.declared.answer.Asked.{Asked}
 use Rattle.arachne_lock.specs.declared.answer.Asked.TheVariants.{Granted, Queued}
 use Rattle.arachne_lock.specs.declared.answer.AskFault.{AskFault}

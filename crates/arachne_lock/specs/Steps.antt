@@ -1,15 +1,16 @@
 -- What each kind of step tells the seat that makes it.
 use Rattle.std.specs.Prelude.{◌≡◌, ◌≢◌, ℕ, All, [], ◌∷◌, ◌++◌, List}
 use Rattle.atomic_table.specs.Table.{Me, Step}
+use Rattle.atomic_table.specs.Seated.{TableId}
 use Rattle.arachne_lock.specs.declared.event.LockEvent.{LockEvent}
 use Rattle.arachne_lock.specs.declared.view.Known.{Known}
 use Rattle.arachne_lock.specs.declared.view.SeatLog.{SeatLog}
 use Rattle.arachne_lock.specs.declared.view.Sight.{Sight}
 use Rattle.arachne_lock.specs.History.{IsSound}
-use Rattle.arachne_lock.specs.State.{IsLeftBy}
+use Rattle.arachne_lock.specs.State.{Lock, IsLeftBy}
 use Rattle.arachne_lock.specs.Placed.{BeginsWith}
 use Rattle.arachne_lock.specs.Logs.{sight, contended_log, taken_log, given_back_log}
-use Rattle.arachne_lock.specs.Views.{Guarded, word_of}
+use Rattle.arachne_lock.specs.Views.{Guarded, LocksView, word_of}
 use Rattle.arachne_lock.specs.Rule.{idle_known, taken_known}
 
 -- a seat's view, and the slots that it has
@@ -54,8 +55,17 @@ pub record IsReturnable (lock : ℕ) (history : List LockEvent) (me : Mine) (gua
   pub sound : IsSound (history ++ guarded.events)
   pub left : IsLeftBy (history ++ guarded.events) guarded.lock
 
+-- within a call: the seat is of these locks, and has the lock's slot
+abbrev pub HasSlot : LocksView → TableId → Mine → ℕ → Type 0
+HasSlot locks table me lock = (table ≡ locks.table) × ((guarded : Guarded) × (me.1 ≡ (lock, guarded) ∷ []))
+
 -- the slot that is out with the seat was changed, and nothing else
-pub record Visits (lock : ℕ) (before after : Mine) (old new : Guarded) : Type 0 where
+pub record Visits (lock : ℕ) (home away : TableId) (before after : Mine) (old new : Guarded) : Type 0 where
+  pub own : away ≡ home
   pub was : before.1 ≡ (lock, old) ∷ []
   pub view : after.0 ≡ before.0
   pub is : after.1 ≡ (lock, new) ∷ []
+
+-- the state in the slot was changed by a call that answers so and adds these events
+abbrev pub HasVisited : ℕ → TableId → TableId → Mine → Mine → (Lock → Lock → Type 0) → List LockEvent → Type 0
+HasVisited lock home away before after answers events = (old new : Guarded) × Visits lock home away before after old new × answers old.lock new.lock × (new.events ≡ events)

@@ -25,6 +25,10 @@ pub record SeatView : Type 0 where
 abbrev pub IsSeatOf : LocksView → SeatView → Type 0
 IsSeatOf locks seat = seat.table ≡ locks.table
 
+-- a table is that of these locks, and one of them has this number
+abbrev pub IsLockAt : LocksView → TableId → ℕ → Type 0
+IsLockAt locks table lock = (table ≡ locks.table) × (lock < locks.count)
+
 -- the same seat with another log
 abbrev pub with_log : SeatView → SeatLog → SeatView
 with_log seat log = record { table = seat.table; log = log }

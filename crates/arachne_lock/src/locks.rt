@@ -4,9 +4,9 @@ ghost use Rattle.arachne_lock.specs.declared.event.LockEvent.{LockEvent};
 ghost use Rattle.arachne_lock.specs.State.{IsAsked, IsFreed, IsWithdrawn, IsChecked};
 ghost use Rattle.arachne_lock.specs.Deeds.{asked_events, freed_events, withdrawn_events};
 ghost use Rattle.arachne_lock.specs.Logs.{contended_log, given_back_log};
-ghost use Rattle.arachne_lock.specs.Views.{Guarded, IsSeatOf, first_seat, second_half, joined_with, word_of};
+ghost use Rattle.arachne_lock.specs.Views.{Guarded, IsSeatOf, IsLockAt, first_seat, second_half, joined_with, word_of};
 ghost use Rattle.arachne_lock.specs.Rule.{AreFirstSlots};
-ghost use Rattle.arachne_lock.specs.Steps.{idle, HasTaken, Visits, IsReturnable};
+ghost use Rattle.arachne_lock.specs.Steps.{idle, HasTaken, HasSlot, HasVisited, IsReturnable};
 ghost use Rattle.arachne_lock.specs.Calls.{AskAnswer, FreeAnswer, WithdrawAnswer, CheckAnswer};
 
 use crate::answer::{AskFault, Asked, Freed, NotHolder, Tried, Withdrawn};
@@ -108,8 +108,7 @@ impl Locks {
     /// One that is in already is told so. Memory is taken only where it has to wait; where it is refused nothing
     /// changes.
     pub fn ask(&self, seat: &mut LockSeat, lock: usize, who: u64) -> Tried<Result<Asked, AskFault>>
-        requires own { IsSeatOf self.now seat.old }
-        requires lock { lock < self.now.count }
+        requires { IsLockAt self.now seat.old.table lock }
         ensures own { IsSeatOf self.now seat.new }
         ensures answer { AskAnswer lock who seat.old result seat.new }
     {
@@ -128,8 +127,7 @@ impl Locks {
         lock: usize,
         who: u64,
     ) -> Tried<Result<Freed, NotHolder>>
-        requires own { IsSeatOf self.now seat.old }
-        requires lock { lock < self.now.count }
+        requires { IsLockAt self.now seat.old.table lock }
         ensures own { IsSeatOf self.now seat.new }
         ensures answer { FreeAnswer lock who seat.old result seat.new }
     {
@@ -144,8 +142,7 @@ impl Locks {
     /// Leaves the queue of a lock, as where a future is dropped that waits. One that was granted the lock meanwhile is
     /// told so, and has to free it.
     pub fn withdraw(&self, seat: &mut LockSeat, lock: usize, who: u64) -> Tried<Withdrawn>
-        requires own { IsSeatOf self.now seat.old }
-        requires lock { lock < self.now.count }
+        requires { IsLockAt self.now seat.old.table lock }
         ensures own { IsSeatOf self.now seat.new }
         ensures answer { WithdrawAnswer lock who seat.old result seat.new }
     {
@@ -159,8 +156,7 @@ impl Locks {
 
     /// The number of the grant by which it holds a lock, and `None` where it doesn't.
     pub fn check(&self, seat: &mut LockSeat, lock: usize, who: u64) -> Tried<Option<u64>>
-        requires own { IsSeatOf self.now seat.old }
-        requires lock { lock < self.now.count }
+        requires { IsLockAt self.now seat.old.table lock }
         ensures own { IsSeatOf self.now seat.new }
         ensures answer { CheckAnswer lock who seat.old result seat.new }
     {
@@ -194,8 +190,7 @@ impl Locks {
 
     /// Tries a guard once. Won, the lock's state has come to the seat.
     fn take(&self, seat: &mut Seat<GuardedState, Known>, lock: usize) -> bool
-        requires own { seat.old.table_id ≡ self.now.table }
-        requires lock { lock < self.now.count }
+        requires at { IsLockAt self.now seat.old.table_id lock }
         requires idle { seat.old.me ≡ idle seat.old.me.0.log }
         ensures own { seat.new.table_id ≡ seat.old.table_id }
         ensures told { MatchBool result
@@ -208,8 +203,7 @@ impl Locks {
 
     /// Gives a guard back, and with it the lock's state.
     fn give_back(&self, seat: &mut Seat<GuardedState, Known>, lock: usize)
-        requires own { seat.old.table_id ≡ self.now.table }
-        requires lock { lock < self.now.count }
+        requires at { IsLockAt self.now seat.old.table_id lock }
         requires guarded { (history : List LockEvent) × (guarded : Guarded) × IsReturnable lock history seat.old.me guarded }
         ensures own { seat.new.table_id ≡ seat.old.table_id }
         ensures told { (history : List LockEvent) (guarded : Guarded) → IsReturnable lock history seat.old.me guarded
@@ -225,11 +219,8 @@ impl Locks {
         lock: usize,
         who: u64,
     ) -> Result<Asked, AskFault>
-        requires own { seat.old.table_id ≡ self.now.table }
-        requires held { (guarded : Guarded) × (seat.old.me.1 ≡ (lock, guarded) ∷ []) }
-        ensures own { seat.new.table_id ≡ seat.old.table_id }
-        ensures asked { (old new : Guarded) × Visits lock seat.old.me seat.new.me old new × IsAsked old.lock new.lock who result
-            × (new.events ≡ asked_events who result) }
+        requires { HasSlot self.now seat.old.table_id seat.old.me lock }
+        ensures asked { HasVisited lock seat.old.table_id seat.new.table_id seat.old.me seat.new.me (λ old new. IsAsked old new who result) (asked_events who result) }
     {
         seat.slot_mut(&self.table.shared, lock).ask(who)
     }
@@ -240,11 +231,8 @@ impl Locks {
         lock: usize,
         who: u64,
     ) -> Result<Freed, NotHolder>
-        requires own { seat.old.table_id ≡ self.now.table }
-        requires held { (guarded : Guarded) × (seat.old.me.1 ≡ (lock, guarded) ∷ []) }
-        ensures own { seat.new.table_id ≡ seat.old.table_id }
-        ensures freed { (old new : Guarded) × Visits lock seat.old.me seat.new.me old new × IsFreed old.lock new.lock who result
-            × (new.events ≡ freed_events who result) }
+        requires { HasSlot self.now seat.old.table_id seat.old.me lock }
+        ensures freed { HasVisited lock seat.old.table_id seat.new.table_id seat.old.me seat.new.me (λ old new. IsFreed old new who result) (freed_events who result) }
     {
         seat.slot_mut(&self.table.shared, lock).free(who)
     }
@@ -255,11 +243,8 @@ impl Locks {
         lock: usize,
         who: u64,
     ) -> Withdrawn
-        requires own { seat.old.table_id ≡ self.now.table }
-        requires held { (guarded : Guarded) × (seat.old.me.1 ≡ (lock, guarded) ∷ []) }
-        ensures own { seat.new.table_id ≡ seat.old.table_id }
-        ensures withdrawn { (old new : Guarded) × Visits lock seat.old.me seat.new.me old new × IsWithdrawn old.lock new.lock who result
-            × (new.events ≡ withdrawn_events who result) }
+        requires { HasSlot self.now seat.old.table_id seat.old.me lock }
+        ensures withdrawn { HasVisited lock seat.old.table_id seat.new.table_id seat.old.me seat.new.me (λ old new. IsWithdrawn old new who result) (withdrawn_events who result) }
     {
         seat.slot_mut(&self.table.shared, lock).withdraw(who)
     }
@@ -270,11 +255,8 @@ impl Locks {
         lock: usize,
         who: u64,
     ) -> Option<u64>
-        requires own { seat.old.table_id ≡ self.now.table }
-        requires held { (guarded : Guarded) × (seat.old.me.1 ≡ (lock, guarded) ∷ []) }
-        ensures own { seat.new.table_id ≡ seat.old.table_id }
-        ensures checked { (old new : Guarded) × Visits lock seat.old.me seat.new.me old new × IsChecked old.lock new.lock who result
-            × (new.events ≡ []) }
+        requires { HasSlot self.now seat.old.table_id seat.old.me lock }
+        ensures checked { HasVisited lock seat.old.table_id seat.new.table_id seat.old.me seat.new.me (λ old new. IsChecked old new who result) [] }
     {
         seat.slot_mut(&self.table.shared, lock).check(who)
     }

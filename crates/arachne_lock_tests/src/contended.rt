@@ -1,6 +1,6 @@
 //! Two kernel threads that contend for two locks.
 ghost use Rattle.std.specs.Prelude.{◌<◌};
-ghost use Rattle.arachne_lock.specs.Views.{IsSeatOf};
+ghost use Rattle.arachne_lock.specs.Views.{IsSeatOf, IsLockAt};
 
 use arachne_lock::{AskFault, LockSeat, Locks, Tried};
 use std::alloc::{AllocError, Global};
@@ -28,8 +28,7 @@ fn enter(
     who: u64,
     polls_left: &mut u64,
 ) -> Option<u64>
-    requires own { IsSeatOf locks.now seat.old }
-    requires lock { lock < locks.now.count }
+    requires { IsLockAt locks.now seat.old.table lock }
     ensures { IsSeatOf locks.now seat.new }
 {
     for _ in 0..MOST_POLLS {
@@ -56,8 +55,7 @@ fn leave(
     who: u64,
     polls_left: &mut u64,
 ) -> Option<()>
-    requires own { IsSeatOf locks.now seat.old }
-    requires lock { lock < locks.now.count }
+    requires { IsLockAt locks.now seat.old.table lock }
     ensures { IsSeatOf locks.now seat.new }
 {
     for _ in 0..MOST_POLLS {

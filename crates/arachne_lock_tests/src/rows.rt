@@ -1,6 +1,6 @@
 //! One run of calls on two locks, a call a row with its answer.
 ghost use Rattle.std.specs.Prelude.{◌<◌};
-ghost use Rattle.arachne_lock.specs.Views.{IsSeatOf};
+ghost use Rattle.arachne_lock.specs.Views.{IsSeatOf, IsLockAt};
 
 use arachne_lock::{AskFault, Asked, Freed, LockSeat, Locks, NotHolder, Tried, Withdrawn};
 use std::alloc::AllocError;
@@ -81,8 +81,7 @@ fn answer_to(
     lock: usize,
     who: u64,
 ) -> Option<Answer>
-    requires own { IsSeatOf locks.now seat.old }
-    requires lock { lock < locks.now.count }
+    requires { IsLockAt locks.now seat.old.table lock }
     ensures { IsSeatOf locks.now seat.new }
 {
     match call {

@@ -1,7 +1,7 @@
 //! Locks where there is no memory: a free one is held and freed, a wanted one stays as it was for those that are
 //! refused.
 ghost use Rattle.std.specs.Prelude.{◌≡◌, ◌<◌, IfOk};
-ghost use Rattle.arachne_lock.specs.Views.{IsSeatOf};
+ghost use Rattle.arachne_lock.specs.Views.{IsSeatOf, IsLockAt};
 
 use arachne_lock::{AskFault, Asked, Freed, LockSeat, Locks, Tried, Withdrawn};
 use arachne_shortage::Hoard;
@@ -19,8 +19,7 @@ const CROWD: u64 = 900;
 
 /// Holds a lock that is free, and frees it.
 fn is_held_and_freed(locks: &Locks, seat: &mut LockSeat, lock: usize) -> bool
-    requires own { IsSeatOf locks.now seat.old }
-    requires lock { lock < locks.now.count }
+    requires { IsLockAt locks.now seat.old.table lock }
     ensures { IsSeatOf locks.now seat.new }
 {
     let Tried::Answered(Ok(Asked::Granted { at: _ })) = locks.ask(seat, lock, 7) else {
@@ -35,8 +34,7 @@ fn is_held_and_freed(locks: &Locks, seat: &mut LockSeat, lock: usize) -> bool
 /// The crowd asks for a lock, each until there is memory for it. How often there was none, if the lock was as before
 /// each time.
 fn all_ask(locks: &Locks, seat: &mut LockSeat, lock: usize, hoard: &mut Hoard) -> Option<u64>
-    requires own { IsSeatOf locks.now seat.old }
-    requires lock { lock < locks.now.count }
+    requires { IsLockAt locks.now seat.old.table lock }
     ensures { IsSeatOf locks.now seat.new }
 {
     let (mut who, mut refused) = (0u64, 0u64);
@@ -64,8 +62,7 @@ fn all_ask(locks: &Locks, seat: &mut LockSeat, lock: usize, hoard: &mut Hoard) -
 
 /// The crowd frees the lock in turn, for which no memory is wanted. How many did.
 fn all_free(locks: &Locks, seat: &mut LockSeat, lock: usize) -> u64
-    requires own { IsSeatOf locks.now seat.old }
-    requires lock { lock < locks.now.count }
+    requires { IsLockAt locks.now seat.old.table lock }
     ensures { IsSeatOf locks.now seat.new }
 {
     let mut freed = 0u64;

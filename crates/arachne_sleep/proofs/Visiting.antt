@@ -92,7 +92,7 @@ check-goes-on old new who (Some pass) a sound = record {
 guarded-in : (a b : Guarded) → ◌≡◌ {A = List (ℕ × Guarded)} ((0, a) ∷ []) ((0, b) ∷ []) → a ≡ b
 guarded-in a b e = ap (λ (x : List (ℕ × Guarded)). (get_or x 0 (0, a)).1) e
 
-module _ (w : ℕ) (l : SeatLog) (taken visited : Mine) (old new : Guarded) (pass : Option Pass) (come : HasTaken w l taken) (visits : Visits taken visited old new) (goes : GoesOn old.state new.state pass) (given : new.last_pass ≡ pass) where
+module _ (w : ℕ) (l : SeatLog) {from to : TableId} (taken visited : Mine) (old new : Guarded) (pass : Option Pass) (come : HasTaken w l taken) (visits : Visits from to taken visited old new) (goes : GoesOn old.state new.state pass) (given : new.last_pass ≡ pass) where
   same-guarded : come.0 ≡ old
   same-guarded = guarded-in come.0 old (sym (ap (λ (m : Mine). m.1) come.1) ∙ visits.was)
 

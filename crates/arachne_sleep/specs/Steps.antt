@@ -1,13 +1,14 @@
 -- What each kind of step tells the seat that makes it.
 use Rattle.std.specs.Prelude.{◌≡◌, ◌≢◌, ℕ, All, [], ◌∷◌, List, Option, IfSome}
 use Rattle.atomic_table.specs.Table.{Me}
+use Rattle.atomic_table.specs.Seated.{TableId}
 use Rattle.arachne_sleep.specs.declared.event.LockEvent.{LockEvent}
 use Rattle.arachne_sleep.specs.declared.answer.Pass.{Pass}
 use Rattle.arachne_sleep.specs.History.{IsSound}
 use Rattle.arachne_sleep.specs.Lock.{Lock}
 use Rattle.arachne_weights.specs.declared.token.Token.{Token}
 use Rattle.arachne_weights.specs.Tokens.{held}
-use Rattle.arachne_sleep.specs.Views.{Guarded}
+use Rattle.arachne_sleep.specs.Views.{Guarded, SleepLockView}
 use Rattle.arachne_sleep.specs.declared.view.Known.{Known}
 use Rattle.arachne_sleep.specs.declared.view.SeatLog.{SeatLog}
 use Rattle.arachne_sleep.specs.Histories.{BeginsWith, IsGrantedIn}
@@ -47,8 +48,13 @@ GivesBack before after = (guarded : Guarded) → before.1 ≡ (0, guarded) ∷ [
 abbrev pub HasTaken : ℕ → SeatLog → Mine → Type 0
 HasTaken weight log me = (guarded : Guarded) × (me ≡ with_guard weight (taken_log log guarded.state.history) guarded) × Extends log guarded
 
+-- within a call: the seat is of this lock, and has its slot
+abbrev pub HasSlot : SleepLockView → TableId → Mine → Type 0
+HasSlot lock table me = (table ≡ lock.table) × ((guarded : Guarded) × (me.1 ≡ (0, guarded) ∷ []))
+
 -- the slot that is out with the seat was changed, and nothing else
-pub record Visits (before after : Mine) (old new : Guarded) : Type 0 where
+pub record Visits (home away : TableId) (before after : Mine) (old new : Guarded) : Type 0 where
+  pub own : away ≡ home
   pub was : before.1 ≡ (0, old) ∷ []
   pub view : after.0 ≡ before.0
   pub is : after.1 ≡ (0, new) ∷ []
@@ -68,3 +74,8 @@ pub record IsReturnable (me : Mine) (guarded : Guarded) (before : List LockEvent
   pub begins : BeginsWith guarded.state.history before
   pub sound : IsSound guarded.state.history
   pub granted : IfSome guarded.last_pass (IsGrantedIn me.0.known.log.number guarded.state.history)
+
+-- the state in the slot was changed by a call that answers so and got this pass
+abbrev pub HasVisited : TableId → TableId → Mine → Mine → (Lock → Lock → Type 0) → Option Pass → Type 0
+HasVisited home away before after answers pass =
+    (old new : Guarded) × Visits home away before after old new × answers old.state new.state × (new.last_pass ≡ pass) × IsSound new.state.history

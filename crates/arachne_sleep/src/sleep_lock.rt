@@ -5,7 +5,7 @@ ghost use Rattle.arachne_sleep.specs.History.{IsSound};
 ghost use Rattle.arachne_sleep.specs.OneHolder.{HasOneHolderAtATime};
 ghost use Rattle.arachne_sleep.specs.Logs.{contended_log, given_back_log};
 ghost use Rattle.arachne_sleep.specs.Rule.{IsFirstSlot};
-ghost use Rattle.arachne_sleep.specs.Steps.{idle, HasTaken, Visits, IsReturnable};
+ghost use Rattle.arachne_sleep.specs.Steps.{idle, HasTaken, HasSlot, HasVisited, IsReturnable};
 ghost use Rattle.arachne_sleep.specs.Views.{Guarded, IsSeatOf, IsWhole, whole_seat, first_half, second_half, joined_with};
 ghost use Rattle.arachne_sleep.specs.Calls.{IsAsked, IsFreed, IsChecked, pass_asked, AskAnswer, FreeAnswer, CheckAnswer, IsToldBy};
 
@@ -245,11 +245,8 @@ impl SleepLock {
     }
 
     fn ask_guarded(&self, seat: &mut Seat<GuardedState, View>, who: Who) -> Result<Asked, AskFault>
-        requires own { seat.old.table_id ≡ self.now.table }
-        requires held { (guarded : Guarded) × (seat.old.me.1 ≡ (0, guarded) ∷ []) }
-        ensures own { seat.new.table_id ≡ seat.old.table_id }
-        ensures asked { (old new : Guarded) × Visits seat.old.me seat.new.me old new × IsAsked old.state new.state who result
-            × (new.last_pass ≡ pass_asked result) × IsSound new.state.history }
+        requires { HasSlot self.now seat.old.table_id seat.old.me }
+        ensures asked { HasVisited seat.old.table_id seat.new.table_id seat.old.me seat.new.me (λ old new. IsAsked old new who result) (pass_asked result) }
     {
         seat.slot_mut(&self.table.shared, 0).ask(who)
     }
@@ -259,21 +256,15 @@ impl SleepLock {
         seat: &mut Seat<GuardedState, View>,
         who: Who,
     ) -> Result<Freed, NotHolder>
-        requires own { seat.old.table_id ≡ self.now.table }
-        requires held { (guarded : Guarded) × (seat.old.me.1 ≡ (0, guarded) ∷ []) }
-        ensures own { seat.new.table_id ≡ seat.old.table_id }
-        ensures freed { (old new : Guarded) × Visits seat.old.me seat.new.me old new × IsFreed old.state new.state who result
-            × (new.last_pass ≡ None) × IsSound new.state.history }
+        requires { HasSlot self.now seat.old.table_id seat.old.me }
+        ensures freed { HasVisited seat.old.table_id seat.new.table_id seat.old.me seat.new.me (λ old new. IsFreed old new who result) None }
     {
         seat.slot_mut(&self.table.shared, 0).free(who)
     }
 
     fn check_guarded(&self, seat: &mut Seat<GuardedState, View>, who: Who) -> Option<Pass>
-        requires own { seat.old.table_id ≡ self.now.table }
-        requires held { (guarded : Guarded) × (seat.old.me.1 ≡ (0, guarded) ∷ []) }
-        ensures own { seat.new.table_id ≡ seat.old.table_id }
-        ensures checked { (old new : Guarded) × Visits seat.old.me seat.new.me old new × IsChecked old.state new.state who result
-            × (new.last_pass ≡ result) × IsSound new.state.history }
+        requires { HasSlot self.now seat.old.table_id seat.old.me }
+        ensures checked { HasVisited seat.old.table_id seat.new.table_id seat.old.me seat.new.me (λ old new. IsChecked old new who result) result }
     {
         seat.slot_mut(&self.table.shared, 0).check(who)
     }

@@ -37,4 +37,4 @@ returns-clause-answer c =
     let on = goes (goal.at.returns-clause-answer c).After-ask_guarded-answer in
     called c.args.lock l c.take.new.seat.me call.new.seat.me a.0 a.1 (asked_events c.args.who call.result) c.if-not-take.ensures.told a.2 a.4 on c.give_back.new.seat.me c.give_back.ensures.told
     (λ (before after : Lock). IsAsked before after c.args.who call.result) c.seat.inside.seat.table_id c.give_back.new.seat.table_id c.args.seat.now c.seat.view_is
-    (c.give_back.ensures.own ∙ c.ask_guarded-answer.ensures.own ∙ c.take.ensures.own) a.3
+    (c.give_back.ensures.own ∙ a.2.own ∙ c.take.ensures.own) a.3

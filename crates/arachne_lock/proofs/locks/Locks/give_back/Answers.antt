@@ -11,12 +11,12 @@ pub store-requires : goal.store-requires
 store-requires c =
     let t = c.self.inside.table.shared in
     let it = c.args.seat.now in
-    let inside : c.args.lock < c.self.inside.count = subst (λ (n : ℕ). c.args.lock < n) (sym (ap (λ v. v.count) c.self.view_is)) c.requires.lock in
+    let inside : c.args.lock < c.self.inside.count = subst (λ (n : ℕ). c.args.lock < n) (sym (ap (λ v. v.count) c.self.view_is)) c.requires.at.1 in
     let below : c.args.lock < t.key = omega (arith, inside, c.self.invariant.keyed) in
     let history = c.requires.guarded.0 in
     let guarded = c.requires.guarded.1 in
     let r = c.requires.guarded.2 in (
-      c.requires.own ∙ sym (ap (λ v. v.table) c.self.view_is),
+      c.requires.at.0 ∙ sym (ap (λ v. v.table) c.self.view_is),
       omega (arith, inside, c.self.invariant.words, c.guard_word.ensures),
       subst (λ (w : ℕ). Allows (IsKept t.key) t.table_id.slots it.id it.me w (λ _. 0) (λ _ a. GivesBack (step t.table_id.slots w 0 0 none) it.me a)) (sym c.guard_word.ensures)
           (subst (λ (m : Mine). Allows (IsKept t.key) t.table_id.slots it.id m (word_of c.args.lock) (λ _. 0) (λ _ a. GivesBack (step t.table_id.slots (word_of c.args.lock) 0 0 none) m a)) (sym r.mine)

@@ -14,9 +14,9 @@ pub compare_exchange-requires : goal.compare_exchange-requires
 compare_exchange-requires c =
     let t = c.self.inside.table.shared in
     let it = c.args.seat.now in
-    let inside : c.args.lock < c.self.inside.count = subst (λ (n : ℕ). c.args.lock < n) (sym (ap (λ v. v.count) c.self.view_is)) c.requires.lock in
+    let inside : c.args.lock < c.self.inside.count = subst (λ (n : ℕ). c.args.lock < n) (sym (ap (λ v. v.count) c.self.view_is)) c.requires.at.1 in
     let below : c.args.lock < t.key = omega (arith, inside, c.self.invariant.keyed) in (
-      c.requires.own ∙ sym (ap (λ v. v.table) c.self.view_is),
+      c.requires.at.0 ∙ sym (ap (λ v. v.table) c.self.view_is),
       omega (arith, inside, c.self.invariant.words, c.guard_word.ensures),
       subst (λ (w : ℕ). Allows (IsKept t.key) t.table_id.slots it.id it.me w (λ n. either (eqb n 0) 1 n) (Takes (step t.table_id.slots w 0 1 none) it.me)) (sym c.guard_word.ensures)
           (subst (λ (m : Mine). Allows (IsKept t.key) t.table_id.slots it.id m (word_of c.args.lock) (λ n. either (eqb n 0) 1 n) (Takes (step t.table_id.slots (word_of c.args.lock) 0 1 none) m)) (sym c.requires.idle)

@@ -38,7 +38,7 @@ returns-clause-answer c =
       a.1.state,
       called me.0.weight me.0.known.log c.take.new.seat.me call.new.seat.me a.0 a.1 call.result c.if-not-take.ensures.told a.2 on a.4
           c.give_back.new.seat.me c.give_back.ensures.told c.args.self.now.number c.seat.inside.weight c.seat.inside.seat.table_id c.give_back.new.seat.table_id c.args.seat.now c.seat.view_is
-          (c.give_back.ensures.own ∙ c.check_guarded-answer.ensures.own ∙ c.take.ensures.own) c.requires.number,
+          (c.give_back.ensures.own ∙ a.2.own ∙ c.take.ensures.own) c.requires.number,
       a.3,
     )
 
