@@ -21,7 +21,7 @@ use Rattle.arachne_machine.specs.Trace.{At}
 use Rattle.arachne_machine.specs.Outcome.{Finished}
 use Rattle.arachne_machine.specs.Account.{after}
 use Rattle.arachne_machine.specs.Lines.{Gains}
-use Rattle.arachne_machine.specs.Ending.{child_task, joined_env, account_joined, fork_awaited, lock_freed, forks_of, forks_here, releases, frames_left, AwaitsFork}
+use Rattle.arachne_machine.specs.Ending.{child_task, joined_env, account_joined, fork_awaited, lock_freed, forks_of, forks_here, releases, AwaitsFork}
 use Rattle.arachne_machine.specs.Steps.{Joins, Counts, pending_of, suspended}
 use Rattle.arachne_machine.specs.Suspended.{awaited}
 use Rattle.arachne_machine.proofs.Outlooks.{KeepsTop, SameOutlook, IsAt, LeavesFrames, Any, at_itself, unjoined_at, here_at, locks_at, same_end}

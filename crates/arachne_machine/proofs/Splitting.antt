@@ -21,7 +21,7 @@ use Rattle.arachne_machine.specs.Strands.{Strand}
 use Rattle.arachne_machine.specs.Account.{Account, after, with_fork, with_join}
 use Rattle.arachne_machine.specs.Work.{work_of, task_work}
 use Rattle.arachne_machine.specs.Trace.{Event, Step, At, trace_of, task_trace}
-use Rattle.arachne_machine.specs.Ending.{child_task, stretch_task, resume_account, begun, begun_account, fork_awaited, lock_freed, forks_of, forks_here, releases, frames_left, work_left}
+use Rattle.arachne_machine.specs.Ending.{child_task, stretch_task, resume_account, begun, begun_account, fork_awaited, lock_freed, forks_of, forks_here, releases, work_left}
 use Rattle.arachne_lang.specs.Checked.{node_faults}
 use Rattle.arachne_lang.specs.declared.check_fault.CheckFault.TheVariants as fault
 use Rattle.arachne_machine.specs.Faultless.{IsFaultless, IsFaultlessNext, held_by}

@@ -1,4 +1,4 @@
-use Rattle.std.proofs.Common.{ℕ, ◌≡◌, List, ◌∷◌, ap, sym, subst, ◌∙◌}
+use Rattle.std.proofs.Common.{ℕ, ◌≡◌, List, ◌∷◌, sym, subst}
 use Rattle.arachne_machine.specs.declared.line.ThreadLine.{ThreadLine}
 use Rattle.arachne_machine.specs.Outcome.{IsOfItsName}
 use Rattle.arachne_machine.specs.Strands.{own_line}

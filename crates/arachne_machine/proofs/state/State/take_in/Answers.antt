@@ -2,7 +2,7 @@ use Rattle.std.proofs.Common.{rules, ◌≡◌, ◌≤◌, ◌<◌, ◌+◌, ◌
 use Rattle.std.specs.Prelude.{reverse}
 use Rattle.arachne_machine.specs.declared.level.Parent.{Parent}
 use Rattle.arachne_machine.specs.declared.line.Ran.TheVariants as ways
-use Rattle.arachne_machine.specs.Strands.{moved_level, moved_parents, own_line}
+use Rattle.arachne_machine.specs.Strands.{moved_level, moved_parents}
 use Rattle.arachne_machine.proofs.Joining.{written-back}
 use Rattle.arachne_machine.proofs.state.State.take_in.Goals as goal
 

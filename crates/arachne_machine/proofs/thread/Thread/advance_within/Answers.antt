@@ -1,9 +1,9 @@
 -- A thread goes on: what the states within say of it (`shown`, and `shown_refusal` where memory was refused) is said
 -- of the pause that callers see (`at_pause`), and then of the thread as they see it.
 use Rattle.std.proofs.Common.{◌≡◌, true, ap, sym, ◌∙◌, subst}
-use Rattle.arachne_machine.specs.Steps.{pending_of, suspended, top}
+use Rattle.arachne_machine.specs.Steps.{pending_of}
 use Rattle.arachne_machine.specs.Kept.{AdvancesWith, IsKept, Went, nested}
-use Rattle.arachne_machine.specs.Advance.{AdvancedAlone, IsCharged, Moves, PausesAt, PlacesNone, RefusedAlone, pause_seen}
+use Rattle.arachne_machine.specs.Advance.{AdvancedAlone, IsCharged, Moves, PlacesNone, RefusedAlone, pause_seen}
 use Rattle.arachne_lang.specs.Program.{source_of}
 use Rattle.arachne_lang.specs.Checked.{IsChecked}
 use Rattle.arachne_machine.proofs.Nesting.{program_seen}
