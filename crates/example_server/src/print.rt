@@ -37,7 +37,7 @@ fn slow(rt: &impl Print, report: &Report) -> io::Result<()> {
     if waited == 0 {
         return Ok(());
     }
-    let others = if report.overtaken() >= waited / 2 {
+    let others = if report.overtaken() >= waited - waited / 2 {
         "went on"
     } else {
         "waited too"

@@ -191,7 +191,7 @@ fn keep_cores<R: Wait + Clock, C: Contexts<Spawned<Request>>>(
         return Some(look);
     }
     server.pool.turn(rt, worker, keeper.most).ok()?;
-    keeper.scan(server.pool.live());
+    keeper.scan(server.runnable());
     let advice = keeper.judge(at, busy);
     if let Some(order) = keeper.follow(advice) {
         let orders = keeper.listed(*keeper.judged.allocator(), order).ok()?;

@@ -26,6 +26,11 @@ impl<C: Seats> Server<C> {
         Server { pool, timer, clock }
     }
 
+    /// How many requests live that don't wait for the slow part.
+    pub fn runnable(&self) -> u64 {
+        self.pool.live().saturating_sub(self.timer.waiting())
+    }
+
     /// No more requests come.
     pub fn finish(&self) {
         self.pool.finish();

@@ -23,6 +23,8 @@ const IDLE: u64 = 1_000_000_000;
 struct Entry {
     /// 1 while a request has it.
     is_taken: AtomicU64,
+    /// 1 once its slow part has begun.
+    is_begun: AtomicU64,
     /// When the answer comes; 0 where none is waited for.
     until: AtomicU64,
     /// The id of the job that sleeps until then.
@@ -36,6 +38,7 @@ impl Entry {
     fn new() -> Entry {
         Entry {
             is_taken: AtomicU64::new(0),
+            is_begun: AtomicU64::new(0),
             until: AtomicU64::new(0),
             context: AtomicU64::new(0),
             generation: AtomicU64::new(0),
@@ -44,7 +47,7 @@ impl Entry {
     }
 
     /// The answer comes. Who is to be woken: it finds the answer then.
-    fn answer(&self) -> ThreadId {
+    fn give_answer(&self) -> ThreadId {
         self.until.store(0, Ordering::SeqCst);
         self.answer.store(1, Ordering::SeqCst);
         ThreadId {
@@ -92,7 +95,7 @@ impl Timer {
         let shared = timer.clone().ok()?;
         for (number, entry) in timer.entries.iter().enumerate() {
             if entry.is_taken.load(Ordering::SeqCst) == 0 {
-                entry.until.store(0, Ordering::SeqCst);
+                entry.is_begun.store(0, Ordering::SeqCst);
                 entry.answer.store(0, Ordering::SeqCst);
                 entry.is_taken.store(1, Ordering::SeqCst);
                 return Some(Call {
@@ -102,6 +105,11 @@ impl Timer {
             }
         }
         None
+    }
+
+    /// How many requests wait.
+    pub fn waiting(&self) -> u64 {
+        self.waiting.load(Ordering::SeqCst)
     }
 
     /// Whether no more requests come.
@@ -122,7 +130,7 @@ impl Timer {
     }
 
     /// What is to be done at this time. One whose time has come is answered.
-    fn next(&self, now: u64) -> Next {
+    fn look(&self, now: u64) -> Next {
         let mut rest = IDLE;
         for entry in self.entries.iter() {
             let until = entry.until.load(Ordering::SeqCst);
@@ -131,7 +139,7 @@ impl Timer {
             }
             if until <= now {
                 self.waiting.fetch_sub(1, Ordering::SeqCst);
-                return Next::Wakes(entry.answer());
+                return Next::Wakes(entry.give_answer());
             }
             rest = rest.min(until - now);
         }
@@ -163,14 +171,14 @@ impl Call {
         }
     }
 
-    /// The job of this id sleeps until it is answered. The slow part begins now, unless it has begun before.
+    /// The job of this id sleeps until it is answered. The slow part begins now, unless it has before.
     pub fn begin(&self, now: u64, id: ThreadId) {
         let Some(entry) = self.timer.entries.get(self.entry) else {
             return;
         };
         entry.context.store(u64::from(id.context), Ordering::SeqCst);
         entry.generation.store(id.generation, Ordering::SeqCst);
-        if entry.until.load(Ordering::SeqCst) != 0 {
+        if entry.is_begun.swap(1, Ordering::SeqCst) != 0 {
             return;
         }
         entry
@@ -222,7 +230,7 @@ fn wake_all<R: Wait + Clock, C: Contexts<Spawned<Request>>>(
         if server.timer.is_over() {
             return;
         }
-        match server.timer.next(now(&server.clock)) {
+        match server.timer.look(now(&server.clock)) {
             Next::Wakes(id) => {
                 let _ = server.pool.wake::<R, Request>(rt, waker, id);
             }
