@@ -219,7 +219,7 @@ const ROWS: &[Row] = &[
     Row {
         shows: "a job that joins one of two children gets the result of that one alone",
         cores: 1,
-        slots: 1,
+        slots: 3,
         acts: &[
             Act::Joins(
                 Sort {
