@@ -9,7 +9,7 @@ use crate::orders::{Order, orders_of};
 use crate::spells::Spell;
 use crate::tasks::{LEAF, Sort, Task};
 use arachne_contexts::{Contexts, Woken};
-use arachne_core::{CORES, OccWord, SLOTS, ThreadId};
+use arachne_core::{CORES, OccWord, Place, SLOTS, ThreadId};
 use arachne_pool::{Left, Pool, PoolFault, Refusal, Refused, Spawned, Worker};
 use arachne_shortage::Hoard;
 use std::alloc::Global;
@@ -31,6 +31,8 @@ pub(crate) enum Act {
     SpawnsMany(u32, Sort),
     /// A job is spawned and joined on core 0, and gives this, or nothing, as in a pool that is stopped.
     Joins(Sort, Option<u64>),
+    /// A job is spawned, has a round on core 0, and is joined once the pool is stopped. It has ended, and gives this.
+    JoinsLate(Sort, u64),
     /// A job is spawned so, and this comes of it.
     Tries(On, Sort, Comes),
     /// The job of this context and generation is woken, and this comes of it.
@@ -82,6 +84,8 @@ pub(crate) enum On {
     AnyDetached,
     /// On this one.
     Core(u8),
+    /// On this one, at the place of this index, as is told.
+    At(u8, u8),
 }
 
 /// What comes of that.
@@ -274,7 +278,10 @@ fn holds<C: Contexts<Spawned<Task>>, R: Wait + Clock>(
         }
         Act::Works(core) if core < pool.cores => pool.work(rt, worker, core).is_ok(),
         Act::Joins(sort, wanted) if pool.cores > 0 => {
-            joins::<C, R>(rt, pool, board, worker, sort, wanted)
+            joins::<C, R>(rt, pool, board, worker, sort, false, wanted)
+        }
+        Act::JoinsLate(sort, wanted) if pool.cores > 0 => {
+            joins::<C, R>(rt, pool, board, worker, sort, true, Some(wanted))
         }
         Act::Tries(on, sort, comes) => {
             tried::<C, R>(rt, pool, board, worker, on, sort) == Some(comes)
@@ -368,10 +375,23 @@ fn tried<C: Contexts<Spawned<Task>>, R: Wait>(
         On::AnyKept => pool.spawn(rt, worker, task).err(),
         On::Any => pool.try_spawn(rt, worker, task).err(),
         On::AnyDetached => pool.spawn_detached(rt, worker, task).err(),
-        On::Core(core) if core < pool.cores => pool.try_spawn_on(rt, worker, core, task).err(),
-        On::Core(_) => return None,
+        On::Core(core) | On::At(core, _) if core < pool.cores => {
+            match pool.try_spawn_on(rt, worker, core, task) {
+                Ok((_, place)) if !is_wanted_at(on, place) => return None,
+                tried => tried.err(),
+            }
+        }
+        On::Core(_) | On::At(..) => return None,
     };
     Some(comes_of(refused))
+}
+
+/// Whether a job that was spawned so may be at this place.
+fn is_wanted_at(on: On, place: Place) -> bool {
+    match on {
+        On::At(core, index) => (place.core, place.index) == (core, index),
+        _ => true,
+    }
 }
 
 /// Spawns so many jobs. Whether each was spawned.
@@ -458,13 +478,15 @@ fn comes_of(refused: Option<Refused<Task>>) -> Comes {
     }
 }
 
-/// Spawns a job and joins it on core 0. Whether it gives this, or nothing where the pool is stopped.
+/// Spawns a job and joins it on core 0, where it is late once it has had a round there and the pool is stopped. Whether
+/// it gives this, or nothing where the pool is stopped.
 fn joins<C: Contexts<Spawned<Task>>, R: Wait + Clock>(
     rt: &R,
     pool: &Pool<C>,
     board: &Arc<Board>,
     worker: &mut Worker<C::Seat, Task>,
     sort: Sort,
+    is_late: bool,
     wanted: Option<u64>,
 ) -> bool
     requires worker { IsWorkerOf C.sits C.idle pool.now.table pool.now.cores worker.old }
@@ -477,6 +499,10 @@ fn joins<C: Contexts<Spawned<Task>>, R: Wait + Clock>(
     let Ok(handle) = pool.spawn(rt, worker, task) else {
         return false;
     };
+    if is_late {
+        let _ = pool.turn(rt, worker, 0);
+        pool.stop();
+    }
     match pool.join(rt, worker, 0, handle) {
         Ok(counted) => wanted == Some(counted),
         Err((fault, _)) => wanted.is_none() && fault == PoolFault::Stopped,

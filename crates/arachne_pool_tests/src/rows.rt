@@ -217,6 +217,32 @@ const ROWS: &[Row] = &[
         ..NOTHING
     },
     Row {
+        shows: "a job that joins one of two children gets the result of that one alone",
+        cores: 1,
+        slots: 3,
+        acts: &[
+            Act::Joins(
+                Sort {
+                    forks: 2,
+                    joins: Joins::Newest,
+                    ..PARENT
+                },
+                Some(2),
+            ),
+            Act::Works(0),
+            Act::Lives(0),
+            Act::Counts(3),
+        ],
+        ..NOTHING
+    },
+    Row {
+        shows: "in a pool that is stopped a join gives the result of a job that has ended",
+        cores: 1,
+        slots: 1,
+        acts: &[Act::JoinsLate(LEAF, 1)],
+        ..NOTHING
+    },
+    Row {
         shows: "the oldest child that waits with its parent gets a place once one is free",
         cores: 1,
         slots: 2,
@@ -522,6 +548,54 @@ const ROWS: &[Row] = &[
         ],
         spells: TO_THE_END,
         then: &[Act::Lives(0)],
+        ..NOTHING
+    },
+    Row {
+        shows: "the last end wakes a kernel thread that is parked, where it comes in a round of a caller's own loop",
+        cores: 2,
+        slots: 1,
+        orders: &[(0, RELEASE, 1)],
+        acts: &[
+            Act::Turns(0, false),
+            Act::Has(1, 0, Is::Closed),
+            Act::Spawns(Sort {
+                steps: 2_000_000,
+                bound: 1_000,
+                ..LEAF
+            }),
+        ],
+        spells: (Spell::TurnsOut, Spell::ToTheEnd),
+        then: &[Act::Lives(0)],
+        ..NOTHING
+    },
+    Row {
+        shows: "a kernel thread of a closed core that keeps jobs is not parked before they have places",
+        cores: 2,
+        slots: 1,
+        orders: &[(5, RELEASE, 1)],
+        acts: &[
+            Act::Tries(
+                On::Core(0),
+                Sort {
+                    steps: 3_000_000,
+                    bound: 1_000,
+                    ..LEAF
+                },
+                Comes::Begins,
+            ),
+            Act::Tries(
+                On::Core(1),
+                Sort {
+                    forks: 2,
+                    steps: 1_000,
+                    joins: Joins::Never,
+                    ..PARENT
+                },
+                Comes::Begins,
+            ),
+        ],
+        spells: TO_THE_END,
+        then: &[Act::Lives(0), Act::Counts(4)],
         ..NOTHING
     },
     Row {

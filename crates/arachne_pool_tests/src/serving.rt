@@ -174,6 +174,24 @@ const ROWS: &[Row] = &[
         ..NOTHING
     },
     Row {
+        shows: "jobs that name no core come to each of two, and a job's place is told",
+        cores: 2,
+        slots: 8,
+        acts: &[
+            Act::Tries(On::At(0, 0), LEAF, Comes::Begins),
+            Act::Tries(On::At(0, 1), LEAF, Comes::Begins),
+            Act::Tries(On::At(1, 0), LEAF, Comes::Begins),
+            Act::Tries(On::Any, LEAF, Comes::Begins),
+            Act::Tries(On::Any, LEAF, Comes::Begins),
+            Act::Tries(On::Any, LEAF, Comes::Begins),
+            Act::Has(0, 3, Is::Open),
+            Act::Has(1, 3, Is::Open),
+        ],
+        left: (6, 0),
+        alive: 6,
+        ..NOTHING
+    },
+    Row {
         shows: "a worker that was split off and has worked for no core keeps no job, and the first one keeps it",
         cores: 2,
         slots: 1,

@@ -26,6 +26,8 @@ pub(crate) enum Spell {
     ToTheStop,
     /// It works so many rounds. Then it stops the pool.
     Rounds(u32),
+    /// It works rounds until no job lives, and does not work then.
+    TurnsOut,
     /// Once a job has begun elsewhere it works on its core while memory is used up, until it is refused some. Where that is
     /// not told, or has not stopped the pool, an answer comes, and it stops it.
     InNeed,
@@ -75,6 +77,10 @@ pub(crate) fn work<C: Contexts<Spawned<Task>>, R: Wait + Clock>(
         }
         Spell::Rounds(rounds) if core < pool.cores => {
             turns::<C, R>(rt, pool, &mut worker, core, rounds);
+            pool.stop();
+        }
+        Spell::TurnsOut if core < pool.cores => {
+            turns::<C, R>(rt, pool, &mut worker, core, u32::MAX);
         }
         Spell::InNeed if core < pool.cores => in_need::<C, R>(rt, pool, board, &mut worker, core),
         Spell::Spawns(jobs) => spawns::<C, R>(rt, pool, board, &mut worker, jobs),
@@ -117,7 +123,7 @@ fn to_the_stop<C: Contexts<Spawned<Task>>, R: Wait + Clock>(
     }
 }
 
-/// `Spell::Rounds`.
+/// So many rounds, fewer where no job is left before.
 fn turns<C: Contexts<Spawned<Task>>, R: Wait + Clock>(
     rt: &R,
     pool: &Pool<C>,
@@ -130,9 +136,11 @@ fn turns<C: Contexts<Spawned<Task>>, R: Wait + Clock>(
     ensures worker { IsWorkerOf C.sits C.idle pool.now.table pool.now.cores worker.new }
 {
     for _ in 0..rounds {
+        if pool.live() == 0 {
+            return;
+        }
         let _ = pool.turn(rt, worker, core);
     }
-    pool.stop();
 }
 
 /// `Spell::InNeed`.

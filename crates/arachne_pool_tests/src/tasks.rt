@@ -35,6 +35,8 @@ pub(crate) enum Joins {
     InTurn,
     /// All, once it has forked the last one.
     AtLast,
+    /// The newest alone, once it has forked it.
+    Newest,
     /// None.
     Never,
 }
@@ -112,6 +114,7 @@ impl Task {
         match self.sort.joins {
             Joins::InTurn => self.awaited > 0,
             Joins::AtLast => self.awaited > 0 && self.forked == self.sort.forks,
+            Joins::Newest => self.awaited > 0 && self.awaited == self.sort.forks,
             Joins::Never => false,
         }
     }

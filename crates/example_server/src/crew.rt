@@ -8,6 +8,7 @@ use crate::report::Report;
 use crate::requests::Due;
 use crate::send::send;
 use crate::serve::{Server, serve};
+use crate::timer::keep_time;
 use arachne_pool::{Spawned, Worker};
 use arachne_table::{Contexts, Seats};
 use arachne_team::{Team, TeamFault};
@@ -15,8 +16,8 @@ use std::alloc::Global;
 use std::sync::Wait;
 use std::time::Clock;
 
-/// What the kernel threads have in common. The first one is the sender, and there is one more for each of the server's
-/// cores.
+/// What the kernel threads have in common. The first one is the sender, and the last one the timer's; between them there
+/// is one for each of the server's cores.
 #[derive(Drop)]
 pub struct Crew<'s, C: Seats> {
     pub alloc: Global,
@@ -24,7 +25,6 @@ pub struct Crew<'s, C: Seats> {
     /// How late a request may be for which there is no place, in nanoseconds.
     pub patience: u64,
     pub requests: &'s [Due],
-    pub template: Request,
 }
 
 /// What the sender keeps.
@@ -47,10 +47,10 @@ impl<'s, C: Contexts<Spawned<Request>>> Team<Share<C::Seat>> for Crew<'s, C> {
         × IfSome share.begun (λ books. (books.keeper.most + 1 ≡ crew.server.now.pool.cores) × (vec_len books.report.answers ≡ 0) × (books.report.refused ≡ 0))
         × IfSome share.done (λ books. vec_len books.report.answers + books.report.refused ≡ length crew.requests.now) };
 
-    ghost size = { λ crew. crew.server.now.pool.cores };
+    ghost size = { λ crew. crew.server.now.pool.cores + 1 };
 
     fn size(&self) -> u8 {
-        self.server.pool.cores
+        self.server.pool.cores + 1
     }
 
     fn part_off<R: Wait>(
@@ -89,6 +89,9 @@ impl<'s, C: Contexts<Spawned<Request>>> Team<Share<C::Seat>> for Crew<'s, C> {
             done,
         } = share;
         let (worker, done) = match begun {
+            None if number == self.server.pool.cores => {
+                (keep_time::<R, C>(rt, self.server, worker)?, done)
+            }
             None => (
                 serve::<R, Request, C>(rt, self.server, worker, number.saturating_sub(1))?,
                 done,
@@ -102,7 +105,6 @@ impl<'s, C: Contexts<Spawned<Request>>> Team<Share<C::Seat>> for Crew<'s, C> {
                     worker,
                     self.patience,
                     requests,
-                    self.template,
                     books,
                 )?;
                 (worker, Some(books))
@@ -139,6 +141,6 @@ impl<'s, C: Contexts<Spawned<Request>>> Team<Share<C::Seat>> for Crew<'s, C> {
     }
 
     fn fail<R: Wait>(&self, _rt: &R, _fault: TeamFault) {
-        self.server.pool.stop();
+        self.server.stop();
     }
 }

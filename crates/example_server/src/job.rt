@@ -1,20 +1,25 @@
 //! A request as a job of the pool.
-ghost use Rattle.std.specs.Prelude.{◌≡◌};
+ghost use Rattle.std.specs.Prelude.{◌≡◌, IfSome};
 ghost use Rattle.example_server.specs.Work.{mixed};
 
 use crate::requests::{Class, Due};
+use crate::timer::{Call, Timer};
+use arachne_core::ThreadId;
 use arachne_pool::{PoolJob, Step};
 use arachne_table::Tagged;
 use std::rt::Clock;
+use std::sync::Arc;
 
 /// A request that was sent. It has a clock, to tell when it ends.
-#[derive(Clone, Copy)]
+#[derive(Drop)]
 pub struct Request {
     pub clock: HostRuntime,
     /// Its place in the list.
     pub number: u64,
     pub work: u32,
     pub class: Class,
+    /// Its call of the slow part, until that is answered.
+    call: Option<Call>,
 }
 
 /// What a request is answered.
@@ -27,16 +32,43 @@ pub struct Answer {
 }
 
 impl Request {
-    /// The request of this number that a line asks for, with the same clock.
-    pub fn next(self, number: u64, due: Due) -> Request
-        ensures number { result.number ≡ number }
-        ensures work { result.work ≡ due.work }
+    /// The request of this number that a line asks for. None where too many wait for the slow part.
+    pub fn new(clock: HostRuntime, timer: &Arc<Timer>, number: u64, due: Due) -> Option<Request>
+        ensures number { IfSome result (λ request. request.number ≡ number) }
+        ensures work { IfSome result (λ request. request.work ≡ due.work) }
     {
-        Request {
-            clock: self.clock,
+        let call = if due.class == Class::Slow {
+            Some(Timer::call(timer)?)
+        } else {
+            None
+        };
+        Some(Request {
+            clock,
             number,
             work: due.work,
             class: due.class,
+            call,
+        })
+    }
+
+    /// Whether it waits for the slow part. Where it does no longer, another may.
+    pub fn waits(&mut self) -> bool
+        ensures { self.new ≡ record self.old { call = self.new.call } }
+    {
+        match &self.call {
+            Some(call) if !call.is_answered() => return true,
+            _ => {}
+        }
+        self.give_up();
+        false
+    }
+
+    /// Nothing is waited for any more.
+    pub fn give_up(&mut self)
+        ensures { self.new ≡ record self.old { call = self.new.call } }
+    {
+        if let Some(call) = self.call.take() {
+            call.end();
         }
     }
 }
@@ -80,6 +112,10 @@ impl PoolJob for Request {
     ghost awaits = { λ _ _. Unit {0} };
 
     fn step(&mut self) -> Step<Request, Answer> {
+        // It may be stepped before it is woken, so it looks for its answer each time.
+        if self.waits() {
+            return Step::Sleeps;
+        }
         let began = now(&self.clock);
         let value = mix(self.work, self.number);
         Step::Done(Answer {
@@ -90,6 +126,12 @@ impl PoolJob for Request {
     }
 
     fn joined(&mut self, _output: Answer) {}
+
+    fn sleeps_as(&self, id: ThreadId) {
+        if let Some(call) = &self.call {
+            call.begin(now(&self.clock), id);
+        }
+    }
 
     fn is_exclusive(&self) -> bool {
         self.class == Class::Exclusive

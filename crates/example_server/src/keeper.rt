@@ -119,6 +119,12 @@ impl Keeper {
         order(OrderKind::Release, self.most)
     }
 
+    /// How many requests may wait for the slow part: half of those for which its cores have places, so that there are
+    /// places for others.
+    pub fn waiting(&self) -> usize {
+        usize::from(self.most) * usize::from(Keeper::PLACES) / 2
+    }
+
     /// A list of this order, or of none where it can't be one of a pool with these cores and the sender's.
     pub fn listed(&self, alloc: Global, order: CoreOrder) -> Result<Vec<CoreOrder>, AllocError>
         ensures { IfOk result (λ orders. AreInOrder (self.now.most + 1) orders.items) }

@@ -13,18 +13,21 @@ mod requests;
 mod send;
 mod serve;
 mod start;
+mod timer;
 
 use anyhow::{Result, bail};
 use crew::Books;
-use job::Request;
 use keeper::Keeper;
-use requests::{Class, Due, requests};
+use requests::{Due, requests};
 use start::run;
 use std::env;
 use std::io::Read;
 use std::sync::Wait;
 use std::thread::Threads;
 use std::time::Clock;
+
+/// How many microseconds late a request for which there is no place may be, where the arguments don't say it.
+const PATIENCE: u64 = 10_000_000;
 
 /// The numbers among the arguments.
 #[derive(Clone, Copy)]
@@ -69,15 +72,9 @@ fn answer<R: Threads + Wait + Clock + Sync>(
 ) -> Result<Books, &'static str> {
     let most = numbers.cores.unwrap_or(2).clamp(1, u64::from(Keeper::MOST)) as u8;
     let interval = numbers.interval.unwrap_or(1000).saturating_mul(1000);
-    let patience = numbers.patience.unwrap_or(u64::MAX).saturating_mul(1000);
+    let patience = numbers.patience.unwrap_or(PATIENCE).saturating_mul(1000);
     let keeper = Keeper::new(host.alloc(), most, interval);
-    let template = Request {
-        clock: host,
-        number: 0,
-        work: 0,
-        class: Class::Normal,
-    };
-    run(rt, host.alloc(), list, keeper, patience, template)
+    run(rt, host.alloc(), list, keeper, patience, host)
 }
 
 fn main(rt: HostRuntime) -> Result<()> {

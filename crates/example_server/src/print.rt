@@ -15,6 +15,7 @@ pub fn all(
     is_asked: bool,
 ) -> io::Result<()> {
     served(rt, &books.report, requests)?;
+    slow(rt, &books.report)?;
     if is_asked {
         times(rt, alloc, &books.report)?;
         cores(rt, &books.keeper)?;
@@ -30,6 +31,20 @@ fn served(rt: &impl Print, report: &Report, requests: usize) -> io::Result<()> {
     )
 }
 
+/// How many waited for the slow part, if any, and whether others were answered meanwhile.
+fn slow(rt: &impl Print, report: &Report) -> io::Result<()> {
+    let waited = report.count(Class::Slow);
+    if waited == 0 {
+        return Ok(());
+    }
+    let others = if report.overtaken() >= waited - waited / 2 {
+        "went on"
+    } else {
+        "waited too"
+    };
+    println!(rt; "{waited} of them waited for the slow part, and the others {others} meanwhile")
+}
+
 /// How long the requests took.
 pub fn times(rt: &impl Print, alloc: Global, report: &Report) -> io::Result<()> {
     println!(rt;
@@ -38,6 +53,9 @@ pub fn times(rt: &impl Print, alloc: Global, report: &Report) -> io::Result<()> 
     )?;
     row(rt, "normal", report.times(alloc, Class::Normal)?)?;
     row(rt, "exclusive", report.times(alloc, Class::Exclusive)?)?;
+    if report.count(Class::Slow) > 0 {
+        row(rt, "slow", report.times(alloc, Class::Slow)?)?;
+    }
     row(rt, "sent late", report.late.as_slice().to_vec(alloc)?)?;
     println!(rt;
         "{} requests in {} ms, {} refused",

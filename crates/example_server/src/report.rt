@@ -12,6 +12,8 @@ pub struct Answered {
     pub work: u32,
     pub class: Class,
     pub value: u64,
+    /// When its work was done, in nanoseconds from the begin.
+    pub ended: u64,
     /// From when it was due until its work was done.
     pub nanos: u64,
     ghost right: { value ≡ mixed work number },
@@ -60,6 +62,29 @@ impl Report {
             sum = sum.wrapping_add(answer.value);
         }
         sum
+    }
+
+    /// How many requests of a class were answered.
+    pub fn count(&self, class: Class) -> usize {
+        let mut count: usize = 0;
+        for answer in self.answers.iter() {
+            count = count.saturating_add(usize::from(answer.class == class));
+        }
+        count
+    }
+
+    /// How many requests that waited for the slow part were overtaken: another one, which was sent later and did not
+    /// wait, was answered before.
+    pub fn overtaken(&self) -> usize {
+        let (mut count, mut first) = (0usize, u64::MAX);
+        for answer in self.answers.iter().rev() {
+            if answer.class != Class::Slow {
+                first = first.min(answer.ended);
+            } else if first < answer.ended {
+                count = count.saturating_add(1);
+            }
+        }
+        count
     }
 
     /// How long the requests of a class took.

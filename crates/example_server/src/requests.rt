@@ -1,11 +1,14 @@
 //! The list of requests: a line for each, with the time at which it is due, its class and its work.
 use std::alloc::{AllocError, Global};
 
-/// Whether a request is to have a core for itself.
+/// What a request asks for beside its work.
 #[derive(Clone, Copy, Debug, PartialEq, Eq)]
 pub enum Class {
     Normal,
+    /// It is to have a core for itself.
     Exclusive,
+    /// It waits for the slow part first.
+    Slow,
 }
 
 /// A request that is to be sent.
@@ -36,6 +39,7 @@ fn request(line: &str) -> Option<Due> {
     let class = match class {
         "normal" => Class::Normal,
         "exclusive" => Class::Exclusive,
+        "slow" => Class::Slow,
         _ => return None,
     };
     Some(Due {

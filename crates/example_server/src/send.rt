@@ -38,7 +38,6 @@ pub fn send<R: Wait + Clock, C: Contexts<Spawned<Request>>>(
     worker: Worker<C::Seat, Request>,
     patience: u64,
     requests: &[Due],
-    template: Request,
     books: Books,
 ) -> Option<(Worker<C::Seat, Request>, Books)>
     requires worker { IsWorkerOf C.sits C.idle server.now.pool.table server.now.pool.cores worker }
@@ -58,16 +57,15 @@ pub fn send<R: Wait + Clock, C: Contexts<Spawned<Request>>>(
         patience,
         requests,
         report,
-        template,
         &mut sent,
     );
     match done {
         Some(()) => {
-            server.pool.finish();
+            server.finish();
             Some((worker, books))
         }
         None => {
-            server.pool.stop();
+            server.stop();
             None
         }
     }
@@ -82,7 +80,6 @@ fn send_all<R: Wait + Clock, C: Contexts<Spawned<Request>>>(
     patience: u64,
     requests: &[Due],
     report: &mut Report,
-    template: Request,
     sent: &mut VecDeque<Sent>,
 ) -> Option<()>
     requires worker { IsWorkerOf C.sits C.idle server.now.pool.table server.now.pool.cores worker.old }
@@ -99,9 +96,12 @@ fn send_all<R: Wait + Clock, C: Contexts<Spawned<Request>>>(
     for _ in rt.forever() {
         let at = now(&server.clock).saturating_sub(begin);
         if let Some(due) = due_by(requests, next, at) {
-            let request = template.next(next as u64, due);
-            let spawned = server.pool.try_spawn(rt, worker, request);
-            if settles(spawned, request.number, due, at, patience, report, sent)? {
+            let number = next as u64;
+            let spawned = match Request::new(server.clock, &server.timer, number, due) {
+                Some(request) => Some(server.pool.try_spawn(rt, worker, request)),
+                None => None,
+            };
+            if settles(spawned, number, due, at, patience, report, sent)? {
                 next += 1;
                 continue;
             }
@@ -123,10 +123,10 @@ fn due_by(requests: &[Due], next: usize, at: u64) -> Option<Due>
     if due.at <= at { Some(due) } else { None }
 }
 
-/// Whether a request that was due is settled: it was spawned, or is refused, since no core has a place and it is later
-/// than the patience. None where memory is refused.
+/// Whether a request that was due is settled: it was spawned, or is refused, since too many wait for the slow part, or
+/// no core has a place and it is later than the patience. None where memory is refused.
 fn settles(
-    spawned: Result<Handle<Request>, Refused<Request>>,
+    spawned: Option<Result<Handle<Request>, Refused<Request>>>,
     number: u64,
     due: Due,
     at: u64,
@@ -134,13 +134,13 @@ fn settles(
     report: &mut Report,
     sent: &mut VecDeque<Sent>,
 ) -> Option<bool>
-    requires handle { IfOk spawned (λ handle. (handle.number ≡ number) × (handle.work ≡ due.work)) }
+    requires handle { IfSome spawned (λ spawned. IfOk spawned (λ handle. (handle.number ≡ number) × (handle.work ≡ due.work))) }
     requires few { report.old.refused < usize.MAX }
     ensures all { IfSome result (λ settled. vec_len report.new.answers + report.new.refused + deque_len sent.new ≡ vec_len report.old.answers + report.old.refused + deque_len sent.old + (if settled then 1 else 0)) }
 {
     let late = at.saturating_sub(due.at);
     match spawned {
-        Ok(handle) => {
+        Some(Ok(handle)) => {
             report.late.push(late).ok()?;
             let one = Sent {
                 number,
@@ -150,13 +150,21 @@ fn settles(
             sent.push_back(one).ok()?;
             Some(true)
         }
-        Err(refused) if refused.why == Refusal::Memory => None,
-        Err(_) if late > patience => {
+        Some(Err(refused)) => {
+            let Refused { mut job, why } = refused;
+            job.give_up();
+            if why == Refusal::Memory {
+                return None;
+            }
+            // Else it waits until there is a place.
+            let is_refused = late > patience;
+            report.refused += usize::from(is_refused);
+            Some(is_refused)
+        }
+        None => {
             report.refused += 1;
             Some(true)
         }
-        // It waits until there is a place.
-        Err(_) => Some(false),
     }
 }
 
@@ -183,7 +191,7 @@ fn keep_cores<R: Wait + Clock, C: Contexts<Spawned<Request>>>(
         return Some(look);
     }
     server.pool.turn(rt, worker, keeper.most).ok()?;
-    keeper.scan(server.pool.live());
+    keeper.scan(server.runnable());
     let advice = keeper.judge(at, busy);
     if let Some(order) = keeper.follow(advice) {
         let orders = keeper.listed(*keeper.judged.allocator(), order).ok()?;
@@ -207,7 +215,7 @@ fn take_answer(sent: &mut VecDeque<Sent>, begin: u64, report: &mut Report) -> Op
     } = first;
     match handle.poll() {
         Ok(answer) => {
-            let nanos = answer.ended.saturating_sub(begin).saturating_sub(due.at);
+            let ended = answer.ended.saturating_sub(begin);
             let busy = answer.ended.saturating_sub(answer.began);
             report.busy = report.busy.saturating_add(busy);
             report
@@ -217,7 +225,8 @@ fn take_answer(sent: &mut VecDeque<Sent>, begin: u64, report: &mut Report) -> Op
                     work: due.work,
                     class: due.class,
                     value: answer.value,
-                    nanos,
+                    ended,
+                    nanos: ended.saturating_sub(due.at),
                 })
                 .ok()?;
             Some(true)

@@ -2,9 +2,10 @@
 ghost use Rattle.std.specs.Prelude.{◌≡◌, ◌<◌, IfSome};
 ghost use Rattle.arachne_pool.specs.Workers.{IsWorkerOf};
 
+use crate::timer::Timer;
 use arachne_pool::{Pool, PoolJob, Spawned, Worker};
 use arachne_table::{Contexts, Seats};
-use std::sync::Wait;
+use std::sync::{Arc, Wait};
 use std::thread;
 use std::time::Clock;
 
@@ -12,19 +13,37 @@ use std::time::Clock;
 #[derive(Drop)]
 pub struct Server<C: Seats> {
     pub pool: Pool<C>,
+    pub timer: Arc<Timer>,
     pub clock: HostRuntime,
 }
 
 impl<C: Seats> Server<C> {
     /// A server whose kernel threads serve until its pool is finished.
-    pub fn new(pool: Pool<C>, clock: HostRuntime) -> Server<C>
+    pub fn new(pool: Pool<C>, timer: Arc<Timer>, clock: HostRuntime) -> Server<C>
         ensures { result.pool ≡ pool }
     {
         pool.keep_open();
-        Server { pool, clock }
+        Server { pool, timer, clock }
     }
 
-    /// Waits until each kernel thread but the last core's has begun, and has nothing to do.
+    /// How many requests live that don't wait for the slow part.
+    pub fn runnable(&self) -> u64 {
+        self.pool.live().saturating_sub(self.timer.waiting())
+    }
+
+    /// No more requests come.
+    pub fn finish(&self) {
+        self.pool.finish();
+        self.timer.end();
+    }
+
+    /// All kernel threads are to return, whatever is left.
+    pub fn stop(&self) {
+        self.pool.stop();
+        self.timer.end();
+    }
+
+    /// Waits until each kernel thread of a core but the last one has begun, and has nothing to do.
     pub fn await_kernel_threads<R: Wait>(&self, rt: &R) {
         for core in 1..self.pool.cores {
             for _ in rt.forever() {

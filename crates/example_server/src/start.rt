@@ -8,6 +8,7 @@ use crate::keeper::Keeper;
 use crate::report::Report;
 use crate::requests::Due;
 use crate::serve::Server;
+use crate::timer::Timer;
 use arachne_pool::{Left, Pool, Spawned};
 use arachne_table::{Contexts, WordContexts};
 use arachne_team::work_together;
@@ -27,11 +28,11 @@ pub fn run<R: Threads + Wait + Clock + Sync>(
     requests: &[Due],
     keeper: Keeper,
     patience: u64,
-    template: Request,
+    clock: HostRuntime,
 ) -> Result<Books, &'static str>
     ensures { IfOk result (λ books. vec_len books.report.answers + books.report.refused ≡ length requests.now) }
 {
-    let Ok((server, share)) = begin::<Table>(alloc, requests.len(), keeper, template.clock) else {
+    let Ok((server, share)) = begin::<Table>(alloc, requests.len(), keeper, clock) else {
         return Err("memory was refused");
     };
     let crew = Crew {
@@ -39,7 +40,6 @@ pub fn run<R: Threads + Wait + Clock + Sync>(
         server: &server,
         patience,
         requests,
-        template,
     };
     let share = work_together(rt, alloc, &crew, share);
     end::<Table, R>(rt, alloc, server.pool, share)
@@ -60,13 +60,14 @@ fn begin<C: Contexts<Spawned<Request>> + Drop>(
 {
     let report = Report::new(alloc, requests)?;
     let orders = keeper.listed(alloc, keeper.sender())?;
+    let timer = Timer::new(alloc, keeper.waiting())?;
     let (pool, worker) = Pool::<C>::new::<Request>(alloc, keeper.most + 1, Keeper::PLACES, orders)?;
     let share = Share {
         worker,
         begun: Some(Books { keeper, report }),
         done: None,
     };
-    Ok((Server::new(pool, clock), share))
+    Ok((Server::new(pool, timer, clock), share))
 }
 
 /// Closes the pool of a server that is over, with what its kernel threads have left. What it has done, or why that can't be
