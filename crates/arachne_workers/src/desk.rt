@@ -9,7 +9,6 @@ use crate::queue::Post;
 use arachne_arbiter::Pace;
 use arachne_contexts::Woken;
 use arachne_core::{MarkWord, OccWord, Place, Rest, SLOTS, ThreadId};
-use std::sync::Wait;
 
 /// The worker can't go on. Why is the desk's affair: it has a number for each cause.
 #[derive(Clone, Copy, Debug, PartialEq, Eq)]
@@ -202,6 +201,21 @@ pub fn give_all_back<D: Desk>(desk: &mut D) -> Result<(), Halt>
     Ok(())
 }
 
+/// No place is kept, and none will be before a thread is run. [`keep_none`] alone gives one.
+#[derive(Drop)]
+pub(crate) struct NoneKept {
+    since: (),
+}
+
+/// Gives back all places that are kept, as [`give_all_back`] does.
+#[inline(always)]
+pub(crate) fn keep_none<D: Desk>(desk: &mut D) -> Result<NoneKept, Halt>
+    ensures { desk.new ≡ desk.old }
+{
+    give_all_back(desk)?;
+    Ok(NoneKept { since: () })
+}
+
 /// Gives back all places that are kept, if that is due by what is on the core, which has so many places.
 #[inline(always)]
 pub(crate) fn thin_out<D: Desk>(desk: &mut D, slots: u8) -> Result<(), Halt>
@@ -212,16 +226,4 @@ pub(crate) fn thin_out<D: Desk>(desk: &mut D, slots: u8) -> Result<(), Halt>
         return give_all_back(desk);
     }
     Ok(())
-}
-
-/// Wakes the thread of an id, if it has not ended. Whether it was blocked.
-pub(crate) fn wake<H: Wait, D: Desk>(rt: &H, desk: &mut D, id: ThreadId) -> bool
-    ensures { desk.new ≡ desk.old }
-{
-    for _ in rt.forever() {
-        if let Some(was_woken) = desk.try_wake(id).settled() {
-            return was_woken;
-        }
-    }
-    unreachable!()
 }

@@ -1,11 +1,12 @@
 //! What is due once a call of the desk has returned. None of it can be dropped, so that it is done.
-ghost use Rattle.std.specs.Prelude.{◌≡◌, ◌⊎◌, None, Some, MatchOption};
+ghost use Rattle.std.specs.Prelude.{◌≡◌, None, Some, IfSome, MatchOption};
 ghost use Rattle.arachne_workers.specs.Due.{due_for, ended_at};
 
-use crate::desk::{Cause, Desk, Halt, SliceEnd, Stop, Ticket};
+use crate::desk::{Cause, Desk, Event, Halt, SliceEnd, Stop, Ticket};
 use crate::queue::Post;
 use crate::wake::Told;
 use arachne_core::ThreadId;
+use std::sync::Wait;
 
 /// A thread that was posted, of which its core's worker is to learn.
 pub(crate) struct Untold {
@@ -52,13 +53,66 @@ impl Unwoken {
         }
     }
 
-    /// It is being woken: which thread, and why.
-    #[inline(always)]
-    pub(crate) fn parts(self) -> (ThreadId, Cause)
-        ensures { (result.0 ≡ self.id) × (result.1 ≡ self.cause) }
+    /// Wakes it, if it has not ended. None where it was not blocked.
+    pub(crate) fn wake<H: Wait, D: Desk>(self, rt: &H, desk: &mut D) -> Option<Awoken>
+        ensures desk { desk.new ≡ desk.old }
+        ensures woken { IfSome result (λ woken. woken ≡ record { id = self.id; cause = self.cause }) }
     {
         let Unwoken { id, cause } = self;
-        (id, cause)
+        for _ in rt.forever() {
+            if let Some(was_blocked) = desk.try_wake(id).settled() {
+                return if was_blocked {
+                    Some(Awoken { id, cause })
+                } else {
+                    None
+                };
+            }
+        }
+        unreachable!()
+    }
+}
+
+/// A thread was woken, and is to go on. It can't be dropped.
+pub(crate) struct Awoken {
+    id: ThreadId,
+    cause: Cause,
+}
+
+impl Awoken {
+    #[inline(always)]
+    pub(crate) fn id(&self) -> ThreadId
+        ensures { result ≡ self.now.id }
+    {
+        self.id
+    }
+
+    #[inline(always)]
+    pub(crate) fn cause(&self) -> Cause
+        ensures { result ≡ self.now.cause }
+    {
+        self.cause
+    }
+
+    /// Somebody learns that it goes on, or there is no such context. Why it was woken.
+    #[inline(always)]
+    pub(crate) fn goes_on(self) -> Cause
+        ensures { result ≡ self.cause }
+    {
+        let Awoken { id: _, cause } = self;
+        cause
+    }
+}
+
+/// The thread in hand has freed what another one has now, so that few steps of its slice may be left. It can't be dropped.
+pub(crate) struct Freed {
+    past: (),
+}
+
+impl Freed {
+    /// It is known how many are left.
+    #[inline(always)]
+    pub(crate) fn counted(self) {
+        let Freed { past: () } = self;
     }
 }
 
@@ -82,12 +136,21 @@ impl Stopped {
         self.stop
     }
 
-    /// It goes on, and nothing is due but, for a child that waits with a ticket, that this is told.
+    /// It goes on, and nothing is due.
     #[inline(always)]
     pub(crate) fn goes(self)
-        requires { (self.stop ≡ Stop.Goes) ⊎ (self.stop ≡ Stop.Spilled) }
+        requires { self.stop ≡ Stop.Goes }
     {
         let Stopped { stop: _ } = self;
+    }
+
+    /// It goes on, and a child of it waits with a ticket, which is told.
+    #[inline(always)]
+    pub(crate) fn tell_of_ticket<D: Desk>(self, desk: &D)
+        requires { self.stop ≡ Stop.Spilled }
+    {
+        let Stopped { stop: _ } = self;
+        desk.told(Event::Spilled);
     }
 
     /// It goes on, and this child of it was posted.
@@ -100,17 +163,18 @@ impl Stopped {
         Untold { post }
     }
 
-    /// It goes on, and the thread of this id is served.
+    /// It goes on, and the thread of this id is served by what it has freed.
     #[inline(always)]
-    pub(crate) fn unwoken(self, id: ThreadId) -> Unwoken
+    pub(crate) fn unwoken(self, id: ThreadId) -> (Unwoken, Freed)
         requires { self.stop ≡ Stop.Wakes id }
-        ensures { result ≡ record { id = id; cause = Cause.IsServed } }
+        ensures { result.0 ≡ record { id = id; cause = Cause.IsServed } }
     {
         let Stopped { stop: _ } = self;
-        Unwoken {
+        let unwoken = Unwoken {
             id,
             cause: Cause::IsServed,
-        }
+        };
+        (unwoken, Freed { past: () })
     }
 
     /// Its slice ends so.

@@ -1,7 +1,7 @@
 //! A slice of a thread, and its end.
 ghost use Rattle.std.specs.Prelude.{◌≡◌, ◌≤◌, ◌+◌, min, IfOk, IsSome};
 
-use crate::desk::{Desk, Event, Halt, SliceEnd, Stop, thin_out};
+use crate::desk::{Desk, Halt, SliceEnd, Stop, thin_out};
 use crate::due::EndedSo;
 use crate::policy;
 use crate::queue::Agenda;
@@ -141,10 +141,7 @@ impl<'a, H: Wait + Clock, D: Desk> Worker<'a, H, D> {
                     let untold = stopped.untold(post);
                     posted(&mut self.agenda, self.shared, self.core, untold);
                 }
-                Stop::Spilled => {
-                    stopped.goes();
-                    self.desk.told(Event::Spilled);
-                }
+                Stop::Spilled => stopped.tell_of_ticket(&self.desk),
                 Stop::Ends => {
                     return Ok(Sliced::new(steps, stopped.ended(SliceEnd::Ended)));
                 }
@@ -155,8 +152,9 @@ impl<'a, H: Wait + Clock, D: Desk> Worker<'a, H, D> {
                     return Ok(Sliced::new(steps, stopped.ended(SliceEnd::Awaits(number))));
                 }
                 Stop::Wakes(id) => {
-                    self.wake(stopped.unwoken(id));
-                    steps.pass_free(self.agenda.has_next());
+                    let (unwoken, freed) = stopped.unwoken(id);
+                    self.wake(unwoken);
+                    steps.pass_free(freed, &self.agenda);
                 }
             }
         }

@@ -1,7 +1,7 @@
 //! What a worker does next: a scan of what may be ready, a ticket, a look at all, and else it waits.
 ghost use Rattle.std.specs.Prelude.{◌≡◌, IsOk};
 
-use crate::desk::{Desk, Event, Halt, give_all_back, thin_out};
+use crate::desk::{Desk, Event, Halt, give_all_back, keep_none, thin_out};
 use crate::due::{TicketDue, take_ticket};
 use crate::execute::Worker;
 use crate::policy;
@@ -93,7 +93,7 @@ impl<'a, H: Wait + Clock, D: Desk> Worker<'a, H, D> {
         if self.run_each()? {
             return Ok(true);
         }
-        give_all_back(&mut self.desk)?;
+        let none_kept = keep_none(&mut self.desk)?;
         let told = tell(&mut self.agenda, self.shared);
         if self.desk.is_waited_for() {
             return Ok(false);
@@ -102,7 +102,8 @@ impl<'a, H: Wait + Clock, D: Desk> Worker<'a, H, D> {
             return Ok(false);
         };
         self.desk.told(Event::Parks);
-        self.shared.park(self.rt, self.core, drained, told);
+        self.shared
+            .park(self.rt, self.core, drained, told, none_kept);
         self.desk.told(Event::Unparked);
         Ok(true)
     }
@@ -148,7 +149,7 @@ impl<'a, H: Wait + Clock, D: Desk> Worker<'a, H, D> {
                     waits = self.turn(index, in_hand, tended, running)?;
                 }
                 Grasp::None => {}
-                Grasp::Lost => self.agenda.note(index),
+                Grasp::Lost(again) => self.agenda.note(again.index()),
             }
             match self.next(waits) {
                 Some(next) => index = next,

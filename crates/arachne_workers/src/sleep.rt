@@ -3,7 +3,7 @@ ghost use Rattle.std.specs.Prelude.{◌≡◌, ◌↔◌, ◌<◌, IfOk, IfSome,
 ghost use Rattle.std.specs.Int.{bit_at};
 ghost use Rattle.arachne_arbiter.specs.KernelThreads.{counted_cores, parked_cores};
 
-use crate::desk::{Desk, Event, SliceEnd};
+use crate::desk::{Desk, Event, NoneKept, SliceEnd};
 use crate::drained::Drained;
 use crate::due::{EndedSo, Untold};
 use crate::hints::{Hints, SLEEPS, bit_of};
@@ -233,9 +233,16 @@ impl Shared {
     }
 
     /// Parks the kernel thread of a core that was seen drained, until it is unparked. Called by that kernel thread alone.
-    /// What it kept back it has told of.
-    pub(crate) fn park<H: Wait>(&self, rt: &H, core: u8, drained: Drained, told: Told) {
-        let _ = (drained, told);
+    /// What it kept back it has told of, and the places that it kept it has given back.
+    pub(crate) fn park<H: Wait>(
+        &self,
+        rt: &H,
+        core: u8,
+        drained: Drained,
+        told: Told,
+        none_kept: NoneKept,
+    ) {
+        let _ = (drained, told, none_kept);
         if usize::from(core) < self.hints.cores() {
             self.parking.park(rt, core);
         }

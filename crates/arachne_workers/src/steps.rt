@@ -1,11 +1,11 @@
 //! The steps of a slice: how many are left, and how many were made.
-ghost use Rattle.std.specs.Prelude.{◌≡◌, ◌≤◌, ◌+◌, ◌-◌, if◌then◌else◌, min, IfOk};
+ghost use Rattle.std.specs.Prelude.{◌≡◌, ◌≤◌, ◌+◌, ◌-◌, min, IfOk, MatchOption};
 ghost use Rattle.arachne_workers.specs.declared.policy.TheConstants.{STEPS_PAST_FREE};
 
 use crate::desk::{Desk, Halt};
-use crate::due::Stopped;
+use crate::due::{Freed, Stopped};
 use crate::policy;
-use crate::queue::Stretch;
+use crate::queue::{Agenda, Stretch};
 use arachne_arbiter::Pace;
 
 /// Steps that the thread in hand has made. It can't be dropped, so that they are counted. [`advance`] alone gives it.
@@ -89,11 +89,12 @@ impl Steps {
         steps
     }
 
-    /// The thread has freed a lock, whose next holder is to go on here or not.
+    /// The thread has freed a lock. Fewer steps are left where its next holder is to go on here.
     #[inline(always)]
-    pub(crate) fn pass_free(&mut self, goes_next: bool)
-        ensures { self.new ≡ record self.old { left = if goes_next then min self.old.left STEPS_PAST_FREE else self.old.left } }
+    pub(crate) fn pass_free(&mut self, freed: Freed, agenda: &Agenda)
+        ensures { MatchOption agenda.now.next (self.new ≡ self.old) (λ _. self.new ≡ record self.old { left = min self.old.left STEPS_PAST_FREE }) }
     {
-        self.left = policy::left_past_free(self.left, goes_next);
+        freed.counted();
+        self.left = policy::left_past_free(self.left, agenda.has_next());
     }
 }

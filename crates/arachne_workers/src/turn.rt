@@ -17,18 +17,35 @@ pub(crate) struct InHand {
 pub(crate) enum Grasp {
     Begins(InHand),
     None,
-    Lost,
+    Lost(Again),
+}
+
+/// The place at this index changed meanwhile, and is to be tried again. It can't be dropped.
+pub(crate) struct Again {
+    index: u8,
+}
+
+impl Again {
+    /// It is being noted.
+    #[inline(always)]
+    pub(crate) fn index(self) -> u8
+        ensures { result ≡ self.index }
+    {
+        let Again { index } = self;
+        index
+    }
 }
 
 /// Takes the thread at an index of the core in hand ([`Desk::take`]).
 #[inline(always)]
 pub(crate) fn take<D: Desk>(desk: &mut D, index: u8) -> Grasp
-    ensures { desk.new ≡ desk.old }
+    ensures desk { desk.new ≡ desk.old }
+    ensures lost { (again : Again) → result ≡ Grasp.Lost again → again.index ≡ index }
 {
     match desk.take(index) {
         Grip::Taken => Grasp::Begins(InHand { taken: () }),
         Grip::None => Grasp::None,
-        Grip::Lost => Grasp::Lost,
+        Grip::Lost => Grasp::Lost(Again { index }),
     }
 }
 

@@ -5,11 +5,11 @@ ghost use Rattle.arachne_core.specs.declared.layout.TheConstants.{SLOTS};
 ghost use Rattle.arachne_workers.specs.declared.policy.TheConstants.{MOST_KEPT_BACK};
 
 use crate::desk::{Cause, Desk, Event};
-use crate::due::{Untold, Unwoken};
+use crate::due::{Awoken, Untold, Unwoken};
 use crate::execute::Worker;
+use crate::policy;
 use crate::queue::{Agenda, Post};
 use crate::sleep::Shared;
-use crate::{desk, policy};
 use arachne_core::{Mark, MarkWord, Place, ThreadId};
 use std::sync::Wait;
 use std::time::Clock;
@@ -23,12 +23,13 @@ impl<'a, H: Wait + Clock, D: Desk> Worker<'a, H, D> {
         ensures others { (self.new.agenda ≡ record self.old.agenda { ready = self.new.agenda.ready; next = self.new.agenda.next }) × (self.new.slices ≡ self.old.slices) }
         ensures next { unwoken.cause ≢ Cause.IsServed → self.new.agenda.next ≡ self.old.agenda.next }
     {
-        let (id, cause) = unwoken.parts();
-        if !desk::wake(self.rt, &mut self.desk, id) {
+        let Some(woken) = unwoken.wake(self.rt, &mut self.desk) else {
             return;
-        }
+        };
+        let (id, cause) = (woken.id(), woken.cause());
         self.desk.told(Event::Woken(id, cause));
         let Some(mark) = self.desk.mark_of(id.context) else {
+            woken.goes_on();
             return;
         };
         let mut place = mark.place();
@@ -46,7 +47,7 @@ impl<'a, H: Wait + Clock, D: Desk> Worker<'a, H, D> {
             }
             place = here.place();
         }
-        goes_on_at(&mut self.agenda, self.shared, self.core, place, cause);
+        goes_on_at(&mut self.agenda, self.shared, self.core, place, woken);
     }
 
     /// The index of the core at which a thread is to go on next: one that holds a lock now, or, where a thread came to
@@ -114,13 +115,14 @@ pub(crate) fn posted(agenda: &mut Agenda, shared: &Shared, core: u8, untold: Unt
 
 /// A thread that was woken goes on at this place: on another core its worker is told, and here it goes before all others
 /// if it is served and no other does.
-fn goes_on_at(agenda: &mut Agenda, shared: &Shared, core: u8, place: Place, cause: Cause)
+fn goes_on_at(agenda: &mut Agenda, shared: &Shared, core: u8, place: Place, woken: Awoken)
     ensures elsewhere { place.core ≢ core → agenda.new ≡ agenda.old }
-    ensures next { place.core ≡ core → place.index < SLOTS → cause ≡ Cause.IsServed → agenda.old.next ≡ None → agenda.new ≡ record agenda.old { next = Some place.index } }
-    ensures noted { place.core ≡ core → place.index < SLOTS → (cause ≡ Cause.ChildEnded) ⊎ IsSome agenda.old.next
+    ensures next { place.core ≡ core → place.index < SLOTS → woken.cause ≡ Cause.IsServed → agenda.old.next ≡ None → agenda.new ≡ record agenda.old { next = Some place.index } }
+    ensures noted { place.core ≡ core → place.index < SLOTS → (woken.cause ≡ Cause.ChildEnded) ⊎ IsSome agenda.old.next
         → agenda.new ≡ record agenda.old { ready = bit_or agenda.old.ready (2 ^ place.index) } }
-    ensures others { (agenda.new ≡ record agenda.old { ready = agenda.new.ready; next = agenda.new.next }) × (cause ≢ Cause.IsServed → agenda.new.next ≡ agenda.old.next) }
+    ensures others { (agenda.new ≡ record agenda.old { ready = agenda.new.ready; next = agenda.new.next }) × (woken.cause ≢ Cause.IsServed → agenda.new.next ≡ agenda.old.next) }
 {
+    let cause = woken.goes_on();
     if place.core != core {
         shared.hint(place);
     } else if cause != Cause::IsServed || !agenda.goes_next(place.index) {
