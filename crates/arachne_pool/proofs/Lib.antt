@@ -1,4 +1,5 @@
 mod ClosedFirst
+pub mod Aside
 pub mod Counts
 pub mod Together
 pub mod Crossing

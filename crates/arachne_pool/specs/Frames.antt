@@ -1,6 +1,8 @@
 -- A job and those that run in its place.
-use Rattle.std.specs.Prelude.{◌≡◌, ℕ, ◌+◌, ◌-◌, ◌^◌, ◌<◌, ◌≤◌, List, [], ◌∷◌, Option, None, Some, IfSome, drop, take}
+use Rattle.std.specs.Prelude.{◌≡◌, ℕ, ◌+◌, ◌-◌, ◌^◌, ◌<◌, ◌≤◌, Bool, false, List, [], ◌∷◌, Option, None, Some, IfSome, drop, take}
 use Rattle.arachne_pool.specs.Jobs.{KeepsResults, children_of}
+use Rattle.arachne_pool.specs.declared.stop.Stop.{Stop}
+use Rattle.arachne_pool.specs.declared.stop.Stop.TheVariants.{Goes}
 use Rattle.arachne_pool.specs.declared.tally.Tally.{Tally}
 
 -- one of these: as it was forked, as it is now, and how many children it has forked and not joined, beside one that runs
@@ -11,16 +13,28 @@ pub record Framed (Job : Type 0) : Type 0 where
   pub awaited : ℕ
 
 -- all of them together: the first as it was spawned; how many there are that have not ended, with those that wait in
--- the place to begin; a child that the topmost has forked just now; and what it has ended with
+-- the place to begin, and these as they are now; a child that the topmost has forked just now; what it has ended with;
+-- and whether it has asked for the result of its newest child, which it has not got
 pub record Stacked (Job Output : Type 0) : Type 0 where
   pub asked : Job
   pub many : ℕ
+  pub jobs : List Job
   pub child : Option Job
   pub ended : Option Output
+  pub waits : Bool
 
 -- it is the same first job as it was spawned, and as many jobs are there
 abbrev pub KeepsMany : {Job Output : Type 0} → Stacked Job Output → Stacked Job Output → Type 0
 KeepsMany old new = (new.asked ≡ old.asked) × (new.many ≡ old.many)
+
+-- where it goes on it has got what it has asked for, and is to get nothing more
+abbrev pub IsServed : {Job Output : Type 0} → Stop → Stacked Job Output → Type 0
+IsServed stop new = stop ≡ Goes → new.waits ≡ false
+
+-- the job, unless it has ended
+abbrev pub unless_ended : {Job Output : Type 0} → Option Output → Job → Option Job
+unless_ended None job = Some job
+unless_ended (Some output) job = None
 
 -- one, if there is one
 abbrev pub count_one : {A : Type 0} → Option A → ℕ

@@ -6,23 +6,25 @@ use Rattle.arachne_pool.specs.declared.job.Step.{Step}
 use Rattle.arachne_pool.specs.declared.job.Step.TheVariants.{Again, Waits, Sleeps, Forks, Done}
 
 -- a job in a pool: its tag, as it was spawned, the id under which its parent runs, if it is to be woken, and how many
--- jobs it is that have not ended, with those that run or wait in its place
+-- jobs it is that have not ended, with those that run or wait in its place; and these as they are now: those that have
+-- not begun, then those that have, of both the newest first
 pub record Being (Job : Type 0) : Type 0 where
   pub tag : ℕ
   pub asked : Job
   pub parent : Option ThreadId
   pub many : ℕ
+  pub jobs : List Job
 
 -- a job that has made no step, alone
 abbrev pub one : {Job : Type 0} → ℕ → Job → Option ThreadId → Being Job
-one tag job parent = record { tag = tag; asked = job; parent = parent; many = 1 }
+one tag job parent = record { tag = tag; asked = job; parent = parent; many = 1; jobs = job ∷ [] }
 
 -- of the jobs in a place one fewer is there, which was posted as a job of its own whose parent runs under this id; or as
 -- many as before, where none was
 abbrev pub PartsOne : {Job : Type 0} → ThreadId → Being Job → Being Job → Option (Being Job) → Type 0
 PartsOne me old new None = new ≡ old
 PartsOne me old new (Some child) =
-    (new ≡ record old { many = new.many }) × (new.many + 1 ≡ old.many) × (child ≡ one child.tag child.asked (Some me))
+    (new ≡ record old { many = new.many; jobs = new.jobs }) × (new.many + 1 ≡ old.many) × (child ≡ one child.tag child.asked (Some me))
 
 -- how many jobs these are, each with those that run or wait in its place
 abbrev pub count_near : {Job : Type 0} → List (Being Job) → ℕ

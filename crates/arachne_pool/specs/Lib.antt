@@ -9,3 +9,4 @@ pub mod Spawning
 pub mod Waking
 pub mod Calls
 pub mod Faults
+pub mod Done

@@ -1,8 +1,8 @@
 -- Why a pool was not closed, and what comes back then.
-use Rattle.std.specs.Prelude.{◌≡◌, ◌≢◌, ◌+◌, length}
+use Rattle.std.specs.Prelude.{◌≡◌, ◌≢◌, ◌+◌}
 use Rattle.arachne_contexts.specs.declared.seats.Seats as seats
 use Rattle.arachne_pool.specs.Leftover.{IsWhole, count_of}
-use Rattle.arachne_pool.specs.Workers.{IsIdleAt, WorkerView}
+use Rattle.arachne_pool.specs.Workers.{AreKept, IsIdleAt, WorkerView}
 use Rattle.arachne_pool.specs.declared.closing.NotClosed.{NotClosed}
 use Rattle.arachne_pool.specs.declared.closing.NotClosed.TheVariants.{NotWhole, Memory, Lost}
 use Rattle.arachne_pool.specs.declared.pool.Pool.{Pool}
@@ -10,11 +10,11 @@ use Rattle.arachne_weights.specs.Weight.{whole}
 
 module _ {C Job Seat Output : Type 0} {G : seats.Ghosts C Seat} where
   -- the pool and its worker as they were, where the worker's seat has not the whole weight; where memory was refused the
-  -- table with its whole seat, of which nothing is out, and as many jobs as had no place; or what is left, where that and
+  -- table with its whole seat, of which nothing is out, and the jobs that had no place; or what is left, where that and
   -- what ended are not as many as were spawned
-  abbrev pub ComesBack : Pool C Seat G → WorkerView Seat → NotClosed C Job Seat Output G → Type 0
+  abbrev pub ComesBack : Pool C Seat G → WorkerView Seat Job → NotClosed C Job Seat Output G → Type 0
   ComesBack pool worker (NotWhole back theirs) = (back ≡ pool) × (theirs ≡ worker) × (IsWhole G.weight worker.seat → ⊥)
   ComesBack pool worker (Memory table seat near) =
-      IsIdleAt G.sits G.idle table seat × (G.weight seat ≡ whole) × (length near.items ≡ worker.near)
+      IsIdleAt G.sits G.idle table seat × (G.weight seat ≡ whole) × AreKept worker near.items
   ComesBack pool worker (Lost left) =
-      (length left.near.items ≡ worker.near) × (worker.tally.spawned ≢ worker.tally.ended + count_of left)
+      AreKept worker left.near.items × (worker.tally.spawned ≢ worker.tally.ended + count_of left)

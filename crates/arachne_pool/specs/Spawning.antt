@@ -1,5 +1,6 @@
 -- What comes of a spawn.
-use Rattle.std.specs.Prelude.{◌≡◌, ℕ, ◌+◌, ◌-◌, ◌^◌, ◌<◌, ◌≤◌, Option, None}
+use Rattle.std.specs.Prelude.{◌≡◌, ℕ, ◌+◌, ◌-◌, ◌^◌, ◌<◌, ◌≤◌, ◌⊎◌, List, [], ◌∷◌, ◌++◌, Option, None, IsSome}
+use Rattle.arachne_pool.specs.Jobs.{Being}
 use Rattle.arachne_pool.specs.Workers.{HasNoCore, WorkerView}
 use Rattle.arachne_pool.specs.declared.seen.NoPlaces.{NoPlaces}
 use Rattle.arachne_pool.specs.declared.spawning.Refusal.{Refusal}
@@ -48,27 +49,38 @@ RefusesAfter seen (NoPlace more) = WithOneMore seen more
 RefusesAfter seen Memory = Unit {0}
 RefusesAfter seen NoSeat = ⊥
 
--- a worker has counted one job more, as long as its count is exact, and keeps as many as before
-pub record SpawnsOne {Seat : Type 0} (old new : WorkerView Seat) : Type 0 where
+-- a worker has counted one job more, as long as its count is exact, has told of it, and keeps as many as before
+pub record SpawnsOne {Seat Job : Type 0} (old new : WorkerView Seat Job) : Type 0 where
   pub spawned : old.tally.spawned < 2 ^ 64 - 1 → new.tally.spawned ≡ old.tally.spawned + 1
   pub ended : new.tally.ended ≡ old.tally.ended
   pub near : new.near ≡ old.near
+  pub told : new.told ≡ new.tally
 
--- a worker has spawned nothing, and the job comes back with why
-pub record HandsBack {Seat Job : Type 0} (first cores slots : ℕ) (job : Job) (old new : WorkerView Seat) (back : Job) (why : Refusal) : Type 0 where
+-- where there was no place the seat is there; it may be lost where a place is given back for want of memory
+abbrev pub IsKeptAfter : {Seat : Type 0} → Option Seat → Refusal → Type 0
+IsKeptAfter seat (NoPlace seen) = IsSome seat
+IsKeptAfter seat Memory = Unit {0}
+IsKeptAfter seat NoSeat = Unit {0}
+
+-- a worker has spawned nothing and is as before, but for its seat, and the job comes back with why
+pub record HandsBack {Seat Job : Type 0} (first cores slots : ℕ) (job : Job) (old new : WorkerView Seat Job) (back : Job) (why : Refusal) : Type 0 where
   pub same : back ≡ job
   pub refused : IsRefusedBy first cores slots old.seat why
-  pub tally : new.tally ≡ old.tally
-  pub near : new.near ≡ old.near
+  pub kept : new ≡ record old { seat = new.seat }
+  pub seat : IsKeptAfter new.seat why
 
 -- of the jobs that it keeps a worker loses none, and has one more at most, none more where it has worked for none of so
 -- many cores
-abbrev pub KeepsOneAtMost : {Seat : Type 0} → ℕ → WorkerView Seat → WorkerView Seat → Type 0
+abbrev pub KeepsOneAtMost : {Seat Job : Type 0} → ℕ → WorkerView Seat Job → WorkerView Seat Job → Type 0
 KeepsOneAtMost cores old new =
     (old.near ≤ new.near) × (new.near ≤ old.near + 1) × (HasNoCore cores old → new.near ≡ old.near)
 
+-- the jobs that it keeps are those that it kept, or these and behind them the one that it was given
+abbrev pub KeepsLast : {Job : Type 0} → Being Job → List (Being Job) → List (Being Job) → Type 0
+KeepsLast given old new = (new ≡ old) ⊎ (new ≡ old ++ given ∷ [])
+
 -- where a worker is refused a place for a job, it has worked for none of so many cores: else it keeps the job
-abbrev pub IsRefusedUnkept : {Seat : Type 0} → ℕ → WorkerView Seat → Refusal → Type 0
+abbrev pub IsRefusedUnkept : {Seat Job : Type 0} → ℕ → WorkerView Seat Job → Refusal → Type 0
 IsRefusedUnkept cores old (NoPlace seen) = HasNoCore cores old
 IsRefusedUnkept cores old Memory = Unit {0}
 IsRefusedUnkept cores old NoSeat = Unit {0}

@@ -1,26 +1,35 @@
 -- What contracts see of a worker, and whose worker it is.
 use Rattle.std.specs.Prelude.{◌≡◌, ℕ, ◌<◌, ◌≤◌, List, ◌++◌, Option, None, Some, IfSome, All, length}
 use Rattle.arachne_arbiter.specs.Orders.{Progress}
+use Rattle.arachne_pool.specs.Jobs.{Being}
 use Rattle.arachne_pool.specs.declared.tally.Tally.{Tally}
 use Rattle.arachne_policy.specs.declared.orders.CoreOrder.{CoreOrder}
 use Rattle.arachne_policy.specs.declared.orders.OrderKind.TheVariants.{Release}
 
--- its seat, unless the table has disowned it; how many jobs it has that have no place; what it has counted; its orders,
--- if it has some; and the core for which it has worked last, at first a number that is no core's
-pub record WorkerView (Seat : Type 0) : Type 0 where
+-- its seat, unless the table has disowned it; the jobs that it has that have no place, the oldest first, and how many
+-- these are; what it has counted, and what of that the pool was told; its orders, if it has some; and the core for which
+-- it was called last, at first a number that is no core's
+pub record WorkerView (Seat Job : Type 0) : Type 0 where
   pub seat : Option Seat
+  pub waiting : List (Being Job)
   pub near : ℕ
   pub tally : Tally
+  pub told : Tally
   pub arbiter : Option Progress
   pub core : ℕ
 
 -- it has worked for none of so many cores
-abbrev pub HasNoCore : {Seat : Type 0} → ℕ → WorkerView Seat → Type 0
+abbrev pub HasNoCore : {Seat Job : Type 0} → ℕ → WorkerView Seat Job → Type 0
 HasNoCore cores worker = cores ≤ worker.core
 
 -- the orders, if there are some, are for so many cores
 abbrev pub IsArbiterFor : ℕ → Option Progress → Type 0
 IsArbiterFor cores arbiter = IfSome arbiter (λ progress. progress.cores ≡ cores)
+
+-- the orders, applied or not
+abbrev pub orders_of : Option Progress → Option (List CoreOrder)
+orders_of None = None
+orders_of (Some progress) = Some progress.list
 
 -- how many orders there are, applied or not
 abbrev pub count_orders : Option Progress → ℕ
@@ -31,6 +40,14 @@ count_orders (Some progress) = length progress.list
 abbrev pub IsOneLeft : Option Progress → Type 0
 IsOneLeft None = ⊥
 IsOneLeft (Some progress) = progress.applied < length progress.list
+
+-- these are the jobs of a worker that have no place, in their order, and as many as it has
+abbrev pub AreKept : {Seat Job : Type 0} → WorkerView Seat Job → List (Being Job) → Type 0
+AreKept worker jobs = (jobs ≡ worker.waiting) × (length jobs ≡ worker.near)
+
+-- a worker that was called for this core has it as its own, and the orders that it had, of which more may be applied
+abbrev pub WorksFor : {Seat Job : Type 0} → ℕ → WorkerView Seat Job → WorkerView Seat Job → Type 0
+WorksFor core old new = (new.core ≡ core) × (orders_of new.arbiter ≡ orders_of old.arbiter)
 
 -- the orders come last in this list, behind some that close cores at once
 pub record ComeLast (orders list : List CoreOrder) : Type 0 where
@@ -44,5 +61,5 @@ module _ {Table Seat : Type 0} (sits idle : Table → Seat → Type 0) where
   IsIdleAt table seat = sits table seat × idle table seat
 
   -- its seat does, and its orders are for so many cores
-  abbrev pub IsWorkerOf : Table → ℕ → WorkerView Seat → Type 0
+  abbrev pub IsWorkerOf : {Job : Type 0} → Table → ℕ → WorkerView Seat Job → Type 0
   IsWorkerOf table cores worker = IfSome worker.seat (IsIdleAt table) × IsArbiterFor cores worker.arbiter

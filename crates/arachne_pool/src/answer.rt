@@ -1,25 +1,17 @@
 //! What the table has answered to a wake.
 ghost use Rattle.std.specs.Prelude.{◌≡◌, IfSome};
-ghost use Rattle.arachne_contexts.specs.Answers.{WakesAs};
-ghost use Rattle.arachne_contexts.specs.Out.{KeepsOut};
 ghost use Rattle.arachne_pool.specs.Waking.{Answers};
 
-use crate::job::PoolJob;
-use crate::spawned::Spawned;
-use arachne_contexts::{Contexts, Woken};
-use arachne_core::ThreadId;
+use crate::called::Called;
+use arachne_contexts::Woken;
 use std::marker::Model;
-use std::snapshot::Snapshot;
-use std::sync::Wait;
 
 /// What the table has answered to a wake: only a call of it makes one.
 ///
 /// Contracts see the id that it was called with, and the answer.
 #[derive(Drop)]
 pub struct WakeAnswer {
-    /// It has no bytes.
-    id: Snapshot<ThreadId>,
-    woken: Woken,
+    called: Called,
 }
 
 impl Model for WakeAnswer {
@@ -27,42 +19,22 @@ impl Model for WakeAnswer {
 
     ghost Value = { Asked };
 
-    ghost view = { λ a. record { id = a.id.value; woken = a.woken } };
+    ghost view = { λ a. a.called };
 }
 
 impl WakeAnswer {
+    /// The answer to a call, unless that was lost and is to be made again.
+    pub(crate) fn to(called: Called) -> Option<WakeAnswer>
+        ensures { IfSome result (Answers called.id) }
+    {
+        called.woken().settled()?;
+        Some(WakeAnswer { called })
+    }
+
     /// The answer.
     pub fn woken(&self) -> Woken
         ensures { result ≡ self.now.woken }
     {
-        self.woken
+        self.called.woken()
     }
-}
-
-/// One try to wake the thread of an id: what the table has answered, unless it was lost and is to be made again.
-pub(crate) fn ask<H: Wait, J: PoolJob, C: Contexts<Spawned<J>>>(
-    rt: &H,
-    table: &C,
-    seat: &mut C::Seat,
-    id: ThreadId,
-) -> Option<WakeAnswer>
-    requires { C.sits table.now seat.old }
-    ensures seat { C.sits table.now seat.new }
-    ensures out { KeepsOut (C.has table.now) seat.old seat.new }
-    ensures answer { IfSome result (Answers id) }
-{
-    let woken = table.wake(rt, seat, id);
-    settled(id, woken)
-}
-
-/// What the table has answered to a wake of this id, unless it was lost.
-fn settled(id: ThreadId, woken: Woken) -> Option<WakeAnswer>
-    requires { WakesAs id woken }
-    ensures { IfSome result (Answers id) }
-{
-    woken.settled()?;
-    Some(WakeAnswer {
-        id: Snapshot::of(&id),
-        woken,
-    })
 }

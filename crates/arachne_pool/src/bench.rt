@@ -1,6 +1,7 @@
 //! What a worker has beside its seat.
-ghost use Rattle.std.specs.Prelude.{◌≡◌, ◌+◌, ◌<◌, ◌≤◌, [], IfErr, IfOk, None, OnErr, false};
+ghost use Rattle.std.specs.Prelude.{◌≡◌, ◌+◌, ◌<◌, ◌≤◌, [], IfErr, IfOk, None, OnErr, if◌then◌else◌, false, true};
 ghost use Rattle.std.specs.VecDeque.{deque_capacity, deque_len};
+ghost use Rattle.arachne_pool.specs.Done.{nothing_done};
 ghost use Rattle.arachne_pool.specs.Jobs.{one};
 
 use crate::job::PoolJob;
@@ -13,6 +14,7 @@ use rand_core::SeedableRng;
 use rand_xoshiro::Xoshiro256PlusPlus;
 use std::alloc::Global;
 use std::collections::VecDeque;
+use std::mem::replace;
 use std::snapshot::Snapshot;
 
 /// What a worker has beside its seat.
@@ -28,8 +30,6 @@ pub(crate) struct Bench<J: PoolJob> {
     pub(crate) told: Tally,
     /// What it has done since it told of that.
     pub(crate) done: Statistics,
-    /// The core that it works on, or has worked on. At first a number that is none.
-    pub(crate) core: u8,
     pub(crate) orders: Orders,
     /// Memory was refused, and nobody was told yet.
     pub(crate) is_short: bool,
@@ -43,9 +43,8 @@ impl<J: PoolJob> Bench<J> {
     /// One with no job, whose choices go by this seed.
     pub(crate) fn new(alloc: Global, seed: u64) -> Bench<J>
         ensures tally { (result.tally.spawned ≡ 0) × (result.tally.ended ≡ 0) × (result.told ≡ result.tally) }
-        ensures near { deque_len result.near ≡ 0 }
+        ensures near { (result.near.items ≡ []) × (deque_len result.near ≡ 0) }
         ensures orders { result.orders ≡ None }
-        ensures core { result.core ≡ u8.MAX }
     {
         Bench {
             alloc,
@@ -55,7 +54,6 @@ impl<J: PoolJob> Bench<J> {
             tally: Tally::new(),
             told: Tally::new(),
             done: Statistics::new(),
-            core: u8::MAX,
             orders: Orders::none(),
             is_short: false,
             has_ended: false,
@@ -90,11 +88,11 @@ impl<J: PoolJob> Bench<J> {
 
     /// The children that this job, or one in its place, has ended without are let go: those that have not begun wait
     /// for places of their own, and none is lost. Whether memory was there. Where it was not, one is left that has not
-    /// begun.
+    /// begun, and that memory was refused is noted.
     #[tactic(auto, using(crate::proofs::Counts::count_near_push))]
     pub(crate) fn let_go(&mut self, job: &mut Spawned<J>) -> bool
-        ensures same { self.new ≡ record self.old { near = self.new.near; is_short = self.new.is_short } }
-        ensures job { job.new ≡ record job.old { many = job.new.many } }
+        ensures same { self.new ≡ record self.old { near = self.new.near; is_short = if result then self.old.is_short else true } }
+        ensures job { job.new ≡ record job.old { many = job.new.many; jobs = job.new.jobs } }
         ensures many { count_near self.new.near.items + job.new.many ≡ count_near self.old.near.items + job.old.many }
     {
         for _ in 0..job.orphans() {
@@ -124,6 +122,19 @@ impl<J: PoolJob> Bench<J> {
         let is_short = self.is_short;
         self.is_short = false;
         is_short
+    }
+
+    /// What was done since it was told last, with so many slices, and so many rounds that found nothing. It is told now.
+    pub(crate) fn take_done(&mut self, slices: u64, rests: u64) -> Statistics
+        ensures done { result ≡ record self.old.done { slices = slices; rests = rests } }
+        ensures same { self.new ≡ record self.old { done = nothing_done } }
+    {
+        let done = replace(&mut self.done, Statistics::new());
+        Statistics {
+            slices,
+            rests,
+            ..done
+        }
     }
 
     /// What another worker has counted is counted here too. Both have told the pool of it.

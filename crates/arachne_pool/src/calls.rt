@@ -19,10 +19,13 @@ use std::sync::Wait;
 use std::time::Clock;
 
 impl<C: Seats> Pool<C> {
-    ghost use Rattle.arachne_pool.specs.Calls.{AnswersFor};
+    ghost use Rattle.std.specs.Prelude.{◌⊎◌, None};
+    ghost use Rattle.arachne_pool.specs.Calls.{AnswersFor, HasSeatAfter, TellsDisowned};
     ghost use Rattle.arachne_pool.specs.Grounds.{ground_at};
-    ghost use Rattle.arachne_pool.specs.Spawning.{HandsBack, IsRefusedUnkept, KeepsOneAtMost};
-    ghost use Rattle.arachne_pool.specs.Workers.{IsWorkerOf};
+    ghost use Rattle.arachne_pool.specs.Jobs.{one};
+    ghost use Rattle.arachne_pool.specs.Spawning.{HandsBack, IsRefusedUnkept, KeepsLast, KeepsOneAtMost};
+    ghost use Rattle.arachne_pool.specs.Workers.{IsArbiterFor, IsIdleAt, IsWorkerOf, WorksFor};
+    ghost use Rattle.arachne_pool.specs.declared.worker.PoolFault.TheVariants.{Token};
 
     /// Spawns a job, which gets a place of the table where a core has one, and else waits for one with the worker. Its
     /// handle gives its result. It comes back, with why, where memory is refused or the worker has no seat; and where no
@@ -45,9 +48,11 @@ impl<C: Seats> Pool<C> {
         ensures spawned { OnOk result (worker.old.tally.spawned < u64.MAX → worker.new.tally.spawned ≡ worker.old.tally.spawned + 1) }
         ensures ended { worker.new.tally.ended ≡ worker.old.tally.ended }
         ensures near { KeepsOneAtMost self.now.cores worker.old worker.new }
-        ensures kept { worker.new ≡ record worker.old { seat = worker.new.seat; tally = worker.new.tally; near = worker.new.near } }
+        ensures waiting { KeepsLast (one (J.tag_of job) job None) worker.old.waiting worker.new.waiting }
+        ensures told { OnOk result (worker.new.told ≡ worker.new.tally) }
+        ensures kept { worker.new ≡ record worker.old { seat = worker.new.seat; waiting = worker.new.waiting; near = worker.new.near; tally = worker.new.tally; told = worker.new.told } }
     {
-        if worker.bench.core >= self.cores {
+        if worker.core >= self.cores {
             return self.try_spawn(rt, worker, job);
         }
         let bench = &mut worker.bench;
@@ -58,7 +63,7 @@ impl<C: Seats> Pool<C> {
             Ok(begun) => begun,
             Err(job) => return Err(Refused::of(job, Refusal::Memory)),
         };
-        self.live.add(bench.core, bench.news());
+        self.live.add(worker.core, bench.news());
         let handle = Handle::of(receiver);
         match place::<H, J, C>(rt, self, seat, bench, job) {
             Ok(Some(posted)) => {
@@ -89,12 +94,10 @@ impl<C: Seats> Pool<C> {
         requires core { core < self.now.cores }
         ensures worker { IsWorkerOf C.sits C.idle self.now.table self.now.cores worker.new }
         ensures seat { OnOk result (IsSome worker.new.seat) }
+        ensures fault { HasSeatAfter worker.new.seat result }
+        ensures same { WorksFor core worker.old worker.new }
     {
-        let came = self.operate(rt, worker, core, Call::Turn, None);
-        if worker.seat.is_none() {
-            return Err(PoolFault::Token);
-        }
-        match came {
+        match self.operate(rt, worker, core, Call::Turn, None) {
             Came::Ran(found) => found,
             Came::Joined(_) => unreachable!(),
         }
@@ -113,6 +116,8 @@ impl<C: Seats> Pool<C> {
         requires worker { IsWorkerOf C.sits C.idle self.now.table self.now.cores worker.old }
         requires core { core < self.now.cores }
         ensures worker { IsWorkerOf C.sits C.idle self.now.table self.now.cores worker.new }
+        ensures seat { HasSeatAfter worker.new.seat result }
+        ensures same { WorksFor core worker.old worker.new }
     {
         match self.operate(rt, worker, core, Call::Work, None) {
             Came::Ran(Ok(_)) => {
@@ -143,6 +148,8 @@ impl<C: Seats> Pool<C> {
         ensures worker { IsWorkerOf C.sits C.idle self.now.table self.now.cores worker.new }
         ensures output { IfOk result (J.is_result handle) }
         ensures handed_back { IfErr result (λ back. back.1 ≡ handle) }
+        ensures seat { IsSome worker.new.seat ⊎ IfErr result (λ back. back.0 ≡ Token) }
+        ensures same { WorksFor core worker.old worker.new }
     {
         let joined = match self.operate(rt, worker, core, Call::Join, Some(handle)) {
             Came::Joined(joined) => joined,
@@ -156,7 +163,7 @@ impl<C: Seats> Pool<C> {
     }
 
     /// What a worker does on a core in a call, for the job of a handle if there is one. The worker has nothing
-    /// meanwhile.
+    /// meanwhile. Without a seat it comes to no more than that.
     #[inline(always)]
     fn operate<'a, H: Wait + Clock, J: PoolJob>(
         &'a self,
@@ -171,12 +178,15 @@ impl<C: Seats> Pool<C> {
         requires worker { IsWorkerOf C.sits C.idle self.now.table self.now.cores worker.old }
         requires core { core < self.now.cores }
         ensures worker { IsWorkerOf C.sits C.idle self.now.table self.now.cores worker.new }
+        ensures same { WorksFor core worker.old worker.new }
         ensures answer { AnswersFor J.is_result handle result }
+        ensures seat { IsSome worker.new.seat ⊎ TellsDisowned result }
     {
-        let mut kernel = match self.open(rt, worker, core, call) {
-            Ok(kernel) => kernel,
-            Err(fault) => return Came::failed(fault, handle),
+        self.leave_core(replace(&mut worker.core, core), core);
+        let Some(seat) = worker.seat.take() else {
+            return Came::failed(PoolFault::Token, handle);
         };
+        let mut kernel = self.open(rt, worker, seat, call);
         let came = go_on(&mut kernel, handle);
         let Loop {
             agenda,
@@ -195,43 +205,44 @@ impl<C: Seats> Pool<C> {
         *worker = Worker {
             seat: idle_seat::<J, C>(pool, seat, is_broken, &held),
             bench,
+            core,
             agenda,
             pace,
         };
-        came
+        came.with_seat(worker.seat.is_some())
     }
 
-    /// What works with a worker on a core, if the worker has a seat. The worker has nothing meanwhile.
+    /// What a worker knows of the core that it leaves, if it had one, is told to whoever works there next.
+    fn leave_core(&self, before: u8, now: u8) {
+        if before != now && before < self.cores {
+            self.shared.hint_cores(1 << u32::from(before));
+        }
+    }
+
+    /// What works with a worker, by its seat, on its core. The worker has nothing meanwhile.
     fn open<'a, H: Wait + Clock, J: PoolJob>(
         &'a self,
         rt: &'a H,
         worker: &mut Worker<C::Seat, J>,
-        core: u8,
+        seat: C::Seat,
         call: Call,
-    ) -> Result<Loop<'a, H, Seat<'a, H, J, C>>, PoolFault>
+    ) -> Loop<'a, H, Seat<'a, H, J, C>>
     where
         C: Contexts<Spawned<J>>,
-        requires worker { IsWorkerOf C.sits C.idle self.now.table self.now.cores worker.old }
-        requires core { core < self.now.cores }
-        ensures worker { IsWorkerOf C.sits C.idle self.now.table self.now.cores worker.new }
-        ensures kernel { IfOk result (λ kernel. kernel.desk ≡ ground_at self.now.table self.now.cores) }
+        requires seat { IsIdleAt C.sits C.idle self.now.table seat }
+        requires orders { IsArbiterFor self.now.cores worker.old.arbiter }
+        requires core { worker.old.core < self.now.cores }
+        ensures { result.desk ≡ ground_at self.now.table self.now.cores worker.old.arbiter }
     {
-        let Some(seat) = worker.seat.take() else {
-            return Err(PoolFault::Token);
-        };
         let empty = Worker::new(worker.bench.alloc, None, 0);
         let Worker {
-            mut bench,
+            bench,
+            core,
             agenda,
             pace,
             ..
         } = replace(worker, empty);
-        if bench.core != core && bench.core < self.cores {
-            // What the worker knows of the core that it leaves is told to whoever works there next.
-            self.shared.hint_cores(1 << u32::from(bench.core));
-        }
-        bench.core = core;
-        Ok(Loop {
+        Loop {
             rt,
             shared: &self.shared,
             core,
@@ -252,6 +263,6 @@ impl<C: Seats> Pool<C> {
                 is_drained: false,
                 bench,
             },
-        })
+        }
     }
 }

@@ -13,15 +13,33 @@ pub(crate) enum Came<J: PoolJob> {
 }
 
 impl<J: PoolJob> Came<J> {
-    ghost use Rattle.arachne_pool.specs.Calls.{AnswersFor};
+    ghost use Rattle.std.specs.Prelude.{◌≡◌, Option, false};
+    ghost use Rattle.arachne_pool.specs.declared.worker.PoolFault.TheVariants.{Token};
+    ghost use Rattle.arachne_pool.specs.Calls.{AnswersFor, TellsDisowned};
 
     /// The call can't go on. A handle comes back.
     pub(crate) fn failed(fault: PoolFault, handle: Option<Handle<J>>) -> Came<J>
-        ensures { AnswersFor J.is_result handle result }
+        ensures answer { AnswersFor J.is_result handle result }
+        ensures fault { fault ≡ Token → TellsDisowned result }
     {
         match handle {
             Some(handle) => Came::Joined(Err((fault, handle))),
             None => Came::Ran(Err(fault)),
+        }
+    }
+
+    /// The same where the worker has its seat. Where it has none that is told, unless a result has come.
+    pub(crate) fn with_seat(self, has_seat: bool) -> Came<J>
+        ensures answer { (handle : Option J) → AnswersFor J.is_result handle self → AnswersFor J.is_result handle result }
+        ensures seat { has_seat ≡ false → TellsDisowned result }
+    {
+        if has_seat {
+            return self;
+        }
+        match self {
+            Came::Ran(_) => Came::Ran(Err(PoolFault::Token)),
+            Came::Joined(Ok(output)) => Came::Joined(Ok(output)),
+            Came::Joined(Err((_, handle))) => Came::Joined(Err((PoolFault::Token, handle))),
         }
     }
 }

@@ -1,5 +1,5 @@
 //! The begin of a pool, and its end.
-ghost use Rattle.std.specs.Prelude.{◌≡◌, ◌+◌, ◌<◌, ◌≤◌, ◌↔◌, IfErr, IfOk, IfSome, IsSome, IsTrue, MatchOption, OnErr, OnOk, Some, length};
+ghost use Rattle.std.specs.Prelude.{◌≡◌, ◌+◌, ◌<◌, ◌≤◌, ◌↔◌, [], IfErr, IfOk, IfSome, IsSome, IsTrue, MatchOption, OnErr, OnOk, Some};
 ghost use Rattle.arachne_core.specs.declared.layout.TheConstants.{CORES, SLOTS};
 ghost use Rattle.arachne_policy.specs.Orders.{AreInOrder};
 ghost use Rattle.arachne_policy.specs.declared.orders.OrderKind.TheVariants.{Release};
@@ -61,7 +61,7 @@ impl<C: Seats + Drop> Pool<C> {
         ensures worker { IfOk result (λ made. IsWorkerOf C.sits C.idle made.0.table made.0.cores made.1) }
         ensures whole { IfOk result (λ made. IsWhole C.weight made.1.seat) }
         ensures tally { IfOk result (λ made. (made.1.tally.spawned ≡ 0) × (made.1.tally.ended ≡ 0)) }
-        ensures near { IfOk result (λ made. made.1.near ≡ 0) }
+        ensures near { IfOk result (λ made. (made.1.waiting ≡ []) × (made.1.near ≡ 0)) }
         ensures orders { IfOk result (λ made. made.1.arbiter ≡ Some (record { list = orders.items; cores = cores; applied = 0 })) }
         ensures core { IfOk result (λ made. HasNoCore made.0.cores made.1) }
     {
@@ -74,7 +74,7 @@ impl<C: Seats + Drop> Pool<C> {
 }
 
 impl<C: Seats> Pool<C> {
-    ghost use Rattle.arachne_pool.specs.Workers.{IsWorkerOf};
+    ghost use Rattle.arachne_pool.specs.Workers.{AreKept, IsWorkerOf};
     ghost use Rattle.arachne_pool.specs.Leftover.{count_of};
     ghost use Rattle.arachne_pool.specs.NotClosed.{ComesBack};
     ghost use Rattle.arachne_pool.specs.Workers.{ComeLast};
@@ -132,7 +132,7 @@ impl<C: Seats> Pool<C> {
         C: Contexts<Spawned<J>>,
         requires { IsWorkerOf C.sits C.idle self.table self.cores worker }
         ensures each_once { IfOk result (λ left. worker.tally.spawned ≡ worker.tally.ended + count_of left) }
-        ensures near { IfOk result (λ left. length left.near.items ≡ worker.near) }
+        ensures near { IfOk result (λ left. AreKept worker left.near.items) }
         ensures comes_back { IfErr result (ComesBack self worker) }
     {
         if !self.is_whole(&worker) {

@@ -6,6 +6,7 @@
 
 mod answer;
 mod bench;
+mod called;
 mod calls;
 mod came;
 mod closing;
@@ -15,6 +16,7 @@ mod handle;
 mod job;
 mod links;
 mod live;
+mod open;
 mod orders;
 mod outcome;
 mod place;

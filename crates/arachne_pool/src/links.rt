@@ -1,5 +1,5 @@
 //! The children of jobs in one place that were forked and not joined.
-ghost use Rattle.std.specs.Prelude.{◌≡◌, ◌+◌, ◌∷◌, [], IfErr, IfSome, MatchOption, OnErr, OnOk};
+ghost use Rattle.std.specs.Prelude.{◌≡◌, ◌+◌, ◌∷◌, [], IfErr, IfSome, MatchOption, OnErr, OnOk, reverse, take};
 ghost use Rattle.std.specs.VecDeque.{deque_len};
 ghost use Rattle.arachne_pool.specs.Children.{LosesAside, LosesBegun, with_aside};
 
@@ -127,9 +127,10 @@ impl<J: PoolJob> Links<J> {
 
     /// Those that have not begun, the oldest first. The results of the others come to nobody.
     pub(crate) fn into_aside(self) -> VecDeque<J>
-        ensures { deque_len result ≡ self.aside }
+        ensures { (reverse result.items ≡ take self.aside self.all) × (deque_len result ≡ self.aside) }
     {
-        self.aside
+        let Links { aside, .. } = self;
+        aside
     }
 
     /// Whether the oldest child that has not begun is to have a core for itself.

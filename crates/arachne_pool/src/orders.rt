@@ -4,7 +4,7 @@ ghost use Rattle.std.specs.Prelude.{◌≡◌, ℕ, ◌<◌, ◌≤◌, ◌↔�
 ghost use Rattle.arachne_contexts.specs.Out.{KeepsOut};
 ghost use Rattle.arachne_core.specs.declared.layout.TheConstants.{CORES};
 ghost use Rattle.arachne_policy.specs.Orders.{AreInOrder};
-ghost use Rattle.arachne_pool.specs.Workers.{IsArbiterFor, IsOneLeft, count_orders};
+ghost use Rattle.arachne_pool.specs.Workers.{IsArbiterFor, IsOneLeft, count_orders, orders_of};
 
 use arachne_arbiter::{Arbiter, Cores};
 use arachne_contexts::{Contexts, Tagged};
@@ -110,7 +110,7 @@ impl Orders {
         ensures seat { C.sits cores.now.table.now seat.new }
         ensures out { KeepsOut (C.has cores.now.table.now) seat.old seat.new }
         ensures cores { IsArbiterFor cores.now.count self.new }
-        ensures same { count_orders self.new ≡ count_orders self.old }
+        ensures same { orders_of self.new ≡ orders_of self.old }
     {
         let Some(arbiter) = &mut self.arbiter else {
             return (None, 0);

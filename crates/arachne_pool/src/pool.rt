@@ -4,6 +4,7 @@ ghost use Rattle.arachne_core.specs.declared.layout.TheConstants.{CORES, SLOTS, 
 ghost use Rattle.arachne_weights.specs.Weight.{whole};
 
 use crate::live::Live;
+use crate::open::{Finished, Open};
 use crate::statistics::Statistics;
 use arachne_arbiter::Cores;
 use arachne_contexts::Seats;
@@ -29,8 +30,7 @@ pub struct Pool<C: Seats> {
     room: CachePadded<AtomicU64>,
     /// 1 once a job was to have a core for itself.
     exclusive: AtomicU64,
-    /// 1 while jobs may come though none lives.
-    open: AtomicU64,
+    open: Open,
     ghost counted: { C.core_count table ≡ cores },
     ghost few: { cores ≤ CORES },
     ghost placed: { C.slot_count table ≡ slots },
@@ -66,7 +66,7 @@ impl<C: Seats + Drop> Pool<C> {
             live,
             room: CachePadded::new(AtomicU64::new(1)),
             exclusive: AtomicU64::new(0),
-            open: AtomicU64::new(0),
+            open: Open::new(),
         };
         Ok((pool, seat))
     }
@@ -105,18 +105,23 @@ impl<C: Seats> Pool<C> {
 
     /// Jobs may come though none lives, as in a server: from now on `work` goes on without any, until `finish` is called.
     pub fn keep_open(&self) {
-        self.open.store(1, Ordering::SeqCst);
+        self.open.keep();
     }
 
     /// No more jobs come: from now on `work` returns once none lives.
     pub fn finish(&self) {
-        self.open.store(0, Ordering::SeqCst);
+        self.tell_finished(self.open.finish());
+    }
+
+    /// No more jobs come, so all may be over, and then all workers wake.
+    fn tell_finished(&self, finished: Finished) {
+        finished.is_heeded();
         self.tell_if_over();
     }
 
     /// Whether no job lives, and none is to come.
     pub(crate) fn is_over(&self) -> bool {
-        self.open.load(Ordering::SeqCst) == 0 && self.live() == 0
+        self.open.is_finished() && self.live() == 0
     }
 
     /// If no job lives and none is to come, all workers wake, those that sleep and those that are parked.

@@ -183,9 +183,10 @@ fn tell_if_much<H: Wait + Clock, D: PoolDesk>(kernel: &mut Worker<'_, H, D>)
     }
 }
 
-/// What was done on the core is told, with so many rounds that found nothing.
+/// What was done on the core is told, with so many rounds that found nothing, and nothing is told again.
 fn tell_done<H: Wait + Clock, D: PoolDesk>(kernel: &mut Worker<'_, H, D>, rests: u64)
-    ensures { kernel.new.desk ≡ kernel.old.desk }
+    ensures desk { kernel.new.desk ≡ kernel.old.desk }
+    ensures told { kernel.new.slices ≡ 0 }
 {
     let slices = kernel.slices;
     kernel.slices = 0;

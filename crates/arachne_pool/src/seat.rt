@@ -11,7 +11,6 @@ use crate::pool::Pool;
 use crate::posting::{Disowned, Posted};
 use crate::rounds::PoolDesk;
 use crate::spawned::Spawned;
-use crate::statistics::Statistics;
 use crate::stop::Stop as JobStop;
 use crate::worker::PoolFault;
 use arachne_arbiter::Pace;
@@ -61,7 +60,7 @@ impl<'a, H, J: PoolJob, C: Contexts<Spawned<J>>> Model for Seat<'a, H, J, C> {
 
     ghost Value = { Ground C };
 
-    ghost view = { λ s. ground_at s.pool.now.table s.pool.now.cores };
+    ghost view = { λ s. ground_at s.pool.now.table s.pool.now.cores s.bench.orders };
 
     ghost invariant = { λ s. (s.core < s.pool.now.cores) × C.sits s.pool.now.table s.seat × IsArbiterFor s.pool.now.cores s.bench.orders
         × (s.is_broken ≡ false → C.has s.pool.now.table s.seat (in_hand (λ job. job.tag) s.held)) };
@@ -321,13 +320,9 @@ impl<'a, H: Wait, J: PoolJob, C: Contexts<Spawned<J>>> PoolDesk for Seat<'a, H, 
     }
 
     fn tell_done(&mut self, slices: u64, rests: u64) {
-        let done = Statistics {
-            slices,
-            rests,
-            ..self.bench.done
-        };
-        self.bench.done = Statistics::new();
-        self.pool.live.add_done(self.core, done);
+        self.pool
+            .live
+            .add_done(self.core, self.bench.take_done(slices, rests));
     }
 }
 

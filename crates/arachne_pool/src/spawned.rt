@@ -17,7 +17,7 @@ use std::snapshot::Snapshot;
 /// that it has forked while no place was free waits here, and runs in its place once it is awaited.
 ///
 /// Contracts see its tag; the job as it was spawned; the id under which its parent runs, if that is to be woken; and
-/// how many jobs it is that have not ended, with those that run or wait in its place.
+/// how many jobs it is that have not ended, with those that run or wait in its place, and these as they are now.
 #[derive(Drop)]
 pub struct Spawned<J: PoolJob> {
     tag: u64,
@@ -32,7 +32,7 @@ impl<J: PoolJob> Model for Spawned<J> {
 
     ghost Value = { Being J };
 
-    ghost view = { λ s. record { tag = s.tag; asked = s.stack.asked; parent = s.parent; many = s.stack.many } };
+    ghost view = { λ s. record { tag = s.tag; asked = s.stack.asked; parent = s.parent; many = s.stack.many; jobs = s.stack.jobs } };
 
     ghost invariant = { λ s. IfSome s.sender (λ sender. sender.key.job.value ≡ s.stack.asked) };
 }
@@ -108,7 +108,7 @@ impl<J: PoolJob> Spawned<J> {
         left: &mut u32,
         may_post: bool,
     ) -> Stop
-        ensures same { self.new ≡ record self.old { many = self.new.many } }
+        ensures same { self.new ≡ record self.old { many = self.new.many; jobs = self.new.jobs } }
         ensures left { left.new ≤ left.old }
         ensures counts { CountsEach tally.old tally.new self.old.many self.new.many }
     {
@@ -124,7 +124,7 @@ impl<J: PoolJob> Spawned<J> {
     /// nobody. Where there is no room for such a one none comes, and one that has not begun stays.
     pub(crate) fn let_go(&mut self, alloc: Global, has_room: bool) -> Option<Spawned<J>>
         ensures room { IsSome result → has_room ≡ true }
-        ensures same { self.new ≡ record self.old { many = self.new.many } }
+        ensures same { self.new ≡ record self.old { many = self.new.many; jobs = self.new.jobs } }
         ensures many { MatchOption result (self.new.many ≡ self.old.many) (λ orphan. self.new.many + orphan.many ≡ self.old.many) }
     {
         let job = self.stack.let_go(has_room)?;
@@ -139,7 +139,7 @@ impl<J: PoolJob> Spawned<J> {
         cells: &mut Cells<J>,
         me: ThreadId,
     ) -> Option<Spawned<J>>
-        ensures same { self.new ≡ record self.old { many = self.new.many } }
+        ensures same { self.new ≡ record self.old { many = self.new.many; jobs = self.new.jobs } }
         ensures many { MatchOption result (self.new.many ≡ self.old.many) (λ child. self.new.many + child.many ≡ self.old.many) }
         ensures child { IfSome result (λ child. child ≡ one child.tag child.asked (Some me)) }
     {
@@ -170,7 +170,7 @@ impl<J: PoolJob> Spawned<J> {
     /// The job and those that run or wait in its place, as they are now, but for those that have ended. It leaves no
     /// result then, unless it has ended.
     pub fn into_jobs(self) -> Jobs<J>
-        ensures { length result ≡ self.many }
+        ensures { (result ≡ self.jobs) × (length result ≡ self.many) }
     {
         let Spawned { stack, sender, .. } = self;
         let (jobs, output) = stack.into_jobs();

@@ -65,7 +65,7 @@ impl<C: Seats> Pool<C> {
         requires worker { IsWorkerOf C.sits C.idle self.now.table self.now.cores worker.old }
         requires fresh { J.awaits job [] }
         ensures worker { IsWorkerOf C.sits C.idle self.now.table self.now.cores worker.new }
-        ensures kept { worker.new ≡ record worker.old { seat = worker.new.seat; tally = worker.new.tally } }
+        ensures kept { worker.new ≡ record worker.old { seat = worker.new.seat; tally = worker.new.tally; told = worker.new.told } }
         ensures begun { IfOk result (λ handle. (handle ≡ job) × SpawnsOne worker.old worker.new) }
         ensures handed_back { IfErr result (λ back. HandsBack 0 self.now.cores self.now.slots job worker.old worker.new back.job back.why) }
     {
@@ -96,7 +96,7 @@ impl<C: Seats> Pool<C> {
         requires core { core < self.now.cores }
         requires fresh { J.awaits job [] }
         ensures worker { IsWorkerOf C.sits C.idle self.now.table self.now.cores worker.new }
-        ensures kept { worker.new ≡ record worker.old { seat = worker.new.seat; tally = worker.new.tally } }
+        ensures kept { worker.new ≡ record worker.old { seat = worker.new.seat; tally = worker.new.tally; told = worker.new.told } }
         ensures begun { IfOk result (λ begun. (begun.0 ≡ job) × (begun.1.core ≡ core) × SpawnsOne worker.old worker.new) }
         ensures handed_back { IfErr result (λ back. HandsBack core 1 self.now.slots job worker.old worker.new back.job back.why) }
     {
@@ -131,7 +131,7 @@ impl<C: Seats> Pool<C> {
         requires worker { IsWorkerOf C.sits C.idle self.now.table self.now.cores worker.old }
         requires fresh { J.awaits job [] }
         ensures worker { IsWorkerOf C.sits C.idle self.now.table self.now.cores worker.new }
-        ensures kept { worker.new ≡ record worker.old { seat = worker.new.seat; tally = worker.new.tally } }
+        ensures kept { worker.new ≡ record worker.old { seat = worker.new.seat; tally = worker.new.tally; told = worker.new.told } }
         ensures begun { OnOk result (SpawnsOne worker.old worker.new) }
         ensures handed_back { IfErr result (λ back. HandsBack 0 self.now.cores self.now.slots job worker.old worker.new back.job back.why) }
     {
@@ -168,7 +168,7 @@ impl<C: Seats> Pool<C> {
         requires seat { C.sits self.now.table seat × C.has self.now.table seat (Claim claim ∷ []) }
         requires fresh { J.awaits job [] }
         ensures worker { IsWorkerOf C.sits C.idle self.now.table self.now.cores worker.new }
-        ensures kept { worker.new ≡ record worker.old { seat = worker.new.seat; tally = worker.new.tally } }
+        ensures kept { worker.new ≡ record worker.old { seat = worker.new.seat; tally = worker.new.tally; told = worker.new.told } }
         ensures begun { IfOk result (λ handle. (handle ≡ job) × SpawnsOne worker.old worker.new) }
         ensures handed_back { IfErr result (λ back. (back.why ≡ Memory) × HandsBack 0 self.now.cores self.now.slots job worker.old worker.new back.job back.why) }
     {
@@ -209,9 +209,9 @@ impl<C: Seats> Pool<C> {
         requires worker { IsWorkerOf C.sits C.idle self.now.table self.now.cores worker.old }
         requires seat { C.sits self.now.table seat × C.has self.now.table seat (Claim claim ∷ []) }
         ensures worker { IsWorkerOf C.sits C.idle self.now.table self.now.cores worker.new }
-        ensures kept { worker.new ≡ record worker.old { seat = worker.new.seat } }
+        ensures kept { worker.new ≡ record worker.old { seat = worker.new.seat; told = worker.old.tally } }
     {
-        self.live.add(worker.bench.core, worker.bench.news());
+        self.live.add(worker.core, worker.bench.news());
         let mut seat = seat;
         match post::<H, J, C>(rt, self, &mut seat, claim, job) {
             Ok(posted) => {

@@ -1,6 +1,7 @@
 //! A job and those that run in its place.
-ghost use Rattle.std.specs.Prelude.{◌≡◌, ◌+◌, ◌<◌, ◌≤◌, [], ◌∷◌, None, IfSome, IsSome, MatchOption, length, true};
-ghost use Rattle.arachne_pool.specs.Frames.{CountsEach, KeepsMany};
+ghost use Rattle.std.specs.Prelude.{◌≡◌, ◌+◌, ◌<◌, ◌≤◌, [], ◌∷◌, List, None, IfSome, IsSome, MatchOption, length, false, true};
+ghost use Rattle.arachne_pool.specs.Frames.{CountsEach, IsServed, KeepsMany, count_none, unless_ended};
+ghost use Rattle.arachne_pool.specs.Jobs.{children_of};
 
 use crate::job::{PoolJob, Step};
 use crate::links::Links;
@@ -49,7 +50,8 @@ impl<J: PoolJob> Frame<J> {
 /// it. Only the topmost makes steps.
 ///
 /// Contracts see the first job, as it was spawned; how many jobs there are that have not ended, with those that wait
-/// here to begin; and what the topmost has forked just now, or has ended with.
+/// here to begin, and these as they are now; what the topmost has forked just now, or has ended with; and whether it has
+/// asked for the result of its newest child.
 #[derive(Drop)]
 pub(crate) struct Stack<J: PoolJob> {
     /// The first job as it was spawned. It has no bytes.
@@ -68,16 +70,20 @@ pub(crate) struct Stack<J: PoolJob> {
 }
 
 impl<J: PoolJob> Model for Stack<J> {
-    ghost use Rattle.std.specs.Prelude.{◌+◌, reverse, vec_len};
-    ghost use Rattle.arachne_pool.specs.Frames.{RunTogether, Stacked, count_none, count_one};
+    ghost use Rattle.std.specs.Prelude.{◌+◌, ◌++◌, map, reverse, take, vec_len};
+    ghost use Rattle.arachne_pool.specs.Frames.{RunTogether, Stacked, count_none, count_one, unless_ended};
+    ghost use Rattle.arachne_pool.specs.Jobs.{children_of};
 
     ghost Value = { Stacked J J.Output };
 
     ghost view = { λ s. record {
       asked = s.asked.value;
       many = count_none s.ended + vec_len s.below + s.links.aside + count_one s.child;
+      jobs = children_of s.child (take s.links.aside s.links.all
+          ++ children_of (unless_ended s.ended s.top.job) (map (λ f. f.job) (reverse s.below.items)));
       child = s.child;
       ended = s.ended;
+      waits = s.waits;
     } };
 
     ghost invariant = { λ s. RunTogether J.is_result J.awaits s.top (reverse s.below.items) s.links.all s.child s.ended s.asked.value };
@@ -87,7 +93,7 @@ impl<J: PoolJob> Stack<J> {
     /// A job that begins, alone.
     pub(crate) fn begin(alloc: Global, job: J) -> Stack<J>
         requires { J.awaits job [] }
-        ensures { result ≡ record { asked = job; many = 1; child = None; ended = None } }
+        ensures { result ≡ record { asked = job; many = 1; jobs = job ∷ []; child = None; ended = None; waits = false } }
     {
         Stack {
             asked: Snapshot::of(&job),
@@ -190,7 +196,7 @@ impl<J: PoolJob> Stack<J> {
 
     /// A step of the topmost.
     fn step(&mut self, tally: &mut Tally, may_post: bool) -> Stop
-        requires running { (self.old.ended ≡ None) × (self.old.child ≡ None) }
+        requires running { (self.old.ended ≡ None) × (self.old.child ≡ None) × (self.old.waits ≡ false) }
         ensures asked { self.new.asked ≡ self.old.asked }
         ensures counts { CountsEach tally.old tally.new self.old.many self.new.many }
     {
@@ -240,8 +246,9 @@ impl<J: PoolJob> Stack<J> {
     /// The topmost gets the result of its newest child, if it has one and that has ended. One that has not begun begins
     /// here.
     fn receive(&mut self, cells: &mut Cells<J>) -> Stop
-        requires running { (self.old.ended ≡ None) × (self.old.child ≡ None) }
-        ensures { KeepsMany self.old self.new }
+        requires running { (self.old.ended ≡ None) × (self.old.child ≡ None) × (self.old.waits ≡ true) }
+        ensures same { KeepsMany self.old self.new }
+        ensures served { IsServed result self.new }
     {
         let Some(awaited) = self.top.awaited.checked_sub(1) else {
             self.waits = false;
@@ -263,28 +270,31 @@ impl<J: PoolJob> Stack<J> {
 
     /// The newest child, which has not begun, begins here, above the one that awaits it.
     fn enter(&mut self) -> Stop
-        requires running { (self.old.ended ≡ None) × (self.old.child ≡ None) }
-        ensures { KeepsMany self.old self.new }
+        requires running { (self.old.ended ≡ None) × (self.old.child ≡ None) × (self.old.waits ≡ true) }
+        ensures same { KeepsMany self.old self.new }
+        ensures served { IsServed result self.new }
     {
-        let Some(awaited) = self.top.awaited.checked_sub(1) else {
-            return Stop::Goes;
-        };
         if self.below.try_reserve(1).is_err() {
             return Stop::Short;
         }
+        self.waits = false;
+        let Some(awaited) = self.top.awaited.checked_sub(1) else {
+            return Stop::Goes;
+        };
         let Some(child) = self.links.take_newest() else {
             return Stop::Goes;
         };
         self.top.awaited = awaited;
         let frame = replace(&mut self.top, Frame::begin(child));
         self.below.push_reserved(frame);
-        self.waits = false;
         Stop::Goes
     }
 
     /// What the topmost has ended with goes to the one below it, which goes on. The first one keeps it.
     fn pass_on(&mut self) -> Stop
-        ensures { KeepsMany self.old self.new }
+        requires { IsSome self.old.ended }
+        ensures same { KeepsMany self.old self.new }
+        ensures served { IsServed result self.new }
     {
         if self.top.awaited > 0 {
             return Stop::LetsGo;
@@ -351,6 +361,7 @@ impl<J: PoolJob> Stack<J> {
 
     /// All that have not ended, and what the first job has ended with, if it has.
     pub(crate) fn into_jobs(self) -> (Jobs<J>, Option<J::Output>)
+        ensures jobs { result.0 ≡ self.jobs }
         ensures many { length result.0 ≡ self.many }
         ensures output { IfSome result.1 (J.is_result self.asked) }
     {
@@ -362,15 +373,26 @@ impl<J: PoolJob> Stack<J> {
             ended,
             ..
         } = self;
-        let has_ended = ended.is_some();
+        let top = unless_ended(&ended, top.job);
         let output = if below.is_empty() { ended } else { None };
         let jobs = Jobs {
-            top: if has_ended { None } else { Some(top.job) },
+            top,
             below,
             aside: links.into_aside(),
             child,
         };
         (jobs, output)
+    }
+}
+
+/// The job, unless it has ended.
+fn unless_ended<J: PoolJob>(ended: &Option<J::Output>, job: J) -> Option<J>
+    ensures job { result ≡ unless_ended ended.now job }
+    ensures count { (others : List J) → length (children_of result others) ≡ count_none ended.now + length others }
+{
+    match ended {
+        Some(_) => None,
+        None => Some(job),
     }
 }
 

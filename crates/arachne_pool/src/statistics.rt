@@ -1,4 +1,6 @@
 //! What the workers of a core have done.
+ghost use Rattle.std.specs.Prelude.{◌≡◌};
+ghost use Rattle.arachne_pool.specs.Done.{nothing_done};
 
 /// What the workers of a core have done, as they told when they last found nothing to do, returned, or had so much to tell.
 /// Each count wraps at 2^64.
@@ -20,7 +22,9 @@ pub struct Statistics {
 
 impl Statistics {
     /// Nothing was done.
-    pub(crate) fn new() -> Statistics {
+    pub(crate) fn new() -> Statistics
+        ensures { result ≡ nothing_done }
+    {
         Statistics {
             slices: 0,
             steps: 0,

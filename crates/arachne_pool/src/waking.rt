@@ -4,7 +4,8 @@ ghost use Rattle.arachne_contexts.specs.Out.{KeepsOut};
 ghost use Rattle.arachne_pool.specs.Waking.{Answers};
 ghost use Rattle.arachne_pool.specs.Workers.{IsIdleAt};
 
-use crate::answer::{WakeAnswer, ask};
+use crate::answer::WakeAnswer;
+use crate::called::Called;
 use crate::job::PoolJob;
 use crate::pool::Pool;
 use crate::spawned::Spawned;
@@ -27,7 +28,8 @@ impl<S> Model for Waker<S> {
 }
 
 impl<C: Seats> Pool<C> {
-    ghost use Rattle.std.specs.Prelude.{IsSome};
+    ghost use Rattle.std.specs.Prelude.{IsSome, Some};
+    ghost use Rattle.arachne_pool.specs.Leftover.{HalvesWeight, JoinsWeights};
     ghost use Rattle.arachne_pool.specs.Workers.{IsWorkerOf};
 
     /// A worker without a part of its seat's weight, which a waker has. Nothing else of it has changed. None comes where
@@ -41,6 +43,7 @@ impl<C: Seats> Pool<C> {
         ensures worker { IsWorkerOf C.sits C.idle self.now.table self.now.cores result.0 }
         ensures waker { IfSome result.1 (IsIdleAt C.sits C.idle self.now.table) }
         ensures seats { IsSome worker.seat → IsSome result.0.seat × IsSome result.1 }
+        ensures weight { HalvesWeight C.weight worker.seat result.0.seat result.1 }
         ensures kept { result.0 ≡ record worker { seat = result.0.seat } }
     {
         let mut worker = worker;
@@ -63,6 +66,7 @@ impl<C: Seats> Pool<C> {
         requires waker { IsIdleAt C.sits C.idle self.now.table waker }
         ensures worker { IsWorkerOf C.sits C.idle self.now.table self.now.cores result }
         ensures seat { IsSome worker.seat → IsSome result.seat }
+        ensures weight { JoinsWeights C.weight worker.seat (Some waker) result.seat }
         ensures kept { result ≡ record worker { seat = result.seat } }
     {
         let mut worker = worker;
@@ -88,7 +92,8 @@ impl<C: Seats> Pool<C> {
     {
         let seat = &mut waker.seat;
         for _ in rt.forever() {
-            let Some(answer) = ask::<H, J, C>(rt, &self.table, seat, id) else {
+            let called = Called::wake::<H, J, C>(rt, &self.table, seat, id);
+            let Some(answer) = WakeAnswer::to(called) else {
                 continue;
             };
             if answer.woken() == Woken::Woken {

@@ -1,6 +1,6 @@
 //! Workers of a pool: what each has of it, how one is split in two, and how two are put together.
 ghost use Rattle.std.specs.Option.{option_or};
-ghost use Rattle.std.specs.Prelude.{◌≡◌, ◌+◌, ◌≤◌, IfErr, IfOk, None};
+ghost use Rattle.std.specs.Prelude.{◌≡◌, ◌+◌, ◌≤◌, [], IfErr, IfOk, None};
 ghost use Rattle.arachne_pool.specs.Workers.{HasNoCore};
 
 use crate::bench::Bench;
@@ -67,13 +67,15 @@ impl From<Halt> for PoolFault {
 
 /// A worker: what a kernel thread has of a pool. One thread at a time has it, for one core.
 ///
-/// Contracts see its seat, which it has unless the table has disowned it; how many jobs it has that have no place; what
-/// it has counted; for one of the workers the orders by which cores come and go; and the core for which it has worked
-/// last.
+/// Contracts see its seat, which it has unless the table has disowned it; the jobs that it has that have no place, and
+/// how many these are; what it has counted, and what of that it has told; for one of the workers the orders by which
+/// cores come and go; and the core for which it was called last.
 #[derive(Drop)]
 pub struct Worker<S, J: PoolJob> {
     pub(crate) seat: Option<S>,
     pub(crate) bench: Bench<J>,
+    /// The core that it works on, or has worked on. At first a number that is none.
+    pub(crate) core: u8,
     pub(crate) agenda: Agenda,
     pub(crate) pace: Pace,
 }
@@ -82,9 +84,17 @@ impl<S, J: PoolJob> Model for Worker<S, J> {
     ghost use Rattle.std.specs.VecDeque.{deque_len};
     ghost use Rattle.arachne_pool.specs.Workers.{WorkerView};
 
-    ghost Value = { WorkerView S };
+    ghost Value = { WorkerView S J };
 
-    ghost view = { λ w. record { seat = w.seat; near = deque_len w.bench.near; tally = w.bench.tally; arbiter = w.bench.orders; core = w.bench.core } };
+    ghost view = { λ w. record {
+      seat = w.seat;
+      waiting = w.bench.near.items;
+      near = deque_len w.bench.near;
+      tally = w.bench.tally;
+      told = w.bench.told;
+      arbiter = w.bench.orders;
+      core = w.core;
+    } };
 }
 
 impl<S, J: PoolJob> Worker<S, J> {
@@ -99,12 +109,14 @@ impl<S, J: PoolJob> Worker<S, J> {
     pub(crate) fn new(alloc: Global, seat: Option<S>, seed: u64) -> Worker<S, J>
         ensures seat { result.seat ≡ seat }
         ensures nothing { (result.tally.spawned ≡ 0) × (result.tally.ended ≡ 0) × (result.near ≡ 0) }
+        ensures untold { (result.told ≡ result.tally) × (result.waiting ≡ []) }
         ensures orders { result.arbiter ≡ None }
         ensures core { result.core ≡ u8.MAX }
     {
         Worker {
             seat,
             bench: Bench::new(alloc, seed),
+            core: u8::MAX,
             agenda: Agenda::new(alloc, None),
             pace: Pace::new(),
         }
@@ -112,7 +124,8 @@ impl<S, J: PoolJob> Worker<S, J> {
 }
 
 impl<C: Seats> Pool<C> {
-    ghost use Rattle.std.specs.Prelude.{IfSome, IsSome};
+    ghost use Rattle.std.specs.Prelude.{IfSome, IsSome, ◌++◌, IsOk};
+    ghost use Rattle.arachne_pool.specs.Leftover.{HalvesWeight, JoinsWeights};
     ghost use Rattle.arachne_pool.specs.Workers.{IsIdleAt, IsWorkerOf};
 
     /// Two workers of one, which keeps its jobs, its counts, its orders and its core. The other has half of the weight
@@ -125,30 +138,24 @@ impl<C: Seats> Pool<C> {
         requires { IsWorkerOf C.sits C.idle self.now.table self.now.cores worker }
         ensures own { IsWorkerOf C.sits C.idle self.now.table self.now.cores result.0 }
         ensures others { IsWorkerOf C.sits C.idle self.now.table self.now.cores result.1 }
-        ensures kept { (result.0.tally ≡ worker.tally) × (result.0.near ≡ worker.near) × (result.0.arbiter ≡ worker.arbiter) }
+        ensures kept { result.0 ≡ record worker { seat = result.0.seat } }
         ensures nothing { (result.1.tally.spawned ≡ 0) × (result.1.tally.ended ≡ 0) × (result.1.near ≡ 0) × (result.1.arbiter ≡ None) }
-        ensures cores { (result.0.core ≡ worker.core) × HasNoCore self.now.cores result.1 }
+        ensures untold { (result.1.told ≡ result.1.tally) × (result.1.waiting ≡ []) }
+        ensures cores { HasNoCore self.now.cores result.1 }
         ensures seats { IsSome worker.seat → IsSome result.0.seat × IsSome result.1.seat }
+        ensures weight { HalvesWeight C.weight worker.seat result.0.seat result.1.seat }
     {
-        let Worker {
-            seat,
-            mut bench,
-            agenda,
-            pace,
-        } = worker;
-        let (seat, other) = self.split_seat(rt, seat);
-        let others = Worker::new(bench.alloc, other, bench.chooser.next_u64());
-        let own = Worker {
-            seat,
-            bench,
-            agenda,
-            pace,
-        };
-        (own, others)
+        let mut worker = worker;
+        let (seat, other) = self.split_seat(rt, worker.seat.take());
+        worker.seat = seat;
+        let seed = worker.bench.chooser.next_u64();
+        let others = Worker::new(worker.bench.alloc, other, seed);
+        (worker, others)
     }
 
     /// One worker of two, with the core of the first, and its orders, or those of the other where that has none. It has a
-    /// seat where both have. Where memory is refused to put their jobs together both come back.
+    /// seat where both have. Where memory is refused to put their jobs together both come back, which isn't so where the
+    /// other has none.
     pub fn join_workers<H: Wait, J: PoolJob>(
         &self,
         rt: &H,
@@ -159,7 +166,11 @@ impl<C: Seats> Pool<C> {
         requires other { IsWorkerOf C.sits C.idle self.now.table self.now.cores other }
         ensures both { IfOk result (IsWorkerOf C.sits C.idle self.now.table self.now.cores) }
         ensures near { IfOk result (λ both. both.near ≡ worker.near + other.near) }
+        ensures waiting { IfOk result (λ both. both.waiting ≡ worker.waiting ++ other.waiting) }
         ensures seat { IfOk result (λ both. (both.core ≡ worker.core) × (IsSome worker.seat → IsSome other.seat → IsSome both.seat)) }
+        ensures weight { IfOk result (λ both. JoinsWeights C.weight worker.seat other.seat both.seat) }
+        ensures spare { other.near ≡ 0 → IsOk result }
+        ensures told { IfOk result (λ both. both.told ≡ both.tally) }
         ensures orders { IfOk result (λ both. both.arbiter ≡ option_or worker.arbiter other.arbiter) }
         ensures spawned { worker.tally.spawned + other.tally.spawned ≤ u64.MAX → IfOk result (λ both. both.tally.spawned ≡ worker.tally.spawned + other.tally.spawned) }
         ensures ended { worker.tally.ended + other.tally.ended ≤ u64.MAX → IfOk result (λ both. both.tally.ended ≡ worker.tally.ended + other.tally.ended) }
@@ -187,6 +198,7 @@ impl<C: Seats> Pool<C> {
         ensures first { IfSome result.0 (IsIdleAt C.sits C.idle self.now.table) }
         ensures second { IfSome result.1 (IsIdleAt C.sits C.idle self.now.table) }
         ensures both { IsSome seat → IsSome result.0 × IsSome result.1 }
+        ensures weight { HalvesWeight C.weight seat result.0 result.1 }
     {
         match seat {
             Some(seat) => {
@@ -207,6 +219,7 @@ impl<C: Seats> Pool<C> {
         requires second { IfSome second (IsIdleAt C.sits C.idle self.now.table) }
         ensures idle { IfSome result (IsIdleAt C.sits C.idle self.now.table) }
         ensures one { IsSome first → IsSome second → IsSome result }
+        ensures weight { JoinsWeights C.weight first second result }
     {
         Some(self.table.join_seats(rt, first?, second?))
     }

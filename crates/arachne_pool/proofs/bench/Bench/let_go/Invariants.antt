@@ -6,5 +6,5 @@ use Rattle.arachne_pool.proofs.bench.Bench.let_go.Given as goal
 abbrev pub invariant-loop : goal.invariant-loop
 invariant-loop g l =
     (l.self ≡ record l.initial.self { near = l.self.near })
-    × (l.job ≡ record l.initial.job { many = l.job.many })
+    × (l.job ≡ record l.initial.job { many = l.job.many; jobs = l.job.jobs })
     × (count_near l.self.near.items + l.job.many ≡ count_near l.initial.self.near.items + l.initial.job.many)

@@ -14,5 +14,5 @@ pub returns-in-Done-clause-counts : goal.returns-in-Done-clause-counts
 returns-in-Done-clause-counts g c = record {
   spawned = omega (arith, c.count_ended.ensures.spawned);
   ended = c.count_ended.ensures.grows;
-  each = λ s e. grind (arith, c.pass_on.ensures.1, c.self-inside.view_is, c.requires.running);
+  each = λ s e. grind (arith, c.pass_on.ensures.same.1, c.self-inside.view_is, c.requires.running);
 }

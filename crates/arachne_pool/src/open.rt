@@ -1,0 +1,46 @@
+//! Whether jobs may come to a pool though none lives.
+use std::sync::atomic::{AtomicU64, Ordering};
+
+/// Whether jobs may come though none lives.
+#[derive(Drop)]
+pub(crate) struct Open {
+    /// 1 while they may.
+    word: AtomicU64,
+}
+
+/// No more jobs come. `Open::finish` alone gives one, which has stored that. It can't be dropped, so that it is heeded.
+pub(crate) struct Finished {
+    stored: (),
+}
+
+impl Open {
+    /// None come.
+    pub(crate) fn new() -> Open {
+        Open {
+            word: AtomicU64::new(0),
+        }
+    }
+
+    /// Jobs may come from now on.
+    pub(crate) fn keep(&self) {
+        self.word.store(1, Ordering::SeqCst);
+    }
+
+    /// No more come from now on.
+    pub(crate) fn finish(&self) -> Finished {
+        self.word.store(0, Ordering::SeqCst);
+        Finished { stored: () }
+    }
+
+    /// Whether none come.
+    pub(crate) fn is_finished(&self) -> bool {
+        self.word.load(Ordering::SeqCst) == 0
+    }
+}
+
+impl Finished {
+    /// Who is to know of it is told next.
+    pub(crate) fn is_heeded(self) {
+        let Finished { stored: _ } = self;
+    }
+}
