@@ -6,7 +6,7 @@ use Rattle.arachne_weights.specs.declared.token.Token.{Token}
 use Rattle.arachne_weights.proofs.Totals.{total-set}
 use Rattle.arachne_exec.specs.declared.view.Known.{Known}
 use Rattle.arachne_exec.specs.Board.{one, by_all}
-use Rattle.arachne_exec.proofs.Bits.{one-same, one-apart}
+use Rattle.arachne_exec.proofs.Bits.{one-apart}
 
 module _ (f : Known → ℕ) (views : List (Token Known)) (h : ℕ) (v u : Token Known) (mine : get_elem? views h ≡ some v) where
   abbrev seats_with : ℕ → List (Token Known) → ℕ

@@ -1,5 +1,5 @@
 -- How the list of what is left grows, place by place, and that it is what was spawned and hasn't ended.
-use Rattle.std.proofs.Common.{◌≡◌, ◌≢◌, ℕ, zero, suc, ◌+◌, ◌*◌, ◌<◌, ◌≤◌, ◌∙◌, ap, sym, subst, refl, arith, List, [], ◌∷◌, ◌++◌, length, drop, set, get_or, get_or-set_other, Bool, true, false, inl, inr}
+use Rattle.std.proofs.Common.{◌≡◌, ℕ, zero, suc, ◌+◌, ◌<◌, ◌≤◌, ◌∙◌, ap, sym, refl, arith, List, [], ◌∷◌, ◌++◌, length, drop, set, get_or, get_or-set_other, Bool, true, false, inl, inr}
 use Rattle.std.proofs.lemmas.Bool.{cases_eq}
 use Rattle.std.proofs.lemmas.List.Sums.{sum_by-cons, sum_by-append}
 use mathlib.Core.Option.{some, some-injective, some-ne-none}
@@ -12,9 +12,9 @@ use Rattle.arachne_weights.specs.Tokens.{held}
 use Rattle.arachne_weights.specs.Weight.{whole}
 use Rattle.arachne_weights.proofs.Tokens.{whole-total}
 use Rattle.arachne_exec.specs.declared.view.Known.{Known}
-use Rattle.arachne_exec.specs.Board.{one, times, places_in, jobs_in, is_number, at_home, by_all, in_hands, Board, IsLawful, blank}
+use Rattle.arachne_exec.specs.Board.{one, times, places_in, jobs_in, is_number, at_home, Board, IsLawful, blank}
 use Rattle.arachne_exec.specs.Ending.{IsSettled}
-use Rattle.arachne_exec.proofs.Bits.{one-same, one-apart}
+use Rattle.arachne_exec.proofs.Bits.{one-apart}
 use Rattle.arachne_exec.proofs.Balancing.{more-times}
 
 drop-past : (xs : List ℕ) (x : ℕ) → length xs ≤ x → drop x xs ≡ []

@@ -1,6 +1,7 @@
 mod Bits
 pub mod Places
 mod Lowest
+mod Turning
 mod Keeping
 mod Balancing
 mod Hearing

@@ -9,7 +9,7 @@ use Rattle.std.proofs.lemmas.Nat.Bits.{bit_at-lt, bit_at-zero, bit_at_and, bit_a
 use mathlib.Core.Logic.{dite}
 use native.Mathlib.Decide.{ℕ_discrete}
 use Rattle.arachne_exec.specs.Layout.{others, places_in_word, PicksLowest}
-use Rattle.arachne_exec.proofs.Bits.{clear_same, set_other, not_one}
+use Rattle.arachne_exec.proofs.Bits.{clear_same, set_other}
 use Rattle.arachne_exec.proofs.Places.{alone, highest-last, lowest-first, none-there}
 
 -- a bit that two words have in common

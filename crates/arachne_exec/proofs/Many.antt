@@ -17,7 +17,7 @@ use Rattle.arachne_weights.specs.Tokens.{held}
 use Rattle.arachne_exec.specs.declared.view.Known.{Known}
 use Rattle.arachne_exec.specs.Layout.{ready_at, others, places_from, places_in_word}
 use Rattle.arachne_exec.specs.Board.{Board, IsLawful}
-use Rattle.arachne_exec.specs.Changes.{gained, gaining, noted}
+use Rattle.arachne_exec.specs.Changes.{gaining, noted}
 use Rattle.arachne_exec.specs.Steps.{TakesMany}
 use Rattle.arachne_exec.proofs.Bits.{clear_same, clear_other, clear_le, not_one}
 use Rattle.arachne_exec.proofs.Keeping.{ready_apart}

@@ -1,5 +1,5 @@
 -- What a seat may do: each kind of step is allowed, and tells what it says.
-use Rattle.std.proofs.Common.{◌≡◌, ◌≢◌, ◌⊎◌, inl, inr, ℕ, ◌+◌, ◌-◌, ◌*◌, ◌/◌, ◌%◌, ◌^◌, ◌<◌, ◌≤◌, true, false, List, ◌∷◌, length, get_or, set, sym, refl, ap, ◌∙◌, subst, arith, eqb, get_or-set_same, get_or-set_other}
+use Rattle.std.proofs.Common.{◌≡◌, ◌≢◌, ℕ, ◌+◌, ◌-◌, ◌*◌, ◌/◌, ◌%◌, ◌^◌, ◌<◌, ◌≤◌, List, ◌∷◌, length, get_or, set, sym, refl, ap, ◌∙◌, subst, arith, eqb, get_or-set_other}
 use Rattle.std.specs.Int.{bit_at}
 use Rattle.std.specs.Int.RustNames.{bit_and, bit_or}
 use Rattle.std.proofs.lemmas.List.{set-get_or}
@@ -11,24 +11,22 @@ use mathlib.Core.Option as maybe
 use native.Mathlib.Decide.{ℕ_discrete}
 use prog.Atomic.{either}
 use lib.ListN.{get_elem?}
-use Rattle.atomic_table.specs.Table.{Step, step, keeps, takes, gives, Act, Allows, stepped, carried_after, Valid, rest}
+use Rattle.atomic_table.specs.Table.{step, keeps, takes, gives, Act, Allows, stepped, carried_after, Valid}
 use Rattle.atomic_table.proofs.Lists.{exchanged}
 use Rattle.arachne_weights.specs.declared.token.Token.{Token}
 use Rattle.arachne_weights.specs.Tokens.{held, learns}
 use Rattle.arachne_exec.specs.declared.view.Known.{Known}
 use Rattle.arachne_exec.specs.declared.view.Deed.{Deed}
-use Rattle.arachne_exec.specs.Layout.{idle_at, numbers_at, summary_at, ready_at, free_at, mark_at, retired, worker_of, others, in_word}
-use Rattle.arachne_exec.specs.Board.{is_ready, is_blocked, is_idle, one, seats_of, Board, HasOneKeeper, IsBalanced, IsShown, WakesSleepers, IsLawful}
-use Rattle.arachne_exec.specs.Changes.{older, newest_job, newest_place, gained, unblocking, readying, blocking, spawning, beginning, ending, marking, hearing, noted, rousing, unshowing, owing, having_seen, working}
-use Rattle.arachne_exec.specs.Steps.{Mine, with, knowing, Looks, Takes, Claims, Frees, Readies, Spawns, Begins, Blocks, Renews, Retires, Hears, Wakes, Marks, FindsShown, Shows, Hides, LooksAgain, LooksIdle, Unparks, Rises, Rests, LooksNext, Registers, Leaves}
-use Rattle.arachne_exec.proofs.Bits.{one-same, one-apart, same_others, clear_same, clear_other, clear_le, unset, set_same, set_other, not_one, elsewhere, here}
-use Rattle.arachne_weights.proofs.Totals.{total-set}
-use Rattle.arachne_exec.proofs.Keeping.{ready_apart, free_apart, mark_apart, in-hand, home-of-ready, home-of-blocked, keeps-take, keeps-claim, keeps-ready, keeps-free, keeps-block, keeps-wake, keeps-mark, keeps-aside, keeps-places, keeps-view, hands-renumbered}
+use Rattle.arachne_exec.specs.Layout.{idle_at, numbers_at, summary_at, ready_at, free_at, mark_at, retired, others, in_word}
+use Rattle.arachne_exec.specs.Board.{is_blocked, Board, HasOneKeeper, IsBalanced, IsShown, WakesSleepers, IsLawful}
+use Rattle.arachne_exec.specs.Changes.{older, newest_job, newest_place, gained, unblocking, readying, blocking, spawning, beginning, ending, marking, hearing, noted, unshowing}
+use Rattle.arachne_exec.specs.Steps.{Mine, with, knowing, Looks, Takes, Claims, Frees, Readies, Spawns, Begins, Blocks, Renews, Retires, Hears, Wakes, Marks}
+use Rattle.arachne_exec.proofs.Bits.{same_others, clear_le, unset, not_one}
+use Rattle.arachne_exec.proofs.Keeping.{ready_apart, free_apart, mark_apart, in-hand, home-of-ready, home-of-blocked, keeps-take, keeps-claim, keeps-ready, keeps-free, keeps-block, keeps-wake, keeps-mark, keeps-places, keeps-view, hands-renumbered}
 use Rattle.arachne_exec.proofs.Balancing.{balanced-same, balanced-taken, balanced-put, balanced-spawned, balanced-begun, balanced-ended}
 use Rattle.arachne_exec.proofs.Hearing.{hears-on, as-marked, hears-mark, hears-clear}
-use Rattle.arachne_exec.proofs.Debts.{with-same, with-more, with-others}
-use Rattle.arachne_exec.proofs.KeepsShown.{shows-on, shows-owing, shows-paid}
-use Rattle.arachne_exec.proofs.Sleeping.{seats-same, keeps-sleep, sleeps-on}
+use Rattle.arachne_exec.proofs.KeepsShown.{shows-on, shows-owing}
+use Rattle.arachne_exec.proofs.Sleeping.{sleeps-on}
 
 same_place : (p q : ℕ) → p / 64 ≡ q / 64 → p % 64 ≡ q % 64 → p ≡ q
 same_place p q e r = omega (arith, e, r)

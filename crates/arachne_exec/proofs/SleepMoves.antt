@@ -1,30 +1,27 @@
 -- What a seat may do with summary words, the idle word and worker numbers: each kind of step is allowed, and tells what
 -- it says.
-use Rattle.std.proofs.Common.{◌≡◌, ◌≢◌, ◌⊎◌, inl, inr, ℕ, ◌+◌, ◌-◌, ◌*◌, ◌/◌, ◌%◌, ◌^◌, ◌<◌, ◌≤◌, true, false, List, length, get_or, set, sym, refl, ap, ◌∙◌, subst, arith, get_or-set_same, get_or-set_other}
+use Rattle.std.proofs.Common.{◌≡◌, inl, inr, ℕ, ◌+◌, ◌*◌, ◌/◌, ◌%◌, ◌^◌, ◌<◌, true, List, length, get_or, set, sym, refl, ap, ◌∙◌, subst, arith, get_or-set_same, get_or-set_other}
 use Rattle.std.specs.Int.{bit_at}
 use Rattle.std.specs.Int.RustNames.{bit_and, bit_or}
-use Rattle.std.proofs.lemmas.List.{set-get_or}
 use mathlib.Core.Logic.{dite}
 use mathlib.Core.Option.{some, none}
 use native.Mathlib.Decide.{ℕ_discrete}
 use lib.ListN.{get_elem?}
-use Rattle.atomic_table.specs.Table.{Step, step, keeps, Allows, stepped}
-use Rattle.arachne_weights.specs.declared.token.Token.{Token}
+use Rattle.atomic_table.specs.Table.{step, keeps, Allows, stepped}
 use Rattle.arachne_weights.specs.Tokens.{held, learns}
 use Rattle.arachne_exec.specs.declared.view.Known.{Known}
-use Rattle.arachne_exec.specs.Layout.{idle_at, numbers_at, summary_at, ready_at, free_at, mark_at, worker_of, others, in_word}
-use Rattle.arachne_exec.specs.Board.{is_idle, one, seats_of, owed, Board, HasOneKeeper, IsShown, WakesSleepers, IsLawful}
+use Rattle.arachne_exec.specs.Layout.{idle_at, numbers_at, summary_at, ready_at, worker_of, others, in_word}
+use Rattle.arachne_exec.specs.Board.{is_idle, Board, IsShown, WakesSleepers, IsLawful}
 use Rattle.arachne_exec.specs.Changes.{noted, rousing, unshowing, owing, having_seen, working}
-use Rattle.arachne_exec.specs.Steps.{Mine, with, knowing, FindsShown, Shows, Hides, LooksAgain, LooksIdle, Unparks, Rises, Rests, LooksNext, Registers, Leaves}
+use Rattle.arachne_exec.specs.Steps.{Mine, knowing, FindsShown, Shows, Hides, LooksAgain, LooksIdle, Unparks, Rises, Rests, LooksNext, Registers, Leaves}
 use Rattle.arachne_exec.proofs.Bits.{one-same, one-apart, same_others, clear_same, clear_other, clear_le, unset, set_same, set_other, not_one, elsewhere, here}
-use Rattle.arachne_weights.proofs.Totals.{total-set}
 use Rattle.arachne_exec.proofs.Keeping.{keeps-aside, keeps-summary, keeps-view}
 use Rattle.arachne_exec.proofs.Balancing.{balanced-same}
 use Rattle.arachne_exec.proofs.Hearing.{hears-on}
 use Rattle.arachne_exec.proofs.Debts.{with-same, with-more, with-less, with-others}
 use Rattle.arachne_exec.proofs.KeepsShown.{shows-on, shows-owing, shows-paid}
 use Rattle.arachne_exec.proofs.Sleeping.{seats-same, keeps-sleep, sleeps-on}
-use Rattle.arachne_exec.proofs.Moves.{summary_apart, clash, was_set, some_number, unchanged, stays, same_shown, same_summary, unmarked, sunk, same_ready, quiet-shows, noting}
+use Rattle.arachne_exec.proofs.Moves.{summary_apart, clash, was_set, some_number, unchanged, stays, unmarked, sunk, same_ready, quiet-shows, noting}
 
 module _ (shards slots id w : ℕ) where
   module _ (s : Board) (h : IsLawful shards s) (k l : Known) (mine : get_elem? s.views id ≡ some (held w k)) (hand : l.hand ≡ k.hand) (spawned : l.spawned ≡ k.spawned) (ended : l.ended ≡ k.ended)

@@ -6,7 +6,7 @@ use mathlib.Core.Option as maybe
 use lib.ListN.{get_elem?}
 use Rattle.atomic_table.proofs.Lists.{at_set}
 use Rattle.arachne_weights.specs.declared.token.Token.{Token}
-use Rattle.arachne_weights.proofs.Totals.{total-set, two-le-total}
+use Rattle.arachne_weights.proofs.Totals.{two-le-total}
 use Rattle.arachne_exec.specs.declared.view.Known.{Known}
 use Rattle.arachne_exec.specs.Layout.{idle_at, numbers_at, summary_at}
 use Rattle.arachne_exec.specs.Board.{one, owed, seats_of, is_idle, Board, WakesSleepers}

@@ -10,7 +10,7 @@ use Rattle.arachne_weights.specs.declared.token.Token.{Token}
 use Rattle.arachne_weights.specs.Tokens.{IsReachable, held}
 use Rattle.arachne_weights.specs.Weight.{whole}
 use Rattle.arachne_exec.specs.declared.view.Known.{Known}
-use Rattle.arachne_exec.specs.Layout.{idle_at, numbers_at, summary_at, ready_at, free_at, mark_at, words_of, worker_of, in_word}
+use Rattle.arachne_exec.specs.Layout.{idle_at, numbers_at, summary_at, ready_at, free_at, mark_at, words_of, in_word}
 
 -- the words, the jobs that are at home, and what seats know
 abbrev pub Board : Type 0

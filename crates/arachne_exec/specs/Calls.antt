@@ -1,5 +1,5 @@
 -- What each call answers, by what its seat has and knows then.
-use Rattle.std.specs.Prelude.{◌≡◌, ◌≢◌, ◌⊎◌, ℕ, ◌+◌, ◌*◌, ◌/◌, ◌%◌, ◌<◌, ◌≤◌, List, ◌∷◌, ◌++◌, map}
+use Rattle.std.specs.Prelude.{◌≡◌, ◌≢◌, ◌⊎◌, ℕ, ◌+◌, ◌*◌, ◌/◌, ◌%◌, ◌<◌, ◌≤◌, ◌^◌, ◌↔◌, IsTrue, List, ◌∷◌, ◌++◌, map}
 use Rattle.std.specs.Int.{bit_at}
 use Rattle.std.specs.Int.RustNames.{bit_and}
 use Rattle.arachne_exec.specs.declared.view.Known.{Known}
@@ -19,7 +19,9 @@ use Rattle.arachne_exec.specs.declared.answers.WokenHere.{WokenHere}
 use Rattle.arachne_exec.specs.declared.answers.WokenHere.TheVariants as here
 use Rattle.arachne_exec.specs.declared.waking.Found.{Found}
 use Rattle.arachne_exec.specs.declared.waking.Found.TheVariants as found
+use Rattle.arachne_exec.specs.declared.turns.Taken.{Taken}
 use Rattle.arachne_exec.specs.Seats.{CallView}
+use Rattle.arachne_exec.specs.Turns.{IsFirstFrom}
 use Rattle.arachne_exec.specs.Layout.{summary_at, ready_at, free_at, mark_at, places_in_word, PicksLowest, worker_of, last_generation, name_of}
 use Rattle.arachne_exec.specs.Changes.{older, gained, gaining, unblocking, readying, blocking, spawning, beginning, ending, marking, hearing, noted, rousing, having_seen}
 
@@ -74,6 +76,12 @@ pub record HasTaken (job : Job) (block : ℕ) (k after : Known) : Type 0 where
   pub named : job.name ≡ name_of job.place mark
   pub heard : ℕ
   pub known : after ≡ hearing (heard % 2) job.place (noted (mark_at job.place) mark (gained job.place job.job (noted (ready_at block) ready k)))
+
+-- within a call: of the ready places of the block it was the first from that index on; with it whether there was another behind
+pub record HasTakenFrom (from : ℕ) (taken : Taken) (block : ℕ) (k after : Known) : Type 0 where
+  pub took : HasTaken taken.job block k after
+  pub first : IsFirstFrom took.ready from (taken.job.place % 64)
+  pub more : IsTrue taken.more ↔ (2 * 2 ^ (taken.job.place % 64) ≤ took.ready)
 
 -- The ready word was found empty; or its lowest places were picked, so many or all, and those whose bits were then found
 -- set are in hand, with their jobs, the lowest as the newest.

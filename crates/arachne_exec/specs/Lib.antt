@@ -4,6 +4,7 @@ pub mod Board
 pub mod Changes
 pub mod Steps
 pub mod Seats
+pub mod Turns
 pub mod Calls
 pub mod Ending
 pub mod Promises

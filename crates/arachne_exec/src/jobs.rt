@@ -4,13 +4,14 @@ ghost use Rattle.atomic_table.specs.Table.{rest};
 ghost use Rattle.arachne_exec.specs.Layout.{mark_at, name_of};
 ghost use Rattle.arachne_exec.specs.Changes.{readying, blocking, hearing, noted, rousing};
 ghost use Rattle.arachne_exec.specs.Seats.{HasNewest, IsNewest};
-ghost use Rattle.arachne_exec.specs.Calls.{worker_at, HasSpawned, HasSpawnedHere, HandsSpawned, HasTaken, HasTakenNone, HasRested, HasFinished, KeepsHand, HandsOver, LaysDown};
+ghost use Rattle.arachne_exec.specs.Calls.{worker_at, HasSpawned, HasSpawnedHere, HandsSpawned, HasTaken, HasTakenFrom, HasTakenNone, HasRested, HasFinished, KeepsHand, HandsOver, LaysDown};
 
 use crate::answers::{Job, Placed, Rested, Spawned, SpawnedHere};
 use crate::executor::Executor;
 use crate::layout::{LAST_GENERATION, free_word, mark_word, name_at, ready_word};
 use crate::seat::{CallSeat, ExecSeat};
-use crate::turns::{first_from, has_more, lowest_index};
+use crate::turns::{Taken, first_from, has_more, lowest_index};
+use crate::words::Heard;
 
 /// The mark of a place in hand, in which a wake was used up if there was one. [`Executor::refresh`] alone gives one, and
 /// no job that was ready is about to run without.
@@ -20,6 +21,23 @@ pub(crate) struct Refreshed {
 }
 
 impl Refreshed {
+    /// Of a mark that says of no wake.
+    #[inline(always)]
+    fn unmarked(mark: u64) -> Refreshed
+        requires { mark % 4 ≡ 0 }
+        ensures { result.mark ≡ mark }
+    {
+        Refreshed { mark }
+    }
+
+    /// Of a mark that was cleared.
+    #[inline(always)]
+    fn cleared(mark: u64, _: Heard) -> Refreshed
+        ensures { result.mark ≡ mark }
+    {
+        Refreshed { mark }
+    }
+
     /// The job of this number at the place.
     #[inline(always)]
     pub(crate) fn job_at(&self, place: usize, job: u64) -> Job
@@ -44,10 +62,10 @@ impl Executor {
     {
         self.few();
         let mark = self.look(seat, mark_word(place));
-        if mark % 4 != 0 {
-            self.hear(seat, place);
+        if mark % 4 == 0 {
+            return Refreshed::unmarked(mark);
         }
-        Refreshed { mark }
+        Refreshed::cleared(mark, self.hear(seat, place))
     }
 
     /// Puts a job at a free place of a block, where it is ready: one try.
@@ -105,18 +123,13 @@ impl Executor {
 
     /// Takes a job that is ready at a block: one try, at the first ready place from this index on, round the block. With
     /// it whether the block had another behind that place.
-    pub(crate) fn take_from(
-        &self,
-        seat: &mut ExecSeat,
-        block: usize,
-        from: usize,
-    ) -> Option<(Job, bool)>
+    pub(crate) fn take_from(&self, seat: &mut ExecSeat, block: usize, from: usize) -> Option<Taken>
         requires own { seat.old.table ≡ self.now.table }
         requires block { block < 64 * self.now.shards }
         ensures seat { seat.new ≡ record seat.old { known = seat.new.known } }
-        ensures took { IfSome result (λ taken. HasTaken taken.0 block seat.old.known seat.new.known) }
+        ensures took { IfSome result (λ taken. HasTakenFrom from taken block seat.old.known seat.new.known) }
         ensures none { IfNone result (HasTakenNone block seat.old.known seat.new.known) }
-        ensures hand { IfSome result (λ taken. HandsOver (4096 * self.now.shards) taken.0 seat.old.known seat.new.known) }
+        ensures hand { IfSome result (λ taken. HandsOver (4096 * self.now.shards) taken.job seat.old.known seat.new.known) }
         ensures same { IfNone result (KeepsHand seat.old.known seat.new.known) }
     {
         self.few();
@@ -132,7 +145,7 @@ impl Executor {
         let mark = self.refresh(&mut seat.at, place);
         let job = self.lay(&mut seat.at, place, 0);
         self.lay(&mut seat.at, place, job);
-        Some((mark.job_at(place, job), has_more(ready, index)))
+        Some(Taken::new(mark.job_at(place, job), has_more(ready, index)))
     }
 
     /// Takes a job that is ready at a block, of any worker: one try, at the first ready place behind the index of the one
@@ -147,9 +160,8 @@ impl Executor {
         ensures same { IfNone result (KeepsHand seat.old.known seat.new.known) }
     {
         let from = seat.index;
-        let (job, _) = self.take_from(seat, block, from)?;
-        seat.index = job.place % 64 + 1;
-        Some(job)
+        let taken = self.take_from(seat, block, from)?;
+        Some(taken.in_block(&mut seat.index))
     }
 
     /// The newest job in hand is ready again. Whether the worker of its place is to be unparked.

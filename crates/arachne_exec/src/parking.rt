@@ -1,5 +1,5 @@
 //! What a worker does next, and when it may park.
-ghost use Rattle.std.specs.Prelude.{◌≡◌, ℕ, ◌+◌, ◌*◌, ◌/◌, ◌<◌, ◌≤◌, IsTrue, IsFalse, IfSome, IfNone};
+ghost use Rattle.std.specs.Prelude.{◌≡◌, ℕ, ◌+◌, ◌*◌, ◌/◌, ◌<◌, ◌≤◌, IsTrue, IsFalse, IfSome, IfNone, OnOk, OnErr};
 ghost use Rattle.std.specs.Int.{bit_at};
 ghost use Rattle.arachne_exec.specs.declared.view.Known.{Known};
 ghost use Rattle.arachne_exec.specs.Layout.{numbers_at};
@@ -10,7 +10,8 @@ use crate::answers::{Job, Next};
 use crate::executor::Executor;
 use crate::layout::summary_word;
 use crate::seat::{CallSeat, ExecSeat};
-use crate::turns::{Turn, has_more};
+use crate::sleepers::Risen;
+use crate::turns::shard_in_turn;
 
 /// How many of so many shards a worker looks after.
 fn shards_of(worker: usize, shards: usize) -> usize
@@ -55,22 +56,22 @@ impl Executor {
         self.clear_idle(&mut seat.at, worker);
     }
 
-    fn lie_down(&self, seat: &mut CallSeat, worker: usize) -> bool
+    /// The worker is idle, unless one of its summary words isn't empty: then it has risen.
+    fn lie_down(&self, seat: &mut CallSeat, worker: usize) -> Result<(), Risen>
         requires own { seat.old.table ≡ self.now.table }
         requires worker { (seat.old.known.worker ≡ worker + 1) × (worker < 64) }
         ensures seat { seat.new ≡ record seat.old { known = seat.new.known } }
-        ensures parks { IsTrue result → HasFoundNone self.now.shards seat.old.known seat.new.known }
-        ensures stays { IsFalse result → HasFoundSome self.now.shards worker seat.old.known seat.new.known }
+        ensures parks { OnOk result (HasFoundNone self.now.shards seat.old.known seat.new.known) }
+        ensures stays { OnErr result (HasFoundSome self.now.shards worker seat.old.known seat.new.known) }
     {
         self.few();
         self.set_idle(seat, worker);
         for next in 0..shards_of(worker, self.shards) {
             if !self.sees_none(seat, worker, next) {
-                self.clear_idle(seat, worker);
-                return false;
+                return Err(self.clear_idle(seat, worker));
             }
         }
-        true
+        Ok(())
     }
 
     /// Whether the worker may park: its idle bit is set, and after that each of its summary words was found empty.
@@ -81,7 +82,7 @@ impl Executor {
         ensures parks { IsTrue result → HasFoundNone self.now.shards seat.old.known seat.new.known }
         ensures stays { IsFalse result → HasFoundSome self.now.shards worker seat.old.known seat.new.known }
     {
-        self.lie_down(&mut seat.at, worker)
+        self.lie_down(&mut seat.at, worker).is_ok()
     }
 
     /// A job that is ready at a shard, the first from the seat's turn on. Bits of blocks that have none are cleared in its summary word.
@@ -95,21 +96,16 @@ impl Executor {
         ensures same { IfNone result (KeepsHand seat.old.known seat.new.known) }
     {
         self.few();
-        let first = seat.turn.first_block(shard);
         let shown = self.look(&mut seat.at, summary_word(shard));
-        let mut left = shown.rotate_right(first as u32);
-        while left != 0 {
-            let index = (first + left.trailing_zeros() as usize) % 64;
+        let mut left = seat.turn.unsearched(shard, shown);
+        while let Some(index) = left.next() {
             let block = 64 * shard + index;
             let from = seat.turn.first_place(block);
-            if let Some((job, more)) = self.take_from(seat, block, from) {
-                // where the search has come round, the shard has had its turn
-                let in_shard = index >= first && has_more(shown, index);
-                seat.turn = Turn::behind(job.place, more, in_shard);
-                return Some(job);
+            if let Some(taken) = self.take_from(seat, block, from) {
+                return Some(taken.in_turn(&mut seat.turn, &left));
             }
-            self.tidy(&mut seat.at, block);
-            left &= left - 1;
+            let (hidden, _) = self.tidy(&mut seat.at, block);
+            left.pass(hidden);
         }
         None
     }
@@ -126,12 +122,8 @@ impl Executor {
         let count = shards_of(worker, self.shards);
         let first = seat.turn.first_shard(count);
         for index in 0..count {
-            let index = if first + index < count {
-                first + index
-            } else {
-                first + index - count
-            };
-            if let Some(job) = self.take_in_shard(seat, worker + 64 * index) {
+            let shard = worker + 64 * shard_in_turn(first, index, count);
+            if let Some(job) = self.take_in_shard(seat, shard) {
                 return Next::Run(job);
             }
         }

@@ -7,6 +7,7 @@ ghost use Rattle.arachne_exec.specs.Seats.{HasNewest};
 
 use crate::executor::Executor;
 use crate::seat::CallSeat;
+use crate::sleepers::Hidden;
 
 impl Executor {
     /// Looks whether the worker of the shard is idle: where it is, it is no longer, and is to be unparked.
@@ -65,17 +66,19 @@ impl Executor {
         self.show(seat, place / 64)
     }
 
-    /// Clears the bit of a block in its summary word, unless it has a ready job. Whether its worker is to be unparked.
-    pub(crate) fn tidy(&self, seat: &mut CallSeat, block: usize) -> bool
+    /// Clears the bit of a block in its summary word, unless it has a ready job. With the block whether its worker is to
+    /// be unparked.
+    pub(crate) fn tidy(&self, seat: &mut CallSeat, block: usize) -> (Hidden, bool)
         requires own { seat.old.table ≡ self.now.table }
         requires block { block < 64 * self.now.shards }
         requires calm { (seat.old.known.unshown ≡ 0) × (seat.old.known.owes ≡ 0) }
-        ensures { seat.new ≡ record seat.old { known = rousing result (worker_of (block / 64)) seat.old.known } }
+        ensures hidden { result.0.block ≡ block }
+        ensures seat { seat.new ≡ record seat.old { known = rousing result.1 (worker_of (block / 64)) seat.old.known } }
     {
-        self.hide(seat, block);
+        let hidden = self.hide(seat, block);
         if self.has_none(seat, block) {
-            return false;
+            return (hidden, false);
         }
-        self.show(seat, block)
+        (hidden, self.show(seat, block))
     }
 }

@@ -11,6 +11,28 @@ use crate::steps::{
     FindShown, Hide, Leave, LookAgain, LookIdle, LookNext, Register, Rest, Rise, Show, Unpark,
 };
 
+/// A block whose bit was cleared in its summary word. [`Executor::hide`] alone gives one.
+#[derive(Drop)]
+pub(crate) struct Hidden {
+    block: usize,
+}
+
+impl Hidden {
+    /// Which block it is.
+    #[inline(always)]
+    pub(crate) fn block(&self) -> usize
+        ensures { result ≡ self.now.block }
+    {
+        self.block
+    }
+}
+
+/// A worker whose idle bit was cleared. [`Executor::clear_idle`] alone gives one.
+#[derive(Drop)]
+pub(crate) struct Risen {
+    worker: usize,
+}
+
 impl Executor {
     /// Whether the bit of the block is set in the summary word: then it is no longer owed.
     pub(crate) fn finds_shown(&self, seat: &mut CallSeat, block: usize) -> bool
@@ -40,10 +62,11 @@ impl Executor {
     }
 
     /// Clears the bit of the block in the summary word.
-    pub(crate) fn hide(&self, seat: &mut CallSeat, block: usize)
+    pub(crate) fn hide(&self, seat: &mut CallSeat, block: usize) -> Hidden
         requires own { seat.old.table ≡ self.now.table }
         requires block { block < 64 * self.now.shards }
         requires shown { seat.old.known.unshown ≡ 0 }
+        ensures hidden { result.block ≡ block }
         ensures seat { seat.new ≡ record seat.old { known = unshowing (block + 1) seat.old.known } }
     {
         let _ = self.shards;
@@ -53,6 +76,7 @@ impl Executor {
             summary_word(block / 64),
             all_but(block % 64),
         );
+        Hidden { block }
     }
 
     /// Whether the block has no ready job: then its bit in the summary word is no longer owed.
@@ -104,14 +128,16 @@ impl Executor {
     }
 
     /// The worker is idle no longer.
-    pub(crate) fn clear_idle(&self, seat: &mut CallSeat, worker: usize)
+    pub(crate) fn clear_idle(&self, seat: &mut CallSeat, worker: usize) -> Risen
         requires own { seat.old.table ≡ self.now.table }
         requires worker { (seat.old.known.worker ≡ worker + 1) × (worker < 64) }
+        ensures risen { result.worker ≡ worker }
         ensures seat { seat.new ≡ seat.old }
     {
         let _ = self.shards;
         let shared = &self.table.shared;
         shared.fetch_and::<Rise>(&mut seat.seat, IDLE, all_but(worker));
+        Risen { worker }
     }
 
     /// Looks at the worker's next summary word. Whether it is empty.

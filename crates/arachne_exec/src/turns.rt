@@ -1,6 +1,13 @@
 //! Where a search begins, so that jobs which are ready again and again don't keep others waiting.
-ghost use Rattle.std.specs.Prelude.{◌≡◌, ◌≢◌, ◌⊎◌, ◌↔◌, ℕ, ◌+◌, ◌-◌, ◌*◌, ◌/◌, ◌%◌, ◌^◌, ◌<◌, ◌≤◌, false, true, IsTrue};
+ghost use Rattle.std.specs.Prelude.{◌≡◌, ◌≢◌, ◌⊎◌, ◌↔◌, ℕ, ◌+◌, ◌-◌, ◌*◌, ◌/◌, ◌%◌, ◌^◌, ◌<◌, ◌≤◌, false, true, IsTrue, IfSome, IfNone};
 ghost use Rattle.std.specs.Int.{bit_at};
+ghost use Rattle.std.specs.Int.RustNames.{bit_and};
+ghost use Rattle.arachne_exec.specs.Layout.{others};
+ghost use Rattle.arachne_exec.specs.Turns.{IsFirstFrom, HasMoreBehind};
+
+use crate::answers::Job;
+use crate::layout::all_but;
+use crate::sleepers::Hidden;
 
 /// The lowest index whose bit is set.
 pub(crate) fn lowest_index(word: u64) -> usize
@@ -15,14 +22,14 @@ pub(crate) fn lowest_index(word: u64) -> usize
 /// The first index from this one on, round the word, whose bit is set.
 pub(crate) fn first_from(word: u64, from: usize) -> usize
     requires { 0 < word }
-    ensures low { result < 64 }
-    ensures there { bit_at word result ≡ 1 }
+    ensures { IsFirstFrom word from result }
 {
-    let ahead = word & (u64::MAX << (from % 64) as u32);
+    let from = from % 64;
+    let ahead = word >> from as u32;
     if ahead == 0 {
         lowest_index(word)
     } else {
-        lowest_index(ahead)
+        from + lowest_index(ahead)
     }
 }
 
@@ -32,6 +39,95 @@ pub(crate) fn has_more(word: u64, index: usize) -> bool
     ensures { IsTrue result ↔ (2 * 2 ^ index ≤ word) }
 {
     word >> index as u32 > 1
+}
+
+/// The shard of this index in turn, of so many, where that one is the first.
+pub(crate) fn shard_in_turn(first: usize, index: usize, count: usize) -> usize
+    requires first { first < count }
+    requires index { index < count }
+    ensures ahead { first + index < count → result ≡ first + index }
+    ensures round { count ≤ first + index → result + count ≡ first + index }
+{
+    if index < count - first {
+        first + index
+    } else {
+        index - (count - first)
+    }
+}
+
+/// The blocks of a shard that a search has still to look at, a bit for each, and the index at which it began.
+#[derive(Drop)]
+pub(crate) struct Unsearched {
+    blocks: u64,
+    from: usize,
+}
+
+impl Unsearched {
+    /// The index of the block that is next.
+    pub(crate) fn next(&self) -> Option<usize>
+        ensures some { IfSome result (λ index. IsFirstFrom self.now.blocks self.now.from index) }
+        ensures none { IfNone result (self.now.blocks ≡ 0) }
+    {
+        if self.blocks == 0 {
+            return None;
+        }
+        Some(first_from(self.blocks, self.from))
+    }
+
+    /// The search goes on behind a block that is shown no longer without a job.
+    pub(crate) fn pass(&mut self, hidden: Hidden)
+        ensures { self.new ≡ record self.old { blocks = bit_and self.old.blocks (others (hidden.block % 64)) } }
+    {
+        self.blocks &= all_but(hidden.block() % 64);
+    }
+
+    /// Whether there is another block behind the index, before the search comes round.
+    fn has_more(&self, index: usize) -> bool
+        requires { index < 64 }
+        ensures { IsTrue result ↔ HasMoreBehind self.now index }
+    {
+        index >= self.from && has_more(self.blocks, index)
+    }
+}
+
+/// A job that was taken, and whether its block had another ready place behind it. The job is had only by noting where
+/// the next search begins, and none can be let go.
+pub(crate) struct Taken {
+    job: Job,
+    more: bool,
+}
+
+impl Taken {
+    #[inline(always)]
+    pub(crate) fn new(job: Job, more: bool) -> Taken
+        ensures { result ≡ record { job = job; more = more } }
+    {
+        Taken { job, more }
+    }
+
+    /// The job. The next search of its worker's blocks begins behind its place.
+    pub(crate) fn in_turn(self, turn: &mut Turn, left: &Unsearched) -> Job
+        requires { self.job.place < 1048576 }
+        ensures job { result ≡ self.job }
+        ensures in_block { self.more ≡ true → turn.new.place ≡ self.job.place + 1 }
+        ensures in_shard { self.more ≡ false → HasMoreBehind left.now (self.job.place / 64 % 64) → turn.new.place ≡ self.job.place - self.job.place % 64 + 64 }
+        ensures next_shard { self.more ≡ false → ¬ HasMoreBehind left.now (self.job.place / 64 % 64) → turn.new.place ≡ self.job.place - self.job.place % 4096 + 262144 }
+    {
+        let Taken { job, more } = self;
+        let in_shard = left.has_more(job.place / 64 % 64);
+        *turn = Turn::behind(job.place, more, in_shard);
+        job
+    }
+
+    /// The job. The next take begins behind its index.
+    pub(crate) fn in_block(self, index: &mut usize) -> Job
+        ensures job { result ≡ self.job }
+        ensures index { index.new ≡ self.job.place % 64 + 1 }
+    {
+        let Taken { job, more: _ } = self;
+        *index = job.place % 64 + 1;
+        job
+    }
 }
 
 /// The place at which the next search of a worker's blocks begins.
@@ -74,8 +170,20 @@ impl Turn {
         if first < count { first } else { 0 }
     }
 
+    /// The blocks that a shard shows, to be searched in turn.
+    pub(crate) fn unsearched(&self, shard: usize, shown: u64) -> Unsearched
+        ensures blocks { result.blocks ≡ shown }
+        ensures turn { self.now.place / 4096 ≡ shard → result.from ≡ self.now.place / 64 % 64 }
+        ensures other { self.now.place / 4096 ≢ shard → result.from ≡ 0 }
+    {
+        Unsearched {
+            blocks: shown,
+            from: self.first_block(shard),
+        }
+    }
+
     /// Which block of a shard comes first.
-    pub(crate) fn first_block(&self, shard: usize) -> usize
+    fn first_block(&self, shard: usize) -> usize
         ensures within { result < 64 }
         ensures turn { self.now.place / 4096 ≡ shard → result ≡ self.now.place / 64 % 64 }
         ensures other { self.now.place / 4096 ≢ shard → result ≡ 0 }

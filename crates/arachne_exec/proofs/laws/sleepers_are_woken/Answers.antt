@@ -1,4 +1,4 @@
-use Rattle.std.proofs.Common.{◌≡◌, ℕ, ◌<◌, ◌+◌, ◌*◌, ◌/◌, ◌%◌, inl, inr, ⊎_elim, sym, ap, ◌∙◌, subst, arith, get_or}
+use Rattle.std.proofs.Common.{◌≡◌, ℕ, ◌<◌, ◌+◌, ◌*◌, ◌/◌, ◌%◌, inl, inr, ⊎_elim, sym, subst, arith, get_or}
 use Rattle.arachne_exec.specs.Layout.{summary_at}
 use Rattle.arachne_exec.specs.Board.{owed}
 use Rattle.arachne_exec.proofs.Bits.{bit-some}

@@ -1,6 +1,6 @@
 use Rattle.std.proofs.Common.{◌+◌, ◌^◌, sym, subst}
 use Rattle.std.specs.Int.RustNames.{bit_and, bit_or}
-use Rattle.arachne_exec.proofs.Lowest.{Picked, first-picked, next-picked, enough-picked, all-picked}
+use Rattle.arachne_exec.proofs.Lowest.{Picked, first-picked, next-picked}
 use Rattle.arachne_exec.proofs.taking.lowest.Goals as goal
 
 pub loop-count-init : goal.loop-count-init

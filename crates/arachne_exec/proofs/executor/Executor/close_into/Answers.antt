@@ -1,5 +1,5 @@
 use Rattle.std.proofs.Common.{◌≡◌, ℕ, suc, ◌+◌, ◌<◌, ◌∙◌, ◌++◌, ap, sym, subst, arith, rules, List, [], ◌∷◌}
-use Rattle.std.specs.Slots.{IsFull, slots_items, slots_filled, slots_len}
+use Rattle.std.specs.Slots.{slots_items, slots_filled}
 use Rattle.atomic_table.specs.Table.{Final, Seen}
 use Rattle.arachne_weights.specs.declared.token.Token.{Token}
 use Rattle.arachne_weights.specs.Tokens.{held}

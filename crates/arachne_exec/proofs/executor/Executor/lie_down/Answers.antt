@@ -4,7 +4,7 @@ use Rattle.arachne_exec.specs.Changes.{noted}
 use Rattle.arachne_exec.proofs.executor.Executor.lie_down.Goals as goal
 
 pub returns-clause-parks : goal.returns-clause-parks
-returns-clause-parks c = λ _.
+returns-clause-parks c =
     let known = ap (λ v. v.known) c.loop-next.invariant.seen in (
       c.loop-next.next,
       known,
@@ -16,7 +16,7 @@ returns-clause-parks c = λ _.
     )
 
 pub returns-then-not-sees_none-clause-stays : goal.returns-then-not-sees_none-clause-stays
-returns-then-not-sees_none-clause-stays c = λ _.
+returns-then-not-sees_none-clause-stays c =
     let next : ℕ = c.loop-next.next in let shard : ℕ = c.args.worker + 64 * next in
     let found = c.if-not-sees_none.ensures.full refl in
     let inside = c.shards_of-next-end.ensures.none next c.loop-next-test.true in (

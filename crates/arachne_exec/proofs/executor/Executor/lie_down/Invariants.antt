@@ -1,4 +1,4 @@
-use Rattle.std.proofs.Common.{◌≡◌, ℕ, ◌+◌, ◌*◌, ◌<◌, ◌≤◌}
+use Rattle.std.proofs.Common.{◌≡◌}
 use Rattle.arachne_exec.specs.Changes.{having_seen}
 use Rattle.arachne_exec.proofs.executor.Executor.lie_down.Given as goal
 

@@ -1,6 +1,5 @@
-use Rattle.std.proofs.Common.{◌≡◌, ℕ, ◌-◌, ◌^◌, ◌∙◌, List, ◌++◌, arith, ap, refl}
+use Rattle.std.proofs.Common.{ℕ, ◌∙◌, List, ◌++◌, arith, refl}
 use Rattle.arachne_exec.specs.declared.view.Known.{Known}
-use Rattle.arachne_exec.specs.Layout.{ready_at}
 use Rattle.arachne_exec.specs.Changes.{gaining, noted}
 use Rattle.arachne_exec.specs.Seats.{CallView}
 use Rattle.arachne_exec.proofs.Told.{live-told, told-view}

@@ -2,12 +2,12 @@ use Rattle.std.proofs.Common.{◌≡◌}
 use Rattle.arachne_exec.specs.Calls.{HasLooked, KeepsHand}
 use Rattle.arachne_exec.proofs.executor.Executor.take_in_shard.Given as goal
 
-abbrev pub invariant-loop-left : goal.invariant-loop-left
-invariant-loop-left l = record {
+abbrev pub invariant-loop-index : goal.invariant-loop-index
+invariant-loop-index l = record {
   seat : l.seat ≡ record l.fn.seat { known = l.seat.known };
   looked : HasLooked l.fn.seat.known l.seat.known;
   hand : KeepsHand l.fn.seat.known l.seat.known;
 }
 
-abbrev pub decreases-loop-left : goal.decreases-loop-left
-decreases-loop-left l = l.left
+abbrev pub decreases-loop-index : goal.decreases-loop-index
+decreases-loop-index l = l.left.blocks
