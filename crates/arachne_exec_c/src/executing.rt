@@ -8,7 +8,7 @@ ghost use Rattle.arachne_exec.specs.Layout.{summary_at, ready_at};
 ghost use Rattle.arachne_exec_c.specs.Executing.{Exec, HasBlock, HasShard, IsEmptyHanded, IsIdle, IsNew, IsNoWorker, IsWorker, now, lowest_place, without_lowest, first_of, second_of, joined_of};
 ghost use Rattle.arachne_exec_c.specs.Codes.{refused, no_memory};
 ghost use Rattle.arachne_exec_c.specs.ExecEnd.{HasEnded};
-ghost use Rattle.arachne_exec_c.specs.ExecTold.{Spawns, SpawnsHere, LooksAt, Takes, TakesMany, Starts, GoesOn, Rests, Yields, Ends, Wakes, WakesHere, IsTaken, as_worker};
+ghost use Rattle.arachne_exec_c.specs.ExecTold.{Spawns, SpawnsHere, LooksAt, Takes, TakesMany, Starts, GoesOn, Rests, Yields, Ends, Wakes, WakesHere, IsTaken, MayTake, MayGoOn, as_worker};
 
 use crate::codes::{NO_MEMORY, REFUSED};
 use arachne_exec::{
@@ -117,8 +117,7 @@ impl Executing {
     }
 
     pub(crate) fn spawn_here(&mut self, block: usize, job: u64) -> SpawnedHere
-        requires block { HasBlock block self.old }
-        requires hand { IsEmptyHanded self.old }
+        requires { MayTake block self.old }
         ensures { SpawnsHere block job self.old self.new result }
     {
         let spawned = self.executor.spawn_here(&mut self.seat, block, job);
@@ -145,8 +144,7 @@ impl Executing {
     }
 
     pub(crate) fn take(&mut self, block: usize) -> Option<Job>
-        requires block { HasBlock block self.old }
-        requires hand { IsEmptyHanded self.old }
+        requires { MayTake block self.old }
         ensures { Takes block self.old self.new result }
     {
         let taken = self.executor.take(&mut self.seat, block);
@@ -158,8 +156,7 @@ impl Executing {
 
     /// Takes up to so many jobs of a block at once. Their places, a bit for each: the lowest is the newest in hand.
     pub(crate) fn take_many(&mut self, block: usize, most: u32) -> u64
-        requires block { HasBlock block self.old }
-        requires hand { IsEmptyHanded self.old }
+        requires { MayTake block self.old }
         ensures { TakesMany block most self.old self.new result }
     {
         let _places = self.executor.places();
@@ -177,8 +174,7 @@ impl Executing {
     }
 
     pub(crate) fn next(&mut self) -> Next
-        requires worker { IsWorker self.old }
-        requires hand { IsEmptyHanded self.old }
+        requires { MayGoOn self.old }
         ensures { GoesOn self.old self.new result }
     {
         let next = self.executor.next(&mut self.seat, self.worker - 1);
