@@ -133,8 +133,8 @@ fn answer_fork<H: Wait, T: RunJob, C: Contexts<T>, R: Rng>(
             Err(_) => Err(WorkerFault::Token),
         };
     }
-    let is_wanted = forks.openings.is_large && class == Class::Normal;
-    let made = make_room(rt, &machine.tickets, room, pass, is_wanted);
+    let wants_room = is_worth_room(class, forks.openings.is_large);
+    let made = make_room(rt, &machine.tickets, room, pass, wants_room);
     let waits = may_wait(class, has_room(rt, &machine.tickets, pass, made));
     if let Some(ticket) = held.value.put_aside(alloc, me, child, tag, waits)? {
         // Where the queue was filled meanwhile, the child waits without a ticket, for its parent.
@@ -152,6 +152,13 @@ fn may_wait(class: Class, has_room: bool) -> bool
     ensures { IsTrue result ↔ (class ≡ Class.Normal) × IsTrue has_room }
 {
     class == Class::Normal && has_room
+}
+
+/// Whether room is made in the queue for a child: one that has much to do, and may wait.
+fn is_worth_room(class: Class, is_large: bool) -> bool
+    ensures { IsTrue result ↔ (class ≡ Class.Normal) × IsTrue is_large }
+{
+    class == Class::Normal && is_large
 }
 
 /// Gives back a place at which nothing was posted. It is to be counted then.

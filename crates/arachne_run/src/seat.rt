@@ -9,7 +9,7 @@ ghost use Rattle.arachne_core.specs.declared.thread_id.ThreadId.{ThreadId};
 ghost use Rattle.arachne_run.specs.Tokens.{AreIdle, IsSetUp, ground_of};
 
 use crate::access::Access;
-use crate::claims::Claims;
+use crate::claims::{Claims, MayKeep};
 use crate::fault::WorkerFault;
 use crate::forking::{Forks, free_place, give_place_back, go_on, post_waiting};
 use crate::gate::Gate;
@@ -23,9 +23,7 @@ use arachne_jobs::{
     Openings, PlaceLeft, RunJob, RunSpares, RunThread, RunTicket, claim_again, finish, next_ticket,
 };
 use arachne_spill::SpillPass;
-use arachne_workers::{
-    Desk, Drained, Event, Grip, Halt, Post, Stop, Ticket, keeps_place, may_take_ticket,
-};
+use arachne_workers::{Desk, Drained, Event, Grip, Halt, Post, Stop, Ticket, may_take_ticket};
 use rand_core::Rng;
 use std::alloc::Global;
 use std::marker::Model;
@@ -143,14 +141,14 @@ impl<'a, H: Wait, T: RunJob, C: Contexts<T>, R: Rng + Drop, G: Gate> Seat<'a, H,
         ensures { self.new ≡ self.old }
     {
         let (machine, room) = (self.machine, self.machine.shared.room());
-        if !machine.may_keep || self.is_broken || !keeps_place(before, machine.slots) {
+        let (false, Some(may_keep)) = (self.is_broken, MayKeep::by(machine, before)) else {
             room.place_was_left(left);
             return Ok(());
-        }
+        };
         self.is_broken = true;
         let spare = &mut self.spare;
         let left = match claim_again::<H, T, C>(self.rt, &machine.table, spare, self.core, left) {
-            Ok(claim) => match self.kept.keep(claim) {
+            Ok(claim) => match self.kept.keep(claim, may_keep) {
                 Ok(()) => None,
                 Err(claim) => Some(give_place_back::<H, T, C>(self.rt, machine, spare, claim)?),
             },

@@ -17,6 +17,19 @@ pub(crate) struct Shared {
     workers: Workers,
 }
 
+/// All workers are stopped. [`Shared::stop`] alone gives one.
+#[derive(Drop)]
+pub(crate) struct Stopped {
+    all: (),
+}
+
+/// A fault was recorded, if it was the first, and all workers are stopped. [`Shared::fail`] alone gives one, and no worker
+/// ends without its tokens but with one.
+#[derive(Drop)]
+pub(crate) struct Failed {
+    stopped: Stopped,
+}
+
 // Contracts see for how many cores it is.
 impl Model for Shared {
     ghost use Rattle.std.specs.Prelude.{ℕ};
@@ -47,8 +60,9 @@ impl Shared {
     }
 
     /// Stops all workers, those that sleep or are parked too.
-    pub(crate) fn stop(&self) {
+    pub(crate) fn stop(&self) -> Stopped {
         self.workers.stop();
+        Stopped { all: () }
     }
 
     /// What is looked at before each fork.
@@ -57,10 +71,12 @@ impl Shared {
     }
 
     /// Stops all workers for a fault, which is recorded if it is the first.
-    pub(crate) fn fail<H: Wait>(&self, rt: &H, fault: WorkerFault) {
+    pub(crate) fn fail<H: Wait>(&self, rt: &H, fault: WorkerFault) -> Failed {
         let mut first = self.first_fault.lock(rt);
         keep_first(&mut first, fault);
-        self.stop();
+        Failed {
+            stopped: self.stop(),
+        }
     }
 
     /// The fault for which all workers were stopped first.

@@ -1,5 +1,5 @@
 //! The kernel threads of a run, one for each core.
-ghost use Rattle.std.specs.Prelude.{◌≡◌, ◌<◌, None, IfSome};
+ghost use Rattle.std.specs.Prelude.{◌≡◌, ◌<◌, None, IfOk, IfSome};
 ghost use Rattle.arachne_run.specs.Tokens.{AreIdle, IsSetUp, ground_of};
 
 use crate::choosers::Choosers;
@@ -7,6 +7,7 @@ use crate::fault::WorkerFault;
 use crate::gate::Gate;
 use crate::machine::Machine;
 use crate::seat::Seat;
+use crate::shared::Failed;
 use crate::tokens::Tokens;
 use arachne_arbiter::Pace;
 use arachne_contexts::{Contexts, Tagged};
@@ -101,7 +102,7 @@ impl<'a, T: RunJob, C: Contexts<T>, R: Rng + Drop, G: Gate> Team<Share<C::Seat, 
         let (alloc, machine, gate) = (self.alloc, self.machine, self.gate);
         let tokens = work_on::<H, T, C, R, G>(
             rt, alloc, machine, gate, number, chooser, tokens, root,
-        )?;
+        ).ok()?;
         Some(Share {
             tokens,
             root: None,
@@ -179,7 +180,7 @@ where
 }
 
 /// Works on one core until all stop, where there is a root from it on. The tokens, unless something is out with them
-/// after a fault. A core without a chooser has no worker, and that is a fault.
+/// after a fault, for which all are stopped. A core without a chooser has no worker, and that is a fault.
 fn work_on<H: Wait + Clock, T: RunJob, C: Contexts<T>, R: Rng + Drop, G: Gate>(
     rt: &H,
     alloc: Global,
@@ -189,23 +190,19 @@ fn work_on<H: Wait + Clock, T: RunJob, C: Contexts<T>, R: Rng + Drop, G: Gate>(
     chooser: Option<R>,
     tokens: Tokens<C::Seat, T::Ticket>,
     root: Option<T>,
-) -> Option<Tokens<C::Seat, T::Ticket>>
+) -> Result<Tokens<C::Seat, T::Ticket>, Failed>
     requires tokens { AreIdle C.sits C.idle machine.now tokens }
     requires set_up { IsSetUp C.core_count C.slot_count machine.now }
     requires core { core < machine.now.cores }
-    ensures { IfSome result (AreIdle C.sits C.idle machine.now) }
+    ensures { IfOk result (AreIdle C.sits C.idle machine.now) }
 {
     let Some(chooser) = chooser else {
-        machine.shared.fail(rt, WorkerFault::KernelThread);
-        return None;
+        return Err(machine.shared.fail(rt, WorkerFault::KernelThread));
     };
     let mut desk = Seat::open(rt, alloc, machine, gate, core, chooser, tokens);
     let root = match desk.post_root(root) {
         Ok(root) => root,
-        Err(fault) => {
-            machine.shared.fail(rt, fault);
-            return None;
-        }
+        Err(fault) => return Err(machine.shared.fail(rt, fault)),
     };
     let mut worker = Worker {
         rt,
@@ -218,20 +215,19 @@ fn work_on<H: Wait + Clock, T: RunJob, C: Contexts<T>, R: Rng + Drop, G: Gate>(
         desk,
     };
     if let Err(halt) = worker.work() {
-        machine.shared.fail(rt, WorkerFault::from(halt));
-        return None;
+        return Err(machine.shared.fail(rt, WorkerFault::from(halt)));
     }
     let Worker { desk, .. } = worker;
     into_tokens(machine, desk)
 }
 
-/// The tokens of a worker that has ended, unless something is out with them.
+/// The tokens of a worker that has ended, unless something is out with them, which is a fault.
 fn into_tokens<'a, H: Wait, T: RunJob, C: Contexts<T>, R: Rng + Drop, G: Gate>(
     machine: &Machine<C, T::Ticket>,
     desk: Seat<'a, H, T, C, R, G>,
-) -> Option<Tokens<C::Seat, T::Ticket>>
+) -> Result<Tokens<C::Seat, T::Ticket>, Failed>
     requires desk { desk ≡ ground_of machine.now }
-    ensures { IfSome result (AreIdle C.sits C.idle machine.now) }
+    ensures { IfOk result (AreIdle C.sits C.idle machine.now) }
 {
     let Seat {
         rt,
@@ -247,10 +243,9 @@ fn into_tokens<'a, H: Wait, T: RunJob, C: Contexts<T>, R: Rng + Drop, G: Gate>(
     } = desk;
     let mut kept = kept;
     if is_broken || held.is_some() || kept.take().is_some() {
-        machine.shared.fail(rt, WorkerFault::Token);
-        return None;
+        return Err(machine.shared.fail(rt, WorkerFault::Token));
     }
-    Some(Tokens {
+    Ok(Tokens {
         seat: machine.table.join_seats(rt, seat, spare),
         pass,
         holdings: access.into_holdings(),
