@@ -106,7 +106,6 @@ fn grants_by_tag(
 ) -> Result<Option<Vec<u64>>, AllocError>
     ensures grants { IfOk result (λ found. IfSome found (λ grants. (tag : ℕ) → slice_index grants.items tag ≡ grants_to tag history.now.items)) }
     ensures marked { IfOk result (λ found. IfSome found (λ grants. (who : Who) → Contains history.now.items (Grant who) → slice_index_or marks.now who.tag false ≡ true)) }
-    ensures none { IfOk result (λ found. IfNone found ((who : Who) × Contains history.now.items (Grant who) × (slice_index_or marks.now who.tag false ≡ false))) }
 {
     let mut grants = Vec::new(alloc);
     grants.resize(marks.len(), 0)?;
