@@ -1,9 +1,10 @@
 -- Counts of jobs, one more at a time.
-use Rattle.std.proofs.Common.{◌≡◌, ℕ, ◌+◌, ◌<◌, ◌≤◌, List, [], ◌∷◌, ◌++◌, length, get_or, take, sym, ap, ◌∙◌, subst, arith}
+use Rattle.std.proofs.Common.{◌≡◌, ℕ, ◌+◌, ◌<◌, ◌≤◌, List, [], ◌∷◌, ◌++◌, Option, None, Some, length, get_or, take, sym, ap, ◌∙◌, subst, arith}
 use Rattle.std.proofs.lemmas.List.Sums.{sum_by_push, sum_by_more, sum_by_more_le, sum_by-take-drop}
 use Rattle.std.proofs.lemmas.List.{at_drop_all}
 use Rattle.arachne_core.specs.declared.thread_id.ThreadId.{ThreadId}
-use Rattle.arachne_pool.specs.Jobs.{Being, count_near}
+use Rattle.arachne_pool.specs.Frames.{count_one}
+use Rattle.arachne_pool.specs.Jobs.{Being, children_of, count_near}
 use Rattle.arachne_pool.specs.Leftover.{count_placed}
 
 module _ {Job : Type 0} where
@@ -38,3 +39,8 @@ module _ {Job : Type 0} where
       (sym same) (sum_by_more_le (λ (p : ThreadId × Being Job). p.1.many) placed n entry within)
 
 pub ruleset placed_counts = (count_placed_next, count_placed_least)
+
+-- one that may be there is one more in a list
+pub length-children : {A : Type 0} (child : Option A) (others : List A) → length (children_of child others) ≡ count_one child + length others
+length-children None others = omega arith
+length-children (Some child) others = omega arith

@@ -2,18 +2,14 @@
 use Rattle.std.specs.Prelude.{ℕ, List, [], ◌∷◌, Option, None, Some}
 use Rattle.arachne_contexts.specs.Out.{Out, Thread}
 use Rattle.arachne_contexts.specs.declared.held.Held.{Held}
-use Rattle.arachne_arbiter.specs.Orders.{Progress}
-use Rattle.arachne_policy.specs.declared.orders.CoreOrder.{CoreOrder}
-use Rattle.arachne_pool.specs.Workers.{orders_of}
 
--- what a worker's seat is a seat at: the table, and how many cores it has; and the orders that the worker has
+-- what a worker's seat is a seat at: the table, and how many cores it has
 pub record Ground (Table : Type 0) : Type 0 where
   pub table : Table
   pub cores : ℕ
-  pub orders : Option (List CoreOrder)
 
-abbrev pub ground_at : {Table : Type 0} → Table → ℕ → Option Progress → Ground Table
-ground_at table cores arbiter = record { table = table; cores = cores; orders = orders_of arbiter }
+abbrev pub ground_at : {Table : Type 0} → Table → ℕ → Ground Table
+ground_at table cores = record { table = table; cores = cores }
 
 -- the thread that is held, as the table knows it
 abbrev pub thread_in : {C T H : Type 0} → (T → ℕ) → Held T H → Out C H

@@ -45,9 +45,9 @@ IsOneLeft (Some progress) = progress.applied < length progress.list
 abbrev pub AreKept : {Seat Job : Type 0} → WorkerView Seat Job → List (Being Job) → Type 0
 AreKept worker jobs = (jobs ≡ worker.waiting) × (length jobs ≡ worker.near)
 
--- a worker that was called for this core has it as its own, and the orders that it had, of which more may be applied
-abbrev pub WorksFor : {Seat Job : Type 0} → ℕ → WorkerView Seat Job → WorkerView Seat Job → Type 0
-WorksFor core old new = (new.core ≡ core) × (orders_of new.arbiter ≡ orders_of old.arbiter)
+-- a worker that was called for this core has it as its own
+abbrev pub WorksFor : {Seat Job : Type 0} → ℕ → WorkerView Seat Job → Type 0
+WorksFor core worker = worker.core ≡ core
 
 -- the orders come last in this list, behind some that close cores at once
 pub record ComeLast (orders list : List CoreOrder) : Type 0 where

@@ -95,7 +95,7 @@ impl<C: Seats> Pool<C> {
         ensures worker { IsWorkerOf C.sits C.idle self.now.table self.now.cores worker.new }
         ensures seat { OnOk result (IsSome worker.new.seat) }
         ensures fault { HasSeatAfter worker.new.seat result }
-        ensures same { WorksFor core worker.old worker.new }
+        ensures same { WorksFor core worker.new }
     {
         match self.operate(rt, worker, core, Call::Turn, None) {
             Came::Ran(found) => found,
@@ -117,7 +117,7 @@ impl<C: Seats> Pool<C> {
         requires core { core < self.now.cores }
         ensures worker { IsWorkerOf C.sits C.idle self.now.table self.now.cores worker.new }
         ensures seat { HasSeatAfter worker.new.seat result }
-        ensures same { WorksFor core worker.old worker.new }
+        ensures same { WorksFor core worker.new }
     {
         match self.operate(rt, worker, core, Call::Work, None) {
             Came::Ran(Ok(_)) => {
@@ -149,7 +149,7 @@ impl<C: Seats> Pool<C> {
         ensures output { IfOk result (J.is_result handle) }
         ensures handed_back { IfErr result (λ back. back.1 ≡ handle) }
         ensures seat { IsSome worker.new.seat ⊎ IfErr result (λ back. back.0 ≡ Token) }
-        ensures same { WorksFor core worker.old worker.new }
+        ensures same { WorksFor core worker.new }
     {
         let joined = match self.operate(rt, worker, core, Call::Join, Some(handle)) {
             Came::Joined(joined) => joined,
@@ -178,7 +178,7 @@ impl<C: Seats> Pool<C> {
         requires worker { IsWorkerOf C.sits C.idle self.now.table self.now.cores worker.old }
         requires core { core < self.now.cores }
         ensures worker { IsWorkerOf C.sits C.idle self.now.table self.now.cores worker.new }
-        ensures same { WorksFor core worker.old worker.new }
+        ensures same { WorksFor core worker.new }
         ensures answer { AnswersFor J.is_result handle result }
         ensures seat { IsSome worker.new.seat ⊎ TellsDisowned result }
     {
@@ -186,6 +186,30 @@ impl<C: Seats> Pool<C> {
         let Some(seat) = worker.seat.take() else {
             return Came::failed(PoolFault::Token, handle);
         };
+        let came = self.serve(rt, worker, seat, call, handle);
+        came.with_seat(worker.seat.is_some())
+    }
+
+    /// The same by the worker's seat, on its own core.
+    #[inline(always)]
+    fn serve<'a, H: Wait + Clock, J: PoolJob>(
+        &'a self,
+        rt: &'a H,
+        worker: &mut Worker<C::Seat, J>,
+        seat: C::Seat,
+        call: Call,
+        handle: Option<Handle<J>>,
+    ) -> Came<J>
+    where
+        C: Contexts<Spawned<J>>,
+        requires worker { IsWorkerOf C.sits C.idle self.now.table self.now.cores worker.old }
+        requires seat { IsIdleAt C.sits C.idle self.now.table seat }
+        requires core { worker.old.core < self.now.cores }
+        ensures worker { IsWorkerOf C.sits C.idle self.now.table self.now.cores worker.new }
+        ensures same { WorksFor worker.old.core worker.new }
+        ensures answer { AnswersFor J.is_result handle result }
+    {
+        let core = worker.core;
         let mut kernel = self.open(rt, worker, seat, call);
         let came = go_on(&mut kernel, handle);
         let Loop {
@@ -209,7 +233,7 @@ impl<C: Seats> Pool<C> {
             agenda,
             pace,
         };
-        came.with_seat(worker.seat.is_some())
+        came
     }
 
     /// What a worker knows of the core that it leaves, if it had one, is told to whoever works there next.
@@ -232,7 +256,7 @@ impl<C: Seats> Pool<C> {
         requires seat { IsIdleAt C.sits C.idle self.now.table seat }
         requires orders { IsArbiterFor self.now.cores worker.old.arbiter }
         requires core { worker.old.core < self.now.cores }
-        ensures { result.desk ≡ ground_at self.now.table self.now.cores worker.old.arbiter }
+        ensures { result.desk ≡ ground_at self.now.table self.now.cores }
     {
         let empty = Worker::new(worker.bench.alloc, None, 0);
         let Worker {

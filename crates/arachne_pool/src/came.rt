@@ -13,7 +13,7 @@ pub(crate) enum Came<J: PoolJob> {
 }
 
 impl<J: PoolJob> Came<J> {
-    ghost use Rattle.std.specs.Prelude.{◌≡◌, Option, false};
+    ghost use Rattle.std.specs.Prelude.{◌≡◌, ◌⊎◌, Option, true};
     ghost use Rattle.arachne_pool.specs.declared.worker.PoolFault.TheVariants.{Token};
     ghost use Rattle.arachne_pool.specs.Calls.{AnswersFor, TellsDisowned};
 
@@ -31,7 +31,7 @@ impl<J: PoolJob> Came<J> {
     /// The same where the worker has its seat. Where it has none that is told, unless a result has come.
     pub(crate) fn with_seat(self, has_seat: bool) -> Came<J>
         ensures answer { (handle : Option J) → AnswersFor J.is_result handle self → AnswersFor J.is_result handle result }
-        ensures seat { has_seat ≡ false → TellsDisowned result }
+        ensures seat { (has_seat ≡ true) ⊎ TellsDisowned result }
     {
         if has_seat {
             return self;

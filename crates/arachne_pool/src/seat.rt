@@ -60,7 +60,7 @@ impl<'a, H, J: PoolJob, C: Contexts<Spawned<J>>> Model for Seat<'a, H, J, C> {
 
     ghost Value = { Ground C };
 
-    ghost view = { λ s. ground_at s.pool.now.table s.pool.now.cores s.bench.orders };
+    ghost view = { λ s. ground_at s.pool.now.table s.pool.now.cores };
 
     ghost invariant = { λ s. (s.core < s.pool.now.cores) × C.sits s.pool.now.table s.seat × IsArbiterFor s.pool.now.cores s.bench.orders
         × (s.is_broken ≡ false → C.has s.pool.now.table s.seat (in_hand (λ job. job.tag) s.held)) };
