@@ -80,8 +80,7 @@ impl<C: Seats> Pool<C> {
     }
 
     /// One round on a core: orders that are due are applied, each job that is ready there has a slice, and a job of the
-    /// worker that waits for a place gets one. Where none is ready, one to which another core's worker has not come is
-    /// moved to this core, for the next round. Whether there was any.
+    /// worker that waits for a place gets one. Whether there was any.
     pub fn turn<'a, H: Wait + Clock, J: PoolJob>(
         &'a self,
         rt: &'a H,

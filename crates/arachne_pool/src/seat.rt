@@ -459,7 +459,7 @@ impl<'a, H: Wait, J: PoolJob, C: Contexts<Spawned<J>>> Seat<'a, H, J, C> {
 
     /// Where a job may be ready on another core, whose worker is awake and has not come to it.
     fn waiting_on(&self, core: u8) -> Option<Place> {
-        if core == self.core {
+        if core == self.core || self.call == Call::Turn {
             return None;
         }
         let word = self.pool.shared.hints().word(core)?;
