@@ -11,6 +11,7 @@ use crate::rounds::go_on;
 use crate::seat::{Call, Seat, idle_seat};
 use crate::spawned::Spawned;
 use crate::spawning::{Refusal, Refused};
+use crate::stop::Stop;
 use crate::worker::{PoolFault, Worker};
 use arachne_contexts::{Contexts, Seats};
 use arachne_workers::Worker as Loop;
@@ -63,12 +64,11 @@ impl<C: Seats> Pool<C> {
             Ok(begun) => begun,
             Err(job) => return Err(Refused::of(job, Refusal::Memory)),
         };
-        self.live.add(worker.core, bench.news());
+        let told = self.live.add(worker.core, bench.news());
         let handle = Handle::of(receiver);
-        match place::<H, J, C>(rt, self, seat, bench, job) {
+        match place::<H, J, C>(rt, self, seat, bench, job, told) {
             Ok(Some(posted)) => {
-                // Its core's kernel thread is told at once: the spawner may not come to a round of its own.
-                self.shared.hint(posted.at().place);
+                posted.tell(&self.shared);
                 Ok(handle)
             }
             Ok(None) => Ok(handle),
@@ -281,7 +281,7 @@ impl<C: Seats> Pool<C> {
                 is_broken: false,
                 seat,
                 held: None,
-                blocks: false,
+                stopped: Stop::Goes,
                 has_taken: false,
                 is_drained: false,
                 bench,

@@ -211,11 +211,11 @@ impl<C: Seats> Pool<C> {
         ensures worker { IsWorkerOf C.sits C.idle self.now.table self.now.cores worker.new }
         ensures kept { worker.new ≡ record worker.old { seat = worker.new.seat; told = worker.old.tally } }
     {
-        self.live.add(worker.core, worker.bench.news());
+        let told = self.live.add(worker.core, worker.bench.news());
         let mut seat = seat;
-        match post::<H, J, C>(rt, self, &mut seat, claim, job) {
+        match post::<H, J, C>(rt, self, &mut seat, claim, job, told) {
             Ok(posted) => {
-                self.shared.hint(posted.at().place);
+                posted.tell(&self.shared);
                 worker.seat = Some(seat);
             }
             Err(_) => worker.seat = None,

@@ -344,7 +344,7 @@ impl<J: PoolJob> Stack<J> {
         cells: &mut Cells<J>,
     ) -> Option<(J, ResultSender<J>)>
         ensures asked { self.new.asked ≡ self.old.asked }
-        ensures many { MatchOption result (self.new.many ≡ self.old.many) (λ parted. self.new.many + 1 ≡ self.old.many) }
+        ensures many { MatchOption result (self.new ≡ self.old) (λ parted. self.new.many + 1 ≡ self.old.many) }
         ensures child { IfSome result (λ parted. (parted.1.key.job.value ≡ parted.0) × J.awaits parted.0 []) }
     {
         self.links.part_oldest(alloc, cells)
