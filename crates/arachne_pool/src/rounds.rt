@@ -34,6 +34,11 @@ pub(crate) trait PoolDesk: Desk {
     fn take_short(&mut self) -> WasShort
         ensures { self.new ≡ self.old };
 
+    /// A job that is ready on another core is moved to the worker's, if there is one to which no worker has come. Whether
+    /// there was.
+    fn take_over(&mut self) -> bool
+        ensures { self.new ≡ self.old };
+
     /// Whether the core was seen to be closed and empty since this was asked last.
     fn take_drained(&mut self) -> WasDrained
         ensures { self.new ≡ self.old };
@@ -86,12 +91,18 @@ fn run_as_asked<H: Wait + Clock, D: PoolDesk>(
     }
 }
 
-/// One round, before which orders that are due are applied. Whether it found anything.
+/// One round, before which orders that are due are applied, and another one where it found nothing and a job was taken
+/// over. Whether it found anything.
 fn run_once<H: Wait + Clock, D: PoolDesk>(kernel: &mut Worker<'_, H, D>) -> Result<bool, PoolFault>
     ensures { kernel.new.desk ≡ kernel.old.desk }
 {
     kernel.tend();
-    let found = kernel.round(0);
+    let mut found = kernel.round(0);
+    if let Ok(false) = found
+        && kernel.desk.take_over()
+    {
+        found = kernel.round(0);
+    }
     let was = kernel.desk.take_short();
     kernel.desk.tell_of_ends();
     was.told()?;

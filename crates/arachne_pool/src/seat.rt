@@ -225,7 +225,10 @@ impl<'a, H: Wait, J: PoolJob, C: Contexts<Spawned<J>>> Desk for Seat<'a, H, J, C
         if !self.bench.near.is_empty() && self.pool.has_room() {
             return true;
         }
-        self.held.is_none() && !replace(&mut self.has_taken, false) && self.is_any_waiting()
+        self.call != Call::Turn
+            && self.held.is_none()
+            && !replace(&mut self.has_taken, false)
+            && self.is_any_waiting()
     }
 
     fn take_ticket(&mut self) -> Result<Ticket, Halt> {
@@ -238,7 +241,7 @@ impl<'a, H: Wait, J: PoolJob, C: Contexts<Spawned<J>>> Desk for Seat<'a, H, J, C
         let posted = place_oldest::<H, J, C>(self.rt, self.pool, &mut self.seat, bench, told)?;
         self.is_broken = false;
         let Some(posted) = posted else {
-            return Ok(if self.fetch() {
+            return Ok(if self.call != Call::Turn && self.fetch() {
                 Ticket::Gone
             } else {
                 Ticket::None
@@ -303,6 +306,10 @@ impl<'a, H: Wait, J: PoolJob, C: Contexts<Spawned<J>>> PoolDesk for Seat<'a, H, 
 
     fn take_short(&mut self) -> WasShort {
         self.bench.take_short()
+    }
+
+    fn take_over(&mut self) -> bool {
+        self.fetch()
     }
 
     fn take_drained(&mut self) -> WasDrained {
@@ -458,9 +465,10 @@ impl<'a, H: Wait, J: PoolJob, C: Contexts<Spawned<J>>> Seat<'a, H, J, C> {
         )
     }
 
-    /// Where a job may be ready on another core, whose worker is awake and has not come to it.
+    /// Where a job may be ready on another core, whose worker is awake and has not come to it. In a turn it is none that
+    /// the worker turns too: it would move jobs to and fro.
     fn waiting_on(&self, core: u8) -> Option<Place> {
-        if core == self.core || self.call == Call::Turn {
+        if core == self.core || self.call == Call::Turn && self.bench.has_turned_at(core) {
             return None;
         }
         let word = self.pool.shared.hints().word(core)?;
