@@ -9,11 +9,45 @@ use crate::queue::Post;
 use arachne_arbiter::Pace;
 use arachne_contexts::Woken;
 use arachne_core::{MarkWord, OccWord, Place, Rest, SLOTS, ThreadId};
+use std::marker::Model;
 
 /// The worker can't go on. Why is the desk's affair: it has a number for each cause.
 #[derive(Clone, Copy, Debug, PartialEq, Eq)]
 pub struct Halt {
     pub why: u8,
+}
+
+/// The worker of a core can't go on, for which its loop has ended. It can't be dropped, so that it is told.
+///
+/// Contracts see why.
+pub struct Halted {
+    halt: Halt,
+}
+
+impl Model for Halted {
+    ghost use Rattle.arachne_workers.specs.declared.desk.Halt.{Halt};
+
+    ghost Value = { Halt };
+
+    ghost view = { λ h. h.halt };
+}
+
+impl Halted {
+    #[inline(always)]
+    pub(crate) fn by(halt: Halt) -> Halted
+        ensures { result ≡ halt }
+    {
+        Halted { halt }
+    }
+
+    /// It is being told.
+    #[inline(always)]
+    pub fn halt(self) -> Halt
+        ensures { result ≡ self }
+    {
+        let Halted { halt } = self;
+        halt
+    }
 }
 
 /// What a worker does at the table and with the thread in hand. The trait has no types of its own, so that what stands on
@@ -216,14 +250,20 @@ pub(crate) fn keep_none<D: Desk>(desk: &mut D) -> Result<NoneKept, Halt>
     Ok(NoneKept { since: () })
 }
 
+/// The places that are kept were given back if that was due. [`thin_out`] alone gives one.
+#[derive(Drop)]
+pub(crate) struct Thinned {
+    done: (),
+}
+
 /// Gives back all places that are kept, if that is due by what is on the core, which has so many places.
 #[inline(always)]
-pub(crate) fn thin_out<D: Desk>(desk: &mut D, slots: u8) -> Result<(), Halt>
+pub(crate) fn thin_out<D: Desk>(desk: &mut D, slots: u8) -> Result<Thinned, Halt>
     ensures { desk.new ≡ desk.old }
 {
     let kept = desk.kept();
     if kept > 0 && policy::gives_back(desk.look(), kept, slots) {
-        return give_all_back(desk);
+        give_all_back(desk)?;
     }
-    Ok(())
+    Ok(Thinned { done: () })
 }
