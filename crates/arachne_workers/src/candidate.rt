@@ -1,8 +1,8 @@
 //! Where a thread may be ready.
 ghost use Rattle.std.specs.Prelude.{◌≡◌};
 
-/// An index of the core at which a thread may be ready. It can't be dropped: the thread is taken in hand, or the index is
-/// noted.
+/// An index of the core at which a thread may be ready. It can't be dropped: the thread is taken in hand, or the index
+/// is noted.
 pub(crate) struct Candidate {
     index: u8,
 }

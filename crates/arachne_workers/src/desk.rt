@@ -50,8 +50,8 @@ impl Halted {
     }
 }
 
-/// What a worker does at the table and with the thread in hand. The trait has no types of its own, so that what stands on
-/// it is proved in a fraction of the time. No call changes what the seat is a seat at.
+/// What a worker does at the table and with the thread in hand. The trait has no types of its own, so that what stands
+/// on it is proved in a fraction of the time. No call changes what the seat is a seat at.
 pub trait Desk {
     /// Takes the thread at an index of the core in hand, if it is ready and none is, and tells of it.
     fn take(&mut self, index: u8) -> Grip
@@ -67,8 +67,8 @@ pub trait Desk {
         ensures desk { self.new ≡ self.old }
         ensures left { OnOk result (left.new ≤ left.old) };
 
-    /// Whether the thread in hand was given something since it was taken for which others may come to wait, and has given
-    /// back nothing since.
+    /// Whether the thread in hand was given something since it was taken for which others may come to wait, and has
+    /// given back nothing since.
     fn holds(&self) -> bool;
 
     /// Puts the thread in hand back, as ready or blocked by its pause. How it rests then: one that was woken meanwhile
@@ -77,8 +77,8 @@ pub trait Desk {
         ensures { self.new ≡ self.old };
 
     /// Ends the thread in hand, which leaves what it has ended with. Its place is kept, if the core, which looked so
-    /// before, was full, and else told of as free. The id of the thread that awaits it, if there is one. Where it was the
-    /// last one, the workers are stopped.
+    /// before, was full, and else told of as free. The id of the thread that awaits it, if there is one. Where it was
+    /// the last one, the workers are stopped.
     fn end(&mut self, before: OccWord) -> Result<Option<ThreadId>, Halt>
         ensures { self.new ≡ self.old };
 
@@ -192,8 +192,8 @@ pub enum Event {
     Parks,
     /// It was parked and goes on.
     Unparked,
-    /// It slept its time out, and then found something of which nobody had told it. A few such sleeps are of threads and
-    /// tickets that nobody is told of at once; many show a missed signal.
+    /// It slept its time out, and then found something of which nobody had told it. A few such sleeps are of threads
+    /// and tickets that nobody is told of at once; many show a missed signal.
     Overslept,
     /// By the worker that has the orders: so many in all are applied now.
     Applied(usize),

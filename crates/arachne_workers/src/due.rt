@@ -197,7 +197,8 @@ pub(crate) struct WakeTold {
     done: (),
 }
 
-/// The thread in hand has freed what another one has now, so that few steps of its slice may be left. It can't be dropped.
+/// The thread in hand has freed what another one has now, so that few steps of its slice may be left. It can't be
+/// dropped.
 pub(crate) struct Freed {
     past: (),
 }

@@ -101,9 +101,9 @@ impl<'a, H: Wait + Clock, D: Desk> Worker<'a, H, D> {
         Ok(end)
     }
 
-    /// Whether the thread in hand has another slice at once after one that has ended so: it holds what others may come to
-    /// wait for, or no other is known to be ready, no ticket could be taken in the round that found this one, and the
-    /// workers go on.
+    /// Whether the thread in hand has another slice at once after one that has ended so: it holds what others may come
+    /// to wait for, or no other is known to be ready, no ticket could be taken in the round that found this one, and
+    /// the workers go on.
     fn goes_on(&mut self, turn: &mut Turn, end: SliceEnd) -> Option<Leave>
         ensures desk { self.new.desk ≡ self.old.desk }
         ensures same { (self.new.agenda ≡ self.old.agenda) × (self.new.slices ≡ self.old.slices) }
@@ -120,8 +120,8 @@ impl<'a, H: Wait + Clock, D: Desk> Worker<'a, H, D> {
         most.leave(self.desk.look(), others, takes_ticket, running)
     }
 
-    /// One slice of the thread in hand, before which orders were looked at: it goes on for at most as many steps as it has
-    /// leave for.
+    /// One slice of the thread in hand, before which orders were looked at: it goes on for at most as many steps as it
+    /// has leave for.
     fn slice(&mut self, leave: Leave, tended: Tended) -> Result<SliceEnd, Halt>
         ensures desk { self.new.desk ≡ self.old.desk }
         ensures number { self.new.slices ≡ min (self.old.slices + 1) u64.MAX }
@@ -144,8 +144,8 @@ impl<'a, H: Wait + Clock, D: Desk> Worker<'a, H, D> {
         SliceNumber::next(&mut self.slices).tell(&self.desk)
     }
 
-    /// The steps of a slice, at most as many as there is leave for: how many they are, and how it ends. Where all are used
-    /// up, all that the worker posted is told of.
+    /// The steps of a slice, at most as many as there is leave for: how many they are, and how it ends. Where all are
+    /// used up, all that the worker posted is told of.
     fn spend(&mut self, leave: Leave, numbered: Numbered) -> Result<Sliced, Halt>
         ensures desk { self.new.desk ≡ self.old.desk }
         ensures steps { IfOk result (λ sliced. sliced.steps ≤ leave.steps) }
@@ -193,8 +193,8 @@ impl<'a, H: Wait + Clock, D: Desk> Worker<'a, H, D> {
         Ok(Sliced::new(steps, EndedSo::used_up(told)))
     }
 
-    /// Ends the thread in hand, and wakes who awaits it. Its place is kept or told of as free before. Then places that are
-    /// kept may be given back.
+    /// Ends the thread in hand, and wakes who awaits it. Its place is kept or told of as free before. Then places that
+    /// are kept may be given back.
     fn end(&mut self, over: Over) -> Result<Thinned, Halt>
         ensures desk { self.new.desk ≡ self.old.desk }
         ensures others { (self.new.slices ≡ self.old.slices) × (self.new.agenda.scan ≡ self.old.agenda.scan) × (self.new.agenda.posts ≡ self.old.agenda.posts) }

@@ -15,8 +15,8 @@ use arachne_core::SLOTS;
 use std::sync::Wait;
 use std::time::{Clock, Duration};
 
-/// Places that are kept were given back if that was due, each thread that was known to be ready has had a turn, and then
-/// a ticket was looked for. [`TicketTried::after`] alone gives one.
+/// Places that are kept were given back if that was due, each thread that was known to be ready has had a turn, and
+/// then a ticket was looked for. [`TicketTried::after`] alone gives one.
 #[derive(Drop)]
 struct Scanned {
     /// Whether there was anything.
@@ -108,7 +108,8 @@ impl<'a, H: Wait + Clock, D: Desk> Worker<'a, H, D> {
         }
     }
 
-    /// Runs each thread that may be ready as far as is known, once, and then takes a ticket. Whether there was anything.
+    /// Runs each thread that may be ready as far as is known, once, and then takes a ticket. Whether there was
+    /// anything.
     fn scan(&mut self) -> Result<Scanned, Halt>
         ensures desk { self.new.desk ≡ self.old.desk }
         ensures ended { IsOk result → self.new.agenda.scan ≡ 0 }

@@ -104,8 +104,8 @@ impl<'a> Rising<'a> {
 }
 
 /// For each core a word on a cache line of its own. It has a bit for each index at which a thread may be ready, and one
-/// that says that the core's worker sleeps. A bit is a hint: the table alone says what is ready, and what no bit shows is
-/// found by a look at all that is occupied.
+/// that says that the core's worker sleeps. A bit is a hint: the table alone says what is ready, and what no bit shows
+/// is found by a look at all that is occupied.
 #[derive(Drop)]
 pub struct Hints {
     words: Vec<CachePadded<AtomicU64>>,

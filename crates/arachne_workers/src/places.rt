@@ -6,7 +6,7 @@ ghost use Rattle.arachne_core.specs.declared.mark.Mark.{Mark};
 use crate::candidate::Candidate;
 use arachne_core::{Mark, MarkWord, Place, ThreadId};
 
-/// There is no such context. [`place_by`] alone gives one.
+/// There is no such context. [`LastSeen::by`] alone gives one.
 #[derive(Drop)]
 pub(crate) struct NoContext {
     seen: (),
@@ -18,14 +18,50 @@ pub(crate) struct GoneOn {
     seen: (),
 }
 
-/// Where a thread is by its context's mark, if there is such a context.
-#[inline(always)]
-pub(crate) fn place_by(mark: Option<MarkWord>) -> Result<Place, NoContext>
-    ensures { MatchOption mark (IsErr result) (λ mark. result ≡ Ok mark.place) }
-{
-    match mark {
-        Some(mark) => Ok(mark.place()),
-        None => Err(NoContext { seen: () }),
+/// Where a thread was seen last. It can't be dropped: what moves the thread takes it, and gives where it is then.
+pub(crate) struct LastSeen {
+    place: Place,
+}
+
+impl LastSeen {
+    /// Where a thread is by its context's mark, if there is such a context.
+    #[inline(always)]
+    pub(crate) fn by(mark: Option<MarkWord>) -> Result<LastSeen, NoContext>
+        ensures { MatchOption mark (IsErr result) (λ mark. result ≡ Ok (record { place = mark.place })) }
+    {
+        match mark {
+            Some(mark) => Ok(LastSeen {
+                place: mark.place(),
+            }),
+            None => Err(NoContext { seen: () }),
+        }
+    }
+
+    /// The thread was moved, and its context's mark was looked at since.
+    #[inline(always)]
+    pub(crate) fn moved(self, mark: Option<MarkWord>) -> LastSeen
+        ensures { MatchOption mark (result ≡ self) (λ mark. result.place ≡ mark.place) }
+    {
+        let LastSeen { place } = self;
+        LastSeen {
+            place: mark.map_or(place, |mark| mark.place()),
+        }
+    }
+
+    #[inline(always)]
+    pub(crate) fn place(&self) -> Place
+        ensures { result ≡ self.now.place }
+    {
+        self.place
+    }
+
+    /// Who is to know of the thread is told that it is there.
+    #[inline(always)]
+    pub(crate) fn is_told(self) -> Place
+        ensures { result ≡ self.place }
+    {
+        let LastSeen { place } = self;
+        place
     }
 }
 

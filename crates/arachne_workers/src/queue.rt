@@ -298,7 +298,8 @@ impl Agenda {
         SliceBegun { since: () }
     }
 
-    /// How many steps of so many, which are left of a slice, may be made before the worker is to tell of what is kept back.
+    /// How many steps of so many, which are left of a slice, may be made before the worker is to tell of what is kept
+    /// back.
     #[inline(always)]
     pub(crate) fn stretch(&self, left: u32) -> Stretch
         ensures { result.steps ≡ min left (max 1 self.now.patience) }

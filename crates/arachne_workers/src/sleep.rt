@@ -107,8 +107,8 @@ pub(crate) struct Awake {
     core: u8,
 }
 
-/// The thread at a place was hinted at, and its core's worker was woken if it slept. [`Shared::hint`] alone gives one. It
-/// has no bytes.
+/// The thread at a place was hinted at, and its core's worker was woken if it slept. [`Shared::hint`] alone gives one.
+/// It has no bytes.
 #[derive(Drop)]
 pub struct Hinted {
     place: Snapshot<Place>,
@@ -281,8 +281,8 @@ impl Shared {
         parked
     }
 
-    /// A core's worker, which has looked at orders, sleeps for so long, or until a thread of its core may be ready or all
-    /// workers stop.
+    /// A core's worker, which has looked at orders, sleeps for so long, or until a thread of its core may be ready or
+    /// all workers stop.
     pub(crate) fn sleep<H: Wait>(&self, rt: &H, core: u8, spell: Duration, tended: Tended) {
         let _ = tended;
         if let Some(announced) = self.announce(core)

@@ -90,8 +90,8 @@ impl MovedTo {
 }
 
 impl<'a, H: Wait + Clock, D: Desk> Worker<'a, H, D> {
-    /// Where there are orders, the worker that has the arbiter applies those that are due, and moves threads away from a
-    /// closed core.
+    /// Where there are orders, the worker that has the arbiter applies those that are due, and moves threads away from
+    /// a closed core.
     #[inline(always)]
     pub fn tend(&mut self) -> Tended
         ensures desk { self.new.desk ≡ self.old.desk }

@@ -38,8 +38,8 @@ pub(crate) fn take<D: Desk>(desk: &mut D, candidate: Candidate) -> Grasp
     }
 }
 
-/// The thread in hand may have a slice of at most so many steps, since all workers go on. A [`Turn`] alone gives one, and
-/// each slice uses one up.
+/// The thread in hand may have a slice of at most so many steps, since all workers go on. A [`Turn`] alone gives one,
+/// and each slice uses one up.
 #[derive(Drop)]
 pub(crate) struct Leave {
     steps: u32,
@@ -169,7 +169,8 @@ impl Turn {
     }
 }
 
-/// The thread in hand has ended, and is to be ended at the desk. [`Turn::over`] alone gives one, which can't be dropped.
+/// The thread in hand has ended, and is to be ended at the desk. [`Turn::over`] alone gives one, which can't be
+/// dropped.
 pub(crate) struct Over {
     since: (),
 }

@@ -7,8 +7,8 @@ use std::hint::spin_loop;
 use std::thread;
 use std::time::{Clock, Duration};
 
-/// The worker of a core, which has looked at orders, waits without a sleep, longer the more rounds have found nothing: it spins, until a thread of the
-/// core may be ready, then yields the processor.
+/// The worker of a core, which has looked at orders, waits without a sleep, longer the more rounds have found nothing:
+/// it spins, until a thread of the core may be ready, then yields the processor.
 pub(crate) fn stay_awake<H: Clock>(
     rt: &H,
     pace: &mut Pace,

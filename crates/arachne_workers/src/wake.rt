@@ -8,7 +8,7 @@ use crate::candidate::Candidate;
 use crate::desk::{Cause, Desk, Event};
 use crate::due::{Awoken, Untold, Unwoken, WakeTold};
 use crate::execute::Worker;
-use crate::places::{index_on, place_by, ready_place};
+use crate::places::{LastSeen, index_on, ready_place};
 use crate::policy;
 use crate::queue::Agenda;
 use crate::sleep::Shared;
@@ -30,25 +30,35 @@ impl<'a, H: Wait + Clock, D: Desk> Worker<'a, H, D> {
         };
         let told = woken.tell(&self.desk);
         let (id, cause) = (woken.id(), woken.cause());
-        let mut place = match place_by(self.desk.mark_of(id.context)) {
-            Ok(place) => place,
+        let mut at = match LastSeen::by(self.desk.mark_of(id.context)) {
+            Ok(at) => at,
             Err(no_context) => return woken.is_nowhere(no_context, told),
         };
         let is_served = cause == Cause::IsServed;
-        if place.core != self.core
-            && policy::goes_on_here(
-                is_served,
-                !is_served && self.shared.hints().is_asleep(place.core),
-            )
-            && self.desk.pull(place)
-            && let Ok(here) = place_by(self.desk.mark_of(id.context))
+        let core = at.place().core;
+        if core != self.core
+            && policy::goes_on_here(is_served, !is_served && self.shared.hints().is_asleep(core))
         {
-            if here.core == self.core {
-                self.desk.told(Event::Pulled(id, place.core));
-            }
-            place = here;
+            at = self.bring_here(id, at);
         }
-        goes_on_at(&mut self.agenda, self.shared, self.core, place, woken, told);
+        goes_on_at(&mut self.agenda, self.shared, self.core, at, woken, told);
+    }
+
+    /// Moves a thread here from another core, if workers may, and tells of it. Where it is then.
+    #[inline(always)]
+    fn bring_here(&mut self, id: ThreadId, at: LastSeen) -> LastSeen
+        ensures desk { self.new.desk ≡ self.old.desk }
+        ensures same { (self.new.agenda ≡ self.old.agenda) × (self.new.slices ≡ self.old.slices) }
+    {
+        let from = at.place();
+        if !self.desk.pull(from) {
+            return at;
+        }
+        let at = at.moved(self.desk.mark_of(id.context));
+        if at.place().core == self.core {
+            self.desk.told(Event::Pulled(id, from.core));
+        }
+        at
     }
 
     /// The index of the core at which a thread is to go on next: one that holds a lock now, or, where a thread came to
@@ -118,22 +128,23 @@ pub(crate) fn posted(agenda: &mut Agenda, shared: &Shared, core: u8, untold: Unt
     }
 }
 
-/// A thread that was woken goes on at this place: on another core its worker is told, and here it goes before all others
-/// if it is served and no other does.
+/// A thread that was woken goes on at this place: on another core its worker is told, and here it goes before all
+/// others if it is served and no other does.
 fn goes_on_at(
     agenda: &mut Agenda,
     shared: &Shared,
     core: u8,
-    place: Place,
+    at: LastSeen,
     woken: Awoken,
     told: WakeTold,
 )
-    ensures elsewhere { place.core ≢ core → agenda.new ≡ agenda.old }
-    ensures next { place.core ≡ core → place.index < SLOTS → woken.cause ≡ Cause.IsServed → agenda.old.next ≡ None → agenda.new ≡ record agenda.old { next = Some place.index } }
-    ensures noted { place.core ≡ core → place.index < SLOTS → (woken.cause ≡ Cause.ChildEnded) ⊎ IsSome agenda.old.next
-        → agenda.new ≡ record agenda.old { ready = bit_or agenda.old.ready (2 ^ place.index) } }
+    ensures elsewhere { at.place.core ≢ core → agenda.new ≡ agenda.old }
+    ensures next { at.place.core ≡ core → at.place.index < SLOTS → woken.cause ≡ Cause.IsServed → agenda.old.next ≡ None → agenda.new ≡ record agenda.old { next = Some at.place.index } }
+    ensures noted { at.place.core ≡ core → at.place.index < SLOTS → (woken.cause ≡ Cause.ChildEnded) ⊎ IsSome agenda.old.next
+        → agenda.new ≡ record agenda.old { ready = bit_or agenda.old.ready (2 ^ at.place.index) } }
     ensures others { (agenda.new ≡ record agenda.old { ready = agenda.new.ready; next = agenda.new.next }) × (woken.cause ≢ Cause.IsServed → agenda.new.next ≡ agenda.old.next) }
 {
+    let place = at.is_told();
     if place.core != core {
         return woken.is_elsewhere(place, shared.hint(place), told);
     }
