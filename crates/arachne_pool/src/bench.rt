@@ -80,8 +80,8 @@ impl<J: PoolJob> Bench<J> {
         core < CORES && self.turned >> u32::from(core) & 1 != 0
     }
 
-    /// A job begins: the end that its result comes to, and the job, for which there is room among those that wait. Where
-    /// memory is refused it comes back.
+    /// A job begins: the end that its result comes to, and the job, for which there is room among those that wait.
+    /// Where memory is refused it comes back.
     pub(crate) fn begin(&mut self, job: J) -> Result<(ResultReceiver<J>, Spawned<J>), J>
         requires fresh { J.awaits job [] }
         ensures receiver { IfOk result (λ begun. begun.0.opening.key.job.value ≡ job) }
@@ -142,7 +142,8 @@ impl<J: PoolJob> Bench<J> {
         WasShort::take(&mut self.is_short)
     }
 
-    /// What was done since it was told last, with so many slices, and so many rounds that found nothing. It is told now.
+    /// What was done since it was told last, with so many slices, and so many rounds that found nothing. It is told
+    /// now.
     pub(crate) fn take_done(&mut self, slices: u64, rests: u64) -> Statistics
         ensures done { result ≡ record self.old.done { slices = slices; rests = rests } }
         ensures same { self.new ≡ record self.old { done = nothing_done } }

@@ -29,9 +29,9 @@ impl<C: Seats> Pool<C> {
     ghost use Rattle.arachne_pool.specs.declared.worker.PoolFault.TheVariants.{Token};
 
     /// Spawns a job, which gets a place of the table where a core has one, and else waits for one with the worker. Its
-    /// handle gives its result. It comes back, with why, where memory is refused or the worker has no seat; and where no
-    /// core has a place and the worker has worked for none: that keeps no job (`try_spawn`), since it may never come to a
-    /// round.
+    /// handle gives its result. It comes back, with why, where memory is refused or the worker has no seat; and where
+    /// no core has a place and the worker has worked for none: that keeps no job (`try_spawn`), since it may never come
+    /// to a round.
     pub fn spawn<H: Wait, J: PoolJob>(
         &self,
         rt: &H,

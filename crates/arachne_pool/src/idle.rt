@@ -24,8 +24,8 @@ impl Idle {
         }
     }
 
-    /// After one round more, which has found something or not, and may have parked the worker: it is to look whether all
-    /// is over where it has found nothing, and where it was parked.
+    /// After one round more, which has found something or not, and may have parked the worker: it is to look whether
+    /// all is over where it has found nothing, and where it was parked.
     #[inline(always)]
     pub(crate) fn after(self, found: bool, was: WasDrained) -> Idle
         ensures rounds { result.rounds ≡ (if found then 0 else min (self.rounds + 1) u32.MAX) }
@@ -59,8 +59,8 @@ impl Idle {
     }
 }
 
-/// Whether a core was seen to be closed and empty, as before its worker parks. What was noted of it alone gives one, and
-/// that can't be dropped, so that it is looked whether all is over.
+/// Whether a core was seen to be closed and empty, as before its worker parks. What was noted of it alone gives one,
+/// and that can't be dropped, so that it is looked whether all is over.
 pub(crate) struct WasDrained {
     drained: bool,
 }

@@ -31,8 +31,8 @@ impl Told {
     }
 }
 
-/// What a worker had counted is told. [`Live::add`] alone gives one. Each post uses one up, so that a job is told of before
-/// another kernel thread may have it, and so does the end of a job.
+/// What a worker had counted is told. [`Live::add`] alone gives one. Each post uses one up, so that a job is told of
+/// before another kernel thread may have it, and so does the end of a job.
 #[derive(Drop)]
 pub(crate) struct AllTold {
     done: (),
@@ -54,8 +54,8 @@ impl Live {
         Ok(Live { told })
     }
 
-    /// So many more were spawned and have ended, by a worker of this core, or of none where there is no such core. A job
-    /// is told of before another kernel thread may have it.
+    /// So many more were spawned and have ended, by a worker of this core, or of none where there is no such core. A
+    /// job is told of before another kernel thread may have it.
     pub(crate) fn add(&self, core: u8, news: News) -> AllTold {
         let news = news.told();
         if let Some(told) = self.told.get(usize::from(core)).or(self.told.last()) {

@@ -117,8 +117,8 @@ pub(crate) fn place_oldest<H: Wait, J: PoolJob, C: Contexts<Spawned<J>>>(
     Ok(Some(post))
 }
 
-/// The oldest child that waits with the job in hand is parted off and posted, if a core has a place for it. Where memory
-/// is refused for it that is noted, and it waits on.
+/// The oldest child that waits with the job in hand is parted off and posted, if a core has a place for it. Where
+/// memory is refused for it that is noted, and it waits on.
 #[inline(always)]
 pub(crate) fn post_oldest<H: Wait, J: PoolJob, C: Contexts<Spawned<J>>>(
     rt: &H,

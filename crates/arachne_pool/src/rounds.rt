@@ -17,8 +17,8 @@ use std::time::Clock;
 /// How many slices a worker has at most before it tells what it has done.
 const MOST_UNTOLD: u64 = 1024;
 
-/// What rounds ask of a worker's desk, beside what the worker's loop does. The trait has no types of its own, so that what
-/// stands on it is proved in a fraction of the time. No call changes what the seat is a seat at.
+/// What rounds ask of a worker's desk, beside what the worker's loop does. The trait has no types of its own, so that
+/// what stands on it is proved in a fraction of the time. No call changes what the seat is a seat at.
 pub(crate) trait PoolDesk: Desk {
     /// Which call of the pool the worker is in.
     fn call(&self) -> Call;
@@ -34,8 +34,8 @@ pub(crate) trait PoolDesk: Desk {
     fn take_short(&mut self) -> WasShort
         ensures { self.new ≡ self.old };
 
-    /// A job that is ready on another core is moved to the worker's, if there is one to which no worker has come. Whether
-    /// there was.
+    /// A job that is ready on another core is moved to the worker's, if there is one to which no worker has come.
+    /// Whether there was.
     fn take_over(&mut self) -> bool
         ensures { self.new ≡ self.old };
 

@@ -1,4 +1,5 @@
-//! A worker's seat at the table of a pool, and what is out with it: the job in hand, and nothing else between two calls.
+//! A worker's seat at the table of a pool, and what is out with it: the job in hand, and nothing else between two
+//! calls.
 ghost use Rattle.std.specs.Prelude.{◌≡◌, ◌≢◌, ◌≤◌, IfSome, false};
 ghost use Rattle.arachne_pool.specs.Grounds.{in_hand};
 ghost use Rattle.arachne_pool.specs.Workers.{IsIdleAt};
@@ -339,8 +340,8 @@ impl<'a, H: Wait, J: PoolJob, C: Contexts<Spawned<J>>> Seat<'a, H, J, C> {
             .slice(&mut bench.cells, &mut bench.tally, left, may_post)
     }
 
-    /// A slice of the job in hand stops so, by which it is put back. The pool is told of the jobs that began and ended in
-    /// it, before another kernel thread may have one of them. It has not ended: of an end `tell_of_end` tells.
+    /// A slice of the job in hand stops so, by which it is put back. The pool is told of the jobs that began and ended
+    /// in it, before another kernel thread may have one of them. It has not ended: of an end `tell_of_end` tells.
     #[inline(always)]
     fn stops(&mut self, stop: JobStop) -> AllTold
         requires { stop ≢ stopped.Ends }
@@ -392,8 +393,8 @@ impl<'a, H: Wait, J: PoolJob, C: Contexts<Spawned<J>>> Seat<'a, H, J, C> {
         }
     }
 
-    /// The job in hand is to rest until it is woken, and is told its id. While a child waits with it, it goes on in place
-    /// of that, once a slice: so the child gets the first place that is free.
+    /// The job in hand is to rest until it is woken, and is told its id. While a child waits with it, it goes on in
+    /// place of that, once a slice: so the child gets the first place that is free.
     fn fall_asleep(&self, left: &mut u32) -> JobStop
         ensures { left.new ≤ left.old }
     {
@@ -465,8 +466,8 @@ impl<'a, H: Wait, J: PoolJob, C: Contexts<Spawned<J>>> Seat<'a, H, J, C> {
         )
     }
 
-    /// Where a job may be ready on another core, whose worker is awake and has not come to it. In a turn it is none that
-    /// the worker turns too: it would move jobs to and fro.
+    /// Where a job may be ready on another core, whose worker is awake and has not come to it. In a turn it is none
+    /// that the worker turns too: it would move jobs to and fro.
     fn waiting_on(&self, core: u8) -> Option<Place> {
         if core == self.core || self.call == Call::Turn && self.bench.has_turned_at(core) {
             return None;

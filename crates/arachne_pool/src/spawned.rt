@@ -182,8 +182,8 @@ impl<J: PoolJob> Spawned<J> {
     }
 }
 
-/// A job that has ended and whose result was left. Only `Spawned::leave` makes one. It can't be dropped, so that the pool
-/// is told of its end.
+/// A job that has ended and whose result was left. Only `Spawned::leave` makes one. It can't be dropped, so that the
+/// pool is told of its end.
 ///
 /// Contracts see the job as it ended.
 pub(crate) struct Ended<J: PoolJob> {
