@@ -1,4 +1,11 @@
-//! Where a slice of a job stops.
+//! Where a slice of a job stops, and what comes of it.
+ghost use Rattle.std.specs.Prelude.{◌≡◌, None, Some, IfOk, OnErr};
+ghost use Rattle.arachne_pool.specs.Stops.{learned_after, rest_after, rests_as};
+
+use crate::live::AllTold;
+use arachne_contexts::Rested;
+use arachne_core::Rest;
+use arachne_workers::Stop as LoopStop;
 
 /// Where a slice of a job stops.
 #[derive(Clone, Copy, Debug, PartialEq, Eq)]
@@ -17,4 +24,43 @@ pub(crate) enum Stop {
     Ends,
     /// Memory was refused. All is as before.
     Short,
+}
+
+impl Stop {
+    /// How the job is put back: blocked where it waits or sleeps.
+    #[inline(always)]
+    pub(crate) fn rest(self) -> Rest
+        ensures { result ≡ rest_after self }
+    {
+        match self {
+            Stop::Waits | Stop::Sleeps => Rest::Blocked,
+            Stop::Goes | Stop::Forks | Stop::LetsGo | Stop::Ends | Stop::Short => Rest::Ready,
+        }
+    }
+
+    /// What the worker's loop learns of it, once the pool is told of the slice. Nothing yet where the oldest child that
+    /// waits with the job may get a place first.
+    #[inline(always)]
+    pub(crate) fn learned(self, told: AllTold) -> Result<LoopStop, AllTold>
+        ensures learned { IfOk result (λ stop. learned_after self ≡ Some stop) }
+        ensures places { OnErr result (learned_after self ≡ None) }
+    {
+        match self {
+            Stop::Goes | Stop::Forks => Err(told),
+            Stop::Waits | Stop::Sleeps => Ok(LoopStop::Blocks),
+            Stop::LetsGo | Stop::Short => Ok(LoopStop::Goes),
+            Stop::Ends => Ok(LoopStop::Ends),
+        }
+    }
+}
+
+/// How a job rests that was to be put back so: one that was woken before is ready.
+#[inline(always)]
+pub(crate) fn rests_so(rested: Rested, asked: Rest) -> Rest
+    ensures { result ≡ rests_as rested asked }
+{
+    match rested {
+        Rested::AsAsked => asked,
+        Rested::WokenMeanwhile => Rest::Ready,
+    }
 }

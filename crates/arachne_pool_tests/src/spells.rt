@@ -45,6 +45,9 @@ pub(crate) enum Spell {
     /// So many times it spawns a job on core 1, passes the turn, and once that job has begun there works to the end, or
     /// looks until no job lives. Then it takes the result, if it is there, as an answer. At last it stops the pool.
     Polls(u32, Sort, Until),
+    /// Once a job has begun it spawns a leaf on core 1, and comes to rounds of its own core until that has begun, or an
+    /// answer has come. Then an answer comes, and it works to the end.
+    Fetches,
 }
 
 /// How a kernel thread waits until no job lives.
@@ -94,6 +97,7 @@ pub(crate) fn work<C: Contexts<Spawned<Task>>, R: Wait + Clock>(
         Spell::Polls(times, sort, until) if pool.cores > 1 => {
             polls::<C, R>(rt, pool, board, &mut worker, times, sort, until);
         }
+        Spell::Fetches if pool.cores > 1 => fetches::<C, R>(rt, pool, board, &mut worker),
         _ => pool.stop(),
     }
     Some(worker)
@@ -288,6 +292,31 @@ fn polls<C: Contexts<Spawned<Task>>, R: Wait + Clock>(
     }
     pool.stop();
     board.pass_turn();
+}
+
+/// `Spell::Fetches`.
+fn fetches<C: Contexts<Spawned<Task>>, R: Wait + Clock>(
+    rt: &R,
+    pool: &Pool<C>,
+    board: &Arc<Board>,
+    worker: &mut Worker<C::Seat, Task>,
+)
+    requires worker { IsWorkerOf C.sits C.idle pool.now.table pool.now.cores worker.old }
+    requires core { 1 < pool.now.cores }
+    ensures worker { IsWorkerOf C.sits C.idle pool.now.table pool.now.cores worker.new }
+{
+    await_more(rt, pool, &board.begun, 0);
+    if let Some(task) = Task::new(LEAF, board) {
+        let _ = pool.try_spawn_on(rt, worker, 1, task);
+    }
+    for _ in rt.forever() {
+        if board.begun.load(Ordering::SeqCst) > 1 || board.answers() > 0 {
+            break;
+        }
+        let _ = pool.turn(rt, worker, 0);
+    }
+    board.answer();
+    let _ = pool.work(rt, worker, 0);
 }
 
 /// Waits until a count of the board is over this, or the pool is stopped.

@@ -9,6 +9,7 @@ use crate::queue::Post;
 use arachne_arbiter::Pace;
 use arachne_contexts::Woken;
 use arachne_core::{MarkWord, OccWord, Place, Rest, SLOTS, ThreadId};
+use std::marker::Model;
 
 /// The worker can't go on. Why is the desk's affair: it has a number for each cause.
 #[derive(Clone, Copy, Debug, PartialEq, Eq)]
@@ -16,8 +17,41 @@ pub struct Halt {
     pub why: u8,
 }
 
-/// What a worker does at the table and with the thread in hand. The trait has no types of its own, so that what stands on
-/// it is proved in a fraction of the time. No call changes what the seat is a seat at.
+/// The worker of a core can't go on, for which its loop has ended. It can't be dropped, so that it is told.
+///
+/// Contracts see why.
+pub struct Halted {
+    halt: Halt,
+}
+
+impl Model for Halted {
+    ghost use Rattle.arachne_workers.specs.declared.desk.Halt.{Halt};
+
+    ghost Value = { Halt };
+
+    ghost view = { λ h. h.halt };
+}
+
+impl Halted {
+    #[inline(always)]
+    pub(crate) fn by(halt: Halt) -> Halted
+        ensures { result ≡ halt }
+    {
+        Halted { halt }
+    }
+
+    /// It is being told.
+    #[inline(always)]
+    pub fn halt(self) -> Halt
+        ensures { result ≡ self }
+    {
+        let Halted { halt } = self;
+        halt
+    }
+}
+
+/// What a worker does at the table and with the thread in hand. The trait has no types of its own, so that what stands
+/// on it is proved in a fraction of the time. No call changes what the seat is a seat at.
 pub trait Desk {
     /// Takes the thread at an index of the core in hand, if it is ready and none is, and tells of it.
     fn take(&mut self, index: u8) -> Grip
@@ -33,8 +67,8 @@ pub trait Desk {
         ensures desk { self.new ≡ self.old }
         ensures left { OnOk result (left.new ≤ left.old) };
 
-    /// Whether the thread in hand was given something since it was taken for which others may come to wait, and has given
-    /// back nothing since.
+    /// Whether the thread in hand was given something since it was taken for which others may come to wait, and has
+    /// given back nothing since.
     fn holds(&self) -> bool;
 
     /// Puts the thread in hand back, as ready or blocked by its pause. How it rests then: one that was woken meanwhile
@@ -43,8 +77,8 @@ pub trait Desk {
         ensures { self.new ≡ self.old };
 
     /// Ends the thread in hand, which leaves what it has ended with. Its place is kept, if the core, which looked so
-    /// before, was full, and else told of as free. The id of the thread that awaits it, if there is one. Where it was the
-    /// last one, the workers are stopped.
+    /// before, was full, and else told of as free. The id of the thread that awaits it, if there is one. Where it was
+    /// the last one, the workers are stopped.
     fn end(&mut self, before: OccWord) -> Result<Option<ThreadId>, Halt>
         ensures { self.new ≡ self.old };
 
@@ -158,8 +192,8 @@ pub enum Event {
     Parks,
     /// It was parked and goes on.
     Unparked,
-    /// It slept its time out, and then found something of which nobody had told it. A few such sleeps are of threads and
-    /// tickets that nobody is told of at once; many show a missed signal.
+    /// It slept its time out, and then found something of which nobody had told it. A few such sleeps are of threads
+    /// and tickets that nobody is told of at once; many show a missed signal.
     Overslept,
     /// By the worker that has the orders: so many in all are applied now.
     Applied(usize),
@@ -216,14 +250,20 @@ pub(crate) fn keep_none<D: Desk>(desk: &mut D) -> Result<NoneKept, Halt>
     Ok(NoneKept { since: () })
 }
 
+/// The places that are kept were given back if that was due. [`thin_out`] alone gives one.
+#[derive(Drop)]
+pub(crate) struct Thinned {
+    done: (),
+}
+
 /// Gives back all places that are kept, if that is due by what is on the core, which has so many places.
 #[inline(always)]
-pub(crate) fn thin_out<D: Desk>(desk: &mut D, slots: u8) -> Result<(), Halt>
+pub(crate) fn thin_out<D: Desk>(desk: &mut D, slots: u8) -> Result<Thinned, Halt>
     ensures { desk.new ≡ desk.old }
 {
     let kept = desk.kept();
     if kept > 0 && policy::gives_back(desk.look(), kept, slots) {
-        return give_all_back(desk);
+        give_all_back(desk)?;
     }
-    Ok(())
+    Ok(Thinned { done: () })
 }

@@ -1,11 +1,14 @@
 //! What is due once a call of the desk has returned. None of it can be dropped, so that it is done.
 ghost use Rattle.std.specs.Prelude.{◌≡◌, None, Some, IfSome, MatchOption};
-ghost use Rattle.arachne_workers.specs.Due.{due_for, ended_at};
+ghost use Rattle.arachne_workers.specs.Due.{due_for, ended_at, event_for};
 
+use crate::candidate::Candidate;
 use crate::desk::{Cause, Desk, Event, Halt, SliceEnd, Stop, Ticket};
+use crate::places::{GoneOn, NoContext};
 use crate::queue::Post;
+use crate::sleep::Hinted;
 use crate::wake::Told;
-use arachne_core::ThreadId;
+use arachne_core::{Place, ThreadId};
 use std::sync::Wait;
 
 /// A thread that was posted, of which its core's worker is to learn.
@@ -22,13 +25,67 @@ impl Untold {
         Untold { post }
     }
 
-    /// It is being told of or kept back.
     #[inline(always)]
-    pub(crate) fn post(self) -> Post
+    pub(crate) fn id(&self) -> ThreadId
+        ensures { result ≡ self.now.post.id }
+    {
+        self.post.id
+    }
+
+    /// Where it was posted.
+    #[inline(always)]
+    pub(crate) fn place(&self) -> Place
+        ensures { result ≡ self.now.post.place }
+    {
+        self.post.place
+    }
+
+    /// It is being kept back.
+    #[inline(always)]
+    pub(crate) fn kept_back(self) -> Post
         ensures { result ≡ self.post }
     {
         let Untold { post } = self;
         post
+    }
+
+    /// It was posted on the worker's own core, and is noted.
+    #[inline(always)]
+    pub(crate) fn noted(self, core: u8)
+        requires { self.post.place.core ≡ core }
+    {
+        let _ = core;
+        let Untold { post: _ } = self;
+    }
+
+    /// It was told of where it was posted.
+    #[inline(always)]
+    pub(crate) fn told(self, hinted: Hinted)
+        requires { hinted.place.value ≡ self.post.place }
+    {
+        let _ = hinted;
+        let Untold { post: _ } = self;
+    }
+
+    /// It was told of where it is now.
+    #[inline(always)]
+    pub(crate) fn told_there(self, hinted: Hinted) {
+        let _ = hinted;
+        let Untold { post: _ } = self;
+    }
+
+    /// It went on by itself.
+    #[inline(always)]
+    pub(crate) fn went_on(self, gone: GoneOn) {
+        let _ = gone;
+        let Untold { post: _ } = self;
+    }
+
+    /// It was moved here, and is to go on next.
+    #[inline(always)]
+    pub(crate) fn goes_next(self, here: &Candidate) {
+        let _ = here;
+        let Untold { post: _ } = self;
     }
 }
 
@@ -93,17 +150,55 @@ impl Awoken {
         self.cause
     }
 
-    /// Somebody learns that it goes on, or there is no such context. Why it was woken.
+    /// What is told of it.
     #[inline(always)]
-    pub(crate) fn goes_on(self) -> Cause
-        ensures { result ≡ self.cause }
+    fn event(&self) -> Event
+        ensures { result ≡ Event.Woken self.now.id self.now.cause }
     {
-        let Awoken { id: _, cause } = self;
-        cause
+        Event::Woken(self.id, self.cause)
+    }
+
+    /// Tells the desk of it.
+    #[inline(always)]
+    pub(crate) fn tell<D: Desk>(&self, desk: &D) -> WakeTold {
+        desk.told(self.event());
+        WakeTold { done: () }
+    }
+
+    /// It is on the worker's own core, where it goes next or is noted.
+    #[inline(always)]
+    pub(crate) fn is_here(self, place: Place, core: u8, told: WakeTold)
+        requires { place.core ≡ core }
+    {
+        let _ = (place, core, told);
+        let Awoken { id: _, cause: _ } = self;
+    }
+
+    /// It is at a place of another core, whose worker was told of it.
+    #[inline(always)]
+    pub(crate) fn is_elsewhere(self, place: Place, hinted: Hinted, told: WakeTold)
+        requires { hinted.place.value ≡ place }
+    {
+        let _ = (place, hinted, told);
+        let Awoken { id: _, cause: _ } = self;
+    }
+
+    /// There is no such context.
+    #[inline(always)]
+    pub(crate) fn is_nowhere(self, no_context: NoContext, told: WakeTold) {
+        let _ = (no_context, told);
+        let Awoken { id: _, cause: _ } = self;
     }
 }
 
-/// The thread in hand has freed what another one has now, so that few steps of its slice may be left. It can't be dropped.
+/// That a thread was woken was told. [`Awoken::tell`] alone gives one.
+#[derive(Drop)]
+pub(crate) struct WakeTold {
+    done: (),
+}
+
+/// The thread in hand has freed what another one has now, so that few steps of its slice may be left. It can't be
+/// dropped.
 pub(crate) struct Freed {
     past: (),
 }
@@ -218,7 +313,8 @@ impl EndedSo {
 pub(crate) enum TicketDue {
     /// There was none.
     NoTicket,
-    TellOfLoss,
+    /// Its child waits no longer, or there was no place.
+    Lost,
     TellOfPost(Untold),
 }
 
@@ -229,15 +325,31 @@ fn due_by(ticket: Ticket) -> TicketDue
 {
     match ticket {
         Ticket::None => TicketDue::NoTicket,
-        Ticket::Gone => TicketDue::TellOfLoss,
+        Ticket::Gone => TicketDue::Lost,
         Ticket::Posted(post) => TicketDue::TellOfPost(Untold { post }),
     }
 }
 
-/// Takes a thread that waits for a place ([`Desk::take_ticket`]).
+/// What is told where this has come of a look for a ticket.
+#[inline(always)]
+fn event_by(ticket: Ticket) -> Option<Event>
+    ensures { result ≡ event_for ticket }
+{
+    match ticket {
+        Ticket::None => None,
+        Ticket::Gone => Some(Event::Ticket(false)),
+        Ticket::Posted(_) => Some(Event::Ticket(true)),
+    }
+}
+
+/// Takes a thread that waits for a place ([`Desk::take_ticket`]), and tells of it.
 #[inline(always)]
 pub(crate) fn take_ticket<D: Desk>(desk: &mut D) -> Result<TicketDue, Halt>
     ensures { desk.new ≡ desk.old }
 {
-    Ok(due_by(desk.take_ticket()?))
+    let ticket = desk.take_ticket()?;
+    if let Some(event) = event_by(ticket) {
+        desk.told(event);
+    }
+    Ok(due_by(ticket))
 }

@@ -1,7 +1,7 @@
 //! A slice of a thread, and its end.
 ghost use Rattle.std.specs.Prelude.{◌≡◌, ◌≤◌, ◌+◌, min, IfOk, IsSome};
 
-use crate::desk::{Desk, Halt, SliceEnd, Stop, thin_out};
+use crate::desk::{Desk, Halt, SliceEnd, Stop, Thinned, thin_out};
 use crate::due::EndedSo;
 use crate::policy;
 use crate::queue::Agenda;
@@ -9,11 +9,43 @@ use crate::sleep::{Shared, Sliced};
 use crate::steps::{Steps, advance};
 use crate::stopping::Running;
 use crate::tending::Tended;
-use crate::turn::{InHand, Leave, Turn};
+use crate::turn::{InHand, Leave, Over, Turn};
 use crate::wake::{posted, tell};
 use arachne_arbiter::Pace;
 use std::sync::Wait;
 use std::time::Clock;
+
+/// The number of a slice that begins. It can't be dropped, so that it is told.
+struct SliceNumber {
+    nth: u64,
+}
+
+impl SliceNumber {
+    /// That of the next slice, after so many.
+    #[inline(always)]
+    fn next(slices: &mut u64) -> SliceNumber
+        ensures number { result.nth ≡ slices.old }
+        ensures more { slices.new ≡ min (slices.old + 1) u64.MAX }
+    {
+        let nth = *slices;
+        *slices = nth.saturating_add(1);
+        SliceNumber { nth }
+    }
+
+    /// Tells the desk that the slice begins.
+    #[inline(always)]
+    fn tell<D: Desk>(self, desk: &D) -> Numbered {
+        let SliceNumber { nth } = self;
+        desk.begins(nth);
+        Numbered { told: () }
+    }
+}
+
+/// The number of a slice was told. [`SliceNumber::tell`] alone gives one, and no slice begins without.
+#[derive(Drop)]
+struct Numbered {
+    told: (),
+}
 
 /// The worker of one core.
 #[derive(Drop)]
@@ -31,11 +63,10 @@ pub struct Worker<'a, H, D> {
 }
 
 impl<'a, H: Wait + Clock, D: Desk> Worker<'a, H, D> {
-    /// The thread in hand, which was at this index, has a slice, and more as long as others may come to wait for what it
+    /// The thread in hand has a slice, and more as long as others may come to wait for what it
     /// holds or nothing else is to go on. Then it rests, or has ended. Whether it waits.
     pub(crate) fn turn(
         &mut self,
-        index: u8,
         in_hand: InHand,
         tended: Tended,
         running: Running,
@@ -48,11 +79,11 @@ impl<'a, H: Wait + Clock, D: Desk> Worker<'a, H, D> {
             Err(halt) => return Err(turn.meets(halt)),
         };
         if end == SliceEnd::Ended {
-            self.end(turn)?;
+            self.end(turn.over(end))?;
             return Ok(false);
         }
-        let rest = turn.put_back(&mut self.desk)?;
-        Ok(self.agenda.rests(index, rest))
+        let resting = turn.put_back(&mut self.desk, end)?;
+        Ok(self.agenda.rests(resting))
     }
 
     /// The slices of a turn, from the first one on. How the last one ends.
@@ -70,9 +101,9 @@ impl<'a, H: Wait + Clock, D: Desk> Worker<'a, H, D> {
         Ok(end)
     }
 
-    /// Whether the thread in hand has another slice at once after one that has ended so: it holds what others may come to
-    /// wait for, or no other is known to be ready, no ticket could be taken in the round that found this one, and the
-    /// workers go on.
+    /// Whether the thread in hand has another slice at once after one that has ended so: it holds what others may come
+    /// to wait for, or no other is known to be ready, no ticket could be taken in the round that found this one, and
+    /// the workers go on.
     fn goes_on(&mut self, turn: &mut Turn, end: SliceEnd) -> Option<Leave>
         ensures desk { self.new.desk ≡ self.old.desk }
         ensures same { (self.new.agenda ≡ self.old.agenda) × (self.new.slices ≡ self.old.slices) }
@@ -89,40 +120,40 @@ impl<'a, H: Wait + Clock, D: Desk> Worker<'a, H, D> {
         most.leave(self.desk.look(), others, takes_ticket, running)
     }
 
-    /// One slice of the thread in hand, before which orders were looked at: it goes on for at most as many steps as it has
-    /// leave for.
+    /// One slice of the thread in hand, before which orders were looked at: it goes on for at most as many steps as it
+    /// has leave for.
     fn slice(&mut self, leave: Leave, tended: Tended) -> Result<SliceEnd, Halt>
         ensures desk { self.new.desk ≡ self.old.desk }
         ensures number { self.new.slices ≡ min (self.old.slices + 1) u64.MAX }
         ensures scan { self.new.agenda.scan ≡ self.old.agenda.scan }
     {
-        self.begin(tended);
-        let sliced = self.spend(leave)?;
+        let numbered = self.begin(tended);
+        let sliced = self.spend(leave, numbered)?;
         let told = sliced.tell(&self.desk);
         Ok(self.shared.count_slice(self.core, sliced, told))
     }
 
     /// The next slice of the worker begins, before which orders were looked at.
     #[inline(always)]
-    fn begin(&mut self, tended: Tended)
+    fn begin(&mut self, tended: Tended) -> Numbered
         ensures desk { self.new.desk ≡ self.old.desk }
         ensures number { self.new.slices ≡ min (self.old.slices + 1) u64.MAX }
         ensures agenda { self.new.agenda ≡ self.old.agenda }
     {
         let _ = tended;
-        self.desk.begins(self.slices);
-        self.slices = self.slices.saturating_add(1);
+        SliceNumber::next(&mut self.slices).tell(&self.desk)
     }
 
-    /// The steps of a slice, at most as many as there is leave for: how many they are, and how it ends. Where all are used
-    /// up, all that the worker posted is told of.
-    fn spend(&mut self, leave: Leave) -> Result<Sliced, Halt>
+    /// The steps of a slice, at most as many as there is leave for: how many they are, and how it ends. Where all are
+    /// used up, all that the worker posted is told of.
+    fn spend(&mut self, leave: Leave, numbered: Numbered) -> Result<Sliced, Halt>
         ensures desk { self.new.desk ≡ self.old.desk }
         ensures steps { IfOk result (λ sliced. sliced.steps ≤ leave.steps) }
         ensures others { (self.new.slices ≡ self.old.slices) × (self.new.agenda.scan ≡ self.old.agenda.scan) }
     {
-        self.agenda.begin_slice();
-        let mut steps = Steps::new(leave.steps());
+        let _ = numbered;
+        let begun = self.agenda.begin_slice();
+        let mut steps = Steps::new(leave.steps(), begun);
         for _ in 0..leave.steps() {
             if steps.left() == 0 {
                 break;
@@ -162,13 +193,13 @@ impl<'a, H: Wait + Clock, D: Desk> Worker<'a, H, D> {
         Ok(Sliced::new(steps, EndedSo::used_up(told)))
     }
 
-    /// Ends the thread in hand, and wakes who awaits it. Its place is kept or told of as free before. Then places that are
-    /// kept may be given back.
-    fn end(&mut self, turn: Turn) -> Result<(), Halt>
+    /// Ends the thread in hand, and wakes who awaits it. Its place is kept or told of as free before. Then places that
+    /// are kept may be given back.
+    fn end(&mut self, over: Over) -> Result<Thinned, Halt>
         ensures desk { self.new.desk ≡ self.old.desk }
         ensures others { (self.new.slices ≡ self.old.slices) × (self.new.agenda.scan ≡ self.old.agenda.scan) × (self.new.agenda.posts ≡ self.old.agenda.posts) }
     {
-        if let Some(parent) = turn.end(&mut self.desk)? {
+        if let Some(parent) = over.end(&mut self.desk)? {
             self.wake(parent);
         }
         thin_out(&mut self.desk, self.slots)

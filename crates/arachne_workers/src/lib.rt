@@ -2,12 +2,15 @@
 //! hand.
 #![tactic(auto)]
 
+mod candidate;
 mod desk;
 mod drained;
 mod due;
 mod execute;
 mod find;
 mod hints;
+mod parks;
+mod places;
 mod policy;
 mod queue;
 mod refusal;
@@ -19,12 +22,12 @@ mod turn;
 mod waiting;
 mod wake;
 
-pub use desk::{Cause, Desk, Event, Grip, Halt, SliceEnd, Stop, Ticket, give_all_back};
+pub use desk::{Cause, Desk, Event, Grip, Halt, Halted, SliceEnd, Stop, Ticket, give_all_back};
 pub use drained::Drained;
 pub use execute::Worker;
 pub use hints::Hints;
 pub use policy::{keeps_place, may_keep_places, may_take_ticket};
 pub use queue::{Agenda, Post};
-pub use sleep::Shared;
+pub use sleep::{CoresHinted, Hinted, Shared};
 pub use tending::Tended;
 pub use waiting::stand_by;

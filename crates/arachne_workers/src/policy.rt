@@ -74,24 +74,24 @@ pub fn may_take_ticket(now: OccWord, kept: usize, slots: u8) -> bool
     !now.is_closed() && !now.is_exclusive() && (kept > 0 || now.count() < slots)
 }
 
-/// Whether the thread in hand has another slice at once, on a core that looks so: the core is open, and the thread holds
-/// what others may come to wait for, or no other is known to be ready and no ticket could be taken.
+/// Whether the thread in hand has another slice at once, on a core that looks so: the core is open, and the thread
+/// holds what others may come to wait for, or no other is known to be ready and no ticket could be taken.
 pub(crate) fn may_go_on(now: OccWord, holds: bool, others: bool, takes_ticket: bool) -> bool
     ensures { IsTrue result ↔ (now.closed ≡ false) × ((holds ≡ true) ⊎ ((others ≡ false) × (takes_ticket ≡ false))) }
 {
     !now.is_closed() && (holds || !others && !takes_ticket)
 }
 
-/// Whether a thread that was woken on another core goes on here, if it can be moved: one that others may wait for, and one
-/// whose core's worker sleeps.
+/// Whether a thread that was woken on another core goes on here, if it can be moved: one that others may wait for, and
+/// one whose core's worker sleeps.
 pub(crate) fn goes_on_here(is_served: bool, is_asleep: bool) -> bool
     ensures { IsTrue result ↔ (is_served ≡ true) ⊎ (is_asleep ≡ true) }
 {
     is_served || is_asleep
 }
 
-/// How many of the steps that are left of a slice a thread still makes once it has freed a lock, and the next holder is to
-/// go on here or not.
+/// How many of the steps that are left of a slice a thread still makes once it has freed a lock, and the next holder is
+/// to go on here or not.
 pub(crate) fn left_past_free(left: u32, goes_next: bool) -> u32
     ensures { result ≡ (if goes_next then min left STEPS_PAST_FREE else left) }
 {
@@ -102,8 +102,8 @@ pub(crate) fn left_past_free(left: u32, goes_next: bool) -> u32
     }
 }
 
-/// The most steps of a slice that a thread has at once after another: a quantum, and where it holds what others may come
-/// to wait for no more than so many.
+/// The most steps of a slice that a thread has at once after another: a quantum, and where it holds what others may
+/// come to wait for no more than so many.
 pub(crate) fn most_steps(quantum: u32, holds: bool, left: u32) -> u32
     ensures { result ≡ (if holds then min quantum left else quantum) }
 {
@@ -168,8 +168,8 @@ pub(crate) fn sleeps(idle: u32, may_yield: bool) -> bool
     idle > last_awake(may_yield)
 }
 
-/// Whether a round looks at all that is occupied, after so many in turn that found nothing: the first one, and each before
-/// a sleep.
+/// Whether a round looks at all that is occupied, after so many in turn that found nothing: the first one, and each
+/// before a sleep.
 #[inline(always)]
 pub(crate) fn looks_at_all(idle: u32, sleeps: bool) -> bool
     ensures { IsTrue result ↔ (idle ≡ 0) ⊎ (sleeps ≡ true) }

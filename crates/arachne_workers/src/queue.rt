@@ -9,10 +9,12 @@ ghost use Rattle.arachne_workers.specs.declared.policy.TheConstants.{MOST_KEPT_B
 ghost use Rattle.arachne_workers.specs.Lowest.{IsLowest};
 ghost use Rattle.arachne_workers.specs.Posts.{IsKeptBack, untold_of};
 
+use crate::candidate::Candidate;
 use crate::due::Untold;
-use crate::hints::bit_of;
+use crate::hints::{Indexes, bit_of};
 use crate::policy;
 use crate::refusal::{Refusal, room_for_one};
+use crate::turn::Resting;
 use crate::wake::Told;
 use arachne_core::{Place, Rest, SLOTS, ThreadId};
 use std::alloc::Global;
@@ -79,6 +81,25 @@ impl TellingDue {
     }
 }
 
+/// The next scan is to be one of all that is occupied. [`Agenda::is_look_due`] alone gives one, which can't be dropped.
+pub(crate) struct LookDue {
+    since: (),
+}
+
+impl LookDue {
+    /// What is occupied is looked at.
+    #[inline(always)]
+    pub(crate) fn done(self) {
+        let LookDue { since: () } = self;
+    }
+}
+
+/// A slice begins. [`Agenda::begin_slice`] alone gives one, and its steps are not counted without.
+#[derive(Drop)]
+pub(crate) struct SliceBegun {
+    since: (),
+}
+
 /// What a worker remembers.
 #[derive(Drop)]
 pub struct Agenda {
@@ -128,12 +149,22 @@ impl Agenda {
         self.ready |= bit_of(index);
     }
 
-    /// The thread at an index was put back, and rests so: it is noted if it is ready. Whether it waits.
-    pub(crate) fn rests(&mut self, index: u8, rest: Rest) -> bool
-        ensures waits { IsTrue result ↔ (rest ≡ Rest.Blocked) }
-        ensures ready { rest ≡ Rest.Ready → index < SLOTS → self.new.ready ≡ bit_or self.old.ready (2 ^ index) }
+    /// A thread may be ready there, and is to be taken later.
+    pub(crate) fn put_off(&mut self, candidate: Candidate)
+        ensures there { candidate.index < SLOTS → self.new.ready ≡ bit_or self.old.ready (2 ^ candidate.index) }
         ensures others { self.new ≡ record self.old { ready = self.new.ready } }
     {
+        self.note(candidate.index());
+    }
+
+    /// A thread was put back: it is noted if it is ready. Whether it waits.
+    pub(crate) fn rests(&mut self, resting: Resting) -> bool
+        ensures waits { IsTrue result ↔ (resting.rest ≡ Rest.Blocked) }
+        ensures ready { resting.rest ≡ Rest.Ready → resting.index < SLOTS
+            → self.new.ready ≡ bit_or self.old.ready (2 ^ resting.index) }
+        ensures others { self.new ≡ record self.old { ready = self.new.ready } }
+    {
+        let (index, rest) = resting.at();
         if rest == Rest::Ready {
             self.note(index);
         }
@@ -141,31 +172,32 @@ impl Agenda {
     }
 
     /// A scan begins at these indexes and those that were noted.
-    pub(crate) fn begin_scan(&mut self, indexes: u64)
-        ensures begun { (self.new.scan ≡ bit_or self.old.ready indexes) × (self.new.ready ≡ 0) }
+    pub(crate) fn begin_scan(&mut self, indexes: Indexes)
+        ensures begun { (self.new.scan ≡ bit_or self.old.ready indexes.mask) × (self.new.ready ≡ 0) }
         ensures counted { self.new.scans ≡ min (self.old.scans + 1) u32.MAX }
         ensures others { self.new ≡ record self.old { scan = self.new.scan; ready = self.new.ready; scans = self.new.scans } }
     {
-        self.scan = self.ready | indexes;
+        self.scan = self.ready | indexes.mask();
         self.ready = 0;
         self.scans = self.scans.saturating_add(1);
     }
 
     /// Whether the next scan is to be one of all that is occupied.
-    pub(crate) fn is_look_due(&mut self) -> bool
-        ensures due { IsTrue result ↔ SCANS_BETWEEN_LOOKS ≤ self.old.scans }
-        ensures counted { self.new ≡ record self.old { scans = if result then 0 else self.old.scans } }
+    pub(crate) fn is_look_due(&mut self) -> Option<LookDue>
+        ensures due { IsSome result ↔ SCANS_BETWEEN_LOOKS ≤ self.old.scans }
+        ensures counted { MatchOption result (self.new ≡ self.old) (λ _. self.new ≡ record self.old { scans = 0 }) }
     {
         let is_due = self.scans >= policy::SCANS_BETWEEN_LOOKS;
-        if is_due {
-            self.scans = 0;
+        if !is_due {
+            return None;
         }
-        is_due
+        self.scans = 0;
+        Some(LookDue { since: () })
     }
 
     /// The lowest index that is left of the scan, and is left no longer.
-    pub(crate) fn next_index(&mut self) -> Option<u8>
-        ensures lowest { MatchOption result (self.old.scan ≡ 0) (IsLowest self.old.scan) }
+    pub(crate) fn next_index(&mut self) -> Option<Candidate>
+        ensures lowest { MatchOption result (self.old.scan ≡ 0) (λ candidate. IsLowest self.old.scan candidate.index) }
         ensures fewer { IfSome result (λ _. self.new.scan < self.old.scan) }
         ensures others { self.new ≡ record self.old { scan = self.new.scan } }
     {
@@ -174,7 +206,7 @@ impl Agenda {
         }
         let index = self.scan.trailing_zeros() as u8;
         self.scan &= self.scan - 1;
-        Some(index)
+        Some(Candidate::at(index))
     }
 
     /// The scan ends before all was looked at.
@@ -212,19 +244,22 @@ impl Agenda {
     }
 
     /// The index at which a thread goes on before all others, and does no longer.
-    pub(crate) fn take_next(&mut self) -> Option<u8>
-        ensures { (result ≡ self.old.next) × (self.new ≡ record self.old { next = None }) }
+    pub(crate) fn take_next(&mut self) -> Option<Candidate>
+        ensures taken { MatchOption result (self.old.next ≡ None) (λ candidate. self.old.next ≡ Some candidate.index) }
+        ensures others { self.new ≡ record self.old { next = None } }
     {
-        self.next.take()
+        let index = self.next.take()?;
+        Some(Candidate::at(index))
     }
 
     /// A thread was posted on another core: it is told of at once, or kept back.
-    pub(crate) fn keep_back(&mut self, post: Post) -> Keeping
-        ensures kept { IsKeptBack self.old.posted self.old.posts.items post result self.new.posts.items }
+    pub(crate) fn keep_back(&mut self, untold: Untold) -> Keeping
+        ensures kept { IsKeptBack self.old.posted self.old.posts.items untold.post result self.new.posts.items }
         ensures few { length self.old.posts.items ≤ MOST_KEPT_BACK → length self.new.posts.items ≤ MOST_KEPT_BACK }
         ensures counted { self.new.posted ≡ min (self.old.posted + 1) u32.MAX }
         ensures others { self.new ≡ record self.old { posts = self.new.posts; posted = self.new.posted } }
     {
+        let post = untold.kept_back();
         let before = self.posted;
         self.posted = before.saturating_add(1);
         if !policy::keeps_back(before) {
@@ -252,7 +287,7 @@ impl Agenda {
     }
 
     /// A slice begins. If nothing is kept back, what is posted from now on may be for as long as anything.
-    pub(crate) fn begin_slice(&mut self)
+    pub(crate) fn begin_slice(&mut self) -> SliceBegun
         ensures empty { self.old.posts.items ≡ [] → self.new ≡ record self.old { patience = PATIENCE } }
         ensures kept_back { self.old.posts.items ≢ [] → self.new ≡ self.old }
         ensures others { self.new ≡ record self.old { patience = self.new.patience } }
@@ -260,9 +295,11 @@ impl Agenda {
         if self.posts.is_empty() {
             self.patience = policy::PATIENCE;
         }
+        SliceBegun { since: () }
     }
 
-    /// How many steps of so many, which are left of a slice, may be made before the worker is to tell of what is kept back.
+    /// How many steps of so many, which are left of a slice, may be made before the worker is to tell of what is kept
+    /// back.
     #[inline(always)]
     pub(crate) fn stretch(&self, left: u32) -> Stretch
         ensures { result.steps ≡ min left (max 1 self.now.patience) }

@@ -3,17 +3,18 @@ ghost use Rattle.std.specs.Prelude.{◌≡◌, ◌↔◌, ◌<◌, IfOk, IfSome,
 ghost use Rattle.std.specs.Int.{bit_at};
 ghost use Rattle.arachne_arbiter.specs.KernelThreads.{counted_cores, parked_cores};
 
-use crate::desk::{Desk, Event, NoneKept, SliceEnd};
-use crate::drained::Drained;
+use crate::desk::{Desk, Event, SliceEnd};
 use crate::due::{EndedSo, Untold};
 use crate::hints::{Hints, SLEEPS, bit_of};
+use crate::parks::{Parked, ToPark};
 use crate::steps::Steps;
-use crate::stopping::{Running, StopWord, StopWritten};
-use crate::wake::Told;
+use crate::stopping::{Roused, Running, StopWord, StopWritten};
+use crate::tending::Tended;
 use arachne_arbiter::{Parking, SliceCounts};
 use arachne_core::{CORES, FULL_MASK, Place};
 use std::alloc::{AllocError, Global};
 use std::marker::Model;
+use std::snapshot::Snapshot;
 use std::sync::Wait;
 use std::time::Duration;
 
@@ -100,6 +101,25 @@ impl Sleeper {
     }
 }
 
+/// The worker of a core was woken, if there is one. [`Shared::wake`] alone gives one.
+#[derive(Drop)]
+pub(crate) struct Awake {
+    core: u8,
+}
+
+/// The thread at a place was hinted at, and its core's worker was woken if it slept. [`Shared::hint`] alone gives one.
+/// It has no bytes.
+#[derive(Drop)]
+pub struct Hinted {
+    place: Snapshot<Place>,
+}
+
+/// The same of all threads of these cores. [`Shared::hint_cores`] alone gives one. It has no bytes.
+#[derive(Drop)]
+pub struct CoresHinted {
+    cores: Snapshot<u64>,
+}
+
 /// The word of a worker's core says that it is about to sleep. [`Shared::announce`] alone gives one.
 #[derive(Drop)]
 struct Announced {
@@ -175,37 +195,57 @@ impl Shared {
     }
 
     /// The thread at a place may be ready. The core's worker is woken if it sleeps.
-    pub fn hint(&self, place: Place) {
-        let sleeps = self.hints.hint(place.core, bit_of(place.index));
-        if let Some(sleeper) = Sleeper::of(place.core, sleeps) {
+    pub fn hint(&self, place: Place) -> Hinted
+        ensures { result.place.value ≡ place }
+    {
+        if let Some(sleeper) = self.sleeper(place.core, bit_of(place.index)) {
             self.wake(sleeper);
         }
+        Hinted {
+            place: Snapshot::of(&place),
+        }
+    }
+
+    /// Threads of a core may be ready at these indexes. The core's worker, if it sleeps.
+    #[inline(always)]
+    fn sleeper(&self, core: u8, indexes: u64) -> Option<Sleeper>
+        ensures { IfSome result (λ sleeper. sleeper.core ≡ core) }
+    {
+        Sleeper::of(core, self.hints.hint(core, indexes))
     }
 
     /// The thread that was posted may be ready, where it was posted.
     #[inline(always)]
     pub(crate) fn tell(&self, untold: Untold) {
-        self.hint(untold.post().place);
+        let hinted = self.hint(untold.place());
+        untold.told(hinted);
     }
 
     /// Threads of these cores, a bit for each, may be ready at any index.
-    pub fn hint_cores(&self, cores: u64) {
+    pub fn hint_cores(&self, cores: u64) -> CoresHinted
+        ensures { result.cores.value ≡ cores }
+    {
         for core in 0..CORES {
             if has_core(cores, core)
-                && let Some(sleeper) = Sleeper::of(core, self.hints.hint(core, FULL_MASK))
+                && let Some(sleeper) = self.sleeper(core, FULL_MASK)
             {
                 self.wake(sleeper);
             }
         }
+        CoresHinted {
+            cores: Snapshot::of(&cores),
+        }
     }
 
     /// Wakes the worker of a core that sleeps, or is about to.
-    fn wake(&self, sleeper: Sleeper) {
+    fn wake(&self, sleeper: Sleeper) -> Awake
+        ensures { result.core ≡ sleeper.core }
+    {
         let Sleeper { core } = sleeper;
-        self.hints.end_sleep(core);
-        if let Some(word) = self.hints.word(core) {
-            word.wake_one();
+        if let Some(rising) = self.hints.end_sleep(core) {
+            rising.wake();
         }
+        Awake { core }
     }
 
     /// Stops all workers, those that sleep or are parked too.
@@ -215,11 +255,11 @@ impl Shared {
 
     /// Wakes all workers, so that they see that they are to stop.
     fn wake_all(&self, written: StopWritten) {
-        written.heeded();
+        let mut roused = Roused::none(&written);
         for core in 0..CORES {
-            self.wake(Sleeper { core });
+            roused.and(self.wake(Sleeper { core }));
         }
-        self.parking.unpark_all();
+        written.heeded(roused, self.parking.unpark_all());
     }
 
     pub fn is_stopped(&self) -> bool {
@@ -232,24 +272,19 @@ impl Shared {
         self.stop.look()
     }
 
-    /// Parks the kernel thread of a core that was seen drained, until it is unparked. Called by that kernel thread alone.
-    /// What it kept back it has told of, and the places that it kept it has given back.
-    pub(crate) fn park<H: Wait>(
-        &self,
-        rt: &H,
-        core: u8,
-        drained: Drained,
-        told: Told,
-        none_kept: NoneKept,
-    ) {
-        let _ = (drained, told, none_kept);
+    /// Parks the kernel thread of a core that is to park, until it is unparked. Called by that kernel thread alone.
+    pub(crate) fn park<H: Wait>(&self, rt: &H, core: u8, to_park: ToPark) -> Parked {
+        let parked = to_park.parked();
         if usize::from(core) < self.hints.cores() {
             self.parking.park(rt, core);
         }
+        parked
     }
 
-    /// A core's worker sleeps for so long, or until a thread of its core may be ready or all workers stop.
-    pub(crate) fn sleep<H: Wait>(&self, rt: &H, core: u8, spell: Duration) {
+    /// A core's worker, which has looked at orders, sleeps for so long, or until a thread of its core may be ready or
+    /// all workers stop.
+    pub(crate) fn sleep<H: Wait>(&self, rt: &H, core: u8, spell: Duration, tended: Tended) {
+        let _ = tended;
         if let Some(announced) = self.announce(core)
             && let Some(unstopped) = self.unstopped(announced)
         {

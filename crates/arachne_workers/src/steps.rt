@@ -5,7 +5,7 @@ ghost use Rattle.arachne_workers.specs.declared.policy.TheConstants.{STEPS_PAST_
 use crate::desk::{Desk, Halt};
 use crate::due::{Freed, Stopped};
 use crate::policy;
-use crate::queue::{Agenda, Stretch};
+use crate::queue::{Agenda, SliceBegun, Stretch};
 use arachne_arbiter::Pace;
 
 /// Steps that the thread in hand has made. It can't be dropped, so that they are counted. [`advance`] alone gives it.
@@ -39,11 +39,12 @@ pub(crate) struct Steps {
 }
 
 impl Steps {
-    /// Those of a slice of at most so many.
+    /// Those of a slice of at most so many, which begins.
     #[inline(always)]
-    pub(crate) fn new(most: u32) -> Steps
+    pub(crate) fn new(most: u32, begun: SliceBegun) -> Steps
         ensures { result ≡ record { left = most; made = 0 } }
     {
+        let _ = begun;
         Steps {
             left: most,
             made: 0,

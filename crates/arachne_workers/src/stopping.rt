@@ -1,6 +1,10 @@
 //! The word that stops all workers, and what shows what it said.
-ghost use Rattle.std.specs.Prelude.{◌≡◌, ◌↔◌, IsSome};
+ghost use Rattle.std.specs.Prelude.{◌≡◌, ◌↔◌, ◌+◌, ◌<◌, IsSome};
+ghost use Rattle.arachne_core.specs.declared.layout.TheConstants.{CORES};
 
+use crate::sleep::Awake;
+use arachne_arbiter::Unparked;
+use arachne_core::CORES;
 use std::sync::atomic::{AtomicU64, Ordering};
 
 /// The workers went on when the word was looked at. Such a look alone gives one, and each slice uses one up.
@@ -23,16 +27,47 @@ impl Running {
     }
 }
 
-/// The word says that all stop. Writing it alone gives one, which can't be dropped: those that sleep are woken by it.
+/// The word says that all stop. Writing it alone gives one, which can't be dropped: all are woken and unparked by it.
 pub(crate) struct StopWritten {
     done: (),
 }
 
 impl StopWritten {
-    /// All are being woken.
+    /// All were woken and unparked since.
     #[inline(always)]
-    pub(crate) fn heeded(self) {
+    pub(crate) fn heeded(self, roused: Roused, unparked: Unparked)
+        requires { roused.cores ≡ CORES }
+    {
+        let _ = (roused, unparked);
         let StopWritten { done: () } = self;
+    }
+}
+
+/// The workers of so many cores, the lowest ones, were woken since the word said that all stop.
+#[derive(Drop)]
+pub(crate) struct Roused {
+    cores: u8,
+}
+
+impl Roused {
+    /// None was yet.
+    #[inline(always)]
+    pub(crate) fn none(written: &StopWritten) -> Roused
+        ensures { result.cores ≡ 0 }
+    {
+        let _ = written;
+        Roused { cores: 0 }
+    }
+
+    /// And that of the next core.
+    #[inline(always)]
+    pub(crate) fn and(&mut self, awake: Awake)
+        requires next { awake.core ≡ self.old.cores }
+        requires few { self.old.cores < CORES }
+        ensures { self.new.cores ≡ self.old.cores + 1 }
+    {
+        let _ = awake;
+        self.cores += 1;
     }
 }
 

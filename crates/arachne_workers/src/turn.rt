@@ -1,56 +1,45 @@
 //! The turn of a thread that was taken in hand, and the slices that it may have in it.
-ghost use Rattle.std.specs.Prelude.{◌≡◌, ◌↔◌, ◌⊎◌, ◌<◌, ◌-◌, false, true, if◌then◌else◌, min, IfSome, IsSome};
+ghost use Rattle.std.specs.Prelude.{◌≡◌, ◌↔◌, ◌⊎◌, ◌≢◌, ◌<◌, ◌-◌, false, true, if◌then◌else◌, min, IfOk, IfSome, IsSome};
+ghost use Rattle.arachne_workers.specs.declared.candidate.Candidate.{Candidate};
 ghost use Rattle.arachne_workers.specs.declared.policy.TheConstants.{STEPS_TO_FREE};
 
+use crate::candidate::Candidate;
 use crate::desk::{Desk, Grip, Halt, SliceEnd};
 use crate::due::Unwoken;
 use crate::policy;
 use crate::stopping::Running;
 use arachne_core::{OccWord, Rest};
 
-/// A thread was taken in hand, and its turn is to begin. [`take`] alone gives one.
+/// A thread was taken in hand at this index, and its turn is to begin. [`take`] alone gives one.
 pub(crate) struct InHand {
-    taken: (),
+    index: u8,
 }
 
 /// What came of a try to take a thread in hand ([`Grip`]).
 pub(crate) enum Grasp {
     Begins(InHand),
     None,
-    Lost(Again),
-}
-
-/// The place at this index changed meanwhile, and is to be tried again. It can't be dropped.
-pub(crate) struct Again {
-    index: u8,
-}
-
-impl Again {
-    /// It is being noted.
-    #[inline(always)]
-    pub(crate) fn index(self) -> u8
-        ensures { result ≡ self.index }
-    {
-        let Again { index } = self;
-        index
-    }
+    /// The place changed meanwhile, and is to be tried again.
+    Lost(Candidate),
 }
 
 /// Takes the thread at an index of the core in hand ([`Desk::take`]).
 #[inline(always)]
-pub(crate) fn take<D: Desk>(desk: &mut D, index: u8) -> Grasp
+pub(crate) fn take<D: Desk>(desk: &mut D, candidate: Candidate) -> Grasp
     ensures desk { desk.new ≡ desk.old }
-    ensures lost { (again : Again) → result ≡ Grasp.Lost again → again.index ≡ index }
+    ensures begins { (in_hand : InHand) → result ≡ Grasp.Begins in_hand → in_hand.index ≡ candidate.index }
+    ensures lost { (again : Candidate) → result ≡ Grasp.Lost again → again.index ≡ candidate.index }
 {
+    let index = candidate.index();
     match desk.take(index) {
-        Grip::Taken => Grasp::Begins(InHand { taken: () }),
+        Grip::Taken => Grasp::Begins(InHand { index }),
         Grip::None => Grasp::None,
-        Grip::Lost => Grasp::Lost(Again { index }),
+        Grip::Lost => Grasp::Lost(Candidate::at(index)),
     }
 }
 
-/// The thread in hand may have a slice of at most so many steps, since all workers go on. A [`Turn`] alone gives one, and
-/// each slice uses one up.
+/// The thread in hand may have a slice of at most so many steps, since all workers go on. A [`Turn`] alone gives one,
+/// and each slice uses one up.
 #[derive(Drop)]
 pub(crate) struct Leave {
     steps: u32,
@@ -94,9 +83,10 @@ impl Most {
     }
 }
 
-/// The turn of the thread in hand: the steps of a slice, and those that are left to it for what it holds. It can't be
-/// dropped, so that the thread is put back or ended.
+/// The turn of the thread in hand: its index, the steps of a slice, and those that are left to it for what it holds. It
+/// can't be dropped, so that the thread is put back or ended.
 pub(crate) struct Turn {
+    index: u8,
     quantum: u32,
     grace: u32,
 }
@@ -106,11 +96,12 @@ impl Turn {
     #[inline(always)]
     pub(crate) fn begin(in_hand: InHand, quantum: u32, running: Running) -> (Leave, Turn)
         ensures first { result.0.steps ≡ quantum }
-        ensures further { result.1 ≡ record { quantum = quantum; grace = STEPS_TO_FREE } }
+        ensures further { result.1 ≡ record { index = in_hand.index; quantum = quantum; grace = STEPS_TO_FREE } }
     {
-        let InHand { taken: () } = in_hand;
+        let InHand { index } = in_hand;
         let _ = running;
         let turn = Turn {
+            index,
             quantum,
             grace: policy::STEPS_TO_FREE,
         };
@@ -133,29 +124,35 @@ impl Turn {
         Some(Most { steps, holds })
     }
 
-    /// Puts the thread back ([`Desk::rest`]).
+    /// Puts the thread, whose last slice has ended so, back ([`Desk::rest`]).
     #[inline(always)]
-    pub(crate) fn put_back<D: Desk>(self, desk: &mut D) -> Result<Rest, Halt>
-        ensures { desk.new ≡ desk.old }
+    pub(crate) fn put_back<D: Desk>(self, desk: &mut D, end: SliceEnd) -> Result<Resting, Halt>
+        requires { end ≢ SliceEnd.Ended }
+        ensures desk { desk.new ≡ desk.old }
+        ensures index { IfOk result (λ resting. resting.index ≡ self.index) }
     {
+        let _ = end;
         let Turn {
+            index,
             quantum: _,
             grace: _,
         } = self;
-        desk.rest()
+        let rest = desk.rest()?;
+        Ok(Resting { index, rest })
     }
 
-    /// Ends the thread ([`Desk::end`]). Who is to be woken for it.
+    /// The turn of a thread whose last slice has ended so is over: it has ended.
     #[inline(always)]
-    pub(crate) fn end<D: Desk>(self, desk: &mut D) -> Result<Option<Unwoken>, Halt>
-        ensures { desk.new ≡ desk.old }
+    pub(crate) fn over(self, end: SliceEnd) -> Over
+        requires { end ≡ SliceEnd.Ended }
     {
+        let _ = end;
         let Turn {
+            index: _,
             quantum: _,
             grace: _,
         } = self;
-        let before = desk.look();
-        Ok(Unwoken::parent(desk.end(before)?))
+        Over { since: () }
     }
 
     /// The turn meets a fault.
@@ -164,9 +161,45 @@ impl Turn {
         ensures { result ≡ halt }
     {
         let Turn {
+            index: _,
             quantum: _,
             grace: _,
         } = self;
         halt
+    }
+}
+
+/// The thread in hand has ended, and is to be ended at the desk. [`Turn::over`] alone gives one, which can't be
+/// dropped.
+pub(crate) struct Over {
+    since: (),
+}
+
+impl Over {
+    /// Ends the thread ([`Desk::end`]). Who is to be woken for it.
+    #[inline(always)]
+    pub(crate) fn end<D: Desk>(self, desk: &mut D) -> Result<Option<Unwoken>, Halt>
+        ensures { desk.new ≡ desk.old }
+    {
+        let Over { since: () } = self;
+        let before = desk.look();
+        Ok(Unwoken::parent(desk.end(before)?))
+    }
+}
+
+/// The thread at this index was put back, and rests so. [`Turn::put_back`] alone gives one, which can't be dropped.
+pub(crate) struct Resting {
+    index: u8,
+    rest: Rest,
+}
+
+impl Resting {
+    /// Where the thread is, and how it rests.
+    #[inline(always)]
+    pub(crate) fn at(self) -> (u8, Rest)
+        ensures { (result.0 ≡ self.index) × (result.1 ≡ self.rest) }
+    {
+        let Resting { index, rest } = self;
+        (index, rest)
     }
 }

@@ -4,13 +4,15 @@ ghost use Rattle.std.specs.Int.RustNames.{bit_or};
 ghost use Rattle.arachne_core.specs.declared.layout.TheConstants.{SLOTS};
 ghost use Rattle.arachne_workers.specs.declared.policy.TheConstants.{MOST_KEPT_BACK};
 
+use crate::candidate::Candidate;
 use crate::desk::{Cause, Desk, Event};
-use crate::due::{Awoken, Untold, Unwoken};
+use crate::due::{Awoken, Untold, Unwoken, WakeTold};
 use crate::execute::Worker;
+use crate::places::{LastSeen, index_on, ready_place};
 use crate::policy;
-use crate::queue::{Agenda, Post};
+use crate::queue::Agenda;
 use crate::sleep::Shared;
-use arachne_core::{Mark, MarkWord, Place, ThreadId};
+use arachne_core::{Place, ThreadId};
 use std::sync::Wait;
 use std::time::Clock;
 
@@ -26,73 +28,85 @@ impl<'a, H: Wait + Clock, D: Desk> Worker<'a, H, D> {
         let Some(woken) = unwoken.wake(self.rt, &mut self.desk) else {
             return;
         };
+        let told = woken.tell(&self.desk);
         let (id, cause) = (woken.id(), woken.cause());
-        self.desk.told(Event::Woken(id, cause));
-        let Some(mark) = self.desk.mark_of(id.context) else {
-            woken.goes_on();
-            return;
+        let mut at = match LastSeen::by(self.desk.mark_of(id.context)) {
+            Ok(at) => at,
+            Err(no_context) => return woken.is_nowhere(no_context, told),
         };
-        let mut place = mark.place();
         let is_served = cause == Cause::IsServed;
-        if place.core != self.core
-            && policy::goes_on_here(
-                is_served,
-                !is_served && self.shared.hints().is_asleep(place.core),
-            )
-            && self.desk.pull(place)
-            && let Some(here) = self.desk.mark_of(id.context)
+        let core = at.place().core;
+        if core != self.core
+            && policy::goes_on_here(is_served, !is_served && self.shared.hints().is_asleep(core))
         {
-            if here.place().core == self.core {
-                self.desk.told(Event::Pulled(id, place.core));
-            }
-            place = here.place();
+            at = self.bring_here(id, at);
         }
-        goes_on_at(&mut self.agenda, self.shared, self.core, place, woken);
+        goes_on_at(&mut self.agenda, self.shared, self.core, at, woken, told);
+    }
+
+    /// Moves a thread here from another core, if workers may, and tells of it. Where it is then.
+    #[inline(always)]
+    fn bring_here(&mut self, id: ThreadId, at: LastSeen) -> LastSeen
+        ensures desk { self.new.desk ≡ self.old.desk }
+        ensures same { (self.new.agenda ≡ self.old.agenda) × (self.new.slices ≡ self.old.slices) }
+    {
+        let from = at.place();
+        if !self.desk.pull(from) {
+            return at;
+        }
+        let at = at.moved(self.desk.mark_of(id.context));
+        if at.place().core == self.core {
+            self.desk.told(Event::Pulled(id, from.core));
+        }
+        at
     }
 
     /// The index of the core at which a thread is to go on next: one that holds a lock now, or, where a thread came to
     /// wait and nothing here may be ready, the newest that the worker has posted and not told of, which is moved here.
     /// Those that can't be are told of, and those that went on meanwhile are forgotten.
-    pub(crate) fn next(&mut self, waits: bool) -> Option<u8>
+    pub(crate) fn next(&mut self, waits: bool) -> Option<Candidate>
         ensures desk { self.new.desk ≡ self.old.desk }
-        ensures next { IsSome self.old.agenda.next → (result ≡ self.old.agenda.next) × (self.new.agenda ≡ record self.old.agenda { next = None }) }
+        ensures next { IsSome self.old.agenda.next → IsSome result × IfSome result (λ candidate. self.old.agenda.next ≡ Some candidate.index)
+            × (self.new.agenda ≡ record self.old.agenda { next = None }) }
         ensures goes_on { self.old.agenda.next ≡ None → waits ≡ false → (result ≡ None) × (self.new.agenda ≡ self.old.agenda) }
         ensures others { (self.new.agenda ≡ record self.old.agenda { posts = self.new.agenda.posts; next = None }) × (self.new.slices ≡ self.old.slices) }
     {
-        if let Some(index) = self.agenda.take_next() {
-            return Some(index);
+        if let Some(candidate) = self.agenda.take_next() {
+            return Some(candidate);
         }
         if !waits || self.agenda.is_any() {
             return None;
         }
         for _ in 0..policy::MOST_KEPT_BACK {
-            let Post { id, .. } = self.agenda.take_newest()?.post();
-            if let Some(mark) = self.desk.mark_of(id.context)
-                && let Some(place) = ready_place(mark, id)
-            {
-                if self.desk.pull(place)
-                    && let Some(here) = self.desk.mark_of(id.context)
-                    && here.place().core == self.core
-                {
-                    self.desk.told(Event::Pulled(id, place.core));
-                    return Some(here.place().index);
+            let newest = self.agenda.take_newest()?;
+            let id = newest.id();
+            match ready_place(self.desk.mark_of(id.context), id) {
+                Err(gone) => newest.went_on(gone),
+                Ok(place) => {
+                    if let Some(here) = self.pull_here(id, place) {
+                        newest.goes_next(&here);
+                        return Some(here);
+                    }
+                    newest.told_there(self.shared.hint(place));
                 }
-                self.shared.hint(place);
             }
         }
         None
     }
-}
 
-/// Where a thread is by its context's mark, if it is ready and has not been taken since.
-fn ready_place(mark: MarkWord, id: ThreadId) -> Option<Place>
-    ensures ready { IsSome result ↔ (mark.mark ≡ Mark.Ready) × (mark.generation ≡ id.generation) }
-    ensures place { IfSome result (λ place. place ≡ mark.place) }
-{
-    if mark.mark() != Mark::Ready || mark.generation() != id.generation {
-        return None;
+    /// Moves a thread here from a place of another core, and tells of it. Where it is here then.
+    #[inline(always)]
+    fn pull_here(&mut self, id: ThreadId, place: Place) -> Option<Candidate>
+        ensures desk { self.new.desk ≡ self.old.desk }
+        ensures same { (self.new.agenda ≡ self.old.agenda) × (self.new.slices ≡ self.old.slices) }
+    {
+        if !self.desk.pull(place) {
+            return None;
+        }
+        let here = index_on(self.core, self.desk.mark_of(id.context))?;
+        self.desk.told(Event::Pulled(id, place.core));
+        Some(here)
     }
-    Some(mark.place())
 }
 
 /// A thread was posted by the worker of a core. The worker of another core is told of it later, unless it is taken back
@@ -105,29 +119,39 @@ pub(crate) fn posted(agenda: &mut Agenda, shared: &Shared, core: u8, untold: Unt
     ensures elsewhere { untold.post.place.core ≢ core → (agenda.new ≡ record agenda.old { posts = agenda.new.posts; posted = agenda.new.posted })
         × (agenda.new.posted ≡ min (agenda.old.posted + 1) u32.MAX) }
 {
-    let post = untold.post();
-    if post.place.core == core {
-        agenda.note(post.place.index);
-    } else if let Some(due) = agenda.keep_back(post).untold() {
+    let Place { core: there, index } = untold.place();
+    if there == core {
+        agenda.note(index);
+        untold.noted(core);
+    } else if let Some(due) = agenda.keep_back(untold).untold() {
         shared.tell(due);
     }
 }
 
-/// A thread that was woken goes on at this place: on another core its worker is told, and here it goes before all others
-/// if it is served and no other does.
-fn goes_on_at(agenda: &mut Agenda, shared: &Shared, core: u8, place: Place, woken: Awoken)
-    ensures elsewhere { place.core ≢ core → agenda.new ≡ agenda.old }
-    ensures next { place.core ≡ core → place.index < SLOTS → woken.cause ≡ Cause.IsServed → agenda.old.next ≡ None → agenda.new ≡ record agenda.old { next = Some place.index } }
-    ensures noted { place.core ≡ core → place.index < SLOTS → (woken.cause ≡ Cause.ChildEnded) ⊎ IsSome agenda.old.next
-        → agenda.new ≡ record agenda.old { ready = bit_or agenda.old.ready (2 ^ place.index) } }
+/// A thread that was woken goes on at this place: on another core its worker is told, and here it goes before all
+/// others if it is served and no other does.
+fn goes_on_at(
+    agenda: &mut Agenda,
+    shared: &Shared,
+    core: u8,
+    at: LastSeen,
+    woken: Awoken,
+    told: WakeTold,
+)
+    ensures elsewhere { at.place.core ≢ core → agenda.new ≡ agenda.old }
+    ensures next { at.place.core ≡ core → at.place.index < SLOTS → woken.cause ≡ Cause.IsServed → agenda.old.next ≡ None → agenda.new ≡ record agenda.old { next = Some at.place.index } }
+    ensures noted { at.place.core ≡ core → at.place.index < SLOTS → (woken.cause ≡ Cause.ChildEnded) ⊎ IsSome agenda.old.next
+        → agenda.new ≡ record agenda.old { ready = bit_or agenda.old.ready (2 ^ at.place.index) } }
     ensures others { (agenda.new ≡ record agenda.old { ready = agenda.new.ready; next = agenda.new.next }) × (woken.cause ≢ Cause.IsServed → agenda.new.next ≡ agenda.old.next) }
 {
-    let cause = woken.goes_on();
+    let place = at.is_told();
     if place.core != core {
-        shared.hint(place);
-    } else if cause != Cause::IsServed || !agenda.goes_next(place.index) {
+        return woken.is_elsewhere(place, shared.hint(place), told);
+    }
+    if woken.cause() != Cause::IsServed || !agenda.goes_next(place.index) {
         agenda.note(place.index);
     }
+    woken.is_here(place, core, told);
 }
 
 /// All that was kept back is told of. [`tell`] alone gives one.

@@ -5,6 +5,7 @@
 #![tactic(auto)]
 
 mod crew;
+mod entry;
 mod job;
 mod keeper;
 mod print;
@@ -14,6 +15,7 @@ mod send;
 mod serve;
 mod start;
 mod timer;
+mod waiting;
 
 use anyhow::{Result, bail};
 use crew::Books;

@@ -24,6 +24,8 @@ const BETWEEN_LOOKS: u64 = 20_000;
 struct Sent {
     number: u64,
     due: Due,
+    /// When it was sent, in nanoseconds from the begin.
+    at: u64,
     handle: Handle<Request>,
     ghost number_right: { handle.number ≡ number },
     ghost work_right: { handle.work ≡ due.work },
@@ -145,6 +147,7 @@ fn settles(
             let one = Sent {
                 number,
                 due,
+                at,
                 handle,
             };
             sent.push_back(one).ok()?;
@@ -211,6 +214,7 @@ fn take_answer(sent: &mut VecDeque<Sent>, begin: u64, report: &mut Report) -> Op
     let Sent {
         number,
         due,
+        at,
         handle,
     } = first;
     match handle.poll() {
@@ -225,6 +229,7 @@ fn take_answer(sent: &mut VecDeque<Sent>, begin: u64, report: &mut Report) -> Op
                     work: due.work,
                     class: due.class,
                     value: answer.value,
+                    waited: answer.began.saturating_sub(begin).saturating_sub(at),
                     ended,
                     nanos: ended.saturating_sub(due.at),
                 })
@@ -235,6 +240,7 @@ fn take_answer(sent: &mut VecDeque<Sent>, begin: u64, report: &mut Report) -> Op
             sent.push_front(Sent {
                 number,
                 due,
+                at,
                 handle,
             })
             .ok()?;

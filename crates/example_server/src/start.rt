@@ -42,7 +42,10 @@ pub fn run<R: Threads + Wait + Clock + Sync>(
         requests,
     };
     let share = work_together(rt, alloc, &crew, share);
-    end::<Table, R>(rt, alloc, server.pool, share)
+    let left = server.timer.left();
+    let mut books = end::<Table, R>(rt, alloc, server.pool, share)?;
+    books.report.left = left;
+    Ok(books)
 }
 
 /// The server before anything is sent, and what its kernel threads have of it, for so many requests.
