@@ -1,13 +1,14 @@
 -- What the cells of a run are for.
-use Rattle.std.specs.Prelude.{◌≡◌, None}
+use Rattle.std.specs.Prelude.{◌≡◌, None, Some}
 use Rattle.arachne_lang.specs.declared.program.Program.{Program}
 use Rattle.arachne_lang.specs.Program.{source_of}
 use Rattle.arachne_machine.specs.Outcome.{Finished}
-use Rattle.arachne_jobs.specs.Threads.{Thread, program_of, name_of}
+use Rattle.arachne_jobs.specs.Threads.{Thread, program_of, name_of, tag_of}
 use Rattle.arachne_machine.specs.Nested.{IsAlone}
 use Rattle.arachne_jobs.specs.Threads.{pause_of}
 use Rattle.arachne_jobs.specs.declared.wanted.Wanted.{Wanted}
 use Rattle.arachne_jobs.specs.declared.left.Left.{Left}
+use Rattle.arachne_jobs.specs.declared.left.Waiting.{Waiting}
 use Rattle.arachne_jobs.specs.declared.left.Left.TheVariants as left
 use Rattle.arachne_jobs.specs.declared.left.Found.{Found}
 use Rattle.arachne_jobs.specs.declared.left.Found.TheVariants as found
@@ -33,9 +34,13 @@ abbrev pub IsLeftFor : Wanted → Left → Type 0
 IsLeftFor wanted (left.Child waiting) = ⊥
 IsLeftFor wanted (left.Outcome outcome) = IsWanted wanted outcome
 
+-- it waits with the tag and the parent for which its outcome is wanted
+abbrev pub IsTold : Waiting → Wanted → Type 0
+IsTold waiting wanted = (tag_of waiting.thread ≡ wanted.tag.value) × (Some waiting.parent ≡ wanted.parent.value)
+
 -- the thread whose outcome is wanted may wait there until then
 abbrev pub MayWait : Wanted → Left → Type 0
-MayWait wanted (left.Child waiting) = IsFor waiting.thread wanted × HasNotBegun waiting.thread
+MayWait wanted (left.Child waiting) = IsFor waiting.thread wanted × HasNotBegun waiting.thread × IsTold waiting wanted
 MayWait wanted (left.Outcome outcome) = ⊥
 
 -- what a parent finds is the outcome that is wanted, or the thread whose outcome it is

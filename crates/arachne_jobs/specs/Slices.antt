@@ -26,6 +26,13 @@ abbrev pub MayRest : Rest → Option Pending → Type 0
 MayRest rest.Ready pending = pending ≡ None
 MayRest rest.Blocked pending = IsWait pending
 
+-- the pauses at which a job neither goes on nor waits: something is to be done for it first, or it has ended
+abbrev pub HasNoRest : Option Pending → Type 0
+HasNoRest None = ⊥
+HasNoRest (Some pause.Joins) = ⊥
+HasNoRest (Some (pause.Asks lock)) = ⊥
+HasNoRest _ = Unit {0}
+
 -- of the steps that a job had, fewer are left, or as many where it awaits a child; one that still waits for a lock has
 -- made none
 abbrev pub UsesSteps : {Child : Type 0} → Slice Child → ℕ → ℕ → Type 0

@@ -4,6 +4,7 @@ use Rattle.arachne_core.specs.declared.thread_id.ThreadId.{ThreadId}
 use Rattle.arachne_lang.specs.declared.program.Program.{Program}
 use Rattle.arachne_machine.specs.declared.pause.Pending.{Pending}
 use Rattle.arachne_machine.specs.declared.pause.Pending.TheVariants as pause
+use Rattle.arachne_machine.specs.declared.line.Ran.TheVariants.{Spill}
 use Rattle.arachne_machine.specs.Nested.{Nested, whole, pending_in, IsChildOf}
 
 abbrev pub Thread : Type 0
@@ -36,6 +37,10 @@ IsAwaiting thread = pause_of thread ≡ Some pause.Joins
 -- it forks this thread
 abbrev pub IsForking : Thread → Thread → Type 0
 IsForking thread child = (pause_of thread ≡ Some pause.Forks) × IsChildOf thread child
+
+-- its line will say that it got its place after it had waited for one
+abbrev pub HasWaited : Thread → Type 0
+HasWaited thread = (whole thread).label.ran ≡ Spill
 
 -- a thread, and the id under which its parent runs, if it has one
 pub record Posted : Type 0 where

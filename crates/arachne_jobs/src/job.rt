@@ -1,21 +1,23 @@
 //! What a context holds in a run: a thread of the program.
-ghost use Rattle.std.specs.Prelude.{◌≡◌, ◌≤◌, ℕ, List, [], IfErr, IfOk, IfSome, OnOk, None, Some};
+ghost use Rattle.std.specs.Prelude.{◌≡◌, ◌≤◌, ℕ, List, [], false, IfErr, IfNone, IfOk, IfSome, IsSome, OnErr, OnOk, None, Some};
 ghost use Rattle.arachne_lang.specs.declared.program.Program.{Program};
 ghost use Rattle.arachne_lang.specs.Program.{source_of};
 ghost use Rattle.arachne_lang.specs.Checked.{IsChecked};
-ghost use Rattle.arachne_machine.specs.Nested.{IsPlacing, MayBePlaced};
+ghost use Rattle.arachne_machine.specs.Nested.{IsPlacing, MayBePlaced, with_tag};
 ghost use Rattle.arachne_machine.specs.Suspended.{awaited};
 ghost use Rattle.arachne_machine.specs.declared.pause.Pending.TheVariants as pause;
-ghost use Rattle.arachne_jobs.specs.Threads.{IsForking, IsGoing, IsAwaiting, name_of, pause_of, program_of, running_tag_of, tag_of};
+ghost use Rattle.arachne_jobs.specs.Threads.{HasWaited, IsForking, IsGoing, IsAwaiting, name_of, pause_of, program_of, running_tag_of, tag_of};
 ghost use Rattle.arachne_jobs.specs.Cells.{IsFoundOf, IsFor, IsOf};
 ghost use Rattle.arachne_jobs.specs.Ends.{IsEnd, IsWaitEnd};
-ghost use Rattle.arachne_jobs.specs.Slices.{IsLeft, UsesSteps};
+ghost use Rattle.arachne_jobs.specs.Slices.{HasNoRest, IsLeft, IsRequest, MayRest, UsesSteps};
 
+use crate::awaited::{Awaited, open};
 use crate::ends::{End, WaitEnd};
 use crate::fault::JobFault;
 use crate::left::{Found, Waiting};
+use crate::left_behind::OutcomeLeft;
 use crate::openings::{Asked, Openings};
-use crate::refusal::{Refusal, Unreserved, push, reserve_both};
+use crate::refusal::{Refusal, reserve_both};
 use crate::room::Room;
 use crate::slice::{JobOf, RunJob, RunThread, Slice};
 use crate::spares::Spares;
@@ -29,7 +31,6 @@ use arachne_lang::{Name, Program};
 use arachne_machine::{Contents, Pause, Pending, Thread};
 use std::alloc::{AllocError, Global};
 use std::marker::Model;
-use std::snapshot::Snapshot;
 
 /// A thread of the program, with its ends of the cells of outcomes: the first is the one at which it leaves its own,
 /// and the others await those of the children that it has forked and not joined, the newest last.
@@ -90,7 +91,10 @@ impl<'p> RunThread for Job<'p> {
         self.thread.running_tag()
     }
 
-    fn rest(&self) -> Option<Rest> {
+    fn rest(&self) -> Option<Rest>
+        ensures rests { IfSome result (λ rest. MayRest rest (pause_of self.now.thread)) }
+        ensures none { IfNone result (HasNoRest (pause_of self.now.thread)) }
+    {
         match self.thread.pending() {
             None => Some(Rest::Ready),
             Some(Pending::Joins | Pending::Asks(_)) => Some(Rest::Blocked),
@@ -98,7 +102,13 @@ impl<'p> RunThread for Job<'p> {
         }
     }
 
-    fn answer(&mut self) -> Result<(), JobFault> {
+    fn answer(&mut self) -> Result<(), JobFault>
+        ensures tag { tag_of self.new.thread ≡ tag_of self.old.thread }
+        ensures parent { self.new.parent ≡ self.old.parent }
+        ensures asked { OnOk result (IsRequest (pause_of self.old.thread)) }
+        ensures answered { OnOk result (pause_of self.new.thread ≡ None) }
+        ensures foreign { OnErr result (¬ IsRequest (pause_of self.old.thread)) }
+    {
         match self.thread.pending() {
             Some(Pending::Asks(_)) => self.thread.granted(),
             Some(Pending::Frees(_)) => self.thread.freed(),
@@ -145,11 +155,19 @@ impl<'p> RunJob for Job<'p> {
         child: Thread<'p>,
         tag: u64,
         spares: &mut Spares<'p>,
-    ) -> Result<Job<'p>, JobFault> {
+    ) -> Result<Job<'p>, JobFault>
+        requires { IsForking self.old.thread child }
+        ensures tag { tag_of self.new.thread ≡ tag_of self.old.thread }
+        ensures parent { self.new.parent ≡ self.old.parent }
+        ensures child { IfOk result (λ job. tag_of job.thread ≡ tag) }
+        ensures made { IfOk result (λ job. job.thread ≡ record child.entry { running = with_tag tag child.entry.running }) }
+        ensures childs_parent { IfOk result (λ job. job.parent ≡ Some me) }
+        ensures answered { OnOk result (pause_of self.new.thread ≡ None) }
+    {
         let mut child = child;
         child.set_tag(tag);
-        let (job, receiver) = Job::of(alloc, child, Some(me), spares)?;
-        self.expect(End::Awaits(receiver))?;
+        let (job, awaited) = Job::of(alloc, child, Some(me), spares)?;
+        self.expect(awaited)?;
         self.thread.forked();
         Ok(job)
     }
@@ -161,20 +179,28 @@ impl<'p> RunJob for Job<'p> {
         child: Thread<'p>,
         tag: u64,
         waits: bool,
-    ) -> Result<Option<Ticket<'p>>, JobFault> {
+    ) -> Result<Option<Ticket<'p>>, JobFault>
+        requires { IsForking self.old.thread child }
+        ensures tag { tag_of self.new.thread ≡ tag_of self.old.thread }
+        ensures parent { self.new.parent ≡ self.old.parent }
+        ensures answered { OnOk result (pause_of self.new.thread ≡ None) }
+        ensures ticket { IfOk result (λ made. IfSome made (λ ticket. ticket.key.tag.value ≡ tag)) }
+        ensures childs_parent { IfOk result (λ made. IfSome made (λ ticket. ticket.key.parent.value ≡ Some me)) }
+        ensures asked { waits ≡ false → IfOk result (λ made. made ≡ None) }
+    {
         let mut child = child;
         child.set_tag(tag);
         if !waits {
             self.place(child)?;
             return Ok(None);
         }
-        if self.reserve_wait().is_err() {
+        if reserve_both(&mut self.ties.ends, &mut self.waits).is_err() {
             self.place(child)?;
             return Ok(None);
         }
         match WaitCell::wait(alloc, child, me) {
-            Ok((cell, ticket)) => {
-                self.expect_waiting(cell)?;
+            Ok((awaited, ticket)) => {
+                awaited.push_reserved(&mut self.ties.ends, &mut self.waits);
                 self.thread.forked();
                 Ok(Some(ticket))
             }
@@ -185,23 +211,24 @@ impl<'p> RunJob for Job<'p> {
         }
     }
 
-    fn of_ticket(alloc: Global, ticket: Ticket<'p>, spares: &mut Spares<'p>) -> Option<Job<'p>> {
+    fn of_ticket(alloc: Global, ticket: Ticket<'p>, spares: &mut Spares<'p>) -> Option<Job<'p>>
+        ensures parent { IfSome result (λ job. IsSome job.parent) }
+        ensures whose { IfSome result (λ job. job.parent ≡ ticket.entry.key.parent.value) }
+        ensures tag { IfSome result (λ job. tag_of job.thread ≡ ticket.entry.key.tag.value) }
+        ensures waited { IfSome result (λ job. HasWaited job.thread) }
+    {
         let mut waits = Vec::with_capacity(alloc, 1).ok()?;
         let mut ties = spares.ties.take(alloc, None).ok()?;
         let contents = spares.threads.take_contents().ok()?;
-        let Some((waiting, cell, end)) = ticket.take(&waits, &ties, &contents) else {
+        let Some((waiting, owed)) = ticket.take(&waits, &ties, &contents) else {
             spares.ties.keep(ties);
             spares.threads.keep_contents(contents);
             return None;
         };
         let Waiting { mut thread, parent } = waiting;
         thread.set_spilled();
-        ties.ends.push_reserved(End::Waits);
-        ties.parent = Some(parent);
-        waits.push_reserved(WaitEnd {
-            cell,
-            end: Some(end),
-        });
+        owed.push_reserved(&mut ties.ends, &mut waits);
+        ties.set_parent(parent);
         Some(Job {
             thread,
             ties,
@@ -223,11 +250,9 @@ impl<'p> RunJob for Job<'p> {
         let Some(end) = ties.ends.pop() else {
             return Err(JobFault::Foreign);
         };
-        let parent = ties.parent;
-        spares.ties.keep(ties);
         let outcome = thread.finish_into(contents, &mut spares.threads);
-        match end {
-            End::Leaves(end) => end.leave(outcome),
+        let left = match end {
+            End::Leaves(end) => OutcomeLeft::at(end, outcome),
             End::Waits => {
                 let Some(wait) = waits.pop() else {
                     return Err(JobFault::Foreign);
@@ -236,11 +261,11 @@ impl<'p> RunJob for Job<'p> {
                 let Some(end) = end else {
                     return Err(JobFault::Foreign);
                 };
-                cell.leave(end, outcome);
+                OutcomeLeft::within(cell, end, outcome)
             }
             End::Awaits(_) => return Err(JobFault::Foreign),
-        }
-        Ok(parent)
+        };
+        Ok(spares.ties.keep_ended(ties, left))
     }
 }
 
@@ -251,7 +276,8 @@ impl<'p> JobOf<'p> for Job<'p> {
         spares: &mut Spares<'p>,
     ) -> Result<(Job<'p>, OutcomeReceiver), AllocError> {
         let thread = Thread::start(alloc, program, 0)?;
-        Job::of(alloc, thread, None, spares)
+        let (job, awaited) = Job::of(alloc, thread, None, spares)?;
+        Ok((job, awaited.of_root()))
     }
 }
 
@@ -262,25 +288,22 @@ impl<'p> Job<'p> {
         thread: Thread<'p>,
         parent: Option<ThreadId>,
         spares: &mut Spares<'p>,
-    ) -> Result<(Job<'p>, OutcomeReceiver), AllocError>
+    ) -> Result<(Job<'p>, Awaited), AllocError>
         ensures thread { IfOk result (λ made. made.0 ≡ record { thread = thread.entry; parent = parent }) }
-        ensures receiver { IfOk result (λ made. IsFor thread.entry made.1.opening.key) }
+        ensures receiver { IfOk result (λ made. IsFor thread.entry made.1.receiver.opening.key) }
     {
-        let wanted = Wanted {
-            program: Snapshot::of(thread.program()),
-            name: Snapshot::of(thread.name()),
-        };
+        let wanted = Wanted::of(&thread, parent);
         let mut ties = spares.ties.take(alloc, parent)?;
         let contents = spares.threads.take_contents()?;
-        let (receiver, end) = spares.cells.open(alloc, &wanted)?;
-        ties.ends.push_reserved(End::Leaves(end));
+        let (awaited, owed) = open(alloc, &mut spares.cells, &wanted)?;
+        owed.push_reserved(&mut ties.ends);
         let job = Job {
             thread,
             ties,
             contents,
             waits: Vec::new(alloc),
         };
-        Ok((job, receiver))
+        Ok((job, awaited))
     }
 
     /// Goes on for at most as many steps as are left.
@@ -329,28 +352,12 @@ impl<'p> Job<'p> {
         Ok(())
     }
 
-    /// Has this end of a cell too.
-    fn expect(&mut self, end: End) -> Result<(), Refusal>
-        requires { IsEnd (program_of self.old.thread) (name_of self.old.thread) end }
+    /// Awaits the outcome of a child at this end too.
+    fn expect(&mut self, awaited: Awaited) -> Result<(), Refusal>
+        requires { IsOf (program_of self.old.thread) awaited.receiver.opening.key }
         ensures { self.new ≡ self.old }
     {
-        push(&mut self.ties.ends, end)
-    }
-
-    /// Makes room for the cell of a child that waits, so that none is lost for want of memory once it waits.
-    fn reserve_wait(&mut self) -> Result<(), Unreserved>
-        ensures { self.new ≡ self.old }
-    {
-        reserve_both(&mut self.ties.ends, &mut self.waits)
-    }
-
-    /// Awaits the outcome of a child that waits in this cell.
-    fn expect_waiting(&mut self, cell: WaitCell<'p>) -> Result<(), Refusal>
-        requires { IsOf (program_of self.old.thread) cell.key }
-        ensures { self.new ≡ self.old }
-    {
-        self.expect(End::Waits)?;
-        push(&mut self.waits, WaitEnd { cell, end: None })
+        awaited.push(&mut self.ties.ends)
     }
 
     /// Joins the child that it awaits, if that has ended, and runs it in place, if it waits still. Else it can't go on.
@@ -388,17 +395,16 @@ impl<'p> Job<'p> {
                     spares.cells.give(cell);
                     Ok(Found::Outcome(outcome))
                 }
-                Err((receiver, unended)) => {
-                    self.ties.ends.push_reserved(End::Awaits(receiver));
+                Err((awaited, unended)) => {
+                    awaited.push_reserved(&mut self.ties.ends);
                     Ok(Found::Nothing(unended))
                 }
             },
             End::Waits => match self.waits.pop() {
                 Some(WaitEnd { cell, end: None }) => match look_in(cell) {
                     Ok(found) => Ok(found),
-                    Err((cell, unended)) => {
-                        self.waits.push_reserved(WaitEnd { cell, end: None });
-                        self.ties.ends.push_reserved(End::Waits);
+                    Err((awaited, unended)) => {
+                        awaited.push_reserved(&mut self.ties.ends, &mut self.waits);
                         Ok(Found::Nothing(unended))
                     }
                 },

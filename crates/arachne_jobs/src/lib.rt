@@ -1,11 +1,13 @@
 //! What a context holds in a run: a thread of a task program with the cells of its children, and how workers see it.
 #![tactic(auto)]
 
+mod awaited;
 mod classes;
 mod ends;
 mod fault;
 mod job;
 mod left;
+mod left_behind;
 mod openings;
 mod places;
 mod queued;

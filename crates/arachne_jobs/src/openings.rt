@@ -60,12 +60,17 @@ pub(crate) struct Asked<'a> {
 }
 
 impl<'a> Asked<'a> {
-    /// Whether a child may get a place or wait for one. If not, a word of the chooser is owed.
+    /// Whether a child with so many turns to make may get a place or wait for one. If not, a word of the chooser is owed.
     #[inline(always)]
-    fn may_have_a_place(&mut self, class: Class) -> bool
-        ensures { class ≡ Class.Exclusive → IsTrue result }
+    fn may_have_a_place(&mut self, class: Class, turns: u64) -> bool
+        ensures exclusive { class ≡ Class.Exclusive → IsTrue result }
+        ensures large { LARGE ≤ turns → IsTrue result }
     {
-        let may = class == Class::Exclusive || self.room.has_free_place() || self.room.may_wait();
+        self.openings.note_turns(turns);
+        let may = self.openings.is_large
+            || class == Class::Exclusive
+            || self.room.has_free_place()
+            || self.room.may_wait();
         self.openings.owe_unless(may);
         may
     }
@@ -81,8 +86,7 @@ impl<'a> Placing for Asked<'a> {
         ensures all { false ≡ true → IsTrue result }
         ensures exclusive { class ≡ Class.Exclusive → IsTrue result }
     {
-        self.openings.note_turns(0);
-        self.may_have_a_place(class)
+        self.may_have_a_place(class, 0)
     }
 
     #[inline(always)]
@@ -91,8 +95,7 @@ impl<'a> Placing for Asked<'a> {
         ensures exclusive { class ≡ Class.Exclusive → IsTrue result }
         ensures large { LARGE ≤ turns → IsTrue result }
     {
-        self.openings.note_turns(turns);
-        self.openings.is_large || self.may_have_a_place(class)
+        self.may_have_a_place(class, turns)
     }
 
     #[inline(always)]

@@ -1,8 +1,10 @@
 //! Words that all workers of a run share, and look at before each fork: free places, children that wait, tags.
-ghost use Rattle.std.specs.Prelude.{◌≡◌, ◌↔◌, ◌<◌, ◌≤◌, ◌*◌, ◌^◌, IsTrue};
+ghost use Rattle.std.specs.Prelude.{◌≡◌, ◌↔◌, ◌+◌, ◌<◌, ◌≤◌, ◌*◌, ◌%◌, ◌^◌, IsTrue};
+ghost use Rattle.arachne_jobs.specs.declared.tags.TheConstants.{BLOCK};
 
 use crate::places::PlaceLeft;
 use crate::queued::{TicketPut, TicketTaken};
+use crate::tags::BLOCK;
 use crossbeam_utils::CachePadded;
 use std::sync::atomic::{AtomicU64, Ordering};
 
@@ -22,20 +24,20 @@ impl Limit {
     }
 }
 
-/// How many places of a machine are free and how many children wait for one, or a little more or less, and the first
-/// tag that is not drawn. They say whether a fork is worth a look: what is claimed, and which child goes on, is decided
-/// by the table and by the child's cell. Each number has a cache line of its own.
+/// How many places of a machine are free and how many children wait for one, or a little more or less, and how many
+/// blocks of tags are drawn. They say whether a fork is worth a look: what is claimed, and which child goes on, is
+/// decided by the table and by the child's cell. Each number has a cache line of its own.
 #[derive(Drop)]
 pub struct Room {
     free: CachePadded<AtomicU64>,
     waiting: CachePadded<AtomicU64>,
     limit: Limit,
-    next_tag: CachePadded<AtomicU64>,
+    blocks: CachePadded<AtomicU64>,
 }
 
 impl Room {
-    /// All places of so many cores are free, of each so many, and no child waits, of at most so many. The tag 0 is
-    /// drawn, for the root.
+    /// All places of so many cores are free, of each so many, and no child waits, of at most so many. No block of tags
+    /// is drawn: the root's tag, 0, is in none.
     pub fn new(cores: u8, slots: u8, most_waiting: u64) -> Room
         ensures { result.limit.most ≡ most_waiting }
     {
@@ -43,7 +45,7 @@ impl Room {
             free: CachePadded::new(AtomicU64::new(places_of(cores, slots))),
             waiting: CachePadded::new(AtomicU64::new(0)),
             limit: Limit { most: most_waiting },
-            next_tag: CachePadded::new(AtomicU64::new(1)),
+            blocks: CachePadded::new(AtomicU64::new(0)),
         }
     }
 
@@ -91,10 +93,20 @@ impl Room {
         self.waiting.fetch_sub(1, Ordering::SeqCst);
     }
 
-    /// The first of so many tags in a row that no other thread of the run has, as long as fewer than 2^64 are drawn.
-    pub fn next_tags(&self, count: u64) -> u64 {
-        self.next_tag.fetch_add(count, Ordering::SeqCst)
+    /// The first tag of a whole block, which no other thread of the run has, as long as fewer than 2^58 are drawn.
+    pub fn next_block(&self) -> u64
+        ensures { result % BLOCK ≡ 1 }
+    {
+        first_tag(self.blocks.fetch_add(1, Ordering::SeqCst))
     }
+}
+
+/// The first tag of the block of this number. Blocks follow one another without a gap, from the tag 1 on.
+#[inline(always)]
+fn first_tag(block: u64) -> u64
+    ensures { result ≡ BLOCK * (block % 2 ^ 58) + 1 }
+{
+    BLOCK * (block % (1 << 58)) + 1
 }
 
 /// How many places so many cores have, each so many.

@@ -152,7 +152,8 @@ pub trait RunJob: RunThread {
     /// The job of a ticket's child, if that waits still, which has a parent. Where memory is refused there is none, and
     /// the child waits on for its parent.
     fn of_ticket(alloc: Global, ticket: Self::Ticket, spares: &mut Self::Spares) -> Option<Self>
-        ensures { IfSome result (λ job. IsSome (Self.parent_of job)) };
+        ensures parent { IfSome result (λ job. IsSome (Self.parent_of job)) }
+        ensures tag { IfSome result (λ job. Self.tag_of job ≡ Self.Ticket.tag_of ticket) };
 
     /// Leaves the outcome for its parent, which is to be woken; the root has none. `Foreign` where it has not ended.
     fn leave(self, spares: &mut Self::Spares) -> Result<Option<ThreadId>, JobFault>

@@ -1,9 +1,9 @@
 //! The tags that a worker gives to the threads which begin at it.
-ghost use Rattle.std.specs.Prelude.{◌≡◌, ◌+◌, ◌<◌};
+ghost use Rattle.std.specs.Prelude.{◌≡◌, ◌+◌, ◌<◌, ◌%◌};
 
 use crate::room::Room;
 
-/// How many tags a worker draws at once.
+/// How many tags a worker draws at once: a block.
 pub const BLOCK: u64 = 64;
 
 /// The tags that a worker has drawn and not given yet: so many in a row from the next one on.
@@ -26,10 +26,11 @@ impl Tags {
         ensures of_block { 0 < self.old.left → result ≡ self.old.next }
         ensures next { result < u64.MAX → self.new.next ≡ result + 1 }
         ensures fewer { 0 < self.old.left → self.new.left + 1 ≡ self.old.left }
+        ensures first { self.old.left ≡ 0 → result % BLOCK ≡ 1 }
         ensures drawn { self.old.left ≡ 0 → self.new.left + 1 ≡ BLOCK }
     {
         if self.left == 0 {
-            self.next = room.next_tags(BLOCK);
+            self.next = room.next_block();
             self.left = BLOCK;
         }
         let tag = self.next;

@@ -1,7 +1,8 @@
 //! What ties a job to others, in one box, and what ended jobs leave of it.
-ghost use Rattle.std.specs.Prelude.{◌≡◌, ◌≤◌, ◌+◌, [], IfOk, vec_len, vec_capacity};
+ghost use Rattle.std.specs.Prelude.{◌≡◌, ◌≤◌, ◌+◌, [], IfOk, Some, vec_len, vec_capacity};
 
 use crate::ends::End;
+use crate::left_behind::OutcomeLeft;
 use arachne_core::ThreadId;
 use std::alloc::{AllocError, Global};
 use std::marker::Model;
@@ -10,7 +11,17 @@ use std::marker::Model;
 #[derive(Drop)]
 pub struct Ties {
     pub(crate) ends: Vec<End>,
-    pub(crate) parent: Option<ThreadId>,
+    parent: Option<ThreadId>,
+}
+
+impl Ties {
+    /// They are those of a child of this parent.
+    #[inline(always)]
+    pub(crate) fn set_parent(&mut self, parent: ThreadId)
+        ensures { self.new ≡ record self.old { parent = Some parent } }
+    {
+        self.parent = Some(parent);
+    }
 }
 
 /// How many ties are kept at most.
@@ -65,6 +76,17 @@ impl SpareTies {
         ties.ends.try_reserve(2)?;
         ties.parent = parent;
         Ok(ties)
+    }
+
+    /// Keeps the ties of a job that has left its outcome. The id under which its parent runs, which is had only so.
+    #[inline(always)]
+    pub(crate) fn keep_ended(&mut self, ties: Box<Ties>, left: OutcomeLeft) -> Option<ThreadId>
+        ensures { result ≡ ties.value.parent }
+    {
+        left.told();
+        let parent = ties.parent;
+        self.keep(ties);
+        parent
     }
 
     /// Keeps the ties of an ended job, unless there are enough.

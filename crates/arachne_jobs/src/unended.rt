@@ -3,6 +3,7 @@ ghost use Rattle.std.specs.Prelude.{◌≡◌, IfErr, IfOk};
 ghost use Rattle.arachne_join.specs.Openings.{missed_again};
 ghost use Rattle.arachne_jobs.specs.Cells.{IsFoundFor, IsWanted};
 
+use crate::awaited::{Awaited, AwaitedIn};
 use crate::left::Found;
 use crate::waiting::WaitCell;
 use crate::wanted::{OutcomeReceiver, Wanted};
@@ -20,25 +21,25 @@ pub struct Unended {
 #[inline(always)]
 pub(crate) fn look_at(
     receiver: OutcomeReceiver,
-) -> Result<(DetachedOutcome, UnusedCell<DetachedOutcome, Wanted>), (OutcomeReceiver, Unended)>
+) -> Result<(DetachedOutcome, UnusedCell<DetachedOutcome, Wanted>), (Awaited, Unended)>
     ensures outcome { IfOk result (λ got. IsWanted receiver.opening.key got.0) }
-    ensures missed { IfErr result (λ back. back.0 ≡ missed_again receiver) }
+    ensures missed { IfErr result (λ back. back.0.receiver ≡ missed_again receiver) }
 {
     match receiver.fetch() {
         Ok(got) => Ok(got),
-        Err(receiver) => Err((receiver, Unended { looked: () })),
+        Err(receiver) => Err((Awaited::again(receiver), Unended { looked: () })),
     }
 }
 
 /// What the parent that awaits a child finds in its cell, which is used up then. Where there is nothing the cell comes
 /// back.
 #[inline(always)]
-pub(crate) fn look_in<'p>(cell: WaitCell<'p>) -> Result<Found<'p>, (WaitCell<'p>, Unended)>
+pub(crate) fn look_in<'p>(cell: WaitCell<'p>) -> Result<Found<'p>, (AwaitedIn<'p>, Unended)>
     ensures found { IfOk result (IsFoundFor cell.entry.key) }
-    ensures same { IfErr result (λ back. back.0 ≡ cell.entry) }
+    ensures same { IfErr result (λ back. back.0.cell ≡ cell.entry) }
 {
     match cell.find() {
         Ok(found) => Ok(found),
-        Err(_) => Err((cell, Unended { looked: () })),
+        Err(_) => Err((AwaitedIn::of(cell), Unended { looked: () })),
     }
 }

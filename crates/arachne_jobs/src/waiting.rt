@@ -1,11 +1,12 @@
 //! A child that waits in its join cell, for a place or for its parent.
-ghost use Rattle.std.specs.Prelude.{◌≡◌, ◌≢◌, ◌+◌, ◌≤◌, IfOk, IfErr, IfSome, vec_capacity, vec_len};
+ghost use Rattle.std.specs.Prelude.{◌≡◌, ◌≢◌, ◌↔◌, ◌+◌, ◌≤◌, IfOk, IfErr, IfSome, IsTrue, Some, vec_capacity, vec_len};
 ghost use Rattle.std.specs.Arc.{arc_value};
 ghost use Rattle.arachne_join.specs.Views.{shown};
-ghost use Rattle.arachne_join.specs.declared.view.Role.TheVariants.{Saw};
-ghost use Rattle.arachne_jobs.specs.Cells.{HasNotBegun, IsFor, IsFoundFor, IsWanted};
+ghost use Rattle.arachne_join.specs.declared.view.Role.TheVariants.{Left as HasLeft, Saw};
+ghost use Rattle.arachne_jobs.specs.Cells.{HasNotBegun, IsFor, IsFoundFor, IsTold, IsWanted};
 ghost use Rattle.arachne_jobs.specs.Threads.{tag_of};
 
+use crate::awaited::{AwaitedIn, OwedIn};
 use crate::ends::WaitEnd;
 use crate::left::{Found, Left, Waiting};
 use crate::slice::RunTicket;
@@ -13,11 +14,10 @@ use crate::ties::Ties;
 use crate::wanted::Wanted;
 use arachne_contexts::Tagged;
 use arachne_core::ThreadId;
-use arachne_join::{CellState, JoinCell, Missed, SendingEnd};
+use arachne_join::{CellState, JoinCell, Missed, Receipt, SendingEnd};
 use arachne_machine::{Contents, DetachedOutcome, Thread};
 use std::alloc::{AllocError, Global};
 use std::marker::Model;
-use std::snapshot::Snapshot;
 use std::sync::Arc;
 
 type Cell<'p> = JoinCell<Left<'p>, Wanted>;
@@ -43,15 +43,33 @@ impl<'p> Model for WaitCell<'p> {
     ghost view = { λ c. arc_value c.cell };
 }
 
-/// What lies in the queue for a child that waits: its cell and its tag.
+/// What lies in the queue for a child that waits: its cell and its tag. Contracts see the cell.
 #[derive(Drop)]
 pub struct Ticket<'p> {
     cell: Arc<Cell<'p>>,
     tag: u64,
 }
 
+impl<'p> Model for Ticket<'p> {
+    ghost use Rattle.std.specs.Prelude.{◌≡◌};
+    ghost use Rattle.std.specs.Arc.{arc_value};
+    ghost use Rattle.arachne_join.specs.Views.{Cell};
+    ghost use Rattle.arachne_jobs.specs.declared.wanted.Wanted.{Wanted};
+
+    ghost Value = { Cell Wanted };
+
+    ghost use Rattle.std.specs.Coded.{codes};
+    ghost use Rattle.arachne_lang.specs.contracts.program.Expr as expr;
+
+    ghost coded = { Prim.hlevel (codes, expr.the_row.coded) };
+
+    ghost view = { λ t. arc_value t.cell };
+
+    ghost invariant = { λ t. (arc_value t.cell).key.tag.value ≡ t.tag };
+}
+
 impl<'p> Tagged for Ticket<'p> {
-    ghost tag_of = { λ t. t.tag };
+    ghost tag_of = { λ t. t.key.tag.value };
 
     fn tag(&self) -> u64 {
         self.tag
@@ -64,16 +82,14 @@ impl<'p> WaitCell<'p> {
         alloc: Global,
         child: Thread<'p>,
         parent: ThreadId,
-    ) -> Result<(WaitCell<'p>, Ticket<'p>), Thread<'p>>
+    ) -> Result<(AwaitedIn<'p>, Ticket<'p>), Thread<'p>>
         requires { HasNotBegun child }
-        ensures cell { IfOk result (λ made. IsFor child.entry made.0.key) }
-        ensures tag { IfOk result (λ made. made.1.tag ≡ tag_of child.entry) }
+        ensures cell { IfOk result (λ made. IsFor child.entry made.0.cell.key) }
+        ensures tag { IfOk result (λ made. made.1.key.tag.value ≡ tag_of child.entry) }
+        ensures parent { IfOk result (λ made. made.1.key.parent.value ≡ Some parent) }
         ensures handed_back { IfErr result (λ back. back ≡ child.entry) }
     {
-        let wanted = Wanted {
-            program: Snapshot::of(child.program()),
-            name: Snapshot::of(child.name()),
-        };
+        let wanted = Wanted::of(&child, Some(parent));
         let tag = child.tag();
         let Ok((cell, end, ticket)) = shared_cell(alloc, &wanted) else {
             return Err(child);
@@ -85,7 +101,8 @@ impl<'p> WaitCell<'p> {
                 parent,
             }),
         );
-        Ok((WaitCell { cell }, Ticket { cell: ticket, tag }))
+        let cell = AwaitedIn::of(WaitCell { cell });
+        Ok((cell, Ticket { cell: ticket, tag }))
     }
 
     /// What the parent that awaits the child finds. Where there is nothing, the cell was seen in a state in which no
@@ -101,7 +118,7 @@ impl<'p> WaitCell<'p> {
             },
             Err(missed) => missed,
         };
-        if missed.state != CellState::Waiting {
+        if !is_waiting(missed.state) {
             return Err(missed);
         }
         match self.cell.take_back() {
@@ -115,19 +132,32 @@ impl<'p> WaitCell<'p> {
 }
 
 impl<'p> WaitCell<'p> {
-    /// Leaves the child's outcome, with the sending end of this cell.
-    pub(crate) fn leave(self, end: SendingEnd<Left<'p>, Wanted>, outcome: DetachedOutcome)
+    /// Leaves the child's outcome, with the sending end of this cell. What shows that it did.
+    pub(crate) fn leave(
+        self,
+        end: SendingEnd<Left<'p>, Wanted>,
+        outcome: DetachedOutcome,
+    ) -> Receipt<Wanted>
         requires end { end ≡ self.table }
         requires outcome { IsWanted self.key outcome }
+        ensures { result ≡ shown self.entry.table HasLeft }
     {
-        end.leave(&self.cell, Left::Outcome(outcome));
+        end.leave(&self.cell, Left::Outcome(outcome))
     }
+}
+
+/// Whether a child waits in a cell of this state.
+#[inline(always)]
+fn is_waiting(state: CellState) -> bool
+    ensures { IsTrue result ↔ (state ≡ CellState.Waiting) }
+{
+    state == CellState::Waiting
 }
 
 impl<'p> RunTicket for Ticket<'p> {
     fn still_waits(&self) -> bool {
         let (state, _) = self.cell.seen();
-        state == CellState::Waiting
+        is_waiting(state)
     }
 }
 
@@ -140,11 +170,12 @@ impl<'p> Ticket<'p> {
         waits: &Vec<WaitEnd<'p>>,
         ties: &Box<Ties>,
         contents: &Box<Contents>,
-    ) -> Option<(Waiting<'p>, WaitCell<'p>, SendingEnd<Left<'p>, Wanted>)>
+    ) -> Option<(Waiting<'p>, OwedIn<'p>)>
         requires waits { vec_len waits.now + 1 ≤ vec_capacity waits.now }
         requires ties { vec_len ties.now.value.ends + 1 ≤ vec_capacity ties.now.value.ends }
-        ensures child { IfSome result (λ taken. IsFor taken.0.thread taken.1.key × HasNotBegun taken.0.thread) }
-        ensures end { IfSome result (λ taken. taken.2 ≡ taken.1.table) }
+        ensures child { IfSome result (λ taken. IsFor taken.0.thread taken.1.cell.key × HasNotBegun taken.0.thread) }
+        ensures told { IfSome result (λ taken. IsTold taken.0 self.entry.key) }
+        ensures end { IfSome result (λ taken. taken.1.end ≡ taken.1.cell.table) }
     {
         let _ = waits;
         let _ = ties;
@@ -152,7 +183,7 @@ impl<'p> Ticket<'p> {
         let Ticket { cell, tag: _ } = self;
         match cell.take_back() {
             Ok((left, end)) => match left {
-                Left::Child(waiting) => Some((waiting, WaitCell { cell }, end)),
+                Left::Child(waiting) => Some((waiting, OwedIn::of(WaitCell { cell }, end))),
                 Left::Outcome(_) => unreachable!(),
             },
             Err(_) => None,

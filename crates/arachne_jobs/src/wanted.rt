@@ -1,7 +1,12 @@
 //! What a fork's child leaves for its parent.
+ghost use Rattle.std.specs.Prelude.{◌≡◌};
+ghost use Rattle.arachne_jobs.specs.Cells.{IsFor};
+ghost use Rattle.arachne_jobs.specs.Threads.{tag_of};
+
+use arachne_core::ThreadId;
 use arachne_join::{Fits, Receiver, Sender};
 use arachne_lang::{Name, Program};
-use arachne_machine::DetachedOutcome;
+use arachne_machine::{DetachedOutcome, Thread};
 use std::snapshot::Snapshot;
 
 /// What a cell is for: the outcome of the thread of this name in this program. It has no bytes.
@@ -11,6 +16,27 @@ pub struct Wanted {
     pub program: Snapshot<Program>,
     /// The thread's name.
     pub name: Snapshot<Name>,
+    /// The tag under which the thread begins.
+    pub tag: Snapshot<u64>,
+    /// The id under which its parent runs, if it has one.
+    pub parent: Snapshot<Option<ThreadId>>,
+}
+
+impl Wanted {
+    /// The outcome of this thread is wanted, by this parent.
+    #[inline(always)]
+    pub(crate) fn of(thread: &Thread<'_>, parent: Option<ThreadId>) -> Wanted
+        ensures thread { IsFor thread.now result }
+        ensures tag { result.tag.value ≡ tag_of thread.now }
+        ensures parent { result.parent.value ≡ parent }
+    {
+        Wanted {
+            program: Snapshot::of(thread.program()),
+            name: Snapshot::of(thread.name()),
+            tag: Snapshot::of(&thread.tag()),
+            parent: Snapshot::of(&parent),
+        }
+    }
 }
 
 impl Fits<Wanted> for DetachedOutcome {
