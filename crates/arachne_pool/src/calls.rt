@@ -11,7 +11,6 @@ use crate::rounds::go_on;
 use crate::seat::{Call, Seat, idle_seat};
 use crate::spawned::Spawned;
 use crate::spawning::{Refusal, Refused};
-use crate::stop::Stop;
 use crate::worker::{PoolFault, Worker};
 use arachne_contexts::{Contexts, Seats};
 use arachne_workers::Worker as Loop;
@@ -283,7 +282,7 @@ impl<C: Seats> Pool<C> {
                 is_broken: false,
                 seat,
                 held: None,
-                stopped: Stop::Goes,
+                blocks: false,
                 has_taken: false,
                 is_drained: false,
                 bench,

@@ -15,7 +15,7 @@ use crate::pool::Pool;
 use crate::posting::{Disowned, Posted};
 use crate::rounds::PoolDesk;
 use crate::spawned::{Ended, Spawned};
-use crate::stop::{Stop as JobStop, rests_so};
+use crate::stop::{Stop as JobStop, rest_of, rests_so};
 use crate::worker::PoolFault;
 use arachne_arbiter::Pace;
 use arachne_contexts::{Contexts, Held, Moved, Taken, Woken};
@@ -48,8 +48,8 @@ pub(crate) struct Seat<'a, H, J: PoolJob, C: Contexts<Spawned<J>>> {
     pub(crate) is_broken: bool,
     pub(crate) seat: C::Seat,
     pub(crate) held: Option<Held<Spawned<J>, C::Hold>>,
-    /// Where the job in hand has stopped.
-    pub(crate) stopped: JobStop,
+    /// The job in hand is put back as blocked.
+    pub(crate) blocks: bool,
     /// A job was taken since the worker looked last whether others have too many.
     pub(crate) has_taken: bool,
     /// The core was seen to be closed and empty since that was asked last.
@@ -138,7 +138,7 @@ impl<'a, H: Wait, J: PoolJob, C: Contexts<Spawned<J>>> Desk for Seat<'a, H, J, C
         let Some(held) = self.held.take() else {
             return Err(Halt::from(PoolFault::Token));
         };
-        let asked = self.stopped.rest();
+        let asked = rest_of(self.blocks);
         let table = &self.pool.table;
         match table.put_back(self.rt, &mut self.seat, held, asked) {
             Ok(rested) => Ok(rests_so(rested, asked)),
@@ -347,7 +347,7 @@ impl<'a, H: Wait, J: PoolJob, C: Contexts<Spawned<J>>> Seat<'a, H, J, C> {
         requires { stop ≢ stopped.Ends }
         ensures { self.new ≡ self.old }
     {
-        self.stopped = stop;
+        self.blocks = stop.blocks();
         self.pool.live.add(self.core, self.bench.news())
     }
 

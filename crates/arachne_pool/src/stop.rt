@@ -1,6 +1,6 @@
 //! Where a slice of a job stops, and what comes of it.
-ghost use Rattle.std.specs.Prelude.{◌≡◌, None, Some, IfOk, OnErr};
-ghost use Rattle.arachne_pool.specs.Stops.{learned_after, rest_after, rests_as};
+ghost use Rattle.std.specs.Prelude.{◌≡◌, None, Some, IfOk, OnErr, if◌then◌else◌};
+ghost use Rattle.arachne_pool.specs.Stops.{blocks_after, learned_after, rests_as};
 
 use crate::live::AllTold;
 use arachne_contexts::Rested;
@@ -27,14 +27,14 @@ pub(crate) enum Stop {
 }
 
 impl Stop {
-    /// How the job is put back: blocked where it waits or sleeps.
+    /// Whether the job is put back as blocked: where it waits or sleeps.
     #[inline(always)]
-    pub(crate) fn rest(self) -> Rest
-        ensures { result ≡ rest_after self }
+    pub(crate) fn blocks(self) -> bool
+        ensures { result ≡ blocks_after self }
     {
         match self {
-            Stop::Waits | Stop::Sleeps => Rest::Blocked,
-            Stop::Goes | Stop::Forks | Stop::LetsGo | Stop::Ends | Stop::Short => Rest::Ready,
+            Stop::Waits | Stop::Sleeps => true,
+            Stop::Goes | Stop::Forks | Stop::LetsGo | Stop::Ends | Stop::Short => false,
         }
     }
 
@@ -52,6 +52,14 @@ impl Stop {
             Stop::Ends => Ok(LoopStop::Ends),
         }
     }
+}
+
+/// How a job is to rest that is put back as blocked, or as ready.
+#[inline(always)]
+pub(crate) fn rest_of(blocks: bool) -> Rest
+    ensures { result ≡ (if blocks then Rest.Blocked else Rest.Ready) }
+{
+    if blocks { Rest::Blocked } else { Rest::Ready }
 }
 
 /// How a job rests that was to be put back so: one that was woken before is ready.

@@ -85,7 +85,8 @@ impl Entry {
         left_of(self.until.load(Ordering::SeqCst), now)
     }
 
-    /// The answer comes, of a request that is counted as waiting no longer. Who is to be woken: it finds the answer then.
+    /// The answer comes, of a request that is counted as waiting no longer. Who is to be woken: it finds the answer
+    /// then.
     pub fn answer(&self, counted: CountedOff) -> ThreadId {
         counted.heeded();
         self.until.store(0, Ordering::SeqCst);

@@ -26,8 +26,8 @@ enum Next {
     Idles,
 }
 
-/// What is left of the slow part once all requests are answered. Nothing, where each was counted, its call was given back,
-/// and the timer was told.
+/// What is left of the slow part once all requests are answered. Nothing, where each was counted, its call was given
+/// back, and the timer was told.
 #[derive(Clone, Copy)]
 pub struct Left {
     /// How many requests are counted as waiting.
@@ -119,8 +119,8 @@ impl Timer {
         self.tell();
     }
 
-    /// A request waits before which none did. Each takes as long, so where others wait the timer looks again before this
-    /// one's time.
+    /// A request waits before which none did. Each takes as long, so where others wait the timer looks again before
+    /// this one's time.
     fn tell_of_first(&self, first: First) {
         first.told();
         self.tell();
@@ -168,8 +168,8 @@ impl Timer {
         self.is_told.load(Ordering::SeqCst) == 0
     }
 
-    /// Sleeps until it is told that there is something to do. It looks after a while all the same, and where nobody has told
-    /// it then, that is counted.
+    /// Sleeps until it is told that there is something to do. It looks after a while all the same, and where nobody has
+    /// told it then, that is counted.
     fn idle<R: Wait>(&self, rt: &R) {
         if self.rest(rt, IDLE) && self.is_any() {
             self.overslept.fetch_add(1, Ordering::SeqCst);
