@@ -7,7 +7,7 @@ ghost use Rattle.arachne_exec.specs.Changes.{together};
 use crate::layout::{empty_slots, first_words};
 use crate::seat::{CallSeat, ExecSeat};
 use crate::steps::{Deal, Lawful};
-use crate::turns::Turn;
+use crate::turns::{TakeTurn, Turn};
 use crate::view::View;
 use arachne_weights::Weight;
 use atomic_table::Table;
@@ -50,7 +50,7 @@ impl Executor {
             at: CallSeat { seat },
             weight: Weight::whole(),
             turn: Turn::start(),
-            index: 0,
+            take_turn: TakeTurn::start(),
         };
         Ok((Executor { table, shards }, seat))
     }
@@ -110,7 +110,7 @@ impl Executor {
             at: other,
             weight: second,
             turn: Turn::start(),
-            index: 0,
+            take_turn: TakeTurn::start(),
         }
     }
 

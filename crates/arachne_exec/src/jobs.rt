@@ -10,7 +10,7 @@ use crate::answers::{Job, Placed, Rested, Spawned, SpawnedHere};
 use crate::executor::Executor;
 use crate::layout::{LAST_GENERATION, free_word, mark_word, name_at, ready_word};
 use crate::seat::{CallSeat, ExecSeat};
-use crate::turns::{Taken, first_from, has_more, lowest_index};
+use crate::turns::{First, Taken, first_from, has_more, lowest_index};
 use crate::words::Heard;
 
 /// The mark of a place in hand, in which a wake was used up if there was one. [`Executor::refresh`] alone gives one, and
@@ -123,16 +123,17 @@ impl Executor {
 
     /// Takes a job that is ready at a block: one try, at the first ready place from this index on, round the block. With
     /// it whether the block had another behind that place.
-    pub(crate) fn take_from(&self, seat: &mut ExecSeat, block: usize, from: usize) -> Option<Taken>
+    pub(crate) fn take_from(&self, seat: &mut ExecSeat, block: usize, from: First) -> Option<Taken>
         requires own { seat.old.table ≡ self.now.table }
         requires block { block < 64 * self.now.shards }
         ensures seat { seat.new ≡ record seat.old { known = seat.new.known } }
-        ensures took { IfSome result (λ taken. HasTakenFrom from taken block seat.old.known seat.new.known) }
+        ensures took { IfSome result (λ taken. HasTakenFrom from.index taken block seat.old.known seat.new.known) }
         ensures none { IfNone result (HasTakenNone block seat.old.known seat.new.known) }
         ensures hand { IfSome result (λ taken. HandsOver (4096 * self.now.shards) taken.job seat.old.known seat.new.known) }
         ensures same { IfNone result (KeepsHand seat.old.known seat.new.known) }
     {
         self.few();
+        let from = from.begun();
         let ready = self.look(&mut seat.at, ready_word(block));
         if ready == 0 {
             return None;
@@ -159,9 +160,9 @@ impl Executor {
         ensures hand { IfSome result (λ job. HandsOver (4096 * self.now.shards) job seat.old.known seat.new.known) }
         ensures same { IfNone result (KeepsHand seat.old.known seat.new.known) }
     {
-        let from = seat.index;
+        let from = seat.take_turn.first_place();
         let taken = self.take_from(seat, block, from)?;
-        Some(taken.in_block(&mut seat.index))
+        Some(taken.in_block(&mut seat.take_turn))
     }
 
     /// The newest job in hand is ready again. Whether the worker of its place is to be unparked.

@@ -9,6 +9,7 @@ mod laws;
 mod layout;
 mod looking;
 mod parking;
+mod rounds;
 mod seat;
 mod showing;
 mod sleepers;
@@ -29,4 +30,5 @@ pub use layout::{
     BLOCKS_PER_SHARD, MOST_SHARDS, PLACES_PER_BLOCK, WORKERS, place_of, worker_of_place,
 };
 pub use seat::ExecSeat;
+pub use sleepers::Risen;
 pub use view::{Deed, Known, View};

@@ -9,9 +9,9 @@ ghost use Rattle.arachne_exec.specs.Calls.{HasAnswered, HasFoundNone, HasFoundSo
 use crate::answers::{Job, Next};
 use crate::executor::Executor;
 use crate::layout::summary_word;
+use crate::rounds::{InTurn, Round};
 use crate::seat::{CallSeat, ExecSeat};
 use crate::sleepers::Risen;
-use crate::turns::shard_in_turn;
 
 /// How many of so many shards a worker looks after.
 fn shards_of(worker: usize, shards: usize) -> usize
@@ -48,12 +48,12 @@ impl Executor {
     }
 
     /// The worker is awake, as where it ends its sleep by itself.
-    pub fn wake_up(&self, seat: &mut ExecSeat, worker: usize)
+    pub fn wake_up(&self, seat: &mut ExecSeat, worker: usize) -> Risen
         requires own { seat.old.table ≡ self.now.table }
         requires worker { (seat.old.known.worker ≡ worker + 1) × (worker < 64) }
         ensures { seat.new ≡ seat.old }
     {
-        self.clear_idle(&mut seat.at, worker);
+        self.clear_idle(&mut seat.at, worker)
     }
 
     /// The worker is idle, unless one of its summary words isn't empty: then it has risen.
@@ -85,17 +85,19 @@ impl Executor {
         self.lie_down(&mut seat.at, worker).is_ok()
     }
 
-    /// A job that is ready at a shard, the first from the seat's turn on. Bits of blocks that have none are cleared in its summary word.
-    fn take_in_shard(&self, seat: &mut ExecSeat, shard: usize) -> Option<Job>
+    /// A job that is ready at a shard whose turn it is, the first from the seat's turn on. Bits of blocks that have none are
+    /// cleared in its summary word.
+    fn take_in_shard(&self, seat: &mut ExecSeat, shard: InTurn) -> Option<Job>
         requires own { seat.old.table ≡ self.now.table }
-        requires shard { shard < self.now.shards }
+        requires shard { shard.shard < self.now.shards }
         ensures seat { seat.new ≡ record seat.old { known = seat.new.known } }
-        ensures took { IfSome result (λ job. (block : ℕ) × (looked : Known) × (block < 64 * self.now.shards) × (block / 64 ≡ shard) × HasLooked seat.old.known looked × HasTaken job block looked seat.new.known) }
+        ensures took { IfSome result (λ job. (block : ℕ) × (looked : Known) × (block < 64 * self.now.shards) × (block / 64 ≡ shard.shard) × HasLooked seat.old.known looked × HasTaken job block looked seat.new.known) }
         ensures none { IfNone result (HasLooked seat.old.known seat.new.known) }
         ensures hand { IfSome result (λ job. HandsOver (4096 * self.now.shards) job seat.old.known seat.new.known) }
         ensures same { IfNone result (KeepsHand seat.old.known seat.new.known) }
     {
         self.few();
+        let shard = shard.begun();
         let shown = self.look(&mut seat.at, summary_word(shard));
         let mut left = seat.turn.unsearched(shard, shown);
         while let Some(index) = left.next() {
@@ -119,14 +121,27 @@ impl Executor {
         ensures hand { HandsNext result (4096 * self.now.shards) seat.old.known seat.new.known }
     {
         self.few();
-        let count = shards_of(worker, self.shards);
-        let first = seat.turn.first_shard(count);
-        for index in 0..count {
-            let shard = worker + 64 * shard_in_turn(first, index, count);
+        let mut round = Round::of(&seat.turn, worker, shards_of(worker, self.shards));
+        while let Some(shard) = round.next() {
             if let Some(job) = self.take_in_shard(seat, shard) {
-                return Next::Run(job);
+                return Next::Run(round.found(job));
             }
         }
+        self.end_round(seat, worker, round)
+    }
+
+    /// What the worker is to do where all of its shards were searched and no job was found.
+    #[inline(always)]
+    fn end_round(&self, seat: &mut ExecSeat, worker: usize, round: Round) -> Next
+        requires own { seat.old.table ≡ self.now.table }
+        requires worker { (seat.old.known.worker ≡ worker + 1) × (worker < 64) }
+        requires round { (round.worker ≡ worker) × (round.index ≡ round.count) }
+        requires all { (j : ℕ) → worker + 64 * j < self.now.shards → j < round.count }
+        ensures seat { seat.new ≡ record seat.old { known = seat.new.known } }
+        ensures answer { HasAnswered result self.now.shards worker seat.old.known seat.new.known }
+        ensures hand { HandsNext result (4096 * self.now.shards) seat.old.known seat.new.known }
+    {
+        round.over();
         if self.may_park(seat, worker) {
             Next::Park
         } else {

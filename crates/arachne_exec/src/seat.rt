@@ -1,5 +1,5 @@
 //! A thread's right to call.
-use crate::turns::Turn;
+use crate::turns::{TakeTurn, Turn};
 use crate::view::View;
 use arachne_weights::Weight;
 use atomic_table::Seat;
@@ -33,8 +33,8 @@ pub struct ExecSeat {
     pub(crate) weight: Weight,
     /// Where the next search of its worker's blocks begins.
     pub(crate) turn: Turn,
-    /// The index in a block at which its next `take` begins, modulo 64.
-    pub(crate) index: usize,
+    /// Where its next `take` begins.
+    pub(crate) take_turn: TakeTurn,
 }
 
 impl Model for ExecSeat {

@@ -27,9 +27,9 @@ impl Hidden {
     }
 }
 
-/// A worker whose idle bit was cleared. [`Executor::clear_idle`] alone gives one.
+/// A worker whose idle bit was cleared. Only the step that clears it gives one.
 #[derive(Drop)]
-pub(crate) struct Risen {
+pub struct Risen {
     worker: usize,
 }
 

@@ -120,13 +120,51 @@ impl Taken {
     }
 
     /// The job. The next take begins behind its index.
-    pub(crate) fn in_block(self, index: &mut usize) -> Job
+    pub(crate) fn in_block(self, turn: &mut TakeTurn) -> Job
         ensures job { result ≡ self.job }
-        ensures index { index.new ≡ self.job.place % 64 + 1 }
+        ensures index { turn.new.index ≡ self.job.place % 64 + 1 }
     {
         let Taken { job, more: _ } = self;
-        *index = job.place % 64 + 1;
+        turn.index = job.place % 64 + 1;
         job
+    }
+}
+
+/// The index at which a search of a block begins. The two turns alone give one, and no block is searched without.
+pub(crate) struct First {
+    index: usize,
+}
+
+impl First {
+    /// The index, at which the search begins now.
+    #[inline(always)]
+    pub(crate) fn begun(self) -> usize
+        ensures { result ≡ self.index }
+    {
+        let First { index } = self;
+        index
+    }
+}
+
+/// The index in a block at which the next `take` of a seat begins, modulo 64.
+#[derive(Clone, Copy, Drop)]
+pub(crate) struct TakeTurn {
+    index: usize,
+}
+
+impl TakeTurn {
+    pub(crate) fn start() -> TakeTurn
+        ensures { result.index ≡ 0 }
+    {
+        TakeTurn { index: 0 }
+    }
+
+    /// Which place of a block comes first.
+    #[inline(always)]
+    pub(crate) fn first_place(&self) -> First
+        ensures { result.index ≡ self.now.index }
+    {
+        First { index: self.index }
     }
 }
 
@@ -196,14 +234,15 @@ impl Turn {
     }
 
     /// Which place of a block comes first.
-    pub(crate) fn first_place(&self, block: usize) -> usize
-        ensures turn { self.now.place / 64 ≡ block → result ≡ self.now.place % 64 }
-        ensures other { self.now.place / 64 ≢ block → result ≡ 0 }
+    pub(crate) fn first_place(&self, block: usize) -> First
+        ensures turn { self.now.place / 64 ≡ block → result.index ≡ self.now.place % 64 }
+        ensures other { self.now.place / 64 ≢ block → result.index ≡ 0 }
     {
-        if self.place / 64 == block {
+        let index = if self.place / 64 == block {
             self.place % 64
         } else {
             0
-        }
+        };
+        First { index }
     }
 }

@@ -1,8 +1,44 @@
-use Rattle.std.proofs.Common.{refl}
+use Rattle.std.proofs.Common.{◌≡◌, ◌∙◌, ℕ, ◌+◌, ◌*◌, ◌<◌, refl, ap, sym, subst, arith, rules}
+use Rattle.arachne_exec.proofs.executor.Executor.next.Goals.{After-of-round}
 use Rattle.arachne_exec.proofs.executor.Executor.next.Goals as goal
 
-pub returns-then-may_park-clause-answer : goal.returns-then-may_park-clause-answer
-returns-then-may_park-clause-answer c = (c.loop-index.seat.known, c.loop-index.invariant.looked, c.if-may_park.ensures.parks refl)
+-- the shards that were counted are the executor's
+shards : (c : goal.After-of-round) → c.self.inside.shards ≡ c.args.self.now.shards
+shards c = ap (λ e. e.shards) c.self.view_is
 
-pub returns-else-may_park-clause-answer : goal.returns-else-may_park-clause-answer
-returns-else-may_park-clause-answer c = (c.loop-index.seat.known, c.loop-index.invariant.looked, c.if-may_park.ensures.stays refl)
+pub loop-shard-init : goal.loop-shard-init
+loop-shard-init c =
+    let same = shards (goal.at.loop-shard-init c).After-of-round in
+    record {
+      seat = refl;
+      looked = refl;
+      hand = (refl, refl);
+      worker = c.of-round.ensures.worker;
+      all = λ j below. subst (λ (n : ℕ). j < n) (sym c.of-round.ensures.all.0)
+        (c.shards_of.ensures.all j (subst (λ (n : ℕ). c.args.worker + 64 * j < n) (sym same) below));
+      inside = λ j below. subst (λ (n : ℕ). c.args.worker + 64 * j < n) same
+        (c.shards_of.ensures.none j (subst (λ (n : ℕ). j < n) c.of-round.ensures.all.0 below));
+    }
+
+pub take_in_shard-requires-clause-shard : goal.take_in_shard-requires-clause-shard
+take_in_shard-requires-clause-shard c =
+    let it = c.in-Some.ensures.inside in
+    let worker = c.loop-shard.invariant.worker in
+    let inside = c.loop-shard.invariant.inside it.1 it.2 in
+    omega (arith, it.3, worker, inside)
+
+pub loop-shard-preserved : goal.loop-shard-preserved
+loop-shard-preserved c =
+    let count = c.in-Some.ensures.same.1 in
+    record {
+      seat = search rules;
+      looked = search rules;
+      hand = search rules;
+      worker = c.in-Some.ensures.same.0 ∙ c.loop-shard.invariant.worker;
+      all = λ j below. subst (λ (n : ℕ). j < n) (sym count) (c.loop-shard.invariant.all j below);
+      inside = λ j below. c.loop-shard.invariant.inside j (subst (λ (n : ℕ). j < n) count below);
+    }
+
+pub end_round-requires-clause-all : goal.end_round-requires-clause-all
+end_round-requires-clause-all c = λ j below.
+    subst (λ (n : ℕ). j < n) (sym c.next.ensures.same.1) (c.loop-shard.invariant.all j below)

@@ -1,10 +1,16 @@
-use Rattle.std.proofs.Common.{◌≡◌}
+use Rattle.std.proofs.Common.{◌≡◌, ℕ, ◌+◌, ◌*◌, ◌-◌, ◌<◌}
 use Rattle.arachne_exec.specs.Calls.{HasLooked, KeepsHand}
 use Rattle.arachne_exec.proofs.executor.Executor.next.Given as goal
 
-abbrev pub invariant-loop-index : goal.invariant-loop-index
-invariant-loop-index l = record {
+abbrev pub invariant-loop-shard : goal.invariant-loop-shard
+invariant-loop-shard l = record {
   seat : l.seat ≡ record l.fn.seat { known = l.seat.known };
   looked : HasLooked l.fn.seat.known l.seat.known;
   hand : KeepsHand l.fn.seat.known l.seat.known;
+  worker : l.round.worker ≡ l.worker;
+  all : (j : ℕ) → l.worker + 64 * j < l.self.shards → j < l.round.count;
+  inside : (j : ℕ) → j < l.round.count → l.worker + 64 * j < l.self.shards;
 }
+
+abbrev pub decreases-loop-shard : goal.decreases-loop-shard
+decreases-loop-shard l = l.round.count - l.round.index

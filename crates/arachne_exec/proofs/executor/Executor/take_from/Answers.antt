@@ -44,7 +44,7 @@ returns-clause-took c =
     let same : got.0 ≡ c.lay-job.result = sym (ap newest_job (came at.After-refresh-mark)) ∙ ap newest_job c.lay-job.ensures.found in
     let held = ap (λ v. v.known) got.1 ∙ (λ i. gained place (same i) (saw at.After-first_from-index i)) in
     let back : index ≡ place % 64 = omega (arith, low) in
-    subst (λ (taken : Taken). HasTakenFrom c.args.from taken c.args.block c.args.seat.now.known c.lay.new.seat.known)
+    subst (λ (taken : Taken). HasTakenFrom c.args.from.index taken c.args.block c.args.seat.now.known c.lay.new.seat.known)
     (sym (c.new.ensures ∙ ap (taken_with c.has_more.result) c.job_at.ensures))
     (record {
       took = record {
@@ -59,6 +59,6 @@ returns-clause-took c =
             ∙ ap (λ v. v.known) mark.1
             ∙ ap (λ k. hearing (mark.0 % 2) place (noted (mark_at place) c.refresh-mark.result.mark k)) held;
       };
-      first = subst (IsFirstFrom c.look-ready.result c.args.from) back c.first_from-index.ensures;
+      first = subst (λ (from : ℕ). IsFirstFrom c.look-ready.result from (place % 64)) c.begun-from.ensures (subst (IsFirstFrom c.look-ready.result c.begun-from.result) back c.first_from-index.ensures);
       more = subst (λ (i : ℕ). IsTrue c.has_more.result ↔ (2 * 2 ^ i ≤ c.look-ready.result)) back c.has_more.ensures;
     })

@@ -1,0 +1,99 @@
+//! The shards of a worker, in the order in which a search looks at them.
+ghost use Rattle.std.specs.Prelude.{◌≡◌, ℕ, ◌+◌, ◌*◌, ◌/◌, ◌<◌, ◌≤◌, IfSome, IfNone};
+
+use crate::answers::Job;
+use crate::turns::{Turn, shard_in_turn};
+
+/// A shard whose turn it is. [`Round::next`] alone gives one, and none is searched without.
+pub(crate) struct InTurn {
+    shard: usize,
+}
+
+impl InTurn {
+    /// The shard's number, which is searched now.
+    #[inline(always)]
+    pub(crate) fn begun(self) -> usize
+        ensures { result ≡ self.shard }
+    {
+        let InTurn { shard } = self;
+        shard
+    }
+}
+
+/// The shards of a worker that a search has still to look at, from the one of its turn on, round them. It can't be let
+/// go: a search ends with a job, or once none is left.
+pub(crate) struct Round {
+    worker: usize,
+    count: usize,
+    first: usize,
+    index: usize,
+    ghost few: { worker + 64 * count ≤ 512 },
+    ghost within: { 0 < count → first < count },
+    ghost begun: { index ≤ count },
+}
+
+impl Round {
+    /// All of a worker's shards, which are so many.
+    #[inline(always)]
+    pub(crate) fn of(turn: &Turn, worker: usize, count: usize) -> Round
+        requires { worker + 64 * count ≤ 512 }
+        ensures worker { result.worker ≡ worker }
+        ensures all { (result.count ≡ count) × (result.index ≡ 0) }
+        ensures turn { turn.now.place / 262144 < count → result.first ≡ turn.now.place / 262144 }
+        ensures first { count ≤ turn.now.place / 262144 → result.first ≡ 0 }
+    {
+        Round {
+            worker,
+            count,
+            first: turn.first_shard(count),
+            index: 0,
+        }
+    }
+
+    /// The next shard.
+    #[inline(always)]
+    pub(crate) fn next(&mut self) -> Option<InTurn>
+        ensures same { (self.new.worker ≡ self.old.worker) × (self.new.count ≡ self.old.count) × (self.new.first ≡ self.old.first) }
+        ensures one { IfSome result (λ it. self.new.index ≡ self.old.index + 1) }
+        ensures inside { IfSome result (λ it. (self.old.index < self.old.count) × (k : ℕ) × (k < self.old.count) × (it.shard ≡ self.old.worker + 64 * k)) }
+        ensures ahead { IfSome result (λ it. self.old.first + self.old.index < self.old.count → it.shard ≡ self.old.worker + 64 * (self.old.first + self.old.index)) }
+        ensures round { IfSome result (λ it. self.old.count ≤ self.old.first + self.old.index → it.shard + 64 * self.old.count ≡ self.old.worker + 64 * (self.old.first + self.old.index)) }
+        ensures none { IfNone result ((self.new.index ≡ self.old.index) × (self.old.index ≡ self.old.count)) }
+    {
+        if self.index >= self.count {
+            return None;
+        }
+        let turn = shard_in_turn(self.first, self.index, self.count);
+        self.index += 1;
+        Some(InTurn {
+            shard: self.worker + 64 * turn,
+        })
+    }
+
+    /// The search ends with this job.
+    #[inline(always)]
+    pub(crate) fn found(self, job: Job) -> Job
+        ensures { result ≡ job }
+    {
+        let Round {
+            worker: _,
+            count: _,
+            first: _,
+            index: _,
+        } = self;
+        job
+    }
+
+    /// No shard is left.
+    #[inline(always)]
+    pub(crate) fn over(self)
+        requires { self.index ≡ self.count }
+    {
+        let Round {
+            worker: _,
+            count: _,
+            first: _,
+            index: _,
+        } = self;
+    }
+}
