@@ -7,33 +7,46 @@ use Rattle.arachne_workers.specs.declared.desk.Stop.{Stop}
 use Rattle.arachne_workers.specs.declared.desk.Stop.TheVariants as stop
 use Rattle.arachne_sleep.specs.declared.answer.Pass.{Pass}
 use Rattle.arachne_sleep.specs.declared.who.Who.{Who}
+use Rattle.arachne_run.specs.declared.access.Addition.{Addition}
 use Rattle.arachne_run.specs.declared.access.Want.{Want}
 use Rattle.arachne_run.specs.declared.access.Want.TheVariants.{Asks, Awaits, Frees, Tallies}
 use Rattle.arachne_run.specs.declared.access.Served.{Served}
 use Rattle.arachne_run.specs.declared.access.Served.TheVariants.{Waits, Holds, Freed, Added}
+use Rattle.arachne_run.specs.declared.granted.Call.{Call}
+use Rattle.arachne_run.specs.declared.granted.Call.TheVariants.{Ask, Check}
+use Rattle.arachne_run.specs.declared.granted.Granted.{Granted}
 
 -- the pass is of this lock, for this thread
 abbrev pub IsPassFor : ℕ → Who → Pass → Type 0
 IsPassFor lock who pass = (pass.lock ≡ lock) × (pass.who ≡ who)
 
--- a thread that asks for a lock waits for that one, or has a pass of it; one that frees or adds goes on
+-- this call gave a pass of this lock to this thread
+abbrev pub IsGrantBy : Call → ℕ → Who → Granted → Type 0
+IsGrantBy call lock who granted = IsPassFor lock who granted.pass.value × (granted.call.value ≡ call)
+
+-- this amount was added to this ledger
+abbrev pub IsAddition : ℕ → ℕ → Addition → Type 0
+IsAddition ledger amount addition = (addition.ledger.value ≡ ledger) × (addition.amount.value ≡ amount)
+
+-- a thread that asks for a lock waits for that one as an ask said, or has a pass of it by an ask; one that awaits the lock
+-- does so by a check; one that frees or adds goes on
 abbrev pub IsServed : Want → Who → Served → Type 0
-IsServed (Asks lock) who (Waits awaited unserved) = awaited ≡ lock
-IsServed (Asks lock) who (Holds granted) = IsPassFor lock who granted.pass.value
-IsServed (Asks lock) who (Freed next) = ⊥
-IsServed (Asks lock) who Added = ⊥
-IsServed (Awaits lock) who (Waits awaited unserved) = awaited ≡ lock
-IsServed (Awaits lock) who (Holds granted) = IsPassFor lock who granted.pass.value
-IsServed (Awaits lock) who (Freed next) = ⊥
-IsServed (Awaits lock) who Added = ⊥
+IsServed (Asks lock) who (Waits awaited unserved) = (awaited ≡ lock) × (unserved.call.value ≡ Ask)
+IsServed (Asks lock) who (Holds granted) = IsGrantBy Ask lock who granted
+IsServed (Asks lock) who (Freed release) = ⊥
+IsServed (Asks lock) who (Added addition) = ⊥
+IsServed (Awaits lock) who (Waits awaited unserved) = (awaited ≡ lock) × (unserved.call.value ≡ Check)
+IsServed (Awaits lock) who (Holds granted) = IsGrantBy Check lock who granted
+IsServed (Awaits lock) who (Freed release) = ⊥
+IsServed (Awaits lock) who (Added addition) = ⊥
 IsServed (Frees lock) who (Waits awaited unserved) = ⊥
 IsServed (Frees lock) who (Holds granted) = ⊥
-IsServed (Frees lock) who (Freed next) = Unit {0}
-IsServed (Frees lock) who Added = ⊥
+IsServed (Frees lock) who (Freed release) = Unit {0}
+IsServed (Frees lock) who (Added addition) = ⊥
 IsServed (Tallies ledger amount) who (Waits awaited unserved) = ⊥
 IsServed (Tallies ledger amount) who (Holds granted) = ⊥
-IsServed (Tallies ledger amount) who (Freed next) = ⊥
-IsServed (Tallies ledger amount) who Added = Unit {0}
+IsServed (Tallies ledger amount) who (Freed release) = ⊥
+IsServed (Tallies ledger amount) who (Added addition) = IsAddition ledger amount addition
 
 -- this is what a thread with this pause asks for
 abbrev pub IsWantOf : Want → Option Pending → Type 0
@@ -74,8 +87,8 @@ has_lock_after (Tallies ledger amount) waits had = had
 abbrev pub has_lock_by : Served → (had : Bool) → Bool
 has_lock_by (Waits lock unserved) had = had
 has_lock_by (Holds granted) had = true
-has_lock_by (Freed next) had = false
-has_lock_by Added had = had
+has_lock_by (Freed release) had = false
+has_lock_by (Added addition) had = had
 
 -- the id of a thread, if there is one
 abbrev pub id_of : Option Who → Option ThreadId

@@ -1,14 +1,18 @@
 //! What a worker does at the locks and the ledgers. A lock is tried again while another kernel thread is at it.
-ghost use Rattle.std.specs.Prelude.{◌≡◌, ◌<◌, ◌≤◌, Err, Ok, IfErr, IfOk, IsOk, OnOk, length};
+ghost use Rattle.std.specs.Prelude.{◌≡◌, ◌<◌, ◌≤◌, false, Err, None, Ok, MatchOption, IfErr, IfOk, IsOk, OnOk, length};
 ghost use Rattle.arachne_ledger.specs.Sums.{raised};
 ghost use Rattle.arachne_ledger.specs.Views.{IsShareOf};
 ghost use Rattle.arachne_sleep.specs.Calls.{FreeAnswer};
 ghost use Rattle.arachne_sleep.specs.SleepLocks.{AreSeatsOf, ChangesAt};
-ghost use Rattle.arachne_run.specs.Serving.{IsPassFor, IsServed, IsWantOf, StopsAt, has_lock_after, has_lock_by, id_of, is_wait};
+ghost use Rattle.arachne_run.specs.Serving.{IsAddition, IsGrantBy, IsServed, IsWantOf, StopsAt, has_lock_after, has_lock_by, id_of, is_wait};
 ghost use Rattle.arachne_run.specs.Tokens.{AreHoldingsOf};
+ghost use Rattle.arachne_workers.specs.declared.desk.Stop.TheVariants as stopped;
+ghost use Rattle.arachne_run.specs.declared.access.Want.TheVariants.{Asks, Awaits};
 ghost use Rattle.arachne_run.specs.declared.fault.WorkerFault.TheVariants.{Foreign};
 ghost use Rattle.arachne_run.specs.declared.granted.Got.TheVariants as got;
+ghost use Rattle.arachne_run.specs.declared.granted.Call.TheVariants as calls;
 ghost use Rattle.arachne_run.specs.declared.granted.Granted.{Granted};
+ghost use Rattle.arachne_run.specs.declared.granted.Unserved.{Unserved};
 
 use crate::fault::WorkerFault;
 use crate::granted::{self, Got, Granted, Unserved};
@@ -20,6 +24,7 @@ use arachne_ledger::{Ledgers, Share};
 use arachne_sleep::{Freed, LockSeats, NotHolder, SleepLocks, Tried, Who};
 use arachne_workers::{Stop, stand_by};
 use std::marker::Model;
+use std::snapshot::Snapshot;
 use std::sync::Wait;
 use std::time::Clock;
 
@@ -36,17 +41,77 @@ pub(crate) enum Want {
     Tallies(u64, u64),
 }
 
+impl Want {
+    /// This lock, by a step of the thread: fewer are left than it had.
+    #[inline(always)]
+    pub(crate) fn asks(lock: u64, had: u32, left: u32) -> Want
+        requires { left < had }
+        ensures { result ≡ Asks lock }
+    {
+        let _ = (had, left);
+        Want::Asks(lock)
+    }
+
+    /// This lock, for which it has asked before: it has made no step.
+    #[inline(always)]
+    pub(crate) fn awaits(lock: u64, had: u32, left: u32) -> Want
+        requires { left ≡ had }
+        ensures { result ≡ Awaits lock }
+    {
+        let _ = (had, left);
+        Want::Awaits(lock)
+    }
+}
+
 /// What came of what a thread asked for.
-#[derive(Drop)]
 pub(crate) enum Served {
     /// It waits for this lock.
     Waits(u64, Unserved),
     /// It holds the lock that it asked for.
     Holds(Granted),
-    /// The lock that it had is free, or the thread of this id holds it now.
-    Freed(Option<ThreadId>),
+    /// The lock that it had is free, or another thread holds it now.
+    Freed(Release),
     /// The amount was added.
-    Added,
+    Added(Addition),
+}
+
+/// A lock was freed. It can't be dropped, so that who holds it next goes on.
+pub(crate) struct Release {
+    next: Option<ThreadId>,
+}
+
+impl Release {
+    /// What the lock said as it was freed.
+    #[inline(always)]
+    fn by(freed: Freed) -> Release
+        ensures { result.next ≡ id_of freed.next }
+    {
+        let next = match freed.next {
+            Some(next) => Some(next.id),
+            None => None,
+        };
+        Release { next }
+    }
+
+    /// Where the thread that freed it stops.
+    #[inline(always)]
+    fn stop(self) -> Stop
+        ensures next { MatchOption self.next (result ≡ stopped.Goes) (λ next. result ≡ stopped.Wakes next) }
+        ensures goes_on { StopsAt result None × (is_wait result ≡ false) }
+    {
+        let Release { next } = self;
+        match next {
+            Some(next) => Stop::Wakes(next),
+            None => Stop::Goes,
+        }
+    }
+}
+
+/// This amount was added to this ledger. [`add_to`] alone gives one. It has no bytes.
+#[derive(Drop)]
+pub(crate) struct Addition {
+    ledger: Snapshot<u64>,
+    amount: Snapshot<u64>,
 }
 
 /// The locks and the ledgers, and what a worker has of them. Contracts see the locks and the ledgers.
@@ -63,7 +128,7 @@ impl Served {
         ensures { result ≡ has_lock_by self.now had }
     {
         match self {
-            Served::Waits(_, _) | Served::Added => had,
+            Served::Waits(_, _) | Served::Added(_) => had,
             Served::Holds(_) => true,
             Served::Freed(_) => false,
         }
@@ -120,8 +185,8 @@ impl<'a> Access<'a> {
         *has_lock = served.has_lock(*has_lock);
         let stop = match served {
             Served::Waits(lock, _) => return Ok(Stop::Waits(lock)),
-            Served::Freed(Some(next)) => Stop::Wakes(next),
-            Served::Holds(_) | Served::Freed(None) | Served::Added => Stop::Goes,
+            Served::Freed(release) => release.stop(),
+            Served::Holds(_) | Served::Added(_) => Stop::Goes,
         };
         match thread.answer() {
             Ok(()) => Ok(stop),
@@ -151,8 +216,8 @@ impl<'a> Access<'a> {
             },
             Want::Frees(lock) => Ok(Served::Freed(self.free(rt, pace, lock, who)?)),
             Want::Tallies(ledger, amount) => {
-                self.add(ledger, amount)?;
-                Ok(Served::Added)
+                let addition = self.add(ledger, amount)?;
+                Ok(Served::Added(addition))
             }
         }
     }
@@ -166,7 +231,8 @@ impl<'a> Access<'a> {
         who: Who,
     ) -> Result<Result<Granted, Unserved>, WorkerFault>
         ensures same { self.new ≡ self.old }
-        ensures granted { IfOk result (λ found. IfOk found (λ granted. IsPassFor lock who granted.pass.value)) }
+        ensures granted { IfOk result (λ found. IfOk found (IsGrantBy calls.Ask lock who)) }
+        ensures waits { IfOk result (λ found. IfErr found (λ unserved. unserved.call.value ≡ calls.Ask)) }
     {
         let mut tries: u32 = 0;
         for _ in rt.forever() {
@@ -191,7 +257,8 @@ impl<'a> Access<'a> {
         who: Who,
     ) -> Result<Result<Granted, Unserved>, WorkerFault>
         ensures same { self.new ≡ self.old }
-        ensures granted { IfOk result (λ found. IfOk found (λ granted. IsPassFor lock who granted.pass.value)) }
+        ensures granted { IfOk result (λ found. IfOk found (IsGrantBy calls.Check lock who)) }
+        ensures waits { IfOk result (λ found. IfErr found (λ unserved. unserved.call.value ≡ calls.Check)) }
     {
         let mut tries: u32 = 0;
         for _ in rt.forever() {
@@ -207,20 +274,20 @@ impl<'a> Access<'a> {
         unreachable!()
     }
 
-    /// Frees a lock. The id of the thread that holds it next, if any waits for it.
+    /// Frees a lock.
     pub(crate) fn free<H: Wait + Clock>(
         &mut self,
         rt: &H,
         pace: &mut Pace,
         lock: u64,
         who: Who,
-    ) -> Result<Option<ThreadId>, WorkerFault>
+    ) -> Result<Release, WorkerFault>
         ensures { self.new ≡ self.old }
     {
         let mut tries: u32 = 0;
         for _ in rt.forever() {
             match self.try_free(lock, who)? {
-                Tried::Answered(Ok(freed)) => return Ok(next_holder(freed)),
+                Tried::Answered(Ok(freed)) => return Ok(Release::by(freed)),
                 Tried::Answered(Err(fault)) => return Err(WorkerFault::from(fault)),
                 Tried::Contended => {}
             }
@@ -233,7 +300,8 @@ impl<'a> Access<'a> {
     /// Tries once to ask for a lock. In a checked program a pause names a lock that is there.
     fn try_ask(&mut self, lock: u64, who: Who) -> Result<Got, WorkerFault>
         ensures same { self.new ≡ self.old }
-        ensures pass { (granted : Granted) → result ≡ Ok (got.Granted granted) → IsPassFor lock who granted.pass.value }
+        ensures pass { (granted : Granted) → result ≡ Ok (got.Granted granted) → IsGrantBy calls.Ask lock who granted }
+        ensures waits { (unserved : Unserved) → result ≡ Ok (got.Waits unserved) → unserved.call.value ≡ calls.Ask }
     {
         let locks = &self.resources.locks;
         let lock = number_of(locks, lock)?;
@@ -243,7 +311,8 @@ impl<'a> Access<'a> {
     /// Tries once to look whether a thread that has asked for a lock holds it now.
     fn try_check(&mut self, lock: u64, who: Who) -> Result<Got, WorkerFault>
         ensures same { self.new ≡ self.old }
-        ensures pass { (granted : Granted) → result ≡ Ok (got.Granted granted) → IsPassFor lock who granted.pass.value }
+        ensures pass { (granted : Granted) → result ≡ Ok (got.Granted granted) → IsGrantBy calls.Check lock who granted }
+        ensures waits { (unserved : Unserved) → result ≡ Ok (got.Waits unserved) → unserved.call.value ≡ calls.Check }
     {
         let locks = &self.resources.locks;
         let lock = number_of(locks, lock)?;
@@ -267,8 +336,9 @@ impl<'a> Access<'a> {
     }
 
     /// Adds to a ledger. In a checked program a pause names a ledger that is there.
-    pub(crate) fn add(&mut self, ledger: u64, amount: u64) -> Result<(), WorkerFault>
-        ensures { self.new ≡ self.old }
+    pub(crate) fn add(&mut self, ledger: u64, amount: u64) -> Result<Addition, WorkerFault>
+        ensures same { self.new ≡ self.old }
+        ensures added { IfOk result (IsAddition ledger amount) }
     {
         let ledgers = &self.resources.ledgers;
         add_to(ledgers, &mut self.holdings.share, ledger, amount)
@@ -291,21 +361,17 @@ fn free_at(
     Ok(locks.free(seats, lock, who))
 }
 
-/// The id of the thread that holds a lock once it is freed, if any waited.
-fn next_holder(freed: Freed) -> Option<ThreadId>
-    ensures { result ≡ id_of freed.next }
-{
-    match freed.next {
-        Some(next) => Some(next.id),
-        None => None,
-    }
-}
-
 /// Adds to the share's sum for a ledger, if that is there.
-fn add_to(ledgers: &Ledgers, share: &mut Share, ledger: u64, amount: u64) -> Result<(), WorkerFault>
+fn add_to(
+    ledgers: &Ledgers,
+    share: &mut Share,
+    ledger: u64,
+    amount: u64,
+) -> Result<Addition, WorkerFault>
     requires { IsShareOf ledgers.now share.old }
     ensures own { IsShareOf ledgers.now share.new }
     ensures raised { OnOk result (share.new.sums ≡ raised share.old.sums ledger amount) }
+    ensures added { IfOk result (IsAddition ledger amount) }
     ensures there { ledger < ledgers.now.count → IsOk result }
     ensures missing { ledgers.now.count ≤ ledger → (result ≡ Err Foreign) × (share.new ≡ share.old) }
 {
@@ -313,7 +379,10 @@ fn add_to(ledgers: &Ledgers, share: &mut Share, ledger: u64, amount: u64) -> Res
         return Err(WorkerFault::Foreign);
     }
     ledgers.add(share, ledger as usize, amount);
-    Ok(())
+    Ok(Addition {
+        ledger: Snapshot::of(&ledger),
+        amount: Snapshot::of(&amount),
+    })
 }
 
 /// The lock of this number, if it is there.

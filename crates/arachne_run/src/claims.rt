@@ -1,10 +1,11 @@
 //! Places that a worker keeps.
-ghost use Rattle.std.specs.Prelude.{◌≡◌, ◌≤◌, ◌↔◌, [], ◌∷◌, false, true, IfErr, IsSome, MatchOption, OnErr, OnOk, length};
+ghost use Rattle.std.specs.Prelude.{◌≡◌, ◌≤◌, ◌↔◌, [], ◌∷◌, false, true, None, Some, IfErr, IsSome, MatchOption, OnErr, OnOk, length};
 ghost use Rattle.arachne_core.specs.Occupancy.{count_of};
 
 use crate::machine::Machine;
 use arachne_contexts::Tagged;
 use arachne_core::OccWord;
+use arachne_jobs::Room;
 use arachne_workers::keeps_place;
 use std::alloc::Global;
 use std::marker::Model;
@@ -30,6 +31,34 @@ impl MayKeep {
         } else {
             None
         }
+    }
+}
+
+/// A place was claimed just now, and is to be counted as taken. It can't be dropped.
+pub(crate) struct Uncounted<K> {
+    claim: K,
+}
+
+impl<K> Uncounted<K> {
+    /// That of a claim, if there is one.
+    #[inline(always)]
+    pub(crate) fn of(claim: Option<K>) -> Option<Uncounted<K>>
+        ensures { MatchOption claim (result ≡ None) (λ claim. result ≡ Some (record { claim = claim })) }
+    {
+        match claim {
+            Some(claim) => Some(Uncounted { claim }),
+            None => None,
+        }
+    }
+
+    /// Counts it.
+    #[inline(always)]
+    pub(crate) fn counted(self, room: &Room) -> K
+        ensures { result ≡ self.claim }
+    {
+        let Uncounted { claim } = self;
+        room.place_was_claimed();
+        claim
     }
 }
 

@@ -1,19 +1,20 @@
 //! How threads get their places: the child of a fork is posted at one, waits for one, or runs in its parent's.
 //!
 //! It may touch the table through the seat that it is given, and the queue of those that wait.
-ghost use Rattle.std.specs.Prelude.{◌≡◌, ◌↔◌, ◌<◌, ◌≤◌, [], ◌∷◌, false, IfOk, IsOk, IsTrue, MatchOption, OnOk, map};
+ghost use Rattle.std.specs.Prelude.{◌≡◌, ◌↔◌, ◌<◌, ◌≤◌, [], ◌∷◌, false, IfOk, IfSome, IsOk, IsSome, IsTrue, MatchOption, OnOk, map};
+ghost use Rattle.rand_core.specs.Stream.{next_u64};
+ghost use Rattle.arachne_arbiter.specs.Placed.{GetsPlace, IsAtStartOfSome};
 ghost use Rattle.arachne_contexts.specs.Out.{Claim as a_claim, HasOut};
 ghost use Rattle.arachne_spill.specs.Views.{IsPassOf};
 ghost use Rattle.arachne_run.specs.Serving.{StopsAt};
 ghost use Rattle.arachne_run.specs.Tokens.{IsSetUp, IsSpent, thread_in};
 
 use crate::access::{Access, Want};
-use crate::claims::Claims;
+use crate::claims::{Claims, Uncounted};
 use crate::fault::WorkerFault;
 use crate::machine::Machine;
-use arachne_arbiter::Pace;
+use arachne_arbiter::{Cores, Pace};
 use arachne_contexts::{Contexts, Held, Identified, Placed};
-use arachne_core::ThreadId;
 use arachne_jobs::{
     Openings, PlaceLeft, RunJob, Slice, give_back, has_room, make_room, put_ticket,
 };
@@ -21,7 +22,7 @@ use arachne_lang::Class;
 use arachne_spill::SpillPass;
 use arachne_workers::{Post, Stop};
 use rand_core::Rng;
-use std::alloc::Global;
+use std::alloc::{AllocError, Global};
 use std::sync::Wait;
 use std::time::Clock;
 
@@ -60,7 +61,7 @@ pub(crate) fn go_on<H: Wait + Clock, T: RunJob, C: Contexts<T>, R: Rng>(
     ensures stops { IfOk result (λ stop. StopsAt stop (T.pause_of held.new.value)) }
     ensures drawn { IsOk result → forks.new.openings.draws ≡ 0 }
 {
-    let room = machine.shared.room();
+    let (room, had) = (machine.shared.room(), *left);
     let slice = held
         .value
         .slice(left, &mut forks.spares, room, &mut forks.openings)?;
@@ -75,8 +76,8 @@ pub(crate) fn go_on<H: Wait + Clock, T: RunJob, C: Contexts<T>, R: Rng>(
         }
         Slice::Blocks(_) => return Ok(Stop::Blocks),
         Slice::Ends => return Ok(Stop::Ends),
-        Slice::Asks(lock) => Want::Asks(lock),
-        Slice::Awaits(lock) => Want::Awaits(lock),
+        Slice::Asks(lock) => Want::asks(lock, had, *left),
+        Slice::Awaits(lock) => Want::awaits(lock, had, *left),
         Slice::Frees(lock) => Want::Frees(lock),
         Slice::Tallies(ledger, amount) => Want::Tallies(ledger, amount),
     };
@@ -118,20 +119,14 @@ fn answer_fork<H: Wait, T: RunJob, C: Contexts<T>, R: Rng>(
     let (me, room) = (held.id(), machine.shared.room());
     let tag = forks.openings.tags.take(room);
     let cores = machine.cores::<H, T>(rt);
-    let place = match class {
-        Class::Normal => cores.claim_normal(seat, &mut forks.chooser)?,
-        Class::Exclusive => cores.claim_exclusive(seat)?,
-    };
-    if let Some(claim) = place {
-        room.place_was_claimed();
-        let place = claim.place();
+    let claim = claim_for::<H, T, C, R>(&cores, seat, class, &mut forks.chooser)?;
+    if let Some(uncounted) = Uncounted::of(claim) {
+        let claim = uncounted.counted(room);
         let job = held
             .value
             .fork_off(alloc, me, child, tag, &mut forks.spares)?;
-        return match machine.table.post(rt, seat, claim, job) {
-            Ok(id) => Ok(Stop::Posted(Post { id, place })),
-            Err(_) => Err(WorkerFault::Token),
-        };
+        let post = post_at::<H, T, C>(rt, machine, seat, claim, job)?;
+        return Ok(Stop::Posted(post));
     }
     let wants_room = is_worth_room(class, forks.openings.is_large);
     let made = make_room(rt, &machine.tickets, room, pass, wants_room);
@@ -144,6 +139,28 @@ fn answer_fork<H: Wait, T: RunJob, C: Contexts<T>, R: Rng>(
         }
     }
     Ok(Stop::Goes)
+}
+
+/// Claims a place for a child of this class: a normal one shares a core that is chosen by a word that is drawn, and an
+/// exclusive one has an empty core to itself.
+#[inline(always)]
+fn claim_for<H: Wait, T: RunJob, C: Contexts<T>, R: Rng>(
+    cores: &Cores<'_, H, T, C>,
+    seat: &mut C::Seat,
+    class: Class,
+    chooser: &mut R,
+) -> Result<Option<C::Claim>, AllocError>
+    requires { C.sits cores.now.table.now seat.old }
+    ensures seat { C.sits cores.now.table.now seat.new }
+    ensures out { GetsPlace (C.has cores.now.table.now) seat.old seat.new result }
+    ensures drawn { class ≡ Class.Normal → R.stream chooser.new ≡ (next_u64 (R.stream chooser.old)).1 }
+    ensures none_drawn { class ≡ Class.Exclusive → chooser.new ≡ chooser.old }
+    ensures alone { class ≡ Class.Exclusive → IsAtStartOfSome C.Claim.place_of (C.core_count cores.now.table.now) result }
+{
+    match class {
+        Class::Normal => cores.claim_normal(seat, chooser),
+        Class::Exclusive => cores.claim_exclusive(seat),
+    }
 }
 
 /// Whether a child for which no place was found waits for one, by its class and whether the queue has room: one that is
@@ -197,32 +214,53 @@ pub(crate) fn free_place<H: Wait, T: RunJob, C: Contexts<T>>(
     if let Some(claim) = kept.take() {
         return Ok(Some(claim));
     }
-    let place = machine.cores::<H, T>(rt).claim_on(spare, core)?;
-    if place.is_some() {
-        machine.shared.room().place_was_claimed();
+    let claim = machine.cores::<H, T>(rt).claim_on(spare, core)?;
+    let Some(uncounted) = Uncounted::of(claim) else {
+        return Ok(None);
+    };
+    Ok(Some(uncounted.counted(machine.shared.room())))
+}
+
+/// Posts a job at a claimed place. Its id, and where it was posted.
+#[inline(always)]
+fn post_at<H: Wait, T: RunJob, C: Contexts<T>>(
+    rt: &H,
+    machine: &Machine<C, T::Ticket>,
+    seat: &mut C::Seat,
+    claim: C::Claim,
+    job: T,
+) -> Result<Post, WorkerFault>
+    requires seat { C.sits machine.now.table seat.old }
+    requires out { HasOut (C.has machine.now.table) (a_claim claim) seat.old }
+    ensures seat { C.sits machine.now.table seat.new }
+    ensures out { OnOk result (IsSpent (C.has machine.now.table) (a_claim claim) seat.old seat.new) }
+    ensures place { IfOk result (λ post. post.place ≡ C.Claim.place_of claim) }
+{
+    let place = claim.place();
+    match machine.table.post(rt, seat, claim, job) {
+        Ok(id) => Ok(Post { id, place }),
+        Err(_) => Err(WorkerFault::Token),
     }
-    Ok(place)
 }
 
 /// Posts the root, or a child that has waited, at a place, or gives that back where the child is gone meanwhile. Its
-/// id, if it was posted.
+/// id and place, if it was posted.
 pub(crate) fn post_waiting<H: Wait, T: RunJob, C: Contexts<T>>(
     rt: &H,
     machine: &Machine<C, T::Ticket>,
     spare: &mut C::Seat,
     claim: C::Claim,
     job: Option<T>,
-) -> Result<Option<ThreadId>, WorkerFault>
+) -> Result<Option<Post>, WorkerFault>
     requires seat { C.sits machine.now.table spare.old }
     requires out { HasOut (C.has machine.now.table) (a_claim claim) spare.old }
     ensures seat { C.sits machine.now.table spare.new }
     ensures out { OnOk result (IsSpent (C.has machine.now.table) (a_claim claim) spare.old spare.new) }
+    ensures posted { IfOk result (λ posted. IsSome posted ↔ IsSome job) }
+    ensures place { IfOk result (λ posted. IfSome posted (λ post. post.place ≡ C.Claim.place_of claim)) }
 {
     match job {
-        Some(job) => match machine.table.post(rt, spare, claim, job) {
-            Ok(id) => Ok(Some(id)),
-            Err(_) => Err(WorkerFault::Token),
-        },
+        Some(job) => Ok(Some(post_at::<H, T, C>(rt, machine, spare, claim, job)?)),
         None => {
             let left = give_place_back::<H, T, C>(rt, machine, spare, claim)?;
             machine.shared.room().place_was_left(left);

@@ -5,7 +5,8 @@ ghost use Rattle.arachne_sleep.specs.SleepLocks.{AreSeatsOf, ChangesAt};
 ghost use Rattle.arachne_sleep.specs.declared.answer.AskFault.{AskFault};
 ghost use Rattle.arachne_sleep.specs.declared.answer.Asked.TheVariants as asked;
 ghost use Rattle.arachne_sleep.specs.declared.answer.Tried.TheVariants.{Answered};
-ghost use Rattle.arachne_run.specs.Serving.{IsPassFor};
+ghost use Rattle.arachne_run.specs.Serving.{IsGrantBy};
+ghost use Rattle.arachne_run.specs.declared.granted.Call.TheVariants as calls;
 ghost use Rattle.arachne_run.specs.declared.granted.Got.TheVariants as got;
 ghost use Rattle.arachne_run.specs.declared.granted.Granted.{Granted};
 ghost use Rattle.arachne_run.specs.declared.granted.Unserved.{Unserved};
@@ -13,20 +14,32 @@ ghost use Rattle.arachne_run.specs.declared.granted.Unserved.{Unserved};
 use arachne_sleep::{AskFault, Asked, LockSeats, Pass, SleepLocks, Tried, Who};
 use std::snapshot::Snapshot;
 
+/// By which call a lock was tried.
+#[derive(Clone, Copy)]
+pub(crate) enum Call {
+    /// The thread asked for it.
+    Ask,
+    /// It had asked before.
+    Check,
+}
+
 /// The thread in hand holds the lock that it asked for, by this pass. [`ask`] and [`check`] alone give one, for a pass
 /// that the lock gave in that call, and nobody goes on after an ask without. It has no bytes.
 #[derive(Drop)]
 pub(crate) struct Granted {
     pass: Snapshot<Pass>,
+    call: Snapshot<Call>,
 }
 
 impl Granted {
     #[inline(always)]
-    fn by(pass: Pass) -> Granted
-        ensures { result.pass.value ≡ pass }
+    fn by(call: Call, pass: Pass) -> Granted
+        ensures pass { result.pass.value ≡ pass }
+        ensures call { result.call.value ≡ call }
     {
         Granted {
             pass: Snapshot::of(&pass),
+            call: Snapshot::of(&call),
         }
     }
 }
@@ -35,7 +48,18 @@ impl Granted {
 /// waits for a lock without. It has no bytes.
 #[derive(Drop)]
 pub(crate) struct Unserved {
-    told: (),
+    call: Snapshot<Call>,
+}
+
+impl Unserved {
+    #[inline(always)]
+    fn by(call: Call) -> Unserved
+        ensures { result.call.value ≡ call }
+    {
+        Unserved {
+            call: Snapshot::of(&call),
+        }
+    }
 }
 
 /// What came of one try to get a lock.
@@ -55,17 +79,18 @@ pub(crate) fn ask(locks: &SleepLocks, seats: &mut LockSeats, lock: u8, who: Who)
     requires own { AreSeatsOf locks.now seats.old }
     requires lock { lock < length locks.now }
     ensures own { AreSeatsOf locks.now seats.new }
-    ensures pass { (granted : Granted) → result ≡ got.Granted granted → IsPassFor lock who granted.pass.value }
+    ensures pass { (granted : Granted) → result ≡ got.Granted granted → IsGrantBy calls.Ask lock who granted }
     ensures listed { (granted : Granted) → result ≡ got.Granted granted
         → ChangesAt lock seats.old seats.new (λ old new. AskAnswer lock who old (Answered (Ok (asked.Granted granted.pass.value))) new) }
     ensures waits { (unserved : Unserved) → result ≡ got.Waits unserved
         → (at : ℕ) × ChangesAt lock seats.old seats.new (λ old new. AskAnswer lock who old (Answered (Ok (asked.Queued at))) new) }
+    ensures asked { (unserved : Unserved) → result ≡ got.Waits unserved → unserved.call.value ≡ calls.Ask }
     ensures refused { (fault : AskFault) → result ≡ got.Refused fault
         → ChangesAt lock seats.old seats.new (λ old new. AskAnswer lock who old (Answered (Err fault)) new) }
 {
     match locks.ask(seats, lock, who) {
-        Tried::Answered(Ok(Asked::Granted(pass))) => Got::Granted(Granted::by(pass)),
-        Tried::Answered(Ok(Asked::Queued { at: _ })) => Got::Waits(Unserved { told: () }),
+        Tried::Answered(Ok(Asked::Granted(pass))) => Got::Granted(Granted::by(Call::Ask, pass)),
+        Tried::Answered(Ok(Asked::Queued { at: _ })) => Got::Waits(Unserved::by(Call::Ask)),
         Tried::Answered(Err(fault)) => Got::Refused(fault),
         Tried::Contended => Got::Contended,
     }
@@ -77,15 +102,16 @@ pub(crate) fn check(locks: &SleepLocks, seats: &mut LockSeats, lock: u8, who: Wh
     requires own { AreSeatsOf locks.now seats.old }
     requires lock { lock < length locks.now }
     ensures own { AreSeatsOf locks.now seats.new }
-    ensures pass { (granted : Granted) → result ≡ got.Granted granted → IsPassFor lock who granted.pass.value }
+    ensures pass { (granted : Granted) → result ≡ got.Granted granted → IsGrantBy calls.Check lock who granted }
     ensures listed { (granted : Granted) → result ≡ got.Granted granted
         → ChangesAt lock seats.old seats.new (λ old new. CheckAnswer lock who old (Answered (Some granted.pass.value)) new) }
     ensures waits { (unserved : Unserved) → result ≡ got.Waits unserved
         → ChangesAt lock seats.old seats.new (λ old new. CheckAnswer lock who old (Answered None) new) }
+    ensures checked { (unserved : Unserved) → result ≡ got.Waits unserved → unserved.call.value ≡ calls.Check }
 {
     match locks.check(seats, lock, who) {
-        Tried::Answered(Some(pass)) => Got::Granted(Granted::by(pass)),
-        Tried::Answered(None) => Got::Waits(Unserved { told: () }),
+        Tried::Answered(Some(pass)) => Got::Granted(Granted::by(Call::Check, pass)),
+        Tried::Answered(None) => Got::Waits(Unserved::by(Call::Check)),
         Tried::Contended => Got::Contended,
     }
 }

@@ -3,9 +3,10 @@
 //! With `forking`, for its forks, it alone calls the table while threads run. Its type keeps the bookkeeping: the
 //! thread in hand is out with one seat, the places that are kept with the other, and nothing else is out between two
 //! calls.
-ghost use Rattle.std.specs.Prelude.{◌≡◌, ◌≢◌, ◌↔◌, ◌==◌, ◌<◌, if◌then◌else◌, false, true, IsTrue, MatchOption, None, OnOk, Some, map};
-ghost use Rattle.arachne_contexts.specs.Out.{Claim as a_claim};
-ghost use Rattle.arachne_core.specs.declared.thread_id.ThreadId.{ThreadId};
+ghost use Rattle.std.specs.Prelude.{ℕ, ◌≡◌, ◌≢◌, ◌↔◌, ◌==◌, ◌<◌, if◌then◌else◌, false, true, IfOk, IsSome, IsTrue, MatchOption, None, OnOk, Some, map};
+ghost use Rattle.arachne_arbiter.specs.KernelThreads.{parked_cores};
+ghost use Rattle.arachne_arbiter.specs.Orders.{HasAppliedDue};
+ghost use Rattle.arachne_contexts.specs.Out.{Claim as a_claim, KeepsOut};
 ghost use Rattle.arachne_run.specs.Tokens.{AreIdle, IsSetUp, ground_of};
 
 use crate::access::Access;
@@ -13,11 +14,11 @@ use crate::claims::{Claims, MayKeep};
 use crate::fault::WorkerFault;
 use crate::forking::{Forks, free_place, give_place_back, go_on, post_waiting};
 use crate::gate::Gate;
-use crate::in_hand::{InHand, has_lock, rests_so};
+use crate::in_hand::{InHand, has_lock, put_back};
 use crate::machine::Machine;
 use crate::tokens::Tokens;
-use arachne_arbiter::{Arbiter, Pace};
-use arachne_contexts::{Contexts, Moved, Placed, Taken, Woken};
+use arachne_arbiter::{Arbiter, Cores, Pace, Parking, SliceCounts};
+use arachne_contexts::{Contexts, Moved, Placed, Tagged, Taken, Woken};
 use arachne_core::{MarkWord, OccWord, Place, Rest, ThreadId};
 use arachne_jobs::{
     Openings, PlaceLeft, RunJob, RunSpares, RunThread, RunTicket, claim_again, finish, next_ticket,
@@ -116,7 +117,8 @@ impl<'a, H: Wait, T: RunJob, C: Contexts<T>, R: Rng + Drop, G: Gate> Seat<'a, H,
 
     /// Posts the root, if it begins here, where a table on which nothing runs has a place. Its index.
     pub(crate) fn post_root(&mut self, root: Option<T>) -> Result<Option<u8>, WorkerFault>
-        ensures { self.new ≡ self.old }
+        ensures same { self.new ≡ self.old }
+        ensures index { IfOk result (λ index. IsSome index ↔ IsSome root) }
     {
         let Some(root) = root else {
             return Ok(None);
@@ -231,8 +233,8 @@ impl<'a, H: Wait + Clock, T: RunJob, C: Contexts<T>, R: Rng + Drop, G: Gate> Des
             return Err(Halt::from(WorkerFault::Foreign));
         };
         let table = &self.machine.table;
-        match table.put_back(self.rt, &mut self.seat, held, rest) {
-            Ok(rested) => Ok(rests_so(rested, rest)),
+        match put_back::<H, T, C>(self.rt, table, &mut self.seat, held, rest) {
+            Ok(put) => Ok(put.rests()),
             Err(held) => {
                 self.held = Some(InHand { held, has_lock });
                 Err(Halt::from(WorkerFault::Token))
@@ -375,11 +377,10 @@ impl<'a, H: Wait + Clock, T: RunJob, C: Contexts<T>, R: Rng + Drop, G: Gate> Des
         let Some(arbiter) = &mut self.arbiter else {
             return (None, 0);
         };
-        let before = arbiter.applied();
         let cores = machine.cores::<H, T>(self.rt);
         let workers = machine.shared.workers();
-        let receivers = arbiter.tend(&cores, &mut self.seat, workers.parking(), workers.slices());
-        (news_of(before, arbiter.applied()), receivers)
+        let (parking, slices) = (workers.parking(), workers.slices());
+        tend_by::<H, T, C>(arbiter, &cores, &mut self.seat, parking, slices)
     }
 
     #[inline(always)]
@@ -405,6 +406,29 @@ impl<'a, H: Wait + Clock, T: RunJob, C: Contexts<T>, R: Rng + Drop, G: Gate> Des
     fn told(&self, event: Event) {
         self.gate.told(self.core, event);
     }
+}
+
+/// Applies the orders that are due, and moves threads away ([`Arbiter::tend`]). How many are applied in all, if some were
+/// now, and the cores to which threads were moved.
+#[inline(always)]
+fn tend_by<H: Wait, T: Tagged, C: Contexts<T>>(
+    arbiter: &mut Arbiter,
+    cores: &Cores<'_, H, T, C>,
+    seat: &mut C::Seat,
+    parking: &Parking,
+    slices: &SliceCounts,
+) -> (Option<usize>, u64)
+    requires seat { C.sits cores.now.table.now seat.old }
+    requires cores { arbiter.old.cores ≡ cores.now.count }
+    requires parking { parked_cores parking.now ≡ cores.now.count }
+    ensures seat { C.sits cores.now.table.now seat.new }
+    ensures out { KeepsOut (C.has cores.now.table.now) seat.old seat.new }
+    ensures progress { (ended : ℕ) × HasAppliedDue arbiter.old arbiter.new ended }
+    ensures news { result.0 ≡ (if arbiter.new.applied == arbiter.old.applied then None else Some arbiter.new.applied) }
+{
+    let before = arbiter.applied();
+    let receivers = arbiter.tend(cores, seat, parking, slices);
+    (news_of(before, arbiter.applied()), receivers)
 }
 
 /// How many orders are applied now, where that are others than before.
@@ -445,20 +469,18 @@ fn post_child<H: Wait, T: RunJob, C: Contexts<T>>(
     let Some(claim) = free_place::<H, T, C>(rt, machine, spare, kept, core)? else {
         return Ok(Ticket::Gone);
     };
-    let place = claim.place();
     let job = T::of_ticket(alloc, ticket, spares);
-    let id = post_waiting::<H, T, C>(rt, machine, spare, claim, job)?;
-    Ok(posted_at(id, place))
+    let posted = post_waiting::<H, T, C>(rt, machine, spare, claim, job)?;
+    Ok(of_ticket(posted))
 }
 
-/// What came of a ticket whose child was posted at a place under this id, or was gone.
+/// What came of a ticket whose child was posted, or was gone.
 #[inline(always)]
-fn posted_at(id: Option<ThreadId>, place: Place) -> Ticket
-    ensures posted { (posted : ThreadId) → id ≡ Some posted → result ≡ Ticket.Posted (record { id = posted; place = place }) }
-    ensures gone { id ≡ None → result ≡ Ticket.Gone }
+fn of_ticket(posted: Option<Post>) -> Ticket
+    ensures { MatchOption posted (result ≡ Ticket.Gone) (λ post. result ≡ Ticket.Posted post) }
 {
-    match id {
-        Some(id) => Ticket::Posted(Post { id, place }),
+    match posted {
+        Some(post) => Ticket::Posted(post),
         None => Ticket::Gone,
     }
 }

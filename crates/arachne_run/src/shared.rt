@@ -1,12 +1,14 @@
 //! The words of a run that all its workers see.
 ghost use Rattle.std.specs.Prelude.{◌≡◌, IfOk, MatchOption, Some};
+ghost use Rattle.arachne_run.specs.Setups.{numbered};
 
 use crate::fault::WorkerFault;
 use arachne_jobs::Room;
 use arachne_spill::CAPACITY;
-use arachne_workers::Shared as Workers;
+use arachne_workers::{Halted, Shared as Workers};
 use std::alloc::{AllocError, Global};
 use std::marker::Model;
+use std::snapshot::Snapshot;
 use std::sync::{Mutex, Wait};
 
 /// What kernel threads tell one another, what is looked at before each fork, and the first fault.
@@ -23,11 +25,18 @@ pub(crate) struct Stopped {
     all: (),
 }
 
-/// A fault was recorded, if it was the first, and all workers are stopped. [`Shared::fail`] alone gives one, and no worker
-/// ends without its tokens but with one.
+/// This fault was recorded, if it was the first, and all workers are stopped. [`Shared::fail`] alone gives one, and no
+/// worker ends without its tokens but with one.
 #[derive(Drop)]
 pub(crate) struct Failed {
+    recorded: Recorded,
     stopped: Stopped,
+}
+
+/// This fault was recorded, if it was the first. [`keep_first`] alone gives one. It has no bytes.
+#[derive(Drop)]
+struct Recorded {
+    fault: Snapshot<WorkerFault>,
 }
 
 // Contracts see for how many cores it is.
@@ -71,12 +80,22 @@ impl Shared {
     }
 
     /// Stops all workers for a fault, which is recorded if it is the first.
-    pub(crate) fn fail<H: Wait>(&self, rt: &H, fault: WorkerFault) -> Failed {
+    pub(crate) fn fail<H: Wait>(&self, rt: &H, fault: WorkerFault) -> Failed
+        ensures { result.recorded.fault.value ≡ fault }
+    {
         let mut first = self.first_fault.lock(rt);
-        keep_first(&mut first, fault);
+        let recorded = keep_first(&mut first, fault);
         Failed {
+            recorded,
             stopped: self.stop(),
         }
+    }
+
+    /// Stops all workers for why the loop of one has ended.
+    pub(crate) fn halt<H: Wait>(&self, rt: &H, halted: Halted) -> Failed
+        ensures { result.recorded.fault.value ≡ numbered halted.why }
+    {
+        self.fail(rt, WorkerFault::from(halted.halt()))
     }
 
     /// The fault for which all workers were stopped first.
@@ -86,10 +105,14 @@ impl Shared {
 }
 
 /// Records a fault, if it is the first.
-fn keep_first(first: &mut Option<WorkerFault>, fault: WorkerFault)
-    ensures { MatchOption first.old (first.new ≡ Some fault) (λ before. first.new ≡ Some before) }
+fn keep_first(first: &mut Option<WorkerFault>, fault: WorkerFault) -> Recorded
+    ensures kept { MatchOption first.old (first.new ≡ Some fault) (λ before. first.new ≡ Some before) }
+    ensures fault { result.fault.value ≡ fault }
 {
     if first.is_none() {
         *first = Some(fault);
+    }
+    Recorded {
+        fault: Snapshot::of(&fault),
     }
 }

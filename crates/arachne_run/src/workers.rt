@@ -1,6 +1,7 @@
 //! The kernel threads of a run, one for each core.
-ghost use Rattle.std.specs.Prelude.{◌≡◌, ◌<◌, None, IfOk, IfSome};
+ghost use Rattle.std.specs.Prelude.{◌≡◌, ◌<◌, [], ◌∷◌, None, IfErr, IfOk, IfSome, IsErr, IsNone, MatchOption};
 ghost use Rattle.arachne_run.specs.Tokens.{AreIdle, IsSetUp, ground_of};
+ghost use Rattle.arachne_run.specs.declared.fault.WorkerFault.TheVariants.{KernelThread, Token};
 
 use crate::choosers::Choosers;
 use crate::fault::WorkerFault;
@@ -58,6 +59,9 @@ impl<'a, T: RunJob, C: Contexts<T>, R: Rng + Drop, G: Gate> Team<Share<C::Seat, 
         ensures own { AreIdle C.sits C.idle self.now.machine.now result.0.tokens × IsSetUp C.core_count C.slot_count self.now.machine.now }
         ensures other { IfSome result.1 (λ theirs. AreIdle C.sits C.idle self.now.machine.now theirs.tokens × IsSetUp C.core_count C.slot_count self.now.machine.now) }
         ensures orders { (result.0.tokens.arbiter ≡ share.tokens.arbiter) × IfSome result.1 (λ theirs. theirs.tokens.arbiter ≡ None) }
+        ensures root { (result.0.root ≡ share.root) × IfSome result.1 (λ theirs. theirs.root ≡ None) }
+        ensures choosers { (result.0.chooser ≡ share.chooser) × IfSome result.1 (λ theirs.
+            MatchOption theirs.chooser (share.choosers ≡ []) (λ first. share.choosers ≡ first ∷ result.0.choosers)) }
     {
         let Share {
             tokens,
@@ -194,7 +198,8 @@ fn work_on<H: Wait + Clock, T: RunJob, C: Contexts<T>, R: Rng + Drop, G: Gate>(
     requires tokens { AreIdle C.sits C.idle machine.now tokens }
     requires set_up { IsSetUp C.core_count C.slot_count machine.now }
     requires core { core < machine.now.cores }
-    ensures { IfOk result (AreIdle C.sits C.idle machine.now) }
+    ensures idle { IfOk result (AreIdle C.sits C.idle machine.now) }
+    ensures no_chooser { IsNone chooser → IsErr result × IfErr result (λ failed. failed.recorded.fault.value ≡ KernelThread) }
 {
     let Some(chooser) = chooser else {
         return Err(machine.shared.fail(rt, WorkerFault::KernelThread));
@@ -204,21 +209,36 @@ fn work_on<H: Wait + Clock, T: RunJob, C: Contexts<T>, R: Rng + Drop, G: Gate>(
         Ok(root) => root,
         Err(fault) => return Err(machine.shared.fail(rt, fault)),
     };
-    let mut worker = Worker {
+    let mut worker = worker_on(rt, machine, core, Agenda::new(alloc, root), desk);
+    if let Err(halted) = worker.work() {
+        return Err(machine.shared.halt(rt, halted));
+    }
+    let Worker { desk, .. } = worker;
+    into_tokens(machine, desk)
+}
+
+/// The worker of a core, which has had no slice.
+#[inline(always)]
+fn worker_on<'a, H, D, C, K: Tagged + Drop>(
+    rt: &'a H,
+    machine: &'a Machine<C, K>,
+    core: u8,
+    agenda: Agenda,
+    desk: D,
+) -> Worker<'a, H, D>
+    ensures core { (result.core ≡ core) × (result.slots ≡ machine.now.slots) × (result.slices ≡ 0) }
+    ensures with { (result.desk ≡ desk) × (result.agenda ≡ agenda) }
+{
+    Worker {
         rt,
         shared: machine.shared.workers(),
         core,
         slots: machine.slots,
-        agenda: Agenda::new(alloc, root),
+        agenda,
         slices: 0,
         pace: Pace::new(),
         desk,
-    };
-    if let Err(halt) = worker.work() {
-        return Err(machine.shared.fail(rt, WorkerFault::from(halt)));
     }
-    let Worker { desk, .. } = worker;
-    into_tokens(machine, desk)
 }
 
 /// The tokens of a worker that has ended, unless something is out with them, which is a fault.
@@ -227,7 +247,8 @@ fn into_tokens<'a, H: Wait, T: RunJob, C: Contexts<T>, R: Rng + Drop, G: Gate>(
     desk: Seat<'a, H, T, C, R, G>,
 ) -> Result<Tokens<C::Seat, T::Ticket>, Failed>
     requires desk { desk ≡ ground_of machine.now }
-    ensures { IfOk result (AreIdle C.sits C.idle machine.now) }
+    ensures idle { IfOk result (AreIdle C.sits C.idle machine.now) }
+    ensures fault { IfErr result (λ failed. failed.recorded.fault.value ≡ Token) }
 {
     let Seat {
         rt,
