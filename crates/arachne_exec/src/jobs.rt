@@ -13,8 +13,8 @@ use crate::seat::{CallSeat, ExecSeat};
 use crate::turns::{First, Taken, first_from, has_more, lowest_index};
 use crate::words::Heard;
 
-/// The mark of a place in hand, in which a wake was used up if there was one. [`Executor::refresh`] alone gives one, and
-/// no job that was ready is about to run without.
+/// The mark of a place in hand, in which a wake was used up if there was one. [`Executor::refresh`] alone gives one,
+/// and no job that was ready is about to run without.
 #[derive(Drop)]
 pub(crate) struct Refreshed {
     mark: u64,
@@ -121,8 +121,8 @@ impl Executor {
         })
     }
 
-    /// Takes a job that is ready at a block: one try, at the first ready place from this index on, round the block. With
-    /// it whether the block had another behind that place.
+    /// Takes a job that is ready at a block: one try, at the first ready place from this index on, round the block.
+    /// With it whether the block had another behind that place.
     pub(crate) fn take_from(&self, seat: &mut ExecSeat, block: usize, from: First) -> Option<Taken>
         requires own { seat.old.table ≡ self.now.table }
         requires block { block < 64 * self.now.shards }
@@ -149,8 +149,8 @@ impl Executor {
         Some(Taken::new(mark.job_at(place, job), has_more(ready, index)))
     }
 
-    /// Takes a job that is ready at a block, of any worker: one try, at the first ready place behind the index of the one
-    /// that the seat took last so, round the block.
+    /// Takes a job that is ready at a block, of any worker: one try, at the first ready place behind the index of the
+    /// one that the seat took last so, round the block.
     pub fn take(&self, seat: &mut ExecSeat, block: usize) -> Option<Job>
         requires own { seat.old.table ≡ self.now.table }
         requires block { block < 64 * self.now.shards }

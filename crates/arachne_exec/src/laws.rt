@@ -9,8 +9,8 @@ ghost use Rattle.arachne_exec.specs.Promises.{IsReadyJob, IsEmptyPlace, IsParked
 use crate::executor::Executor;
 use crate::seat::ExecSeat;
 
-/// Each place has one keeper. So a job that is neither blocked nor in a seat's hand has its bit set in its block's ready
-/// word, and whoever finds the word empty knows that each job of the block is blocked or in the hand of a seat.
+/// Each place has one keeper. So a job that is neither blocked nor in a seat's hand has its bit set in its block's
+/// ready word, and whoever finds the word empty knows that each job of the block is blocked or in the hand of a seat.
 pub fn ready_jobs_are_shown()
     ensures shown { (shards : ℕ) (b : Board) → IsLawful shards b → (place : ℕ) → place < 4096 * shards → IsReadyJob place b → is_ready b.words place ≡ 1 }
     ensures one_keeper { (shards : ℕ) (b : Board) → IsLawful shards b → (place : ℕ) → place < 4096 * shards

@@ -8,8 +8,8 @@ use crate::layout::{ready_word, summary_word};
 use crate::seat::ExecSeat;
 
 impl Executor {
-    /// The blocks of a shard that may have ready jobs, a bit for each: one load. A block that isn't among them has none,
-    /// or somebody is about to show it.
+    /// The blocks of a shard that may have ready jobs, a bit for each: one load. A block that isn't among them has
+    /// none, or somebody is about to show it.
     pub fn shown(&self, seat: &mut ExecSeat, shard: usize) -> u64
         requires own { seat.old.table ≡ self.now.table }
         requires shard { shard < self.now.shards }

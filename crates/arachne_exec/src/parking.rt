@@ -27,7 +27,8 @@ fn shards_of(worker: usize, shards: usize) -> usize
 }
 
 impl Executor {
-    /// The seat becomes the worker of this number, where no seat is it. Whether it did: else another seat has the number.
+    /// The seat becomes the worker of this number, where no seat is it. Whether it did: else another seat has the
+    /// number.
     pub fn register(&self, seat: &mut ExecSeat, worker: usize) -> bool
         requires own { seat.old.table ≡ self.now.table }
         requires worker { (seat.old.known.worker ≡ 0) × (worker < 64) }
@@ -85,8 +86,8 @@ impl Executor {
         self.lie_down(&mut seat.at, worker).is_ok()
     }
 
-    /// A job that is ready at a shard whose turn it is, the first from the seat's turn on. Bits of blocks that have none are
-    /// cleared in its summary word.
+    /// A job that is ready at a shard whose turn it is, the first from the seat's turn on. Bits of blocks that have
+    /// none are cleared in its summary word.
     fn take_in_shard(&self, seat: &mut ExecSeat, shard: InTurn) -> Option<Job>
         requires own { seat.old.table ≡ self.now.table }
         requires shard { shard.shard < self.now.shards }

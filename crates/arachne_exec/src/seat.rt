@@ -25,8 +25,8 @@ impl Model for CallSeat {
 /// A thread's right to call an executor, with the jobs that it has in hand.
 ///
 /// It is used by one thread at a time, and joined with the executor that it came from. A seat that is dropped takes its
-/// weight with it, so that no seat is whole any more, and what it has in hand is lost. Contracts see which executor it is
-/// of, its part of the whole weight, and what it has and knows.
+/// weight with it, so that no seat is whole any more, and what it has in hand is lost. Contracts see which executor it
+/// is of, its part of the whole weight, and what it has and knows.
 #[derive(Drop)]
 pub struct ExecSeat {
     pub(crate) at: CallSeat,

@@ -66,8 +66,8 @@ impl Executor {
         self.show(seat, place / 64)
     }
 
-    /// Clears the bit of a block in its summary word, unless it has a ready job. With the block whether its worker is to
-    /// be unparked.
+    /// Clears the bit of a block in its summary word, unless it has a ready job. With the block whether its worker is
+    /// to be unparked.
     pub(crate) fn tidy(&self, seat: &mut CallSeat, block: usize) -> (Hidden, bool)
         requires own { seat.old.table ≡ self.now.table }
         requires block { block < 64 * self.now.shards }

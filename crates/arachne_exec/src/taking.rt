@@ -33,8 +33,8 @@ fn lowest(word: u64, most: u32) -> u64
 }
 
 impl Executor {
-    /// Takes up to so many ready jobs of a block, at least one, into the hand, in one step: one try. The places that came, a
-    /// bit for each: the lowest is the newest.
+    /// Takes up to so many ready jobs of a block, at least one, into the hand, in one step: one try. The places that
+    /// came, a bit for each: the lowest is the newest.
     pub fn take_many(&self, seat: &mut ExecSeat, block: usize, most: u32) -> u64
         requires own { seat.old.table ≡ self.now.table }
         requires block { block < 64 * self.now.shards }
@@ -51,7 +51,8 @@ impl Executor {
         self.take_bits(&mut seat.at, block, pick)
     }
 
-    /// The newest job in hand is about to run, and a wake that has come since it was ready is used up. Its name and number.
+    /// The newest job in hand is about to run, and a wake that has come since it was ready is used up. Its name and
+    /// number.
     pub fn start(&self, seat: &mut ExecSeat, place: usize) -> Job
         requires own { seat.old.table ≡ self.now.table }
         requires place { place < 4096 * self.now.shards }

@@ -61,8 +61,8 @@ impl Executor {
         found >> index as u32 & 1 == 1
     }
 
-    /// Clears the ready bits of several places of a block. Those that were set are in the seat's hand, the lowest as the
-    /// newest.
+    /// Clears the ready bits of several places of a block. Those that were set are in the seat's hand, the lowest as
+    /// the newest.
     pub(crate) fn take_bits(&self, seat: &mut CallSeat, block: usize, pick: u64) -> u64
         requires own { seat.old.table ≡ self.now.table }
         requires block { block < 64 * self.now.shards }

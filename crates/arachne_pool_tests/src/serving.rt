@@ -39,8 +39,8 @@ const LADEN: Sort = Sort {
 /// How often a kernel thread is woken.
 const OFTEN: u32 = 100;
 
-/// How often kernel threads may sleep their time out in a row, though something was there for them. Where each signal is
-/// lost of one kind, they do so nearly as often as one is sent.
+/// How often kernel threads may sleep their time out in a row, though something was there for them. Where each signal
+/// is lost of one kind, they do so nearly as often as one is sent.
 const FEW: u64 = OFTEN as u64 / 4;
 
 const ROWS: &[Row] = &[

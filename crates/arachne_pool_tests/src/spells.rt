@@ -28,8 +28,8 @@ pub(crate) enum Spell {
     Rounds(u32),
     /// It works rounds until no job lives, and does not work then.
     TurnsOut,
-    /// Once a job has begun elsewhere it works on its core while memory is used up, until it is refused some. Where that is
-    /// not told, or has not stopped the pool, an answer comes, and it stops it.
+    /// Once a job has begun elsewhere it works on its core while memory is used up, until it is refused some. Where
+    /// that is not told, or has not stopped the pool, an answer comes, and it stops it.
     InNeed,
     /// It spawns so many leaves, which no worker may keep, and works for no core.
     Spawns(u32),
@@ -39,8 +39,8 @@ pub(crate) enum Spell {
     /// So many times a pool without a job is kept open, the turn is passed, and once core 1's kernel thread sleeps no
     /// more come, until that comes back from its work. At last it stops the pool.
     Finishes(u32),
-    /// So many times an answer comes, once the job that wants it sleeps, which is woken then; the kernel thread of core 1
-    /// sleeps too, or that isn't waited for.
+    /// So many times an answer comes, once the job that wants it sleeps, which is woken then; the kernel thread of core
+    /// 1 sleeps too, or that isn't waited for.
     Wakes(u32, bool),
     /// So many times it spawns a job on core 1, passes the turn, and once that job has begun there works to the end, or
     /// looks until no job lives. Then it takes the result, if it is there, as an answer. At last it stops the pool.

@@ -36,7 +36,8 @@ pub(crate) struct Forks<R, P> {
     pub(crate) spares: P,
 }
 
-/// The thread in hand goes on for at most as many steps as are left, and what it asks for, if it comes to that, is done.
+/// The thread in hand goes on for at most as many steps as are left, and what it asks for, if it comes to that, is
+/// done.
 #[inline(always)]
 pub(crate) fn go_on<H: Wait + Clock, T: RunJob, C: Contexts<T>, R: Rng>(
     rt: &H,

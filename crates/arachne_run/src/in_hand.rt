@@ -39,8 +39,8 @@ pub(crate) fn has_lock<T, H>(in_hand: &Option<InHand<T, H>>) -> bool
     }
 }
 
-/// A thread was put back, to rest so. [`put_back`] alone gives one, which can't be dropped, so that how it rests then is
-/// told.
+/// A thread was put back, to rest so. [`put_back`] alone gives one, which can't be dropped, so that how it rests then
+/// is told.
 pub(crate) struct PutBack {
     rested: Rested,
     asked: Rest,

@@ -158,8 +158,8 @@ impl<C: Seats + Drop, K: Tagged + Drop> Machine<C, K> {
     }
 }
 
-/// What is left once all workers have ended without a fault. Where not all of what they stepped with is back, a token is
-/// missing, and that is told also where memory was refused.
+/// What is left once all workers have ended without a fault. Where not all of what they stepped with is back, a token
+/// is missing, and that is told also where memory was refused.
 fn close_all<H: Wait, T: Tagged + Drop, C: Contexts<T> + Drop, K: Tagged + Drop>(
     rt: &H,
     alloc: Global,

@@ -138,7 +138,8 @@ impl<'a, H: Wait, T: RunJob, C: Contexts<T>, R: Rng + Drop, G: Gate> Seat<'a, H,
         Ok(Some(index))
     }
 
-    /// Keeps a place for one that was left, if the core, which looked so before, was full. Else that is told of as free.
+    /// Keeps a place for one that was left, if the core, which looked so before, was full. Else that is told of as
+    /// free.
     fn keep_or_count(&mut self, left: PlaceLeft, before: OccWord) -> Result<(), Halt>
         ensures { self.new ≡ self.old }
     {
@@ -408,8 +409,8 @@ impl<'a, H: Wait + Clock, T: RunJob, C: Contexts<T>, R: Rng + Drop, G: Gate> Des
     }
 }
 
-/// Applies the orders that are due, and moves threads away ([`Arbiter::tend`]). How many are applied in all, if some were
-/// now, and the cores to which threads were moved.
+/// Applies the orders that are due, and moves threads away ([`Arbiter::tend`]). How many are applied in all, if some
+/// were now, and the cores to which threads were moved.
 #[inline(always)]
 fn tend_by<H: Wait, T: Tagged, C: Contexts<T>>(
     arbiter: &mut Arbiter,

@@ -41,12 +41,12 @@ pub enum Watching {
     First,
     /// It holds core 1's slice of this number until orders were applied.
     Applying(u64),
-    /// It holds core 0's slice of the first number until core 1 is about to park, and that of the second until core 1 has
-    /// entered slice 0.
+    /// It holds core 0's slice of the first number until core 1 is about to park, and that of the second until core 1
+    /// has entered slice 0.
     Granting(u64, u64),
     /// It gives core 1, once that has ended a slice, time to sleep before core 0's slice of this number, and holds the
-    /// fourth after it until core 1 is about to park. A sleep counts only if core 0 was held by then: until core 1 is told
-    /// of the order it may find by itself, as its sleep ends, that it was taken back.
+    /// fourth after it until core 1 is about to park. A sleep counts only if core 0 was held by then: until core 1 is
+    /// told of the order it may find by itself, as its sleep ends, that it was taken back.
     Parking(u64),
     /// It holds core 0's slice of this number until this core is about to park.
     Parked(u8, u64),
@@ -62,13 +62,13 @@ pub enum Watching {
     ParksLast(u64, u64),
     /// It holds core 1's slice 0 until threads were moved away from there, and notes to which cores they were.
     Moving,
-    /// It holds core 0's slice of this number until a thread was moved away, or one of this core waits or has ended. From
-    /// then on core 0 lets others go on before each slice until one was moved, or had ended before, and then until this
-    /// core is about to park.
+    /// It holds core 0's slice of this number until a thread was moved away, or one of this core waits or has ended.
+    /// From then on core 0 lets others go on before each slice until one was moved, or had ended before, and then until
+    /// this core is about to park.
     Emptied(u8, u64),
-    /// It holds core 0's slice 0 until a core is about to park, and core 2's slice 0 until core 1 has entered this slice,
-    /// and that until the run is stopped, which the parked core tells. Then core 1 may enter no slice. Slices of core 1
-    /// before it are held until core 0's slice 0 has ended.
+    /// It holds core 0's slice 0 until a core is about to park, and core 2's slice 0 until core 1 has entered this
+    /// slice, and that until the run is stopped, which the parked core tells. Then core 1 may enter no slice. Slices of
+    /// core 1 before it are held until core 0's slice 0 has ended.
     Stopping(u64),
 }
 

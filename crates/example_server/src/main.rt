@@ -1,7 +1,7 @@
 //! A server over the pool: it answers a list of requests, and holds as many cores as their load asks for.
 //!
-//! `example_server < LIST` says how many it has answered; `example_server CORES INTERVAL [PATIENCE] < LIST` also how long
-//! that took. Times are in microseconds.
+//! `example_server < LIST` says how many it has answered; `example_server CORES INTERVAL [PATIENCE] < LIST` also how
+//! long that took. Times are in microseconds.
 #![tactic(auto)]
 
 mod crew;

@@ -63,8 +63,8 @@ fn runnable_of(live: u64, waiting: u64) -> u64
     live.saturating_sub(waiting)
 }
 
-/// Serves as the kernel thread of a core until the server is over. It sleeps while there is nothing to do there, and while
-/// the core is given back. At once over where there is no such core.
+/// Serves as the kernel thread of a core until the server is over. It sleeps while there is nothing to do there, and
+/// while the core is given back. At once over where there is no such core.
 pub fn serve<R: Wait + Clock, J: PoolJob, C: Contexts<Spawned<J>>>(
     rt: &R,
     server: &Server<C>,

@@ -15,9 +15,9 @@ loop-shard-init c =
       hand = (refl, refl);
       worker = c.of-round.ensures.worker;
       all = λ j below. subst (λ (n : ℕ). j < n) (sym c.of-round.ensures.all.0)
-        (c.shards_of.ensures.all j (subst (λ (n : ℕ). c.args.worker + 64 * j < n) (sym same) below));
+          (c.shards_of.ensures.all j (subst (λ (n : ℕ). c.args.worker + 64 * j < n) (sym same) below));
       inside = λ j below. subst (λ (n : ℕ). c.args.worker + 64 * j < n) same
-        (c.shards_of.ensures.none j (subst (λ (n : ℕ). j < n) c.of-round.ensures.all.0 below));
+          (c.shards_of.ensures.none j (subst (λ (n : ℕ). j < n) c.of-round.ensures.all.0 below));
     }
 
 pub take_in_shard-requires-clause-shard : goal.take_in_shard-requires-clause-shard
