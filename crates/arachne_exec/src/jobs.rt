@@ -126,6 +126,7 @@ impl Executor {
     pub(crate) fn take_from(&self, seat: &mut ExecSeat, block: usize, from: First) -> Option<Taken>
         requires own { seat.old.table ≡ self.now.table }
         requires block { block < 64 * self.now.shards }
+        requires from { from.block.value ≡ block }
         ensures seat { seat.new ≡ record seat.old { known = seat.new.known } }
         ensures took { IfSome result (λ taken. HasTakenFrom from.index taken block seat.old.known seat.new.known) }
         ensures none { IfNone result (HasTakenNone block seat.old.known seat.new.known) }
@@ -160,9 +161,9 @@ impl Executor {
         ensures hand { IfSome result (λ job. HandsOver (4096 * self.now.shards) job seat.old.known seat.new.known) }
         ensures same { IfNone result (KeepsHand seat.old.known seat.new.known) }
     {
-        let from = seat.take_turn.first_place();
+        let (from, begun) = seat.take_turn.first_place(block);
         let taken = self.take_from(seat, block, from)?;
-        Some(taken.in_block(&mut seat.take_turn))
+        Some(taken.in_block(begun, &mut seat.take_turn))
     }
 
     /// The newest job in hand is ready again. Whether the worker of its place is to be unparked.

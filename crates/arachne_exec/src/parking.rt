@@ -103,9 +103,9 @@ impl Executor {
         let mut left = seat.turn.unsearched(shard, shown);
         while let Some(index) = left.next() {
             let block = 64 * shard + index;
-            let from = seat.turn.first_place(block);
+            let (from, begun) = seat.turn.first_place(block);
             if let Some(taken) = self.take_from(seat, block, from) {
-                return Some(taken.in_turn(&mut seat.turn, &left));
+                return Some(taken.in_turn(begun, &mut seat.turn, &left));
             }
             let (hidden, _) = self.tidy(&mut seat.at, block);
             left.pass(hidden);

@@ -8,6 +8,7 @@ ghost use Rattle.arachne_exec.specs.Turns.{IsFirstFrom, HasMoreBehind};
 use crate::answers::Job;
 use crate::layout::all_but;
 use crate::sleepers::Hidden;
+use std::snapshot::Snapshot;
 
 /// The lowest index whose bit is set.
 pub(crate) fn lowest_index(word: u64) -> usize
@@ -105,34 +106,50 @@ impl Taken {
         Taken { job, more }
     }
 
-    /// The job. The next search of its worker's blocks begins behind its place.
-    pub(crate) fn in_turn(self, turn: &mut Turn, left: &Unsearched) -> Job
+    /// The job, of a search of its worker's blocks. The next one begins behind its place.
+    pub(crate) fn in_turn(self, begun: SearchBegun, turn: &mut Turn, left: &Unsearched) -> Job
         requires { self.job.place < 1048576 }
         ensures job { result ≡ self.job }
         ensures in_block { self.more ≡ true → turn.new.place ≡ self.job.place + 1 }
         ensures in_shard { self.more ≡ false → HasMoreBehind left.now (self.job.place / 64 % 64) → turn.new.place ≡ self.job.place - self.job.place % 64 + 64 }
         ensures next_shard { self.more ≡ false → ¬ HasMoreBehind left.now (self.job.place / 64 % 64) → turn.new.place ≡ self.job.place - self.job.place % 4096 + 262144 }
     {
+        let _ = begun;
         let Taken { job, more } = self;
         let in_shard = left.has_more(job.place / 64 % 64);
         *turn = Turn::behind(job.place, more, in_shard);
         job
     }
 
-    /// The job. The next take begins behind its index.
-    pub(crate) fn in_block(self, turn: &mut TakeTurn) -> Job
+    /// The job, of a take. The next one begins behind its index.
+    pub(crate) fn in_block(self, begun: TakeBegun, turn: &mut TakeTurn) -> Job
         ensures job { result ≡ self.job }
         ensures index { turn.new.index ≡ self.job.place % 64 + 1 }
     {
+        let _ = begun;
         let Taken { job, more: _ } = self;
         turn.index = job.place % 64 + 1;
         job
     }
 }
 
-/// The index at which a search of a block begins. The two turns alone give one, and no block is searched without.
+/// The index at which a search of a block begins. The two turns alone give one, and no block is searched without its
+/// own.
 pub(crate) struct First {
     index: usize,
+    block: Snapshot<usize>,
+}
+
+/// A block is taken from where a seat's turn to take says. [`TakeTurn::first_place`] alone gives one.
+#[derive(Drop)]
+pub(crate) struct TakeBegun {
+    by: (),
+}
+
+/// A block is searched from where a worker's turn says. [`Turn::first_place`] alone gives one.
+#[derive(Drop)]
+pub(crate) struct SearchBegun {
+    by: (),
 }
 
 impl First {
@@ -141,7 +158,7 @@ impl First {
     pub(crate) fn begun(self) -> usize
         ensures { result ≡ self.index }
     {
-        let First { index } = self;
+        let First { index, block: _ } = self;
         index
     }
 }
@@ -161,10 +178,15 @@ impl TakeTurn {
 
     /// Which place of a block comes first.
     #[inline(always)]
-    pub(crate) fn first_place(&self) -> First
-        ensures { result.index ≡ self.now.index }
+    pub(crate) fn first_place(&self, block: usize) -> (First, TakeBegun)
+        ensures index { result.0.index ≡ self.now.index }
+        ensures block { result.0.block.value ≡ block }
     {
-        First { index: self.index }
+        let first = First {
+            index: self.index,
+            block: Snapshot::of(&block),
+        };
+        (first, TakeBegun { by: () })
     }
 }
 
@@ -234,15 +256,20 @@ impl Turn {
     }
 
     /// Which place of a block comes first.
-    pub(crate) fn first_place(&self, block: usize) -> First
-        ensures turn { self.now.place / 64 ≡ block → result.index ≡ self.now.place % 64 }
-        ensures other { self.now.place / 64 ≢ block → result.index ≡ 0 }
+    pub(crate) fn first_place(&self, block: usize) -> (First, SearchBegun)
+        ensures turn { self.now.place / 64 ≡ block → result.0.index ≡ self.now.place % 64 }
+        ensures other { self.now.place / 64 ≢ block → result.0.index ≡ 0 }
+        ensures block { result.0.block.value ≡ block }
     {
         let index = if self.place / 64 == block {
             self.place % 64
         } else {
             0
         };
-        First { index }
+        let first = First {
+            index,
+            block: Snapshot::of(&block),
+        };
+        (first, SearchBegun { by: () })
     }
 }

@@ -4,6 +4,7 @@ use Rattle.arachne_exec.specs.declared.answers.Job.{Job}
 use Rattle.arachne_exec.specs.declared.turns.Taken.{Taken}
 use Rattle.arachne_exec.specs.Layout.{ready_at, mark_at}
 use Rattle.arachne_exec.specs.Changes.{newest_job, gained, hearing, noted}
+use Rattle.arachne_exec.specs.Seats.{CallView, HasNewest}
 use Rattle.arachne_exec.specs.Turns.{IsFirstFrom}
 use Rattle.arachne_exec.specs.Calls.{HasTakenFrom}
 use Rattle.arachne_exec.proofs.Chains.{missed}
@@ -23,6 +24,13 @@ returns-then-not-take_bit-clause-none c =
     let then = c.if-not-take_bit.ensures.missed refl in
     let looked = saw (goal.at.returns-then-not-take_bit-clause-none c).After-first_from-index in
     inr (missed ready_at c.args.block c.first_from-index.result c.look-ready.result then.0 _ _ _ c.first_from-index.ensures.low c.first_from-index.ensures.there looked then.1 (ap (λ v. v.known) then.2))
+
+-- the place whose bit was taken is the newest in hand
+pub refresh-mark-requires-clause-newest : goal.refresh-mark-requires-clause-newest
+refresh-mark-requires-clause-newest c =
+    let got = c.if-not-take_bit.ensures.took refl in
+    let place : ℕ = 64 * c.args.block + c.first_from-index.result in
+    (got.0, got.0, subst (λ (v : CallView). HasNewest place got.0 got.0 v) (sym got.1) (record { hand = refl; slot = refl }))
 
 pub lay-job-requires-clause-out : goal.lay-job-requires-clause-out
 lay-job-requires-clause-out c =
