@@ -10,4 +10,3 @@ pub mod Waking
 pub mod Calls
 pub mod Faults
 pub mod Done
-pub mod Stops

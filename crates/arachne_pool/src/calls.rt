@@ -28,9 +28,9 @@ impl<C: Seats> Pool<C> {
     ghost use Rattle.arachne_pool.specs.declared.worker.PoolFault.TheVariants.{Token};
 
     /// Spawns a job, which gets a place of the table where a core has one, and else waits for one with the worker. Its
-    /// handle gives its result. It comes back, with why, where memory is refused or the worker has no seat; and where
-    /// no core has a place and the worker has worked for none: that keeps no job (`try_spawn`), since it may never come
-    /// to a round.
+    /// handle gives its result. It comes back, with why, where memory is refused or the worker has no seat; and where no
+    /// core has a place and the worker has worked for none: that keeps no job (`try_spawn`), since it may never come to a
+    /// round.
     pub fn spawn<H: Wait, J: PoolJob>(
         &self,
         rt: &H,
@@ -63,11 +63,12 @@ impl<C: Seats> Pool<C> {
             Ok(begun) => begun,
             Err(job) => return Err(Refused::of(job, Refusal::Memory)),
         };
-        let told = self.live.add(worker.core, bench.news());
+        self.live.add(worker.core, bench.news());
         let handle = Handle::of(receiver);
-        match place::<H, J, C>(rt, self, seat, bench, job, told) {
+        match place::<H, J, C>(rt, self, seat, bench, job) {
             Ok(Some(posted)) => {
-                posted.tell(&self.shared);
+                // Its core's kernel thread is told at once: the spawner may not come to a round of its own.
+                self.shared.hint(posted.at().place);
                 Ok(handle)
             }
             Ok(None) => Ok(handle),
@@ -79,8 +80,7 @@ impl<C: Seats> Pool<C> {
     }
 
     /// One round on a core: orders that are due are applied, each job that is ready there has a slice, and a job of the
-    /// worker that waits for a place gets one. Where there is none it takes over a job that is ready on a core at which
-    /// this worker has never come to a round, and whose kernel thread has not come to it. Whether there was any.
+    /// worker that waits for a place gets one. Whether there was any.
     pub fn turn<'a, H: Wait + Clock, J: PoolJob>(
         &'a self,
         rt: &'a H,
@@ -96,7 +96,6 @@ impl<C: Seats> Pool<C> {
         ensures fault { HasSeatAfter worker.new.seat result }
         ensures same { WorksFor core worker.new }
     {
-        worker.bench.turns_at(core);
         match self.operate(rt, worker, core, Call::Turn, None) {
             Came::Ran(found) => found,
             Came::Joined(_) => unreachable!(),

@@ -13,7 +13,6 @@ mod closing;
 mod counting;
 mod ending;
 mod handle;
-mod idle;
 mod job;
 mod links;
 mod live;

@@ -1,24 +1,20 @@
-//! A worker's seat at the table of a pool, and what is out with it: the job in hand, and nothing else between two
-//! calls.
-ghost use Rattle.std.specs.Prelude.{◌≡◌, ◌≢◌, ◌≤◌, IfSome, false};
+//! A worker's seat at the table of a pool, and what is out with it: the job in hand, and nothing else between two calls.
+ghost use Rattle.std.specs.Prelude.{◌≡◌, ◌≤◌, IfSome, false};
 ghost use Rattle.arachne_pool.specs.Grounds.{in_hand};
 ghost use Rattle.arachne_pool.specs.Workers.{IsIdleAt};
-ghost use Rattle.arachne_pool.specs.declared.stop.Stop.TheVariants as stopped;
 
 use crate::bench::Bench;
 use crate::ending::end;
-use crate::idle::{WasDrained, WasShort};
 use crate::job::PoolJob;
-use crate::live::AllTold;
 use crate::place::{place_oldest, post_oldest};
 use crate::pool::Pool;
 use crate::posting::{Disowned, Posted};
 use crate::rounds::PoolDesk;
-use crate::spawned::{Ended, Spawned};
-use crate::stop::{Stop as JobStop, rest_of, rests_so};
+use crate::spawned::Spawned;
+use crate::stop::Stop as JobStop;
 use crate::worker::PoolFault;
 use arachne_arbiter::Pace;
-use arachne_contexts::{Contexts, Held, Moved, Taken, Woken};
+use arachne_contexts::{Contexts, Held, Moved, Rested, Taken, Woken};
 use arachne_core::{MarkWord, OccWord, Place, Rest, ThreadId};
 use arachne_workers::{Desk, Drained, Event, Grip, Halt, Stop, Ticket};
 use std::marker::Model;
@@ -48,11 +44,11 @@ pub(crate) struct Seat<'a, H, J: PoolJob, C: Contexts<Spawned<J>>> {
     pub(crate) is_broken: bool,
     pub(crate) seat: C::Seat,
     pub(crate) held: Option<Held<Spawned<J>, C::Hold>>,
-    /// The job in hand is put back as blocked.
+    /// The job in hand awaits a child.
     pub(crate) blocks: bool,
     /// A job was taken since the worker looked last whether others have too many.
     pub(crate) has_taken: bool,
-    /// The core was seen to be closed and empty since that was asked last.
+    /// The core was seen to be closed and empty.
     pub(crate) is_drained: bool,
     pub(crate) bench: Bench<J>,
 }
@@ -109,19 +105,22 @@ impl<'a, H: Wait, J: PoolJob, C: Contexts<Spawned<J>>> Desk for Seat<'a, H, J, C
         if stop == JobStop::Sleeps {
             stop = self.fall_asleep(left);
         }
-        if stop == JobStop::Short {
-            // The next slice tries again.
-            *left = 0;
-            self.bench.is_short = true;
+        self.blocks = stop == JobStop::Waits || stop == JobStop::Sleeps;
+        if stop != JobStop::Ends {
+            // Of an end the pool is told once the result is left and the place is free (`end`).
+            self.tell();
         }
-        let told = match stop {
-            // The pool is told once the result is left and the place is free (`end`).
-            JobStop::Ends => return Ok(Stop::Ends),
-            stop => self.stops(stop),
-        };
-        match stop.learned(told) {
-            Ok(stop) => Ok(stop),
-            Err(told) => self.post_oldest(told),
+        match stop {
+            JobStop::Ends => Ok(Stop::Ends),
+            JobStop::Waits | JobStop::Sleeps => Ok(Stop::Blocks),
+            JobStop::Goes | JobStop::Forks => self.post_oldest(),
+            JobStop::LetsGo => Ok(Stop::Goes),
+            JobStop::Short => {
+                // The next slice tries again.
+                *left = 0;
+                self.bench.is_short = true;
+                Ok(Stop::Goes)
+            }
         }
     }
 
@@ -138,10 +137,15 @@ impl<'a, H: Wait, J: PoolJob, C: Contexts<Spawned<J>>> Desk for Seat<'a, H, J, C
         let Some(held) = self.held.take() else {
             return Err(Halt::from(PoolFault::Token));
         };
-        let asked = rest_of(self.blocks);
+        let rest = if self.blocks {
+            Rest::Blocked
+        } else {
+            Rest::Ready
+        };
         let table = &self.pool.table;
-        match table.put_back(self.rt, &mut self.seat, held, asked) {
-            Ok(rested) => Ok(rests_so(rested, asked)),
+        match table.put_back(self.rt, &mut self.seat, held, rest) {
+            Ok(Rested::AsAsked) => Ok(rest),
+            Ok(Rested::WokenMeanwhile) => Ok(Rest::Ready),
             Err(held) => {
                 self.held = Some(held);
                 Err(Halt::from(PoolFault::Token))
@@ -165,10 +169,13 @@ impl<'a, H: Wait, J: PoolJob, C: Contexts<Spawned<J>>> Desk for Seat<'a, H, J, C
         };
         self.bench.has_ended = true;
         match end::<H, J, C>(self.rt, self.pool, &mut self.seat, held) {
-            Ok(ended) => Ok(self.tell_of_end(ended)),
-            Err(ended) => {
+            Ok(ended) => {
+                self.tell();
+                Ok(ended.parent())
+            }
+            Err(_) => {
                 self.is_broken = true;
-                self.tell_of_end(ended);
+                self.tell();
                 Err(Halt::from(PoolFault::Token))
             }
         }
@@ -226,10 +233,7 @@ impl<'a, H: Wait, J: PoolJob, C: Contexts<Spawned<J>>> Desk for Seat<'a, H, J, C
         if !self.bench.near.is_empty() && self.pool.has_room() {
             return true;
         }
-        self.call != Call::Turn
-            && self.held.is_none()
-            && !replace(&mut self.has_taken, false)
-            && self.is_any_waiting()
+        self.held.is_none() && !replace(&mut self.has_taken, false) && self.is_any_waiting()
     }
 
     fn take_ticket(&mut self) -> Result<Ticket, Halt> {
@@ -237,21 +241,21 @@ impl<'a, H: Wait, J: PoolJob, C: Contexts<Spawned<J>>> Desk for Seat<'a, H, J, C
             return Err(Halt::from(PoolFault::Token));
         }
         self.is_broken = true;
-        let bench = &mut self.bench;
-        let told = self.pool.live.add(self.core, bench.news());
-        let posted = place_oldest::<H, J, C>(self.rt, self.pool, &mut self.seat, bench, told)?;
+        let posted = place_oldest::<H, J, C>(self.rt, self.pool, &mut self.seat, &mut self.bench)?;
         self.is_broken = false;
         let Some(posted) = posted else {
-            return Ok(if self.call != Call::Turn && self.fetch() {
+            return Ok(if self.fetch() {
                 Ticket::Gone
             } else {
                 Ticket::None
             });
         };
-        Ok(match posted.tell_unless_on(self.core, &self.pool.shared) {
-            Some(post) => Ticket::Posted(post),
-            None => Ticket::Gone,
-        })
+        let post = posted.at();
+        if post.place.core == self.core {
+            return Ok(Ticket::Posted(post));
+        }
+        self.pool.shared.hint(post.place);
+        Ok(Ticket::Gone)
     }
 
     fn tend(&mut self) -> (Option<usize>, u64) {
@@ -305,16 +309,14 @@ impl<'a, H: Wait, J: PoolJob, C: Contexts<Spawned<J>>> PoolDesk for Seat<'a, H, 
         }
     }
 
-    fn take_short(&mut self) -> WasShort {
+    fn take_short(&mut self) -> bool {
         self.bench.take_short()
     }
 
-    fn take_over(&mut self) -> bool {
-        self.fetch()
-    }
-
-    fn take_drained(&mut self) -> WasDrained {
-        WasDrained::take(&mut self.is_drained)
+    fn take_drained(&mut self) -> bool {
+        let is_drained = self.is_drained;
+        self.is_drained = false;
+        is_drained
     }
 
     fn tell_done(&mut self, slices: u64, rests: u64) {
@@ -340,31 +342,18 @@ impl<'a, H: Wait, J: PoolJob, C: Contexts<Spawned<J>>> Seat<'a, H, J, C> {
             .slice(&mut bench.cells, &mut bench.tally, left, may_post)
     }
 
-    /// A slice of the job in hand stops so, by which it is put back. The pool is told of the jobs that began and ended
-    /// in it, before another kernel thread may have one of them. It has not ended: of an end `tell_of_end` tells.
+    /// The pool is told of the jobs that began, before another kernel thread may have one of them, and of those that
+    /// ended, once the last result is left.
     #[inline(always)]
-    fn stops(&mut self, stop: JobStop) -> AllTold
-        requires { stop ≢ stopped.Ends }
+    fn tell(&mut self)
         ensures { self.new ≡ self.old }
     {
-        self.blocks = stop.blocks();
-        self.pool.live.add(self.core, self.bench.news())
-    }
-
-    /// The pool is told of the jobs that began and ended up to the end of one in hand, which has left its result. Its
-    /// parent, if that is to be woken.
-    #[inline(always)]
-    fn tell_of_end(&mut self, ended: Ended<J>) -> Option<ThreadId>
-        ensures desk { self.new ≡ self.old }
-        ensures parent { result ≡ ended.parent }
-    {
-        let told = self.pool.live.add(self.core, self.bench.news());
-        ended.parent(told)
+        self.pool.live.add(self.core, self.bench.news());
     }
 
     /// The oldest child that waits with the job in hand gets a place, if there is one and memory is not refused.
     #[inline(always)]
-    fn post_oldest(&mut self, told: AllTold) -> Result<Stop, Halt>
+    fn post_oldest(&mut self) -> Result<Stop, Halt>
         ensures { self.new ≡ self.old }
     {
         if self.is_broken {
@@ -375,7 +364,7 @@ impl<'a, H: Wait, J: PoolJob, C: Contexts<Spawned<J>>> Seat<'a, H, J, C> {
         };
         self.is_broken = true;
         let bench = &mut self.bench;
-        let posted = post_oldest::<H, J, C>(self.rt, self.pool, &mut self.seat, bench, held, told)?;
+        let posted = post_oldest::<H, J, C>(self.rt, self.pool, &mut self.seat, bench, held)?;
         self.is_broken = false;
         Ok(self.stop_after(posted))
     }
@@ -387,14 +376,16 @@ impl<'a, H: Wait, J: PoolJob, C: Contexts<Spawned<J>>> Seat<'a, H, J, C> {
         let Some(posted) = posted else {
             return Stop::Goes;
         };
-        match posted.tell_unless_on(self.core, &self.pool.shared) {
-            Some(post) => Stop::Posted(post),
-            None => Stop::Goes,
+        let post = posted.at();
+        if post.place.core == self.core {
+            return Stop::Posted(post);
         }
+        self.pool.shared.hint(post.place);
+        Stop::Goes
     }
 
-    /// The job in hand is to rest until it is woken, and is told its id. While a child waits with it, it goes on in
-    /// place of that, once a slice: so the child gets the first place that is free.
+    /// The job in hand is to rest until it is woken, and is told its id. While a child waits with it, it goes on in place
+    /// of that, once a slice: so the child gets the first place that is free.
     fn fall_asleep(&self, left: &mut u32) -> JobStop
         ensures { left.new ≤ left.old }
     {
@@ -466,10 +457,9 @@ impl<'a, H: Wait, J: PoolJob, C: Contexts<Spawned<J>>> Seat<'a, H, J, C> {
         )
     }
 
-    /// Where a job may be ready on another core, whose worker is awake and has not come to it. In a turn it is none
-    /// that the worker turns too: it would move jobs to and fro.
+    /// Where a job may be ready on another core, whose worker is awake and has not come to it.
     fn waiting_on(&self, core: u8) -> Option<Place> {
-        if core == self.core || self.call == Call::Turn && self.bench.has_turned_at(core) {
+        if core == self.core || self.call == Call::Turn {
             return None;
         }
         let word = self.pool.shared.hints().word(core)?;

@@ -119,9 +119,9 @@ pub(crate) enum Is {
     Alone,
 }
 
-/// A row: a pool, what its worker does, what two kernel threads do then, for core 0 and core 1, how many of them end a
-/// job at least, what one does after that, how many jobs are left with a place and without, and how many these are with
-/// those that run or wait in their places.
+/// A row: a pool, what its worker does, what two kernel threads do then, for core 0 and core 1, how many of them end a job
+/// at least, what one does after that, how many jobs are left with a place and without, and how many these are with those
+/// that run or wait in their places.
 #[derive(Clone, Copy)]
 pub(crate) struct Row {
     pub(crate) shows: &'static str,

@@ -24,12 +24,6 @@ const LONG_AT_ONCE: Sort = Sort {
     ..LONG
 };
 
-/// One that is in its first step until an answer has come.
-const HELD: Sort = Sort {
-    is_held: true,
-    ..LEAF
-};
-
 /// One that takes some microseconds to be dropped.
 const LADEN: Sort = Sort {
     luggage: 500,
@@ -39,8 +33,8 @@ const LADEN: Sort = Sort {
 /// How often a kernel thread is woken.
 const OFTEN: u32 = 100;
 
-/// How often kernel threads may sleep their time out in a row, though something was there for them. Where each signal
-/// is lost of one kind, they do so nearly as often as one is sent.
+/// How often kernel threads may sleep their time out in a row, though something was there for them. Where each signal is
+/// lost of one kind, they do so nearly as often as one is sent.
 const FEW: u64 = OFTEN as u64 / 4;
 
 const ROWS: &[Row] = &[
@@ -417,29 +411,6 @@ const ROWS: &[Row] = &[
             Spell::ToTheStop,
         ),
         then: &[Act::Answered(5 * OFTEN as u64)],
-        ..NOTHING
-    },
-    Row {
-        shows: "a round takes over a job to which the kernel thread that works for another core has not come",
-        cores: 2,
-        slots: 2,
-        acts: &[Act::Tries(On::Core(1), HELD, Comes::Begins)],
-        spells: (Spell::Fetches, Spell::ToTheEnd),
-        then: &[Act::Answered(1), Act::Lives(0)],
-        ..NOTHING
-    },
-    Row {
-        shows: "a round takes over no job of a core to whose rounds its worker comes too",
-        cores: 2,
-        slots: 1,
-        acts: &[
-            Act::Turns(0, false),
-            Act::Tries(On::Core(0), ELEVEN, Comes::Begins),
-            Act::Turns(1, false),
-            Act::Has(0, 1, Is::Open),
-            Act::Works(0),
-        ],
-        then: &[Act::Lives(0)],
         ..NOTHING
     },
     Row {

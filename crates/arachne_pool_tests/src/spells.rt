@@ -28,8 +28,8 @@ pub(crate) enum Spell {
     Rounds(u32),
     /// It works rounds until no job lives, and does not work then.
     TurnsOut,
-    /// Once a job has begun elsewhere it works on its core while memory is used up, until it is refused some. Where
-    /// that is not told, or has not stopped the pool, an answer comes, and it stops it.
+    /// Once a job has begun elsewhere it works on its core while memory is used up, until it is refused some. Where that is
+    /// not told, or has not stopped the pool, an answer comes, and it stops it.
     InNeed,
     /// It spawns so many leaves, which no worker may keep, and works for no core.
     Spawns(u32),
@@ -39,15 +39,12 @@ pub(crate) enum Spell {
     /// So many times a pool without a job is kept open, the turn is passed, and once core 1's kernel thread sleeps no
     /// more come, until that comes back from its work. At last it stops the pool.
     Finishes(u32),
-    /// So many times an answer comes, once the job that wants it sleeps, which is woken then; the kernel thread of core
-    /// 1 sleeps too, or that isn't waited for.
+    /// So many times an answer comes, once the job that wants it sleeps, which is woken then; the kernel thread of core 1
+    /// sleeps too, or that isn't waited for.
     Wakes(u32, bool),
     /// So many times it spawns a job on core 1, passes the turn, and once that job has begun there works to the end, or
     /// looks until no job lives. Then it takes the result, if it is there, as an answer. At last it stops the pool.
     Polls(u32, Sort, Until),
-    /// Once a job has begun it spawns a leaf on core 1, and comes to rounds of its own core until that has begun, or an
-    /// answer has come. Then an answer comes, and it works to the end.
-    Fetches,
 }
 
 /// How a kernel thread waits until no job lives.
@@ -97,7 +94,6 @@ pub(crate) fn work<C: Contexts<Spawned<Task>>, R: Wait + Clock>(
         Spell::Polls(times, sort, until) if pool.cores > 1 => {
             polls::<C, R>(rt, pool, board, &mut worker, times, sort, until);
         }
-        Spell::Fetches if pool.cores > 1 => fetches::<C, R>(rt, pool, board, &mut worker),
         _ => pool.stop(),
     }
     Some(worker)
@@ -292,31 +288,6 @@ fn polls<C: Contexts<Spawned<Task>>, R: Wait + Clock>(
     }
     pool.stop();
     board.pass_turn();
-}
-
-/// `Spell::Fetches`.
-fn fetches<C: Contexts<Spawned<Task>>, R: Wait + Clock>(
-    rt: &R,
-    pool: &Pool<C>,
-    board: &Arc<Board>,
-    worker: &mut Worker<C::Seat, Task>,
-)
-    requires worker { IsWorkerOf C.sits C.idle pool.now.table pool.now.cores worker.old }
-    requires core { 1 < pool.now.cores }
-    ensures worker { IsWorkerOf C.sits C.idle pool.now.table pool.now.cores worker.new }
-{
-    await_more(rt, pool, &board.begun, 0);
-    if let Some(task) = Task::new(LEAF, board) {
-        let _ = pool.try_spawn_on(rt, worker, 1, task);
-    }
-    for _ in rt.forever() {
-        if board.begun.load(Ordering::SeqCst) > 1 || board.answers() > 0 {
-            break;
-        }
-        let _ = pool.turn(rt, worker, 0);
-    }
-    board.answer();
-    let _ = pool.work(rt, worker, 0);
 }
 
 /// Waits until a count of the board is over this, or the pool is stopped.

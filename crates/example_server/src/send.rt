@@ -24,8 +24,6 @@ const BETWEEN_LOOKS: u64 = 20_000;
 struct Sent {
     number: u64,
     due: Due,
-    /// When it was sent, in nanoseconds from the begin.
-    at: u64,
     handle: Handle<Request>,
     ghost number_right: { handle.number ≡ number },
     ghost work_right: { handle.work ≡ due.work },
@@ -147,7 +145,6 @@ fn settles(
             let one = Sent {
                 number,
                 due,
-                at,
                 handle,
             };
             sent.push_back(one).ok()?;
@@ -214,7 +211,6 @@ fn take_answer(sent: &mut VecDeque<Sent>, begin: u64, report: &mut Report) -> Op
     let Sent {
         number,
         due,
-        at,
         handle,
     } = first;
     match handle.poll() {
@@ -229,7 +225,6 @@ fn take_answer(sent: &mut VecDeque<Sent>, begin: u64, report: &mut Report) -> Op
                     work: due.work,
                     class: due.class,
                     value: answer.value,
-                    waited: answer.began.saturating_sub(begin).saturating_sub(at),
                     ended,
                     nanos: ended.saturating_sub(due.at),
                 })
@@ -240,7 +235,6 @@ fn take_answer(sent: &mut VecDeque<Sent>, begin: u64, report: &mut Report) -> Op
             sent.push_front(Sent {
                 number,
                 due,
-                at,
                 handle,
             })
             .ok()?;
