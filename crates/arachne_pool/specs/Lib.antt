@@ -10,3 +10,4 @@ pub mod Waking
 pub mod Calls
 pub mod Faults
 pub mod Done
+pub mod Stops

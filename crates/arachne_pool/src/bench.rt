@@ -4,12 +4,13 @@ ghost use Rattle.std.specs.VecDeque.{deque_capacity, deque_len};
 ghost use Rattle.arachne_pool.specs.Done.{nothing_done};
 ghost use Rattle.arachne_pool.specs.Jobs.{one};
 
+use crate::idle::WasShort;
 use crate::job::PoolJob;
 use crate::orders::Orders;
 use crate::outcome::{Cells, ResultReceiver, Wanted};
 use crate::spawned::Spawned;
 use crate::statistics::Statistics;
-use crate::tally::Tally;
+use crate::tally::{News, Tally};
 use rand_core::SeedableRng;
 use rand_xoshiro::Xoshiro256PlusPlus;
 use std::alloc::Global;
@@ -60,8 +61,8 @@ impl<J: PoolJob> Bench<J> {
         }
     }
 
-    /// A job begins: the end that its result comes to, and the job, for which there is room among those that wait. Where
-    /// memory is refused it comes back.
+    /// A job begins: the end that its result comes to, and the job, for which there is room among those that wait.
+    /// Where memory is refused it comes back.
     pub(crate) fn begin(&mut self, job: J) -> Result<(ResultReceiver<J>, Spawned<J>), J>
         requires fresh { J.awaits job [] }
         ensures receiver { IfOk result (λ begun. begun.0.opening.key.job.value ≡ job) }
@@ -115,16 +116,15 @@ impl<J: PoolJob> Bench<J> {
     }
 
     /// Whether memory was refused since this was asked last.
-    pub(crate) fn take_short(&mut self) -> bool
-        ensures asked { result ≡ self.old.is_short }
+    pub(crate) fn take_short(&mut self) -> WasShort
+        ensures asked { result.is_short ≡ self.old.is_short }
         ensures same { self.new ≡ record self.old { is_short = false } }
     {
-        let is_short = self.is_short;
-        self.is_short = false;
-        is_short
+        WasShort::take(&mut self.is_short)
     }
 
-    /// What was done since it was told last, with so many slices, and so many rounds that found nothing. It is told now.
+    /// What was done since it was told last, with so many slices, and so many rounds that found nothing. It is told
+    /// now.
     pub(crate) fn take_done(&mut self, slices: u64, rests: u64) -> Statistics
         ensures done { result ≡ record self.old.done { slices = slices; rests = rests } }
         ensures same { self.new ≡ record self.old { done = nothing_done } }
@@ -149,17 +149,17 @@ impl<J: PoolJob> Bench<J> {
     }
 
     /// How many jobs were spawned and have ended since the pool was told last, which it is now.
-    pub(crate) fn news(&mut self) -> Tally
+    pub(crate) fn news(&mut self) -> News
         ensures same { self.new ≡ record self.old { told = self.new.tally } }
-        ensures spawned { self.old.told.spawned ≤ self.old.tally.spawned → self.old.told.spawned + result.spawned ≡ self.old.tally.spawned }
-        ensures ended { self.old.told.ended ≤ self.old.tally.ended → self.old.told.ended + result.ended ≡ self.old.tally.ended }
+        ensures spawned { self.old.told.spawned ≤ self.old.tally.spawned → self.old.told.spawned + result.tally.spawned ≡ self.old.tally.spawned }
+        ensures ended { self.old.told.ended ≤ self.old.tally.ended → self.old.told.ended + result.tally.ended ≡ self.old.tally.ended }
     {
         let news = Tally {
             spawned: self.tally.spawned.wrapping_sub(self.told.spawned),
             ended: self.tally.ended.wrapping_sub(self.told.ended),
         };
         self.told = self.tally;
-        news
+        News::of(news)
     }
 }
 

@@ -28,9 +28,9 @@ impl<C: Seats> Pool<C> {
     ghost use Rattle.arachne_pool.specs.declared.worker.PoolFault.TheVariants.{Token};
 
     /// Spawns a job, which gets a place of the table where a core has one, and else waits for one with the worker. Its
-    /// handle gives its result. It comes back, with why, where memory is refused or the worker has no seat; and where no
-    /// core has a place and the worker has worked for none: that keeps no job (`try_spawn`), since it may never come to a
-    /// round.
+    /// handle gives its result. It comes back, with why, where memory is refused or the worker has no seat; and where
+    /// no core has a place and the worker has worked for none: that keeps no job (`try_spawn`), since it may never come
+    /// to a round.
     pub fn spawn<H: Wait, J: PoolJob>(
         &self,
         rt: &H,
@@ -63,12 +63,11 @@ impl<C: Seats> Pool<C> {
             Ok(begun) => begun,
             Err(job) => return Err(Refused::of(job, Refusal::Memory)),
         };
-        self.live.add(worker.core, bench.news());
+        let told = self.live.add(worker.core, bench.news());
         let handle = Handle::of(receiver);
-        match place::<H, J, C>(rt, self, seat, bench, job) {
+        match place::<H, J, C>(rt, self, seat, bench, job, told) {
             Ok(Some(posted)) => {
-                // Its core's kernel thread is told at once: the spawner may not come to a round of its own.
-                self.shared.hint(posted.at().place);
+                posted.tell(&self.shared);
                 Ok(handle)
             }
             Ok(None) => Ok(handle),

@@ -23,17 +23,36 @@ impl Counts {
     /// So many more were spawned and have ended.
     #[inline(always)]
     pub(crate) fn add(&self, news: Tally) {
-        if news.spawned != 0 {
-            self.spawned.fetch_add(news.spawned, Ordering::SeqCst);
+        self.add_ended(news.ended, self.add_spawned(news.spawned));
+    }
+
+    /// So many more were spawned.
+    #[inline(always)]
+    fn add_spawned(&self, spawned: u64) -> SpawnsAdded {
+        if spawned != 0 {
+            self.spawned.fetch_add(spawned, Ordering::SeqCst);
         }
-        if news.ended != 0 {
-            self.ended.fetch_add(news.ended, Ordering::SeqCst);
+        SpawnsAdded { done: () }
+    }
+
+    /// So many more have ended, once those that were spawned meanwhile were added: so none that lives is overlooked.
+    #[inline(always)]
+    fn add_ended(&self, ended: u64, added: SpawnsAdded) {
+        let _ = added;
+        if ended != 0 {
+            self.ended.fetch_add(ended, Ordering::SeqCst);
         }
     }
 }
 
-/// How many had ended when that was looked at. `EndsSeen::look` alone gives one, and the look at those that were spawned
-/// uses it up: so that comes later.
+/// Those that were spawned were added. `Counts::add_spawned` alone gives one.
+#[derive(Drop)]
+struct SpawnsAdded {
+    done: (),
+}
+
+/// How many had ended when that was looked at. `EndsSeen::look` alone gives one, and the look at those that were
+/// spawned uses it up: so that comes later.
 pub(crate) struct EndsSeen {
     ended: u64,
 }

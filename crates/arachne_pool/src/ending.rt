@@ -10,8 +10,8 @@ use crate::spawned::{Ended, Spawned};
 use arachne_contexts::{Contexts, Held};
 use std::sync::Wait;
 
-/// A job that has ended, with all that ran in its place, leaves its result, and its place is free then, unless the table
-/// has disowned it.
+/// A job that has ended, with all that ran in its place, leaves its result, and its place is free then, unless the
+/// table has disowned it.
 #[inline(always)]
 pub(crate) fn end<H: Wait, J: PoolJob, C: Contexts<Spawned<J>>>(
     rt: &H,

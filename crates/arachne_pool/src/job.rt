@@ -12,8 +12,8 @@ pub enum Step<J, O> {
     Again,
     /// To get the result of the newest child that it has forked and not joined. It goes on at once where it has none.
     Waits,
-    /// To rest until it is woken (`Pool::wake`) by the id that `sleeps_as` tells it. It may go on earlier, so it looks again
-    /// whether what it sleeps for has come.
+    /// To rest until it is woken (`Pool::wake`) by the id that `sleeps_as` tells it. It may go on earlier, so it looks
+    /// again whether what it sleeps for has come.
     Sleeps,
     /// This job is to run beside it, as its newest child.
     Forks(J),
@@ -54,8 +54,8 @@ pub trait PoolJob: Tagged + Drop {
         1
     }
 
-    /// It is about to rest, and this is its id until it has ended. A wake that comes before it rests isn't lost. Jobs that
-    /// run in one place one after the other have the same id.
+    /// It is about to rest, and this is its id until it has ended. A wake that comes before it rests isn't lost. Jobs
+    /// that run in one place one after the other have the same id.
     fn sleeps_as(&self, _id: ThreadId) {}
 
     /// Whether it is to have a core for itself, if one is empty.

@@ -13,6 +13,7 @@ mod closing;
 mod counting;
 mod ending;
 mod handle;
+mod idle;
 mod job;
 mod links;
 mod live;

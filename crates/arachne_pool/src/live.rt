@@ -1,7 +1,7 @@
 //! How many jobs of a pool were spawned and have ended, and what its workers have done, as they tell it.
 use crate::counting::{Counts, EndsSeen};
 use crate::statistics::Statistics;
-use crate::tally::Tally;
+use crate::tally::News;
 use crossbeam_utils::CachePadded;
 use std::alloc::{AllocError, Global};
 use std::sync::atomic::{AtomicU64, Ordering};
@@ -31,6 +31,13 @@ impl Told {
     }
 }
 
+/// What a worker had counted is told. [`Live::add`] alone gives one. Each post uses one up, so that a job is told of
+/// before another kernel thread may have it, and so does the end of a job.
+#[derive(Drop)]
+pub(crate) struct AllTold {
+    done: (),
+}
+
 /// What workers have told, for each core on a cache line of its own, and behind these for those that work on none.
 #[derive(Drop)]
 pub(crate) struct Live {
@@ -47,12 +54,14 @@ impl Live {
         Ok(Live { told })
     }
 
-    /// So many more were spawned and have ended, by a worker of this core, or of none where there is no such core. A job
-    /// is told of before another kernel thread may have it.
-    pub(crate) fn add(&self, core: u8, news: Tally) {
+    /// So many more were spawned and have ended, by a worker of this core, or of none where there is no such core. A
+    /// job is told of before another kernel thread may have it.
+    pub(crate) fn add(&self, core: u8, news: News) -> AllTold {
+        let news = news.told();
         if let Some(told) = self.told.get(usize::from(core)).or(self.told.last()) {
             told.counts.add(news);
         }
+        AllTold { done: () }
     }
 
     /// So much more was done by a worker of this core.

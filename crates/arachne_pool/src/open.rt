@@ -32,10 +32,21 @@ impl Open {
         Finished { stored: () }
     }
 
-    /// Whether none come.
-    pub(crate) fn is_finished(&self) -> bool {
-        self.word.load(Ordering::SeqCst) == 0
+    /// That none come, if that is so.
+    pub(crate) fn none_come(&self) -> Option<NoneCome> {
+        if self.word.load(Ordering::SeqCst) == 0 {
+            Some(NoneCome { seen: () })
+        } else {
+            None
+        }
     }
+}
+
+/// No more jobs came as that was looked at. `Open::none_come` alone gives one, and the look at those that live uses it
+/// up: so that comes later, and one that came before is seen.
+#[derive(Drop)]
+pub(crate) struct NoneCome {
+    seen: (),
 }
 
 impl Finished {

@@ -9,6 +9,7 @@ ghost use Rattle.arachne_pool.specs.Jobs.{PartsOne};
 
 use crate::bench::Bench;
 use crate::job::PoolJob;
+use crate::live::AllTold;
 use crate::pool::Pool;
 use crate::posting::{Disowned, Posted, post};
 use crate::spawned::Spawned;
@@ -66,6 +67,7 @@ pub(crate) fn place<H: Wait, J: PoolJob, C: Contexts<Spawned<J>>>(
     seat: &mut C::Seat,
     bench: &mut Bench<J>,
     job: Spawned<J>,
+    told: AllTold,
 ) -> Result<Option<Posted<J>>, Disowned>
     requires seat { C.sits pool.now.table seat.old }
     requires known { IsKnown (C.has pool.now.table) seat.old }
@@ -81,7 +83,7 @@ pub(crate) fn place<H: Wait, J: PoolJob, C: Contexts<Spawned<J>>>(
         bench.near.push_back_reserved(job);
         return Ok(None);
     };
-    let post = post::<H, J, C>(rt, pool, seat, claim, job)?;
+    let post = post::<H, J, C>(rt, pool, seat, claim, job, told)?;
     Ok(Some(post))
 }
 
@@ -91,6 +93,7 @@ pub(crate) fn place_oldest<H: Wait, J: PoolJob, C: Contexts<Spawned<J>>>(
     pool: &Pool<C>,
     seat: &mut C::Seat,
     bench: &mut Bench<J>,
+    told: AllTold,
 ) -> Result<Option<Posted<J>>, Disowned>
     requires seat { C.sits pool.now.table seat.old }
     requires known { IsKnown (C.has pool.now.table) seat.old }
@@ -110,12 +113,12 @@ pub(crate) fn place_oldest<H: Wait, J: PoolJob, C: Contexts<Spawned<J>>>(
     let Some(job) = bench.near.pop_front() else {
         unreachable!()
     };
-    let post = post::<H, J, C>(rt, pool, seat, claim, job)?;
+    let post = post::<H, J, C>(rt, pool, seat, claim, job, told)?;
     Ok(Some(post))
 }
 
-/// The oldest child that waits with the job in hand is parted off and posted, if a core has a place for it. Where memory
-/// is refused for it that is noted, and it waits on.
+/// The oldest child that waits with the job in hand is parted off and posted, if a core has a place for it. Where
+/// memory is refused for it that is noted, and it waits on.
 #[inline(always)]
 pub(crate) fn post_oldest<H: Wait, J: PoolJob, C: Contexts<Spawned<J>>>(
     rt: &H,
@@ -123,6 +126,7 @@ pub(crate) fn post_oldest<H: Wait, J: PoolJob, C: Contexts<Spawned<J>>>(
     seat: &mut C::Seat,
     bench: &mut Bench<J>,
     held: &mut Held<Spawned<J>, C::Hold>,
+    told: AllTold,
 ) -> Result<Option<Posted<J>>, Disowned>
     requires seat { C.sits pool.now.table seat.old }
     requires out { C.has pool.now.table seat.old (thread_in (λ s. s.tag) held.old ∷ []) }
@@ -152,6 +156,6 @@ pub(crate) fn post_oldest<H: Wait, J: PoolJob, C: Contexts<Spawned<J>>>(
             Err(_) => Err(Disowned),
         };
     };
-    let post = post::<H, J, C>(rt, pool, seat, claim, child)?;
+    let post = post::<H, J, C>(rt, pool, seat, claim, child, told)?;
     Ok(Some(post))
 }

@@ -4,7 +4,7 @@ ghost use Rattle.arachne_core.specs.declared.layout.TheConstants.{CORES, SLOTS, 
 ghost use Rattle.arachne_weights.specs.Weight.{whole};
 
 use crate::live::Live;
-use crate::open::{Finished, Open};
+use crate::open::{Finished, NoneCome, Open};
 use crate::statistics::Statistics;
 use arachne_arbiter::Cores;
 use arachne_contexts::Seats;
@@ -87,8 +87,8 @@ impl<C: Seats> Pool<C> {
         self.live.done(core)
     }
 
-    /// Whether the worker of a core sleeps, or has slept its time out and not looked since. Whoever has work for it wakes
-    /// it; one that is parked doesn't sleep.
+    /// Whether the worker of a core sleeps, or has slept its time out and not looked since. Whoever has work for it
+    /// wakes it; one that is parked doesn't sleep.
     pub fn is_asleep(&self, core: u8) -> bool {
         self.shared.hints().is_asleep(core)
     }
@@ -103,7 +103,8 @@ impl<C: Seats> Pool<C> {
         self.shared.is_stopped()
     }
 
-    /// Jobs may come though none lives, as in a server: from now on `work` goes on without any, until `finish` is called.
+    /// Jobs may come though none lives, as in a server: from now on `work` goes on without any, until `finish` is
+    /// called.
     pub fn keep_open(&self) {
         self.open.keep();
     }
@@ -121,7 +122,16 @@ impl<C: Seats> Pool<C> {
 
     /// Whether no job lives, and none is to come.
     pub(crate) fn is_over(&self) -> bool {
-        self.open.is_finished() && self.live() == 0
+        match self.open.none_come() {
+            Some(none_come) => self.none_lives(none_come),
+            None => false,
+        }
+    }
+
+    /// Whether no job lives, where none was to come before that is looked at.
+    fn none_lives(&self, none_come: NoneCome) -> bool {
+        let _ = none_come;
+        self.live() == 0
     }
 
     /// If no job lives and none is to come, all workers wake, those that sleep and those that are parked.

@@ -1,15 +1,16 @@
 //! Jobs are posted at places that a seat has claimed.
 //!
 //! It may touch the table through the seat that it is given.
-ghost use Rattle.std.specs.Prelude.{◌≡◌, IfOk, OnOk};
+ghost use Rattle.std.specs.Prelude.{◌≡◌, IfOk, IfSome, OnOk};
 ghost use Rattle.arachne_contexts.specs.Out.{Claim, HasOut};
 ghost use Rattle.arachne_pool.specs.Grounds.{IsSpent};
 
 use crate::job::PoolJob;
+use crate::live::AllTold;
 use crate::pool::Pool;
 use crate::spawned::Spawned;
 use arachne_contexts::{Contexts, Placed};
-use arachne_workers::Post;
+use arachne_workers::{Post, Shared};
 use std::marker::Model;
 use std::snapshot::Snapshot;
 use std::sync::Wait;
@@ -18,10 +19,10 @@ use std::sync::Wait;
 #[derive(Clone, Copy, Debug, PartialEq, Eq)]
 pub(crate) struct Disowned;
 
-/// A job that was posted, and where. Only `post` makes one, of the job that the table has taken from it.
+/// A job that was posted, and where. Only `post` makes one, of the job that the table has taken from it. It can't be
+/// dropped, so that whoever works on its core learns of it.
 ///
 /// Contracts see the job.
-#[derive(Drop)]
 pub(crate) struct Posted<J: PoolJob> {
     at: Post,
     /// It has no bytes.
@@ -37,14 +38,27 @@ impl<J: PoolJob> Model for Posted<J> {
 }
 
 impl<J: PoolJob> Posted<J> {
-    /// Its id, and its place.
+    /// The kernel thread of its core is told at once: who has posted it may not come to a round of its own.
+    pub(crate) fn tell(self, shared: &Shared) {
+        let Posted { at, job: _ } = self;
+        shared.hint(at.place);
+    }
+
+    /// The same, but where it is on this core, whose worker has posted it: that is told its id and its place.
     #[inline(always)]
-    pub(crate) fn at(&self) -> Post {
-        self.at
+    pub(crate) fn tell_unless_on(self, core: u8, shared: &Shared) -> Option<Post>
+        ensures { IfSome result (λ post. post.place.core ≡ core) }
+    {
+        let Posted { at, job: _ } = self;
+        if at.place.core == core {
+            return Some(at);
+        }
+        shared.hint(at.place);
+        None
     }
 }
 
-/// A job is posted at a place.
+/// A job is posted at a place, once the pool is told of it.
 #[inline(always)]
 pub(crate) fn post<H: Wait, J: PoolJob, C: Contexts<Spawned<J>>>(
     rt: &H,
@@ -52,6 +66,7 @@ pub(crate) fn post<H: Wait, J: PoolJob, C: Contexts<Spawned<J>>>(
     seat: &mut C::Seat,
     claim: C::Claim,
     job: Spawned<J>,
+    told: AllTold,
 ) -> Result<Posted<J>, Disowned>
     requires seat { C.sits pool.now.table seat.old }
     requires out { HasOut (C.has pool.now.table) (Claim claim) seat.old }
@@ -59,6 +74,7 @@ pub(crate) fn post<H: Wait, J: PoolJob, C: Contexts<Spawned<J>>>(
     ensures out { OnOk result (IsSpent (C.has pool.now.table) (Claim claim) seat.old seat.new) }
     ensures posted { IfOk result (λ posted. posted ≡ job) }
 {
+    let _ = told;
     let place = claim.place();
     let posted = Snapshot::of(&job);
     match pool.table.post(rt, seat, claim, job) {

@@ -6,6 +6,7 @@ ghost use Rattle.arachne_pool.specs.Calls.{AnswersFor};
 
 use crate::came::Came;
 use crate::handle::Handle;
+use crate::idle::{Idle, WasDrained, WasShort};
 use crate::job::PoolJob;
 use crate::seat::Call;
 use crate::worker::PoolFault;
@@ -16,8 +17,8 @@ use std::time::Clock;
 /// How many slices a worker has at most before it tells what it has done.
 const MOST_UNTOLD: u64 = 1024;
 
-/// What rounds ask of a worker's desk, beside what the worker's loop does. The trait has no types of its own, so that what
-/// stands on it is proved in a fraction of the time. No call changes what the seat is a seat at.
+/// What rounds ask of a worker's desk, beside what the worker's loop does. The trait has no types of its own, so that
+/// what stands on it is proved in a fraction of the time. No call changes what the seat is a seat at.
 pub(crate) trait PoolDesk: Desk {
     /// Which call of the pool the worker is in.
     fn call(&self) -> Call;
@@ -30,11 +31,11 @@ pub(crate) trait PoolDesk: Desk {
         ensures { self.new ≡ self.old };
 
     /// Whether memory was refused since this was asked last.
-    fn take_short(&mut self) -> bool
+    fn take_short(&mut self) -> WasShort
         ensures { self.new ≡ self.old };
 
     /// Whether the core was seen to be closed and empty since this was asked last.
-    fn take_drained(&mut self) -> bool
+    fn take_drained(&mut self) -> WasDrained
         ensures { self.new ≡ self.old };
 
     /// What was done on the core is told: so many slices, so many rounds that found nothing, and what else was counted.
@@ -91,11 +92,9 @@ fn run_once<H: Wait + Clock, D: PoolDesk>(kernel: &mut Worker<'_, H, D>) -> Resu
 {
     kernel.tend();
     let found = kernel.round(0);
-    let is_short = kernel.desk.take_short();
+    let was = kernel.desk.take_short();
     kernel.desk.tell_of_ends();
-    if is_short {
-        return Err(PoolFault::Memory);
-    }
+    was.told()?;
     Ok(found?)
 }
 
@@ -103,17 +102,14 @@ fn run_once<H: Wait + Clock, D: PoolDesk>(kernel: &mut Worker<'_, H, D>) -> Resu
 fn run<H: Wait + Clock, D: PoolDesk>(kernel: &mut Worker<'_, H, D>) -> Result<bool, PoolFault>
     ensures { kernel.new.desk ≡ kernel.old.desk }
 {
-    // How many rounds in turn have found nothing, and whether all may be over.
-    let (mut idle, mut looks) = (0u32, true);
+    let mut idle = Idle::before();
     for _ in kernel.rt.forever() {
-        if kernel.shared.is_stopped() || looks && kernel.desk.is_over() {
-            tell_if_overslept(kernel, idle);
-            return Ok(idle == 0);
+        if kernel.shared.is_stopped() || idle.looks() && kernel.desk.is_over() {
+            tell_if_overslept(kernel, idle.rounds());
+            return Ok(idle.rounds() == 0);
         }
-        let found = round(kernel, idle)?;
-        let is_drained = kernel.desk.take_drained();
-        looks = !found || is_drained;
-        idle = if found { 0 } else { idle.saturating_add(1) };
+        let found = round(kernel, idle.rounds())?;
+        idle = idle.after(found, kernel.desk.take_drained());
     }
     unreachable!()
 }
@@ -162,9 +158,7 @@ fn round<H: Wait + Clock, D: PoolDesk>(
     ensures { kernel.new.desk ≡ kernel.old.desk }
 {
     let found = kernel.round(idle)?;
-    if kernel.desk.take_short() {
-        return Err(PoolFault::Memory);
-    }
+    kernel.desk.take_short().told()?;
     if found {
         tell_if_much(kernel);
         return Ok(true);

@@ -1,20 +1,24 @@
-//! A worker's seat at the table of a pool, and what is out with it: the job in hand, and nothing else between two calls.
-ghost use Rattle.std.specs.Prelude.{◌≡◌, ◌≤◌, IfSome, false};
+//! A worker's seat at the table of a pool, and what is out with it: the job in hand, and nothing else between two
+//! calls.
+ghost use Rattle.std.specs.Prelude.{◌≡◌, ◌≢◌, ◌≤◌, IfSome, false};
 ghost use Rattle.arachne_pool.specs.Grounds.{in_hand};
 ghost use Rattle.arachne_pool.specs.Workers.{IsIdleAt};
+ghost use Rattle.arachne_pool.specs.declared.stop.Stop.TheVariants as stopped;
 
 use crate::bench::Bench;
 use crate::ending::end;
+use crate::idle::{WasDrained, WasShort};
 use crate::job::PoolJob;
+use crate::live::AllTold;
 use crate::place::{place_oldest, post_oldest};
 use crate::pool::Pool;
 use crate::posting::{Disowned, Posted};
 use crate::rounds::PoolDesk;
-use crate::spawned::Spawned;
-use crate::stop::Stop as JobStop;
+use crate::spawned::{Ended, Spawned};
+use crate::stop::{Stop as JobStop, rest_of, rests_so};
 use crate::worker::PoolFault;
 use arachne_arbiter::Pace;
-use arachne_contexts::{Contexts, Held, Moved, Rested, Taken, Woken};
+use arachne_contexts::{Contexts, Held, Moved, Taken, Woken};
 use arachne_core::{MarkWord, OccWord, Place, Rest, ThreadId};
 use arachne_workers::{Desk, Drained, Event, Grip, Halt, Stop, Ticket};
 use std::marker::Model;
@@ -44,11 +48,11 @@ pub(crate) struct Seat<'a, H, J: PoolJob, C: Contexts<Spawned<J>>> {
     pub(crate) is_broken: bool,
     pub(crate) seat: C::Seat,
     pub(crate) held: Option<Held<Spawned<J>, C::Hold>>,
-    /// The job in hand awaits a child.
+    /// The job in hand is put back as blocked.
     pub(crate) blocks: bool,
     /// A job was taken since the worker looked last whether others have too many.
     pub(crate) has_taken: bool,
-    /// The core was seen to be closed and empty.
+    /// The core was seen to be closed and empty since that was asked last.
     pub(crate) is_drained: bool,
     pub(crate) bench: Bench<J>,
 }
@@ -105,22 +109,19 @@ impl<'a, H: Wait, J: PoolJob, C: Contexts<Spawned<J>>> Desk for Seat<'a, H, J, C
         if stop == JobStop::Sleeps {
             stop = self.fall_asleep(left);
         }
-        self.blocks = stop == JobStop::Waits || stop == JobStop::Sleeps;
-        if stop != JobStop::Ends {
-            // Of an end the pool is told once the result is left and the place is free (`end`).
-            self.tell();
+        if stop == JobStop::Short {
+            // The next slice tries again.
+            *left = 0;
+            self.bench.is_short = true;
         }
-        match stop {
-            JobStop::Ends => Ok(Stop::Ends),
-            JobStop::Waits | JobStop::Sleeps => Ok(Stop::Blocks),
-            JobStop::Goes | JobStop::Forks => self.post_oldest(),
-            JobStop::LetsGo => Ok(Stop::Goes),
-            JobStop::Short => {
-                // The next slice tries again.
-                *left = 0;
-                self.bench.is_short = true;
-                Ok(Stop::Goes)
-            }
+        let told = match stop {
+            // The pool is told once the result is left and the place is free (`end`).
+            JobStop::Ends => return Ok(Stop::Ends),
+            stop => self.stops(stop),
+        };
+        match stop.learned(told) {
+            Ok(stop) => Ok(stop),
+            Err(told) => self.post_oldest(told),
         }
     }
 
@@ -137,15 +138,10 @@ impl<'a, H: Wait, J: PoolJob, C: Contexts<Spawned<J>>> Desk for Seat<'a, H, J, C
         let Some(held) = self.held.take() else {
             return Err(Halt::from(PoolFault::Token));
         };
-        let rest = if self.blocks {
-            Rest::Blocked
-        } else {
-            Rest::Ready
-        };
+        let asked = rest_of(self.blocks);
         let table = &self.pool.table;
-        match table.put_back(self.rt, &mut self.seat, held, rest) {
-            Ok(Rested::AsAsked) => Ok(rest),
-            Ok(Rested::WokenMeanwhile) => Ok(Rest::Ready),
+        match table.put_back(self.rt, &mut self.seat, held, asked) {
+            Ok(rested) => Ok(rests_so(rested, asked)),
             Err(held) => {
                 self.held = Some(held);
                 Err(Halt::from(PoolFault::Token))
@@ -169,13 +165,10 @@ impl<'a, H: Wait, J: PoolJob, C: Contexts<Spawned<J>>> Desk for Seat<'a, H, J, C
         };
         self.bench.has_ended = true;
         match end::<H, J, C>(self.rt, self.pool, &mut self.seat, held) {
-            Ok(ended) => {
-                self.tell();
-                Ok(ended.parent())
-            }
-            Err(_) => {
+            Ok(ended) => Ok(self.tell_of_end(ended)),
+            Err(ended) => {
                 self.is_broken = true;
-                self.tell();
+                self.tell_of_end(ended);
                 Err(Halt::from(PoolFault::Token))
             }
         }
@@ -241,7 +234,9 @@ impl<'a, H: Wait, J: PoolJob, C: Contexts<Spawned<J>>> Desk for Seat<'a, H, J, C
             return Err(Halt::from(PoolFault::Token));
         }
         self.is_broken = true;
-        let posted = place_oldest::<H, J, C>(self.rt, self.pool, &mut self.seat, &mut self.bench)?;
+        let bench = &mut self.bench;
+        let told = self.pool.live.add(self.core, bench.news());
+        let posted = place_oldest::<H, J, C>(self.rt, self.pool, &mut self.seat, bench, told)?;
         self.is_broken = false;
         let Some(posted) = posted else {
             return Ok(if self.fetch() {
@@ -250,12 +245,10 @@ impl<'a, H: Wait, J: PoolJob, C: Contexts<Spawned<J>>> Desk for Seat<'a, H, J, C
                 Ticket::None
             });
         };
-        let post = posted.at();
-        if post.place.core == self.core {
-            return Ok(Ticket::Posted(post));
-        }
-        self.pool.shared.hint(post.place);
-        Ok(Ticket::Gone)
+        Ok(match posted.tell_unless_on(self.core, &self.pool.shared) {
+            Some(post) => Ticket::Posted(post),
+            None => Ticket::Gone,
+        })
     }
 
     fn tend(&mut self) -> (Option<usize>, u64) {
@@ -309,14 +302,12 @@ impl<'a, H: Wait, J: PoolJob, C: Contexts<Spawned<J>>> PoolDesk for Seat<'a, H, 
         }
     }
 
-    fn take_short(&mut self) -> bool {
+    fn take_short(&mut self) -> WasShort {
         self.bench.take_short()
     }
 
-    fn take_drained(&mut self) -> bool {
-        let is_drained = self.is_drained;
-        self.is_drained = false;
-        is_drained
+    fn take_drained(&mut self) -> WasDrained {
+        WasDrained::take(&mut self.is_drained)
     }
 
     fn tell_done(&mut self, slices: u64, rests: u64) {
@@ -342,18 +333,31 @@ impl<'a, H: Wait, J: PoolJob, C: Contexts<Spawned<J>>> Seat<'a, H, J, C> {
             .slice(&mut bench.cells, &mut bench.tally, left, may_post)
     }
 
-    /// The pool is told of the jobs that began, before another kernel thread may have one of them, and of those that
-    /// ended, once the last result is left.
+    /// A slice of the job in hand stops so, by which it is put back. The pool is told of the jobs that began and ended
+    /// in it, before another kernel thread may have one of them. It has not ended: of an end `tell_of_end` tells.
     #[inline(always)]
-    fn tell(&mut self)
+    fn stops(&mut self, stop: JobStop) -> AllTold
+        requires { stop ≢ stopped.Ends }
         ensures { self.new ≡ self.old }
     {
-        self.pool.live.add(self.core, self.bench.news());
+        self.blocks = stop.blocks();
+        self.pool.live.add(self.core, self.bench.news())
+    }
+
+    /// The pool is told of the jobs that began and ended up to the end of one in hand, which has left its result. Its
+    /// parent, if that is to be woken.
+    #[inline(always)]
+    fn tell_of_end(&mut self, ended: Ended<J>) -> Option<ThreadId>
+        ensures desk { self.new ≡ self.old }
+        ensures parent { result ≡ ended.parent }
+    {
+        let told = self.pool.live.add(self.core, self.bench.news());
+        ended.parent(told)
     }
 
     /// The oldest child that waits with the job in hand gets a place, if there is one and memory is not refused.
     #[inline(always)]
-    fn post_oldest(&mut self) -> Result<Stop, Halt>
+    fn post_oldest(&mut self, told: AllTold) -> Result<Stop, Halt>
         ensures { self.new ≡ self.old }
     {
         if self.is_broken {
@@ -364,7 +368,7 @@ impl<'a, H: Wait, J: PoolJob, C: Contexts<Spawned<J>>> Seat<'a, H, J, C> {
         };
         self.is_broken = true;
         let bench = &mut self.bench;
-        let posted = post_oldest::<H, J, C>(self.rt, self.pool, &mut self.seat, bench, held)?;
+        let posted = post_oldest::<H, J, C>(self.rt, self.pool, &mut self.seat, bench, held, told)?;
         self.is_broken = false;
         Ok(self.stop_after(posted))
     }
@@ -376,16 +380,14 @@ impl<'a, H: Wait, J: PoolJob, C: Contexts<Spawned<J>>> Seat<'a, H, J, C> {
         let Some(posted) = posted else {
             return Stop::Goes;
         };
-        let post = posted.at();
-        if post.place.core == self.core {
-            return Stop::Posted(post);
+        match posted.tell_unless_on(self.core, &self.pool.shared) {
+            Some(post) => Stop::Posted(post),
+            None => Stop::Goes,
         }
-        self.pool.shared.hint(post.place);
-        Stop::Goes
     }
 
-    /// The job in hand is to rest until it is woken, and is told its id. While a child waits with it, it goes on in place
-    /// of that, once a slice: so the child gets the first place that is free.
+    /// The job in hand is to rest until it is woken, and is told its id. While a child waits with it, it goes on in
+    /// place of that, once a slice: so the child gets the first place that is free.
     fn fall_asleep(&self, left: &mut u32) -> JobStop
         ensures { left.new ≤ left.old }
     {

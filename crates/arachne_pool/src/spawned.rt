@@ -3,6 +3,7 @@ ghost use Rattle.std.specs.Prelude.{◌≡◌, ◌+◌, ◌<◌, ◌≤◌, [], 
 ghost use Rattle.arachne_pool.specs.Frames.{CountsEach};
 
 use crate::job::PoolJob;
+use crate::live::AllTold;
 use crate::outcome::{Cells, ResultLeft, ResultSender, leave_at};
 use crate::stack::{Jobs, Stack};
 use crate::stop::Stop;
@@ -132,7 +133,7 @@ impl<J: PoolJob> Spawned<J> {
     }
 
     /// The oldest child that waits here becomes a job of its own, whose parent runs under this id. None where there is
-    /// none, or memory is refused: then all is as before.
+    /// none, or memory is refused: then all is as before, these jobs and their order too.
     pub(crate) fn part_oldest(
         &mut self,
         alloc: Global,
@@ -140,7 +141,7 @@ impl<J: PoolJob> Spawned<J> {
         me: ThreadId,
     ) -> Option<Spawned<J>>
         ensures same { self.new ≡ record self.old { many = self.new.many; jobs = self.new.jobs } }
-        ensures many { MatchOption result (self.new.many ≡ self.old.many) (λ child. self.new.many + child.many ≡ self.old.many) }
+        ensures many { MatchOption result (self.new ≡ self.old) (λ child. self.new.many + child.many ≡ self.old.many) }
         ensures child { IfSome result (λ child. child ≡ one child.tag child.asked (Some me)) }
     {
         let (job, sender) = self.stack.part_oldest(alloc, cells)?;
@@ -181,10 +182,10 @@ impl<J: PoolJob> Spawned<J> {
     }
 }
 
-/// A job that has ended and whose result was left. Only `Spawned::leave` makes one.
+/// A job that has ended and whose result was left. Only `Spawned::leave` makes one. It can't be dropped, so that the
+/// pool is told of its end.
 ///
 /// Contracts see the job as it ended.
-#[derive(Drop)]
 pub(crate) struct Ended<J: PoolJob> {
     /// It has no bytes.
     left: ResultLeft<J>,
@@ -205,10 +206,17 @@ impl<J: PoolJob> Model for Ended<J> {
 }
 
 impl<J: PoolJob> Ended<J> {
-    /// The parent, if that is to be woken.
-    pub(crate) fn parent(&self) -> Option<ThreadId>
-        ensures { result ≡ self.now.parent }
+    /// The parent, if that is to be woken, once the pool is told.
+    #[inline(always)]
+    pub(crate) fn parent(self, told: AllTold) -> Option<ThreadId>
+        ensures { result ≡ self.parent }
     {
-        self.parent
+        let _ = told;
+        let Ended {
+            left: _,
+            job: _,
+            parent,
+        } = self;
+        parent
     }
 }

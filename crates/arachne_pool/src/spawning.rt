@@ -51,9 +51,9 @@ impl<J: PoolJob> Refused<J> {
 impl<C: Seats> Pool<C> {
     ghost use Rattle.arachne_pool.specs.Workers.{IsWorkerOf};
 
-    /// Spawns a job where a core has a place for it: the core with fewer jobs of two that are drawn, else the first that
-    /// has one. Its handle gives its result. Else the job comes back, and all is as before. So there are at most as many
-    /// jobs as places, and those that run or wait in these.
+    /// Spawns a job where a core has a place for it: the core with fewer jobs of two that are drawn, else the first
+    /// that has one. Its handle gives its result. Else the job comes back, and all is as before. So there are at most
+    /// as many jobs as places, and those that run or wait in these.
     pub fn try_spawn<H: Wait, J: PoolJob>(
         &self,
         rt: &H,
@@ -211,11 +211,11 @@ impl<C: Seats> Pool<C> {
         ensures worker { IsWorkerOf C.sits C.idle self.now.table self.now.cores worker.new }
         ensures kept { worker.new ≡ record worker.old { seat = worker.new.seat; told = worker.old.tally } }
     {
-        self.live.add(worker.core, worker.bench.news());
+        let told = self.live.add(worker.core, worker.bench.news());
         let mut seat = seat;
-        match post::<H, J, C>(rt, self, &mut seat, claim, job) {
+        match post::<H, J, C>(rt, self, &mut seat, claim, job, told) {
             Ok(posted) => {
-                self.shared.hint(posted.at().place);
+                posted.tell(&self.shared);
                 worker.seat = Some(seat);
             }
             Err(_) => worker.seat = None,

@@ -15,8 +15,8 @@ use std::marker::Model;
 use std::mem::replace;
 use std::snapshot::Snapshot;
 
-/// A job in a place: as it was forked, as it is now, and how many children it has forked and not joined, beside one that
-/// runs in its place.
+/// A job in a place: as it was forked, as it is now, and how many children it has forked and not joined, beside one
+/// that runs in its place.
 #[derive(Drop)]
 struct Frame<J: PoolJob> {
     /// It has no bytes.
@@ -46,12 +46,12 @@ impl<J: PoolJob> Frame<J> {
     }
 }
 
-/// A job, and those that run in its place: each was forked by the one below it, which awaits it and had no place to give
-/// it. Only the topmost makes steps.
+/// A job, and those that run in its place: each was forked by the one below it, which awaits it and had no place to
+/// give it. Only the topmost makes steps.
 ///
 /// Contracts see the first job, as it was spawned; how many jobs there are that have not ended, with those that wait
-/// here to begin, and these as they are now; what the topmost has forked just now, or has ended with; and whether it has
-/// asked for the result of its newest child.
+/// here to begin, and these as they are now; what the topmost has forked just now, or has ended with; and whether it
+/// has asked for the result of its newest child.
 #[derive(Drop)]
 pub(crate) struct Stack<J: PoolJob> {
     /// The first job as it was spawned. It has no bytes.
@@ -142,8 +142,8 @@ impl<J: PoolJob> Stack<J> {
             .checked_sub(u64::from(self.child.is_some()))
     }
 
-    /// Goes on for at most as many steps as are left, until a child is forked while one may be posted, the topmost waits
-    /// or the first has ended. Each job that begins or ends is counted.
+    /// Goes on for at most as many steps as are left, until a child is forked while one may be posted, the topmost
+    /// waits or the first has ended. Each job that begins or ends is counted.
     #[tactic(auto, using(crate::proofs::Together::counting))]
     pub(crate) fn slice(
         &mut self,
@@ -344,7 +344,7 @@ impl<J: PoolJob> Stack<J> {
         cells: &mut Cells<J>,
     ) -> Option<(J, ResultSender<J>)>
         ensures asked { self.new.asked ≡ self.old.asked }
-        ensures many { MatchOption result (self.new.many ≡ self.old.many) (λ parted. self.new.many + 1 ≡ self.old.many) }
+        ensures many { MatchOption result (self.new ≡ self.old) (λ parted. self.new.many + 1 ≡ self.old.many) }
         ensures child { IfSome result (λ parted. (parted.1.key.job.value ≡ parted.0) × J.awaits parted.0 []) }
     {
         self.links.part_oldest(alloc, cells)
@@ -396,8 +396,8 @@ fn unless_ended<J: PoolJob>(ended: &Option<J::Output>, job: J) -> Option<J>
     }
 }
 
-/// The jobs of one that was taken apart, which have not ended. They make no step more here; those that had not begun may
-/// be spawned.
+/// The jobs of one that was taken apart, which have not ended. They make no step more here; those that had not begun
+/// may be spawned.
 ///
 /// Contracts see those that are left, in the order in which they come.
 #[derive(Drop)]

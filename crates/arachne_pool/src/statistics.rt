@@ -2,8 +2,8 @@
 ghost use Rattle.std.specs.Prelude.{◌≡◌};
 ghost use Rattle.arachne_pool.specs.Done.{nothing_done};
 
-/// What the workers of a core have done, as they told when they last found nothing to do, returned, or had so much to tell.
-/// Each count wraps at 2^64.
+/// What the workers of a core have done, as they told when they last found nothing to do, returned, or had so much to
+/// tell. Each count wraps at 2^64.
 #[derive(Clone, Copy, Debug, PartialEq, Eq)]
 pub struct Statistics {
     /// Slices of jobs.
@@ -15,8 +15,9 @@ pub struct Statistics {
     pub wakes: u64,
     /// Rounds that found nothing to do, after each of which the worker has waited.
     pub rests: u64,
-    /// How often the worker has slept its time out and then found something of which nobody had told it, or that all was
-    /// over. It is counted at once. A few such sleeps are of jobs without a place; many show that signals are missed.
+    /// How often the worker has slept its time out and then found something of which nobody had told it, or that all
+    /// was over. It is counted at once. A few such sleeps are of jobs without a place; many show that signals are
+    /// missed.
     pub overslept: u64,
 }
 

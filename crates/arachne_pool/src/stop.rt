@@ -1,4 +1,11 @@
-//! Where a slice of a job stops.
+//! Where a slice of a job stops, and what comes of it.
+ghost use Rattle.std.specs.Prelude.{◌≡◌, None, Some, IfOk, OnErr, if◌then◌else◌};
+ghost use Rattle.arachne_pool.specs.Stops.{blocks_after, learned_after, rests_as};
+
+use crate::live::AllTold;
+use arachne_contexts::Rested;
+use arachne_core::Rest;
+use arachne_workers::Stop as LoopStop;
 
 /// Where a slice of a job stops.
 #[derive(Clone, Copy, Debug, PartialEq, Eq)]
@@ -17,4 +24,51 @@ pub(crate) enum Stop {
     Ends,
     /// Memory was refused. All is as before.
     Short,
+}
+
+impl Stop {
+    /// Whether the job is put back as blocked: where it waits or sleeps.
+    #[inline(always)]
+    pub(crate) fn blocks(self) -> bool
+        ensures { result ≡ blocks_after self }
+    {
+        match self {
+            Stop::Waits | Stop::Sleeps => true,
+            Stop::Goes | Stop::Forks | Stop::LetsGo | Stop::Ends | Stop::Short => false,
+        }
+    }
+
+    /// What the worker's loop learns of it, once the pool is told of the slice. Nothing yet where the oldest child that
+    /// waits with the job may get a place first.
+    #[inline(always)]
+    pub(crate) fn learned(self, told: AllTold) -> Result<LoopStop, AllTold>
+        ensures learned { IfOk result (λ stop. learned_after self ≡ Some stop) }
+        ensures places { OnErr result (learned_after self ≡ None) }
+    {
+        match self {
+            Stop::Goes | Stop::Forks => Err(told),
+            Stop::Waits | Stop::Sleeps => Ok(LoopStop::Blocks),
+            Stop::LetsGo | Stop::Short => Ok(LoopStop::Goes),
+            Stop::Ends => Ok(LoopStop::Ends),
+        }
+    }
+}
+
+/// How a job is to rest that is put back as blocked, or as ready.
+#[inline(always)]
+pub(crate) fn rest_of(blocks: bool) -> Rest
+    ensures { result ≡ (if blocks then Rest.Blocked else Rest.Ready) }
+{
+    if blocks { Rest::Blocked } else { Rest::Ready }
+}
+
+/// How a job rests that was to be put back so: one that was woken before is ready.
+#[inline(always)]
+pub(crate) fn rests_so(rested: Rested, asked: Rest) -> Rest
+    ensures { result ≡ rests_as rested asked }
+{
+    match rested {
+        Rested::AsAsked => asked,
+        Rested::WokenMeanwhile => Rest::Ready,
+    }
 }

@@ -15,7 +15,8 @@ use arachne_core::{MarkWord, ThreadId};
 use std::marker::Model;
 use std::sync::Wait;
 
-/// A seat alone, by which a kernel thread that is no worker, as a timer, wakes jobs. One kernel thread at a time has it.
+/// A seat alone, by which a kernel thread that is no worker, as a timer, wakes jobs. One kernel thread at a time has
+/// it.
 #[derive(Drop)]
 pub struct Waker<S> {
     pub(crate) seat: S,
@@ -32,8 +33,8 @@ impl<C: Seats> Pool<C> {
     ghost use Rattle.arachne_pool.specs.Leftover.{HalvesWeight, JoinsWeights};
     ghost use Rattle.arachne_pool.specs.Workers.{IsWorkerOf};
 
-    /// A worker without a part of its seat's weight, which a waker has. Nothing else of it has changed. None comes where
-    /// the worker has no seat.
+    /// A worker without a part of its seat's weight, which a waker has. Nothing else of it has changed. None comes
+    /// where the worker has no seat.
     pub fn split_waker<H: Wait, J: PoolJob>(
         &self,
         rt: &H,
@@ -74,10 +75,10 @@ impl<C: Seats> Pool<C> {
         worker
     }
 
-    /// Wakes the job of this id. What the table has answered: `Woken`: it was blocked, and its core's kernel thread is told
-    /// that it is ready; or it is in hand, and doesn't rest then. `Already`: it was woken before, or goes on without.
-    /// `Gone`: the job of the id has ended; no other has the id ever again, but for jobs that ran in the same place at the
-    /// same time.
+    /// Wakes the job of this id. What the table has answered: `Woken`: it was blocked, and its core's kernel thread is
+    /// told that it is ready; or it is in hand, and doesn't rest then. `Already`: it was woken before, or goes on
+    /// without. `Gone`: the job of the id has ended; no other has the id ever again, but for jobs that ran in the same
+    /// place at the same time.
     pub fn wake<H: Wait, J: PoolJob>(
         &self,
         rt: &H,

@@ -153,9 +153,9 @@ impl<C: Seats> Pool<C> {
         (worker, others)
     }
 
-    /// One worker of two, with the core of the first, and its orders, or those of the other where that has none. It has a
-    /// seat where both have. Where memory is refused to put their jobs together both come back, which isn't so where the
-    /// other has none.
+    /// One worker of two, with the core of the first, and its orders, or those of the other where that has none. It has
+    /// a seat where both have. Where memory is refused to put their jobs together both come back, which isn't so where
+    /// the other has none.
     pub fn join_workers<H: Wait, J: PoolJob>(
         &self,
         rt: &H,
