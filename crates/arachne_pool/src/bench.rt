@@ -1,8 +1,6 @@
 //! What a worker has beside its seat.
-ghost use Rattle.std.specs.Prelude.{◌≡◌, ◌+◌, ◌<◌, ◌≤◌, ◌^◌, [], IfErr, IfOk, None, OnErr, if◌then◌else◌, false, true};
-ghost use Rattle.std.specs.Int.RustNames.{bit_or};
+ghost use Rattle.std.specs.Prelude.{◌≡◌, ◌+◌, ◌<◌, ◌≤◌, [], IfErr, IfOk, None, OnErr, if◌then◌else◌, false, true};
 ghost use Rattle.std.specs.VecDeque.{deque_capacity, deque_len};
-ghost use Rattle.arachne_core.specs.declared.layout.TheConstants.{CORES};
 ghost use Rattle.arachne_pool.specs.Done.{nothing_done};
 ghost use Rattle.arachne_pool.specs.Jobs.{one};
 
@@ -13,7 +11,6 @@ use crate::outcome::{Cells, ResultReceiver, Wanted};
 use crate::spawned::Spawned;
 use crate::statistics::Statistics;
 use crate::tally::{News, Tally};
-use arachne_core::CORES;
 use rand_core::SeedableRng;
 use rand_xoshiro::Xoshiro256PlusPlus;
 use std::alloc::Global;
@@ -39,8 +36,6 @@ pub(crate) struct Bench<J: PoolJob> {
     pub(crate) is_short: bool,
     /// A job has ended since this was looked at last.
     pub(crate) has_ended: bool,
-    /// The cores at which it has come to rounds of a caller's own loop, a bit for each.
-    turned: u64,
 }
 
 impl<J: PoolJob> Bench<J> {
@@ -63,21 +58,7 @@ impl<J: PoolJob> Bench<J> {
             orders: Orders::none(),
             is_short: false,
             has_ended: false,
-            turned: 0,
         }
-    }
-
-    /// It comes to a round of a caller's own loop at this core.
-    pub(crate) fn turns_at(&mut self, core: u8)
-        requires core { core < CORES }
-        ensures { self.new ≡ record self.old { turned = bit_or self.old.turned (2 ^ core) } }
-    {
-        self.turned |= 1 << u32::from(core);
-    }
-
-    /// Whether it has come to such a round at this core.
-    pub(crate) fn has_turned_at(&self, core: u8) -> bool {
-        core < CORES && self.turned >> u32::from(core) & 1 != 0
     }
 
     /// A job begins: the end that its result comes to, and the job, for which there is room among those that wait.

@@ -79,8 +79,8 @@ impl<C: Seats> Pool<C> {
     }
 
     /// One round on a core: orders that are due are applied, each job that is ready there has a slice, and a job of the
-    /// worker that waits for a place gets one. Where there is none it takes over a job that is ready on a core at which
-    /// this worker has never come to a round, and whose kernel thread has not come to it. Whether there was any.
+    /// worker that waits for a place gets one. Where there is none it takes over a job that is ready on another core, for
+    /// which a kernel thread has come to `work`, and to which that one has not come. Whether there was any.
     pub fn turn<'a, H: Wait + Clock, J: PoolJob>(
         &'a self,
         rt: &'a H,
@@ -96,7 +96,6 @@ impl<C: Seats> Pool<C> {
         ensures fault { HasSeatAfter worker.new.seat result }
         ensures same { WorksFor core worker.new }
     {
-        worker.bench.turns_at(core);
         match self.operate(rt, worker, core, Call::Turn, None) {
             Came::Ran(found) => found,
             Came::Joined(_) => unreachable!(),
@@ -119,6 +118,7 @@ impl<C: Seats> Pool<C> {
         ensures seat { HasSeatAfter worker.new.seat result }
         ensures same { WorksFor core worker.new }
     {
+        self.live.works_for(core);
         match self.operate(rt, worker, core, Call::Work, None) {
             Came::Ran(Ok(_)) => {
                 self.tell_if_over();

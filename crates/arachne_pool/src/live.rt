@@ -15,6 +15,8 @@ pub(crate) struct Told {
     wakes: AtomicU64,
     rests: AtomicU64,
     overslept: AtomicU64,
+    /// 1 once a kernel thread has come to `work` for the core.
+    worked: AtomicU64,
 }
 
 impl Told {
@@ -27,6 +29,7 @@ impl Told {
             wakes: AtomicU64::new(0),
             rests: AtomicU64::new(0),
             overslept: AtomicU64::new(0),
+            worked: AtomicU64::new(0),
         }
     }
 }
@@ -62,6 +65,21 @@ impl Live {
             told.counts.add(news);
         }
         AllTold { done: () }
+    }
+
+    /// A kernel thread comes to `work` for this core.
+    pub(crate) fn works_for(&self, core: u8) {
+        if let Some(told) = self.told.get(usize::from(core)) {
+            told.worked.store(1, Ordering::SeqCst);
+        }
+    }
+
+    /// Whether a kernel thread has come to `work` for this core.
+    pub(crate) fn is_worked(&self, core: u8) -> bool {
+        match self.told.get(usize::from(core)) {
+            Some(told) => told.worked.load(Ordering::SeqCst) != 0,
+            None => false,
+        }
     }
 
     /// So much more was done by a worker of this core.

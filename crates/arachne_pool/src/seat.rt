@@ -466,10 +466,11 @@ impl<'a, H: Wait, J: PoolJob, C: Contexts<Spawned<J>>> Seat<'a, H, J, C> {
         )
     }
 
-    /// Where a job may be ready on another core, whose worker is awake and has not come to it. In a turn it is none
-    /// that the worker turns too: it would move jobs to and fro.
+    /// Where a job may be ready on another core, whose worker is awake and has not come to it. In a turn that is a core
+    /// for which a kernel thread has come to `work`: the others may be turned by this one, which would move jobs to
+    /// and fro.
     fn waiting_on(&self, core: u8) -> Option<Place> {
-        if core == self.core || self.call == Call::Turn && self.bench.has_turned_at(core) {
+        if core == self.core || self.call == Call::Turn && !self.pool.live.is_worked(core) {
             return None;
         }
         let word = self.pool.shared.hints().word(core)?;

@@ -429,7 +429,7 @@ const ROWS: &[Row] = &[
         ..NOTHING
     },
     Row {
-        shows: "a round takes over no job of a core to whose rounds its worker comes too",
+        shows: "a round takes over no job of a core for which no kernel thread works",
         cores: 2,
         slots: 1,
         acts: &[
