@@ -10,8 +10,8 @@ use Rattle.arachne_lang.specs.Reading.{Halt}
 use Rattle.arachne_lang.specs.Text.{byte_of}
 use Rattle.arachne_lang.proofs.Languages.{Alive, Departure, Overflow, Exact, first}
 use Rattle.arachne_policy.specs.declared.samples.Sample.{Sample}
-use Rattle.arachne_commands.specs.declared.numbers.Stop.{Stop}
-use Rattle.arachne_commands.specs.declared.numbers.Stop.TheVariants as stop
+use Rattle.arachne_commands.specs.declared.numbers.ReadingStop.{ReadingStop}
+use Rattle.arachne_commands.specs.declared.numbers.ReadingStop.TheVariants as stop
 use Rattle.arachne_commands.specs.Samples.{FitsWords, sample_line, samples_text, AreInRange, Begins, BeginsInRange, HasFault, IsFirstFault}
 use Rattle.arachne_commands.specs.Reading.{halt_of, fault_within, sample_at}
 use Rattle.arachne_commands.proofs.SampleLines.{line, exact_line, line_shape, line_range, shape_line, range_line, line_unique, line_not_empty}
@@ -269,7 +269,7 @@ grown before text bytes rest read e some h =
     })))
 
 -- where the reading of a line stops, behind lines that were read, the text has its first fault
-pub stopped : (before : List Sample) (text bytes : List ℕ) (why : Stop) → AreInRange before → text ≡ samples_text before ++ bytes → (bytes ≡ [] → ⊥)
+pub stopped : (before : List Sample) (text bytes : List ℕ) (why : ReadingStop) → AreInRange before → text ≡ samples_text before ++ bytes → (bytes ≡ [] → ⊥)
     → sample_at bytes ≡ Err (halt_of why) → IsFirstFault text (fault_within text why)
 stopped before text bytes (stop.Departs rest) read e some at =
     departed before text bytes rest.now read e some (subst (λ (r : Result (Sample × List ℕ) Halt). Exact line 64 64 bytes r) at (exact_line bytes))

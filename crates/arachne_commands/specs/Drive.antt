@@ -14,7 +14,7 @@ use Rattle.arachne_commands.specs.declared.command_line.Request.{Request}
 use Rattle.arachne_commands.specs.declared.command_line.Request.TheVariants.{Run, Eval, Check, Policy}
 use Rattle.arachne_policy.specs.declared.samples.Sample.{Sample}
 use Rattle.arachne_commands.specs.declared.judging.Settings.{Settings}
-use Rattle.arachne_commands.specs.CommandLine.{asked_by}
+use Rattle.arachne_commands.specs.CommandLine.{asked_by, no_order_in}
 use Rattle.arachne_commands.specs.declared.command_line.NotAsked.{NotAsked}
 use Rattle.arachne_commands.specs.declared.command_line.NotAsked.TheVariants.{NoOrder as NoOrderAt, Refused}
 use Rattle.arachne_commands.specs.Fault.{fault_line}
@@ -130,6 +130,16 @@ IsAtFault words input before after fault =
     × ((fault ≢ Write) → Keeps before after)
     × (fault ≡ Write → IsCutShort words input before after)
     × ((fault ≢ Memory) → IsSome (asked_by words))
+
+-- There is such a fault, and the faults stream has taken its line, or a front of it.
+abbrev pub HasToldFault : List (List ℕ) → Option (List ℕ) → (before after told_before told_after : Option (List ℕ)) → Type 0
+HasToldFault words input before after told_before told_after =
+    (fault : Fault) × IsAtFault words input before after fault × AppendsFront told_before told_after (fault_line fault)
+
+-- Where one of the words of a run is to be an order and is none, the faults stream has taken the line of the first such
+-- word, or a front of it.
+abbrev pub HasToldNoOrder : List (List ℕ) → Option (List ℕ) → Option (List ℕ) → Type 0
+HasToldNoOrder words before after = (index : ℕ) → no_order_in words ≡ Some index → AppendsFront before after (fault_line (NoOrder index))
 
 -- Why words are refused with status 2, and what is on the faults stream then: a word that is no order, with its line;
 -- of the parser of command lines only that it did not want for memory.

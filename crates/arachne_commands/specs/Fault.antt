@@ -9,6 +9,8 @@ use Rattle.arachne_policy.specs.declared.orders.OrderFaultKind.{OrderFaultKind}
 use Rattle.arachne_policy.specs.declared.orders.OrderFaultKind.TheVariants.{NoSuchCore, ReleasesCoreZero, AfterFalls}
 use Rattle.arachne_run.specs.declared.fault.RunFault.{RunFault}
 use Rattle.arachne_run.specs.declared.fault.RunFault.TheVariants as run
+use Rattle.arachne_run.specs.declared.fault.WorkerFault.{WorkerFault}
+use Rattle.arachne_run.specs.declared.fault.WorkerFault.TheVariants as worker
 use Rattle.arachne_commands.specs.declared.fault.Fault.{Fault}
 use Rattle.arachne_commands.specs.declared.fault.Fault.TheVariants.{InText, InProgram, BadSample, NoOrder, InRun, Memory, TooLong, Read, Write}
 
@@ -34,18 +36,21 @@ order_fault_number NoSuchCore = codes "22"
 order_fault_number ReleasesCoreZero = codes "23"
 order_fault_number AfterFalls = codes "25"
 
+abbrev pub worker_fault_words : WorkerFault → List ℕ
+worker_fault_words worker.Memory = codes "fault 30"
+worker_fault_words worker.Foreign = codes "fault 31"
+worker_fault_words worker.Threads = codes "fault 32"
+worker_fault_words worker.Ledgers = codes "fault 33"
+worker_fault_words worker.Token = codes "fault 34"
+worker_fault_words worker.KernelThread = codes "fault 35"
+
 abbrev pub run_fault_words : RunFault → List ℕ
 run_fault_words run.Cores = codes "fault 20"
 run_fault_words run.Quantum = codes "fault 21"
 run_fault_words run.Slots = codes "fault 27"
 run_fault_words run.Choosers = codes "fault 24"
 run_fault_words (run.Orders fault) = codes "fault " ++ order_fault_number fault.kind ++ codes " order " ++ decimal fault.index
-run_fault_words run.Memory = codes "fault 30"
-run_fault_words run.Foreign = codes "fault 31"
-run_fault_words run.Threads = codes "fault 32"
-run_fault_words run.Ledgers = codes "fault 33"
-run_fault_words run.Token = codes "fault 34"
-run_fault_words run.KernelThread = codes "fault 35"
+run_fault_words (run.Worker fault) = worker_fault_words fault
 
 abbrev pub fault_words : Fault → List ℕ
 fault_words (InText fault) = text_fault_words fault

@@ -1,5 +1,5 @@
 -- The words of core orders.
-use Rattle.std.specs.Prelude.{ℕ, suc, ◌^◌, ◌<◌, List, [], ◌∷◌, ◌++◌, codes, Option, Some, None, Result, Ok, Err}
+use Rattle.std.specs.Prelude.{ℕ, suc, ◌≡◌, ◌↔◌, ◌^◌, ◌<◌, List, [], ◌∷◌, ◌++◌, codes, Option, Some, None, Result, Ok, Err}
 use Rattle.arachne_lang.specs.Spelling.{numeral}
 use Rattle.arachne_lang.specs.Reading.{Halt, Reading, figures_at, number_at, word_at}
 use Rattle.arachne_policy.specs.declared.orders.CoreOrder.{CoreOrder}
@@ -18,6 +18,10 @@ order_word order = numeral order.after ++ codes ":" ++ kind_word order.kind ++ c
 pub record FitsWords (order : CoreOrder) : Type 0 where
   pub after : order.after < 2 ^ 64
   pub core : order.core < 2 ^ 64
+
+-- the kind that was read with what is behind its colon, if the text begins with one
+abbrev pub HasReadKind : List ℕ → Option (OrderKind × List ℕ) → Type 0
+HasReadKind text read = (kind : OrderKind) (rest : List ℕ) → (read ≡ Some (kind, rest)) ↔ (text ≡ kind_word kind ++ codes ":" ++ rest)
 
 -- ---- the order that a word spells; `order_of word ≡ Some order` exactly where `order_word order ≡ word`, and both
 -- numbers fit

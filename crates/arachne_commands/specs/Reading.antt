@@ -4,21 +4,21 @@ use Rattle.arachne_lang.specs.declared.text_fault.TextFault.{TextFault}
 use Rattle.arachne_lang.specs.declared.text_fault.TextFault.TheVariants as fault
 use Rattle.arachne_lang.specs.Reading.{Halt, Departs, Overflows, Reading, ◌>>=◌, number_at}
 use Rattle.arachne_policy.specs.declared.samples.Sample.{Sample}
-use Rattle.arachne_commands.specs.declared.numbers.Stop.{Stop}
-use Rattle.arachne_commands.specs.declared.numbers.Stop.TheVariants as stop
+use Rattle.arachne_commands.specs.declared.numbers.ReadingStop.{ReadingStop}
+use Rattle.arachne_commands.specs.declared.numbers.ReadingStop.TheVariants as stop
 
 -- where a reader of the code stopped
-abbrev pub halt_of : Stop → Halt
+abbrev pub halt_of : ReadingStop → Halt
 halt_of (stop.Departs rest) = Departs rest.now
 halt_of (stop.Overflows rest) = Overflows rest.now
 
 -- what a reader of the code returned, seen by view, is what reading gives
-abbrev pub Gives : {A B : Type 0} → (A → B) → Result A Stop → Result B Halt → Type 0
+abbrev pub Gives : {A B : Type 0} → (A → B) → Result A ReadingStop → Result B Halt → Type 0
 Gives view (Ok x) read = read ≡ Ok (view x)
 Gives view (Err stop) read = read ≡ Err (halt_of stop)
 
 -- the fault that the code makes of a stop within this text
-abbrev pub fault_within : List ℕ → Stop → TextFault
+abbrev pub fault_within : List ℕ → ReadingStop → TextFault
 fault_within text (stop.Departs rest) = fault.Syntax (length text - length rest.now)
 fault_within text (stop.Overflows rest) = fault.Number (length text - length rest.now)
 

@@ -8,16 +8,17 @@ use Rattle.arachne_policy.specs.Orders.{AreInOrder}
 use Rattle.arachne_run.specs.declared.setup.Setup.{Setup}
 use Rattle.arachne_run.specs.Setups.{IsFirstOrderFault, IsSetupFault, is_of_setup, refusal_of}
 use Rattle.arachne_run.specs.declared.fault.RunFault.{RunFault}
-use Rattle.arachne_run.specs.declared.fault.RunFault.TheVariants.{Memory}
+use Rattle.arachne_run.specs.declared.fault.RunFault.TheVariants.{Worker}
+use Rattle.arachne_run.specs.declared.fault.WorkerFault.TheVariants.{Memory}
 use Rattle.arachne_commands.specs.declared.command_line.RunSettings.{RunSettings}
 
 -- Settings that are refused are refused for the first fault that they have, and for their orders' first fault where
 -- they have no other; or for want of memory. A fault of settings is told of no others than those that have it. Of what
 -- a run meets on its way nothing is said.
 pub record IsRefusal (settings : RunSettings) (fault : RunFault) : Type 0 where
-  pub of_settings : (first : RunFault) → refusal_of settings.cores settings.quantum settings.slots settings.cores ≡ Some first → (fault ≡ first) ⊎ (fault ≡ Memory)
+  pub of_settings : (first : RunFault) → refusal_of settings.cores settings.quantum settings.slots settings.cores ≡ Some first → (fault ≡ first) ⊎ (fault ≡ Worker Memory)
   pub of_orders : refusal_of settings.cores settings.quantum settings.slots settings.cores ≡ None → (AreInOrder settings.cores settings.orders → ⊥)
-      → IsFirstOrderFault settings.cores settings.orders fault ⊎ (fault ≡ Memory)
+      → IsFirstOrderFault settings.cores settings.orders fault ⊎ (fault ≡ Worker Memory)
   pub of_setup : is_of_setup fault ≡ true → IsSetupFault settings.cores settings.quantum settings.slots settings.cores settings.orders fault
 
 -- A run by these settings may begin: none of its numbers is refused, and its orders are in order.

@@ -57,3 +57,7 @@ HasFault bytes (Overflow at) =
 pub record IsFirstFault (bytes : List ℕ) (fault : TextFault) : Type 0 where
   pub has : HasFault bytes fault
   pub first : (other : TextFault) → HasFault bytes other → (byte_of fault < byte_of other) ⊎ (other ≡ fault)
+
+-- memory was refused
+abbrev pub IsOfMemory : TextFault → Type 0
+IsOfMemory fault = fault ≡ Memory

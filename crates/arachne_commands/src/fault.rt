@@ -4,7 +4,7 @@ ghost use Rattle.arachne_commands.specs.declared.fault.Fault.TheVariants.{InRun,
 
 use arachne_lang::{CheckFault, TextFault};
 use arachne_policy::{OrderFault, OrderFaultKind};
-use arachne_run::RunFault;
+use arachne_run::{RunFault, WorkerFault};
 use std::alloc::AllocError;
 use std::fmt;
 
@@ -95,12 +95,12 @@ impl fmt::Display for Fault {
                 OrderFaultKind::ReleasesCoreZero => write!(f, "fault 23 order {index}"),
                 OrderFaultKind::AfterFalls => write!(f, "fault 25 order {index}"),
             },
-            Fault::InRun(RunFault::Memory) => write!(f, "fault 30"),
-            Fault::InRun(RunFault::Foreign) => write!(f, "fault 31"),
-            Fault::InRun(RunFault::Threads) => write!(f, "fault 32"),
-            Fault::InRun(RunFault::Ledgers) => write!(f, "fault 33"),
-            Fault::InRun(RunFault::Token) => write!(f, "fault 34"),
-            Fault::InRun(RunFault::KernelThread) => write!(f, "fault 35"),
+            Fault::InRun(RunFault::Worker(WorkerFault::Memory)) => write!(f, "fault 30"),
+            Fault::InRun(RunFault::Worker(WorkerFault::Foreign)) => write!(f, "fault 31"),
+            Fault::InRun(RunFault::Worker(WorkerFault::Threads)) => write!(f, "fault 32"),
+            Fault::InRun(RunFault::Worker(WorkerFault::Ledgers)) => write!(f, "fault 33"),
+            Fault::InRun(RunFault::Worker(WorkerFault::Token)) => write!(f, "fault 34"),
+            Fault::InRun(RunFault::Worker(WorkerFault::KernelThread)) => write!(f, "fault 35"),
             Fault::Memory => write!(f, "fault 30"),
             Fault::TooLong => write!(f, "fault 36"),
             Fault::Read => write!(f, "fault 37"),

@@ -7,14 +7,14 @@ use arachne_lang::TextFault;
 
 /// Why reading stops, with the bytes that are left, from the one where it stops.
 #[derive(Clone, Copy)]
-pub enum Stop<'t> {
+pub enum ReadingStop<'t> {
     /// The text departs from the grammar, or ends before it should.
     Departs(&'t [u8]),
     /// A digit brings a number over its range.
     Overflows(&'t [u8]),
 }
 
-impl<'t> Stop<'t> {
+impl<'t> ReadingStop<'t> {
     ghost use Rattle.arachne_commands.specs.Reading.{fault_within};
 
     /// The fault of the whole text that this is, where what is left is left of that text.
@@ -22,10 +22,10 @@ impl<'t> Stop<'t> {
         ensures { result ≡ fault_within text.now self.entry }
     {
         match self {
-            Stop::Departs(rest) => TextFault::Syntax {
+            ReadingStop::Departs(rest) => TextFault::Syntax {
                 at: text.len().saturating_sub(rest.len()),
             },
-            Stop::Overflows(rest) => TextFault::Number {
+            ReadingStop::Overflows(rest) => TextFault::Number {
                 at: text.len().saturating_sub(rest.len()),
             },
         }
@@ -33,7 +33,7 @@ impl<'t> Stop<'t> {
 }
 
 /// The text behind this word.
-pub fn word<'t>(text: &'t [u8], word: &[u8]) -> Result<&'t [u8], Stop<'t>>
+pub fn word<'t>(text: &'t [u8], word: &[u8]) -> Result<&'t [u8], ReadingStop<'t>>
     ensures { Gives (λ rest. rest.now) result (word_at word.now text.now) }
 {
     let [first, others @ ..] = word else {
@@ -41,12 +41,12 @@ pub fn word<'t>(text: &'t [u8], word: &[u8]) -> Result<&'t [u8], Stop<'t>>
     };
     match text {
         [byte, rest @ ..] if *byte == *first => self::word(rest, others),
-        _ => Err(Stop::Departs(text)),
+        _ => Err(ReadingStop::Departs(text)),
     }
 }
 
 /// A number, what ends it, and the text behind that.
-pub fn number<'t>(text: &'t [u8], end: &[u8]) -> Result<(u64, &'t [u8]), Stop<'t>>
+pub fn number<'t>(text: &'t [u8], end: &[u8]) -> Result<(u64, &'t [u8]), ReadingStop<'t>>
     ensures { Gives (λ read. (read.0, read.1.now)) result (number_at (2 ^ 64) end.now text.now) }
 {
     let (value, rest) = figures(text)?;
@@ -55,18 +55,18 @@ pub fn number<'t>(text: &'t [u8], end: &[u8]) -> Result<(u64, &'t [u8]), Stop<'t
 }
 
 /// The number at the front of the text, and the text behind it. A zero ends at once.
-pub fn figures(text: &[u8]) -> Result<(u64, &[u8]), Stop<'_>>
+pub fn figures(text: &[u8]) -> Result<(u64, &[u8]), ReadingStop<'_>>
     ensures { Gives (λ read. (read.0, read.1.now)) result (figures_at (2 ^ 64) text.now) }
 {
     match text {
         [b'0', rest @ ..] => Ok((0, rest)),
         [digit @ b'1'..=b'9', rest @ ..] => digits(u64::from(*digit - b'0'), rest),
-        _ => Err(Stop::Departs(text)),
+        _ => Err(ReadingStop::Departs(text)),
     }
 }
 
 /// The number whose first digits have this value, and whose others are the next ones of the text.
-fn digits(value: u64, text: &[u8]) -> Result<(u64, &[u8]), Stop<'_>>
+fn digits(value: u64, text: &[u8]) -> Result<(u64, &[u8]), ReadingStop<'_>>
     ensures { Gives (λ read. (read.0, read.1.now)) result (digits_at (2 ^ 64) value text.now) }
 {
     let [byte @ b'0'..=b'9', rest @ ..] = text else {
@@ -78,6 +78,6 @@ fn digits(value: u64, text: &[u8]) -> Result<(u64, &[u8]), Stop<'_>>
         .and_then(|tens| tens.checked_add(digit))
     {
         Some(value) => digits(value, rest),
-        None => Err(Stop::Overflows(text)),
+        None => Err(ReadingStop::Overflows(text)),
     }
 }

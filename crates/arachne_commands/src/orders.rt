@@ -1,9 +1,9 @@
 //! Reading the words of core orders.
 
-ghost use Rattle.std.specs.Prelude.{◌≡◌, ◌↔◌, ◌++◌, ℕ, List, Some, codes, option_map};
+ghost use Rattle.std.specs.Prelude.{◌≡◌, ◌↔◌, ℕ, List, Some, option_map};
 ghost use Rattle.arachne_policy.specs.declared.orders.CoreOrder.{CoreOrder as Order};
 ghost use Rattle.arachne_policy.specs.declared.orders.OrderKind.{OrderKind as Kind};
-ghost use Rattle.arachne_commands.specs.Orders.{FitsWords, kind_word, order_word};
+ghost use Rattle.arachne_commands.specs.Orders.{FitsWords, HasReadKind, order_word};
 
 use crate::numbers::{figures, number, word};
 use arachne_policy::{CoreOrder, OrderKind};
@@ -29,8 +29,7 @@ pub fn read_order(spelled: &str) -> Option<CoreOrder>
 
 /// What an order does, and the text behind the colon.
 fn kind(text: &[u8]) -> Option<(OrderKind, &[u8])>
-    ensures { (kind : Kind) (rest : List ℕ) → (option_map {U = Kind × List ℕ} (λ read. (read.0, read.1.now)) result ≡ Some (kind, rest))
-        ↔ (text.now ≡ kind_word kind ++ codes ":" ++ rest) }
+    ensures { HasReadKind text.now (option_map {U = Kind × List ℕ} (λ read. (read.0, read.1.now)) result) }
 {
     if let Ok(rest) = word(text, b"grant:") {
         Some((OrderKind::Grant, rest))

@@ -1,11 +1,11 @@
 //! The program as a process: its words, its streams and its end.
-ghost use Rattle.std.specs.Prelude.{◌≡◌, ◌≢◌, ◌≤◌, ◌+◌, List, ℕ, length, map, None, Some, true};
+ghost use Rattle.std.specs.Prelude.{◌≡◌, ◌≢◌, ◌≤◌, ◌+◌, List, ℕ, length, map, None, true};
 ghost use Rattle.std.specs.Io.KnownBytes.{Consumes, Keeps};
 ghost use Rattle.std.specs.IoError.{error_kind};
 ghost use Rattle.std.specs.Process.{exit_status};
-ghost use Rattle.arachne_commands.specs.CommandLine.{asked_by, is_taken, no_order_in};
+ghost use Rattle.arachne_commands.specs.CommandLine.{asked_by, is_taken};
 ghost use Rattle.arachne_commands.specs.Fault.{fault_line};
-ghost use Rattle.arachne_commands.specs.Drive.{AppendsFront, IsAnswered, IsAtFault, input_limit};
+ghost use Rattle.arachne_commands.specs.Drive.{AppendsFront, HasToldFault, HasToldNoOrder, IsAnswered, input_limit};
 ghost use Rattle.arachne_commands.specs.declared.fault.Fault.{Fault};
 
 use crate::program::{drive, refuse_words};
@@ -61,14 +61,13 @@ pub fn run_on<R: Threads + Wait + Clock + Sync, S: AsStr, I: Read, W: Write, E: 
 ) -> Status
     ensures done { result.code ≡ 0 → IsAnswered (map S.text words.entry.now) (I.remaining input.old) (W.contents output.old) (W.contents output.new) }
     ensures quiet { result.code ≡ 0 → Keeps (E.contents faults.old) (E.contents faults.new) }
-    ensures fault { result.code ≡ 1 → (fault : Fault)
-        × IsAtFault (map S.text words.entry.now) (I.remaining input.old) (W.contents output.old) (W.contents output.new) fault
-        × AppendsFront (E.contents faults.old) (E.contents faults.new) (fault_line fault) }
+    ensures fault { result.code ≡ 1 → HasToldFault (map S.text words.entry.now) (I.remaining input.old)
+        (W.contents output.old) (W.contents output.new) (E.contents faults.old) (E.contents faults.new) }
     ensures reads { (bytes : List ℕ) × Consumes (I.remaining input.old) (I.remaining input.new) bytes × (length bytes ≤ input_limit + 1) }
     ensures unread { result.code ≡ 2 → Keeps (I.remaining input.old) (I.remaining input.new) }
     ensures words { result.code ≡ 2 → is_taken (map S.text words.entry.now) ≡ true → asked_by (map S.text words.entry.now) ≡ None }
-    ensures no_order { result.code ≡ 2 → is_taken (map S.text words.entry.now) ≡ true → (index : ℕ) → no_order_in (map S.text words.entry.now) ≡ Some index
-        → AppendsFront (E.contents faults.old) (E.contents faults.new) (fault_line (Fault.NoOrder index)) }
+    ensures no_order { result.code ≡ 2 → is_taken (map S.text words.entry.now) ≡ true
+        → HasToldNoOrder (map S.text words.entry.now) (E.contents faults.old) (E.contents faults.new) }
     ensures refused { result.code ≡ 2 → Keeps (W.contents output.old) (W.contents output.new) }
     ensures status { result.code ≤ 2 }
 {

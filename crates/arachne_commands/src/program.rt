@@ -3,10 +3,10 @@ ghost use Rattle.std.specs.Prelude.{◌≡◌, ◌⊎◌, ◌≢◌, ◌≤◌, 
 ghost use Rattle.std.specs.Io.KnownBytes.{Appends, Consumes, Keeps};
 ghost use Rattle.std.specs.IoError.{error_kind};
 ghost use Rattle.arachne_lang.specs.Program.{source_of};
-ghost use Rattle.arachne_commands.specs.CommandLine.{IsAllowed, asked_by, is_taken, no_order_in};
+ghost use Rattle.arachne_commands.specs.CommandLine.{IsAllowed, asked_by, is_taken};
 ghost use Rattle.arachne_commands.specs.declared.command_line.RunSettings.{RunSettings as RunBy};
 ghost use Rattle.arachne_commands.specs.Fault.{fault_line};
-ghost use Rattle.arachne_commands.specs.Drive.{AppendsFront, IsAnswer, IsAnswered, IsAtFault, IsCause, IsProgramOf, IsTold, input_limit};
+ghost use Rattle.arachne_commands.specs.Drive.{AppendsFront, HasToldFault, HasToldNoOrder, IsAnswer, IsAnswered, IsCause, IsProgramOf, IsTold, input_limit};
 
 use crate::command_line::{NotAsked, Request, RunSettings, read_words};
 use crate::fault::Fault;
@@ -203,16 +203,15 @@ pub fn drive<R: Threads + Wait + Clock + Sync, S: AsStr, I: Read, W: Write, E: W
     ensures done { result ≡ 0 → IsAnswered (map S.text words.entry.now) (I.remaining input.old) (W.contents output.old) (W.contents output.new) }
     ensures quiet { result ≡ 0 → Keeps (E.contents faults.old) (E.contents faults.new) }
     // A fault's line is on the faults stream, as far as that took it.
-    ensures fault { result ≡ 1 → (fault : Fault)
-        × IsAtFault (map S.text words.entry.now) (I.remaining input.old) (W.contents output.old) (W.contents output.new) fault
-        × AppendsFront (E.contents faults.old) (E.contents faults.new) (fault_line fault) }
+    ensures fault { result ≡ 1 → HasToldFault (map S.text words.entry.now) (I.remaining input.old)
+        (W.contents output.old) (W.contents output.new) (E.contents faults.old) (E.contents faults.new) }
     ensures reads { (bytes : List ℕ) × Consumes (I.remaining input.old) (I.remaining input.new) bytes × (length bytes ≤ input_limit + 1) }
     ensures unread { result ≡ 2 → Keeps (I.remaining input.old) (I.remaining input.new) }
     // Words that the program takes, and that ask for something, are not refused.
     ensures words { result ≡ 2 → is_taken (map S.text words.entry.now) ≡ true → asked_by (map S.text words.entry.now) ≡ None }
     // Where the program takes the words of a run, and one that is to be an order is none, the first of these is told.
-    ensures no_order { result ≡ 2 → is_taken (map S.text words.entry.now) ≡ true → (index : ℕ) → no_order_in (map S.text words.entry.now) ≡ Some index
-        → AppendsFront (E.contents faults.old) (E.contents faults.new) (fault_line (Fault.NoOrder index)) }
+    ensures no_order { result ≡ 2 → is_taken (map S.text words.entry.now) ≡ true
+        → HasToldNoOrder (map S.text words.entry.now) (E.contents faults.old) (E.contents faults.new) }
     ensures refused { result ≡ 2 → Keeps (W.contents output.old) (W.contents output.new) }
     ensures status { result ≤ 2 }
 {

@@ -3,10 +3,10 @@
 ghost use Rattle.std.specs.Prelude.{◌≡◌, ◌⊎◌, List, IfOk, IfErr, IsErrAnd, MatchResult};
 ghost use Rattle.arachne_lang.specs.declared.text_fault.TextFault.{TextFault as Fault};
 ghost use Rattle.arachne_policy.specs.declared.samples.Sample.{Sample as Measured};
-ghost use Rattle.arachne_commands.specs.Samples.{AreInRange, IsFirstFault, samples_text};
+ghost use Rattle.arachne_commands.specs.Samples.{AreInRange, IsFirstFault, IsOfMemory, samples_text};
 ghost use Rattle.arachne_commands.specs.Reading.{Gives, sample_at};
 
-use crate::numbers::{Stop, number};
+use crate::numbers::{ReadingStop, number};
 use arachne_lang::TextFault;
 use arachne_policy::Sample;
 use std::alloc::Global;
@@ -18,7 +18,7 @@ pub fn read_samples(alloc: Global, text: &[u8]) -> Result<Vec<Sample>, TextFault
     ensures accepted { IfOk result (λ samples. AreInRange samples.items × (samples_text samples.items ≡ text.now)) }
     // What is in range is read, unless memory is refused.
     ensures every_text { (samples : List Measured) → AreInRange samples → samples_text samples ≡ text.now
-        → MatchResult result (λ read. read.items ≡ samples) (λ fault. fault ≡ TextFault.Memory) }
+        → MatchResult result (λ read. read.items ≡ samples) IsOfMemory }
     // A fault is the first one of the text, unless memory is refused.
     ensures first_fault { IfErr result (λ fault. (fault ≡ TextFault.Memory) ⊎ IsFirstFault text.now fault) }
     // A text with a first fault is refused by it, unless memory is refused.
@@ -41,7 +41,7 @@ pub fn read_samples(alloc: Global, text: &[u8]) -> Result<Vec<Sample>, TextFault
 
 /// The sample of a line, and the text behind it.
 #[tactic(auto, unfolding(crate::specs::Reading::sample_at))]
-fn line(text: &[u8]) -> Result<(Sample, &[u8]), Stop<'_>>
+fn line(text: &[u8]) -> Result<(Sample, &[u8]), ReadingStop<'_>>
     ensures { Gives (λ read. (read.0, read.1.now)) result (sample_at text.now) }
 {
     let (cores, rest) = number(text, b" ")?;

@@ -12,7 +12,7 @@ use Rattle.atomic_table.specs.Seated.{TableId}
 use Rattle.atomic_table.specs.Table.{step, rest, Allows, Splits, Joins}
 use Rattle.arachne_weights.specs.declared.token.Token.{Token}
 use Rattle.arachne_weights.specs.Tokens.{held, spent}
-use Rattle.arachne_exec.specs.declared.view.Known.{Known}
+use Rattle.arachne_exec.specs.declared.view.Notes.{Notes}
 use Rattle.arachne_exec.specs.Layout.{summary_at, ready_at, free_at, mark_at, retired, worker_of, others, words_of}
 use Rattle.arachne_exec.specs.Board.{IsLawful, blank}
 use Rattle.arachne_exec.specs.Changes.{older, first_of, second_of, both_of}
@@ -89,7 +89,7 @@ module _ (table : TableId) (key n : ℕ) (laid : IsLaidOut table key n) (exec : 
 
     module _ (x y : ℕ) (has : HasNewest q x y view) where
       hand : me.0.known.hand ≡ (q, x) ∷ older me.0.known.hand
-      hand = subst (λ (k : Known). k.hand ≡ (q, x) ∷ older k.hand) (sym known-is) has.hand
+      hand = subst (λ (k : Notes). k.hand ≡ (q, x) ∷ older k.hand) (sym known-is) has.hand
 
       mine : me ≡ (held me.0.weight me.0.known, (q, y) ∷ rest view.slots)
       mine = λ i. (live i, (ap (λ (v : CallView). v.slots) seen ∙ has.slot) i)
@@ -124,7 +124,7 @@ module _ (table : TableId) (key n : ℕ) (laid : IsLaidOut table key n) (exec : 
         at-home,
         ready-inside e,
         subst (λ (z : ℕ × ℕ × Mine). Allows (IsLawful key) table.slots id z.2 z.0 (λ a. bit_or a z.1) (Readies (step table.slots z.0 z.1 0 none) z.2)) (λ i. (sym e i, sym o i, sym (mine x x has) i))
-            (readies key table.slots id me.0.weight me.0.known q x (rest view.slots) (hand x x has) low (ap (λ (k : Known). k.unshown) known-is ∙ shown)),
+            (readies key table.slots id me.0.weight me.0.known q x (rest view.slots) (hand x x has) low (ap (λ (k : Notes). k.unshown) known-is ∙ shown)),
       )
 
       pub spawn-asks : HasNewest q 0 x view → view.known.unshown ≡ 0 → (mask : ℕ) → word ≡ ready_at (q / 64) → mask ≡ 2 ^ (q % 64) → Asks word (λ z. bit_or z mask) (Spawns (step table.slots word mask 0 none) me)
@@ -132,7 +132,7 @@ module _ (table : TableId) (key n : ℕ) (laid : IsLaidOut table key n) (exec : 
         at-home,
         ready-inside e,
         subst (λ (z : ℕ × ℕ × Mine). Allows (IsLawful key) table.slots id z.2 z.0 (λ a. bit_or a z.1) (Spawns (step table.slots z.0 z.1 0 none) z.2)) (λ i. (sym e i, sym o i, sym (mine 0 x has) i))
-            (spawns key table.slots id me.0.weight me.0.known q x (rest view.slots) (hand 0 x has) low (ap (λ (k : Known). k.unshown) known-is ∙ shown)),
+            (spawns key table.slots id me.0.weight me.0.known q x (rest view.slots) (hand 0 x has) low (ap (λ (k : Notes). k.unshown) known-is ∙ shown)),
       )
 
       pub begin-asks : HasNewest q 0 x view → word ≡ mark_at q → Asks word (λ z. z) (Begins (step table.slots word 0 0 none) me)
@@ -192,7 +192,7 @@ module _ (table : TableId) (key n : ℕ) (laid : IsLaidOut table key n) (exec : 
     within = omega (arith, inside, laid.keyed, count)
 
     unshown-is : view.known.unshown ≡ block + 1 → me.0.known.unshown ≡ block + 1
-    unshown-is e = ap (λ (k : Known). k.unshown) known-is ∙ e
+    unshown-is e = ap (λ (k : Notes). k.unshown) known-is ∙ e
 
     pub find-shown-asks : view.known.unshown ≡ block + 1 → word ≡ summary_at (block / 64) → Asks word (λ z. z) (FindsShown (step table.slots word 0 0 none) me)
     find-shown-asks debt e = (
@@ -207,7 +207,7 @@ module _ (table : TableId) (key n : ℕ) (laid : IsLaidOut table key n) (exec : 
       at-home,
       omega (arith, laid.words, inside, e, count),
       subst (λ (z : ℕ × ℕ × Mine). Allows (IsLawful key) table.slots id z.2 z.0 (λ a. bit_or a z.1) (Shows (step table.slots z.0 z.1 0 none) z.2)) (λ i. (sym e i, sym o i, sym whole i))
-          (shows key table.slots id me.0.weight me.0.known me.1 block within (unshown-is debt) (ap (λ (k : Known). k.owes) known-is ∙ free)),
+          (shows key table.slots id me.0.weight me.0.known me.1 block within (unshown-is debt) (ap (λ (k : Notes). k.owes) known-is ∙ free)),
     )
 
     pub hide-asks : (mask : ℕ) → view.known.unshown ≡ 0 → word ≡ summary_at (block / 64) → mask ≡ others (block % 64) → Asks word (λ z. bit_and z mask) (Hides (step table.slots word mask 0 none) me)
@@ -215,7 +215,7 @@ module _ (table : TableId) (key n : ℕ) (laid : IsLaidOut table key n) (exec : 
       at-home,
       omega (arith, laid.words, inside, e, count),
       subst (λ (z : ℕ × ℕ × Mine). Allows (IsLawful key) table.slots id z.2 z.0 (λ a. bit_and a z.1) (Hides (step table.slots z.0 z.1 0 none) z.2)) (λ i. (sym e i, sym o i, sym whole i))
-          (hides key table.slots id me.0.weight me.0.known me.1 block within (ap (λ (k : Known). k.unshown) known-is ∙ free)),
+          (hides key table.slots id me.0.weight me.0.known me.1 block within (ap (λ (k : Notes). k.unshown) known-is ∙ free)),
     )
 
     pub look-again-asks : view.known.unshown ≡ block + 1 → word ≡ ready_at block → Asks word (λ z. z) (LooksAgain (step table.slots word 0 0 none) me)
@@ -233,7 +233,7 @@ module _ (table : TableId) (key n : ℕ) (laid : IsLaidOut table key n) (exec : 
     at-home,
     omega (arith, laid.words),
     subst (λ (m : Mine). Allows (IsLawful key) table.slots id m 0 (λ a. a) (LooksIdle (step table.slots 0 0 0 none) m)) (sym whole)
-        (looks_idle key table.slots id me.0.weight me.0.known me.1 shard (ap (λ (k : Known). k.owes) known-is ∙ debt)),
+        (looks_idle key table.slots id me.0.weight me.0.known me.1 shard (ap (λ (k : Notes). k.owes) known-is ∙ debt)),
   )
 
   pub unpark-asks : (shard mask : ℕ) → view.known.owes ≡ shard + 1 → mask ≡ others (worker_of shard) → Asks 0 (λ z. bit_and z mask) (Unparks (step table.slots 0 mask 0 none) me)
@@ -241,7 +241,7 @@ module _ (table : TableId) (key n : ℕ) (laid : IsLaidOut table key n) (exec : 
     at-home,
     omega (arith, laid.words),
     subst (λ (z : ℕ × Mine). Allows (IsLawful key) table.slots id z.1 0 (λ a. bit_and a z.0) (Unparks (step table.slots 0 z.0 0 none) z.1)) (λ i. (sym o i, sym whole i))
-        (unparks key table.slots id me.0.weight me.0.known me.1 shard (ap (λ (k : Known). k.owes) known-is ∙ debt)),
+        (unparks key table.slots id me.0.weight me.0.known me.1 shard (ap (λ (k : Notes). k.owes) known-is ∙ debt)),
   )
 
   module _ (worker mask : ℕ) where
@@ -258,7 +258,7 @@ module _ (table : TableId) (key n : ℕ) (laid : IsLaidOut table key n) (exec : 
       at-home,
       omega (arith, laid.words),
       subst (λ (z : ℕ × Mine). Allows (IsLawful key) table.slots id z.1 0 (λ a. bit_or a z.0) (Rests (step table.slots 0 z.0 0 none) z.1)) (λ i. (sym o i, sym whole i))
-          (rests key table.slots id me.0.weight me.0.known me.1 worker (ap (λ (k : Known). k.worker) known-is ∙ is_worker)),
+          (rests key table.slots id me.0.weight me.0.known me.1 worker (ap (λ (k : Notes). k.worker) known-is ∙ is_worker)),
     )
 
     pub register-asks : view.known.worker ≡ 0 → worker < 64 → mask ≡ others worker → Asks 8 (λ z. bit_and z mask) (Registers (step table.slots 8 mask 0 none) me)
@@ -266,7 +266,7 @@ module _ (table : TableId) (key n : ℕ) (laid : IsLaidOut table key n) (exec : 
       at-home,
       omega (arith, laid.words),
       subst (λ (z : ℕ × Mine). Allows (IsLawful key) table.slots id z.1 8 (λ a. bit_and a z.0) (Registers (step table.slots 8 z.0 0 none) z.1)) (λ i. (sym o i, sym whole i))
-          (registers key table.slots id me.0.weight me.0.known me.1 worker small (ap (λ (k : Known). k.worker) known-is ∙ none_yet)),
+          (registers key table.slots id me.0.weight me.0.known me.1 worker small (ap (λ (k : Notes). k.worker) known-is ∙ none_yet)),
     )
 
     pub leave-asks : view.known.worker ≡ worker + 1 → worker < 64 → mask ≡ 2 ^ worker → Asks 8 (λ z. bit_or z mask) (Leaves (step table.slots 8 mask 0 none) me)
@@ -274,7 +274,7 @@ module _ (table : TableId) (key n : ℕ) (laid : IsLaidOut table key n) (exec : 
       at-home,
       omega (arith, laid.words),
       subst (λ (z : ℕ × Mine). Allows (IsLawful key) table.slots id z.1 8 (λ a. bit_or a z.0) (Leaves (step table.slots 8 z.0 0 none) z.1)) (λ i. (sym o i, sym whole i))
-          (leaves key table.slots id me.0.weight me.0.known me.1 worker small (ap (λ (k : Known). k.worker) known-is ∙ is_worker)),
+          (leaves key table.slots id me.0.weight me.0.known me.1 worker small (ap (λ (k : Notes). k.worker) known-is ∙ is_worker)),
     )
 
   pub next-asks : (word worker next : ℕ) → word ≡ summary_at (worker + 64 * next) → view.known.worker ≡ worker + 1 → worker + 64 * next < exec.shards → view.known.seen ≡ next
@@ -283,17 +283,17 @@ module _ (table : TableId) (key n : ℕ) (laid : IsLaidOut table key n) (exec : 
     at-home,
     omega (arith, laid.words, inside, e, count),
     subst (λ (z : ℕ × Mine). Allows (IsLawful key) table.slots id z.1 z.0 (λ a. a) (LooksNext (step table.slots z.0 0 0 none) z.1))
-        (λ i. (sym (e ∙ ap (λ (c : ℕ). summary_at (worker + 64 * c)) (sym (ap (λ (k : Known). k.seen) known-is ∙ so_far))) i, sym whole i))
-        (looks_next key table.slots id me.0.weight me.0.known me.1 worker (ap (λ (k : Known). k.worker) known-is ∙ is_worker)),
+        (λ i. (sym (e ∙ ap (λ (c : ℕ). summary_at (worker + 64 * c)) (sym (ap (λ (k : Notes). k.seen) known-is ∙ so_far))) i, sym whole i))
+        (looks_next key table.slots id me.0.weight me.0.known me.1 worker (ap (λ (k : Notes). k.worker) known-is ∙ is_worker)),
   )
 
 -- ---- seats
 
 pub split-allowed : (key id : ℕ) (me : Mine) → IsLive me → Splits (IsLawful key) id me.0 (first_of me.0) (second_of me.0)
-split-allowed key id me live = subst (λ (t : Token Known). Splits (IsLawful key) id t (first_of t) (second_of t)) (sym live) (deals key id me.0.weight me.0.known)
+split-allowed key id me live = subst (λ (t : Token Notes). Splits (IsLawful key) id t (first_of t) (second_of t)) (sym live) (deals key id me.0.weight me.0.known)
 
 pub join-allowed : (key id from : ℕ) (me other : Mine) → IsLive me → IsLive other → (other.0.known.hand ≡ []) × (other.0.known.worker ≡ 0) × (other.0.known.unshown ≡ 0) × (other.0.known.owes ≡ 0)
     → Joins (IsLawful key) id me.0 from other.0 (both_of me.0 other.0) (spent blank)
 join-allowed key id from me other live away nothing =
-    subst (λ (t : Token Known × Token Known). Joins (IsLawful key) id t.0 from t.1 (both_of t.0 t.1) (spent blank)) (λ i. (sym live i, sym away i))
+    subst (λ (t : Token Notes × Token Notes). Joins (IsLawful key) id t.0 from t.1 (both_of t.0 t.1) (spent blank)) (λ i. (sym live i, sym away i))
     (gathers key id me.0.weight from other.0.weight me.0.known other.0.known nothing)

@@ -5,7 +5,7 @@ use mathlib.Core.Option.{some, none}
 use mathlib.Core.Option as maybe
 use lib.ListN.{get_elem?}
 use Rattle.arachne_weights.specs.declared.token.Token.{Token}
-use Rattle.arachne_exec.specs.declared.view.Known.{Known}
+use Rattle.arachne_exec.specs.declared.view.Notes.{Notes}
 use Rattle.arachne_weights.proofs.Totals.{total-set}
 use Rattle.arachne_exec.specs.Board.{one, times, jobs_in, is_number, at_home, Board, IsBalanced}
 use Rattle.arachne_exec.proofs.Bits.{one-apart}
@@ -20,16 +20,16 @@ more-jobs job q x xs = sum_by-cons (λ (y : ℕ × ℕ). one y.1 job) (q, x) xs
 none-zero : (job : ℕ) → 0 < job → one 0 job ≡ 0
 none-zero job some_job = one-apart 0 job (λ e. omega (arith, some_job, e))
 
-module _ (b : Board) (r : IsBalanced b) (h : ℕ) (v u : Token Known) (mine : get_elem? b.views h ≡ some v) (ws : List ℕ) where
+module _ (b : Board) (r : IsBalanced b) (h : ℕ) (v u : Token Notes) (mine : get_elem? b.views h ≡ some v) (ws : List ℕ) where
   -- what a step has to keep of each job, of this view and of what lies in slots
   balanced-by : (homes : List (maybe.Option ℕ)) → ((job : ℕ) → 0 < job →
       times job u.known.spawned + times job v.known.ended + jobs_in job v.known.hand + at_home job b.homes
       ≡ times job v.known.spawned + times job u.known.ended + jobs_in job u.known.hand + at_home job homes) → IsBalanced (record { words = ws; homes = homes; views = set b.views h u })
   balanced-by homes keeps = record {
     balanced = λ job some_job.
-        let one_ = total-set (λ (t : Token Known). times job t.known.spawned) b.views h v u mine in
-        let two = total-set (λ (t : Token Known). times job t.known.ended) b.views h v u mine in
-        let three = total-set (λ (t : Token Known). jobs_in job t.known.hand) b.views h v u mine in
+        let one_ = total-set (λ (t : Token Notes). times job t.known.spawned) b.views h v u mine in
+        let two = total-set (λ (t : Token Notes). times job t.known.ended) b.views h v u mine in
+        let three = total-set (λ (t : Token Notes). jobs_in job t.known.hand) b.views h v u mine in
         omega (arith, one_, two, three, r.balanced job some_job, keeps job some_job);
   }
 

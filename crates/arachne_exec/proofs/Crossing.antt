@@ -4,7 +4,7 @@ use denote.Param.Send.{IsSend, IsSync, part_keyless, sendable}
 use Rattle.std.proofs.Crossing as std
 use Rattle.atomic_table.specs.contracts.shared.Seat as seat
 use Rattle.atomic_table.proofs.shared.Seat.TheSendSync as seat_is
-use Rattle.arachne_exec.specs.contracts.seat.CallSeat as call_seat
+use Rattle.arachne_exec.specs.contracts.seat.SeatInCall as call_seat
 use Rattle.arachne_exec.specs.contracts.seat.ExecSeat as exec_seat
 
 table_seat_sync : (S V : RattleType) → IsSend S → IsSync (seat.the_row S V)

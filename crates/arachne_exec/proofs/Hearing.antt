@@ -7,7 +7,7 @@ use native.Mathlib.Decide.{ℕ_discrete}
 use lib.ListN.{get_elem?}
 use Rattle.arachne_weights.specs.declared.token.Token.{Token}
 use Rattle.arachne_weights.proofs.Totals.{total-set}
-use Rattle.arachne_exec.specs.declared.view.Known.{Known}
+use Rattle.arachne_exec.specs.declared.view.Notes.{Notes}
 use Rattle.arachne_exec.specs.Layout.{mark_at}
 use Rattle.arachne_exec.specs.Board.{one, times, Board, HearsWakes}
 use Rattle.arachne_exec.specs.Changes.{heard_more}
@@ -21,12 +21,12 @@ heard-times p zero q xs low = omega arith
 heard-times p (suc zero) q xs low = more-times p q xs ∙ omega arith
 heard-times p (suc (suc n)) q xs low = absurd (omega (arith, low))
 
-module _ (blocks : ℕ) (b : Board) (r : HearsWakes blocks b) (h : ℕ) (v u : Token Known) (mine : get_elem? b.views h ≡ some v) (homes : List (maybe.Option ℕ)) where
+module _ (blocks : ℕ) (b : Board) (r : HearsWakes blocks b) (h : ℕ) (v u : Token Notes) (mine : get_elem? b.views h ≡ some v) (homes : List (maybe.Option ℕ)) where
   pub hears-on : (ws : List ℕ) → ((p : ℕ) → p < 64 * blocks → get_or ws (mark_at p) 0 % 2 ≡ get_or b.words (mark_at p) 0 % 2) → u.known.woken ≡ v.known.woken → u.known.heard ≡ v.known.heard
       → HearsWakes blocks (record { words = ws; homes = homes; views = set b.views h u })
   hears-on ws marks woken heard = record {
     marks = λ p inside.
-        let one_ = total-set (λ (t : Token Known). times p t.known.woken) b.views h v u mine in let two = total-set (λ (t : Token Known). times p t.known.heard) b.views h v u mine in
+        let one_ = total-set (λ (t : Token Notes). times p t.known.woken) b.views h v u mine in let two = total-set (λ (t : Token Notes). times p t.known.heard) b.views h v u mine in
         let w = ap (times p) woken in let d = ap (times p) heard in let m = marks p inside in let old = r.marks p inside in omega (arith, one_, two, w, d, m, old);
   }
 
@@ -53,7 +53,7 @@ module _ (blocks : ℕ) (b : Board) (r : HearsWakes blocks b) (h : ℕ) (v u : T
         → HearsWakes blocks (record { words = set b.words (mark_at q) m; homes = homes; views = set b.views h u })
     hears-mark was now woken heard = record {
       marks = λ p inside.
-          let one_ = total-set (λ (t : Token Known). times p t.known.woken) b.views h v u mine in let two = total-set (λ (t : Token Known). times p t.known.heard) b.views h v u mine in
+          let one_ = total-set (λ (t : Token Notes). times p t.known.woken) b.views h v u mine in let two = total-set (λ (t : Token Notes). times p t.known.heard) b.views h v u mine in
           let w = ap (times p) woken ∙ more-times p q v.known.woken in let d = ap (times p) heard in let before = r.marks p inside in dite (ℕ_discrete q p)
           (λ e. let x = one-same q p e in let a = ap (λ y. y % 2) (here p e) in let c = ap (λ y. y % 2) (there p e) in omega (arith, one_, two, w, d, before, x, a, c, was, now))
           (λ ne. let x = one-apart q p ne in let a = ap (λ y. y % 2) (else-same p ne) in omega (arith, one_, two, w, d, before, x, a));
@@ -63,7 +63,7 @@ module _ (blocks : ℕ) (b : Board) (r : HearsWakes blocks b) (h : ℕ) (v u : T
         → HearsWakes blocks (record { words = set b.words (mark_at q) m; homes = homes; views = set b.views h u })
     hears-clear now woken heard = record {
       marks = λ p inside.
-          let one_ = total-set (λ (t : Token Known). times p t.known.woken) b.views h v u mine in let two = total-set (λ (t : Token Known). times p t.known.heard) b.views h v u mine in
+          let one_ = total-set (λ (t : Token Notes). times p t.known.woken) b.views h v u mine in let two = total-set (λ (t : Token Notes). times p t.known.heard) b.views h v u mine in
           let w = ap (times p) woken in let d = ap (times p) heard ∙ heard-times p (old % 2) q v.known.heard (omega arith) in let before = r.marks p inside in dite (ℕ_discrete q p)
           (λ e. let x : old % 2 * one q p ≡ old % 2 = ap (λ y. old % 2 * y) (one-same q p e) ∙ omega arith in
           let a = ap (λ y. y % 2) (here p e) in let c = ap (λ y. y % 2) (there p e) in omega (arith, one_, two, w, d, before, x, a, c, now))

@@ -11,7 +11,7 @@ use lib.ListN.{get_elem?}
 use Rattle.atomic_table.proofs.Lists.{set_here, set_else}
 use Rattle.arachne_weights.specs.declared.token.Token.{Token}
 use Rattle.arachne_weights.proofs.Totals.{total-set, at-le-total}
-use Rattle.arachne_exec.specs.declared.view.Known.{Known}
+use Rattle.arachne_exec.specs.declared.view.Notes.{Notes}
 use Rattle.arachne_exec.specs.Layout.{summary_at, ready_at, free_at, mark_at, others}
 use Rattle.arachne_exec.specs.Board.{is_free, is_ready, is_blocked, one, places_in, in_hands, Board, HasOneKeeper}
 use Rattle.arachne_exec.proofs.Bits.{one-same, one-apart, cleared, raised}
@@ -28,28 +28,28 @@ mark_apart p q e = omega (arith, e)
 places-cons : (p q x : ℕ) (xs : List (ℕ × ℕ)) → places_in p ((q, x) ∷ xs) ≡ one q p + places_in p xs
 places-cons p q x xs = sum_by-cons (λ (y : ℕ × ℕ). one y.0 p) (q, x) xs
 
-module _ (blocks : ℕ) (b : Board) (r : HasOneKeeper blocks b) (h : ℕ) (v : Token Known) (mine : get_elem? b.views h ≡ some v) where
-  module _ (u : Token Known) where
+module _ (blocks : ℕ) (b : Board) (r : HasOneKeeper blocks b) (h : ℕ) (v : Token Notes) (mine : get_elem? b.views h ≡ some v) where
+  module _ (u : Token Notes) where
     -- who keeps the same places
     pub hands-same : u.known.hand ≡ v.known.hand → (p : ℕ) → in_hands p (set b.views h u) ≡ in_hands p b.views
-    hands-same e p = let total = total-set (λ (t : Token Known). places_in p t.known.hand) b.views h v u mine in let same = ap (places_in p) e in omega (arith, total, same)
+    hands-same e p = let total = total-set (λ (t : Token Notes). places_in p t.known.hand) b.views h v u mine in let same = ap (places_in p) e in omega (arith, total, same)
 
     -- the job at the newest place has another number
     pub hands-renumbered : (q x y : ℕ) (zs : List (ℕ × ℕ)) → v.known.hand ≡ (q, x) ∷ zs → u.known.hand ≡ (q, y) ∷ zs → (p : ℕ) → in_hands p (set b.views h u) ≡ in_hands p b.views
     hands-renumbered q x y zs was now p =
-        let total = total-set (λ (t : Token Known). places_in p t.known.hand) b.views h v u mine in
+        let total = total-set (λ (t : Token Notes). places_in p t.known.hand) b.views h v u mine in
         let before = ap (places_in p) was ∙ places-cons p q x zs in let after = ap (places_in p) now ∙ places-cons p q y zs in omega (arith, total, before, after)
 
     pub hands-more : (q x : ℕ) → u.known.hand ≡ (q, x) ∷ v.known.hand → (p : ℕ) → in_hands p (set b.views h u) ≡ in_hands p b.views + one q p
-    hands-more q x e p = let total = total-set (λ (t : Token Known). places_in p t.known.hand) b.views h v u mine in let more = ap (places_in p) e ∙ places-cons p q x v.known.hand in omega (arith, total, more)
+    hands-more q x e p = let total = total-set (λ (t : Token Notes). places_in p t.known.hand) b.views h v u mine in let more = ap (places_in p) e ∙ places-cons p q x v.known.hand in omega (arith, total, more)
 
     pub hands-less : (q x : ℕ) → v.known.hand ≡ (q, x) ∷ u.known.hand → (p : ℕ) → in_hands p (set b.views h u) + one q p ≡ in_hands p b.views
-    hands-less q x e p = let total = total-set (λ (t : Token Known). places_in p t.known.hand) b.views h v u mine in let less = ap (places_in p) e ∙ places-cons p q x u.known.hand in omega (arith, total, less)
+    hands-less q x e p = let total = total-set (λ (t : Token Notes). places_in p t.known.hand) b.views h v u mine in let less = ap (places_in p) e ∙ places-cons p q x u.known.hand in omega (arith, total, less)
 
   -- the newest place is in a hand
   pub in-hand : (q x : ℕ) (xs : List (ℕ × ℕ)) → v.known.hand ≡ (q, x) ∷ xs → 0 < in_hands q b.views
   in-hand q x xs e =
-      let some_hand = at-le-total (λ (t : Token Known). places_in q t.known.hand) b.views h v mine in
+      let some_hand = at-le-total (λ (t : Token Notes). places_in q t.known.hand) b.views h v mine in
       let one_more = ap (places_in q) e ∙ places-cons q q x xs in let here = one-same q q refl in omega (arith, some_hand, one_more, here)
 
   -- ---- a bit of a place's word
@@ -107,24 +107,24 @@ module _ (blocks : ℕ) (b : Board) (r : HasOneKeeper blocks b) (h : ℕ) (v : T
 
     -- ---- the slots that are at home
 
-    home-taken : (u : Token Known) (x : ℕ) → u.known.hand ≡ (q, x) ∷ v.known.hand → (p : ℕ) → p < 64 * blocks → in_hands p (set b.views h u) ≡ 0
+    home-taken : (u : Token Notes) (x : ℕ) → u.known.hand ≡ (q, x) ∷ v.known.hand → (p : ℕ) → p < 64 * blocks → in_hands p (set b.views h u) ≡ 0
         → (job : ℕ) × (get_elem? (set b.homes q none) p ≡ some (some job))
     home-taken u x more p inside none_has = let count = hands-more u q x more p in dite (ℕ_discrete q p)
         (λ e. let here = one-same q p e in absurd (omega (arith, count, none_has, here)))
         (λ ne. let old = r.home p inside (omega (arith, count, none_has)) in (old.0, set_else b.homes q p none (λ s. ne (sym s)) ∙ old.1))
 
-    home-given : (u : Token Known) (x job : ℕ) → v.known.hand ≡ (q, x) ∷ u.known.hand → (p : ℕ) → p < 64 * blocks → in_hands p (set b.views h u) ≡ 0
+    home-given : (u : Token Notes) (x job : ℕ) → v.known.hand ≡ (q, x) ∷ u.known.hand → (p : ℕ) → p < 64 * blocks → in_hands p (set b.views h u) ≡ 0
         → (j : ℕ) × (get_elem? (set b.homes q (some job)) p ≡ some (some j))
     home-given u x job less p inside none_has = let count = hands-less u q x less p in dite (ℕ_discrete q p)
         (λ e. (job, subst (λ x. get_elem? (set b.homes q (some job)) x ≡ some (some job)) e (set_here b.homes q (some job) (omega (arith, r.room, within)))))
         (λ ne. let away = one-apart q p ne in let old = r.home p inside (omega (arith, count, none_has, away)) in (old.0, set_else b.homes q p (some job) (λ s. ne (sym s)) ∙ old.1))
 
-    away-taken : (u : Token Known) (x : ℕ) → u.known.hand ≡ (q, x) ∷ v.known.hand → (p : ℕ) → p < 64 * blocks → 0 < in_hands p (set b.views h u) → get_elem? (set b.homes q none) p ≡ some none
+    away-taken : (u : Token Notes) (x : ℕ) → u.known.hand ≡ (q, x) ∷ v.known.hand → (p : ℕ) → p < 64 * blocks → 0 < in_hands p (set b.views h u) → get_elem? (set b.homes q none) p ≡ some none
     away-taken u x more p inside has = let count = hands-more u q x more p in dite (ℕ_discrete q p)
         (λ e. subst (λ x. get_elem? (set b.homes q none) x ≡ some none) e (set_here b.homes q none (omega (arith, r.room, within))))
         (λ ne. let other = one-apart q p ne in set_else b.homes q p none (λ s. ne (sym s)) ∙ r.away p inside (omega (arith, count, has, other)))
 
-    away-given : (u : Token Known) (x job : ℕ) → v.known.hand ≡ (q, x) ∷ u.known.hand → (p : ℕ) → p < 64 * blocks → 0 < in_hands p (set b.views h u) → get_elem? (set b.homes q (some job)) p ≡ some none
+    away-given : (u : Token Notes) (x job : ℕ) → v.known.hand ≡ (q, x) ∷ u.known.hand → (p : ℕ) → p < 64 * blocks → 0 < in_hands p (set b.views h u) → get_elem? (set b.homes q (some job)) p ≡ some none
     away-given u x job less p inside has = let count = hands-less u q x less p in let sum = r.kept p inside in dite (ℕ_discrete q p)
         (λ e. let here = one-same q p e in absurd (omega (arith, count, has, here, sum)))
         (λ ne. set_else b.homes q p (some job) (λ s. ne (sym s)) ∙ r.away p inside (omega (arith, count, has)))
@@ -152,7 +152,7 @@ module _ (blocks : ℕ) (b : Board) (r : HasOneKeeper blocks b) (h : ℕ) (v : T
     -- ---- the steps
 
     -- from the ready word to the seat
-    pub keeps-take : (u : Token Known) (x : ℕ) → is_ready b.words q ≡ 1 → u.known.hand ≡ (q, x) ∷ v.known.hand
+    pub keeps-take : (u : Token Notes) (x : ℕ) → is_ready b.words q ≡ 1 → u.known.hand ≡ (q, x) ∷ v.known.hand
         → HasOneKeeper blocks (record { words = set b.words (ready_at (q / 64)) (bit_and (get_or b.words (ready_at (q / 64)) 0) (others (q % 64))); homes = set b.homes q none; views = set b.views h u })
     keeps-take u x was more = let m : ℕ = bit_and (get_or b.words (ready_at (q / 64)) 0) (others (q % 64)) in record {
       sized = length-set b.words (ready_at (q / 64)) m ∙ r.sized;
@@ -166,7 +166,7 @@ module _ (blocks : ℕ) (b : Board) (r : HasOneKeeper blocks b) (h : ℕ) (v : T
     }
 
     -- from the free word to the seat
-    pub keeps-claim : (u : Token Known) (x : ℕ) → is_free b.words q ≡ 1 → u.known.hand ≡ (q, x) ∷ v.known.hand
+    pub keeps-claim : (u : Token Notes) (x : ℕ) → is_free b.words q ≡ 1 → u.known.hand ≡ (q, x) ∷ v.known.hand
         → HasOneKeeper blocks (record { words = set b.words (free_at (q / 64)) (bit_and (get_or b.words (free_at (q / 64)) 0) (others (q % 64))); homes = set b.homes q none; views = set b.views h u })
     keeps-claim u x was more = let m : ℕ = bit_and (get_or b.words (free_at (q / 64)) 0) (others (q % 64)) in record {
       sized = length-set b.words (free_at (q / 64)) m ∙ r.sized;
@@ -180,7 +180,7 @@ module _ (blocks : ℕ) (b : Board) (r : HasOneKeeper blocks b) (h : ℕ) (v : T
     }
 
     -- from the seat to the ready word
-    pub keeps-ready : (u : Token Known) (x job : ℕ) → v.known.hand ≡ (q, x) ∷ u.known.hand
+    pub keeps-ready : (u : Token Notes) (x job : ℕ) → v.known.hand ≡ (q, x) ∷ u.known.hand
         → HasOneKeeper blocks (record { words = set b.words (ready_at (q / 64)) (bit_or (get_or b.words (ready_at (q / 64)) 0) (2 ^ (q % 64))); homes = set b.homes q (some job); views = set b.views h u })
     keeps-ready u x job less = let m : ℕ = bit_or (get_or b.words (ready_at (q / 64)) 0) (2 ^ (q % 64)) in
         let was : is_ready b.words q ≡ 0 = omega (arith, r.kept q within, in-hand q x u.known.hand less) in record {
@@ -193,7 +193,7 @@ module _ (blocks : ℕ) (b : Board) (r : HasOneKeeper blocks b) (h : ℕ) (v : T
         }
 
     -- from the seat to the free word
-    pub keeps-free : (u : Token Known) (x job : ℕ) → job ≡ 0 → v.known.hand ≡ (q, x) ∷ u.known.hand
+    pub keeps-free : (u : Token Notes) (x job : ℕ) → job ≡ 0 → v.known.hand ≡ (q, x) ∷ u.known.hand
         → HasOneKeeper blocks (record { words = set b.words (free_at (q / 64)) (bit_or (get_or b.words (free_at (q / 64)) 0) (2 ^ (q % 64))); homes = set b.homes q (some job); views = set b.views h u })
     keeps-free u x job nothing less = let m : ℕ = bit_or (get_or b.words (free_at (q / 64)) 0) (2 ^ (q % 64)) in
         let was : is_free b.words q ≡ 0 = omega (arith, r.kept q within, in-hand q x u.known.hand less) in record {
@@ -208,7 +208,7 @@ module _ (blocks : ℕ) (b : Board) (r : HasOneKeeper blocks b) (h : ℕ) (v : T
         }
 
     -- from the seat to the mark
-    pub keeps-block : (u : Token Known) (x job m : ℕ) → v.known.hand ≡ (q, x) ∷ u.known.hand → m / 2 % 2 ≡ 1
+    pub keeps-block : (u : Token Notes) (x job m : ℕ) → v.known.hand ≡ (q, x) ∷ u.known.hand → m / 2 % 2 ≡ 1
         → HasOneKeeper blocks (record { words = set b.words (mark_at q) m; homes = set b.homes q (some job); views = set b.views h u })
     keeps-block u x job m less now =
         let was : is_blocked b.words q ≡ 0 = omega (arith, r.kept q within, in-hand q x u.known.hand less) in record {
@@ -221,7 +221,7 @@ module _ (blocks : ℕ) (b : Board) (r : HasOneKeeper blocks b) (h : ℕ) (v : T
         }
 
     -- from the mark to the seat
-    pub keeps-wake : (u : Token Known) (x m : ℕ) → is_blocked b.words q ≡ 1 → m / 2 % 2 ≡ 0 → u.known.hand ≡ (q, x) ∷ v.known.hand
+    pub keeps-wake : (u : Token Notes) (x m : ℕ) → is_blocked b.words q ≡ 1 → m / 2 % 2 ≡ 0 → u.known.hand ≡ (q, x) ∷ v.known.hand
         → HasOneKeeper blocks (record { words = set b.words (mark_at q) m; homes = set b.homes q none; views = set b.views h u })
     keeps-wake u x m was now more = record {
       sized = length-set b.words (mark_at q) m ∙ r.sized;
@@ -235,7 +235,7 @@ module _ (blocks : ℕ) (b : Board) (r : HasOneKeeper blocks b) (h : ℕ) (v : T
     }
 
     -- a mark that is blocked as before
-    pub keeps-mark : (u : Token Known) (m : ℕ) → m / 2 % 2 ≡ is_blocked b.words q → u.known.hand ≡ v.known.hand
+    pub keeps-mark : (u : Token Notes) (m : ℕ) → m / 2 % 2 ≡ is_blocked b.words q → u.known.hand ≡ v.known.hand
         → HasOneKeeper blocks (record { words = set b.words (mark_at q) m; homes = b.homes; views = set b.views h u })
     keeps-mark u m same places = record {
       sized = length-set b.words (mark_at q) m ∙ r.sized;
@@ -247,7 +247,7 @@ module _ (blocks : ℕ) (b : Board) (r : HasOneKeeper blocks b) (h : ℕ) (v : T
     }
 
   -- a change of the idle word or of the numbers, or of no word
-  pub keeps-aside : (u : Token Known) (i m : ℕ) → i < 16 → u.known.hand ≡ v.known.hand
+  pub keeps-aside : (u : Token Notes) (i m : ℕ) → i < 16 → u.known.hand ≡ v.known.hand
       → HasOneKeeper blocks (record { words = set b.words i m; homes = b.homes; views = set b.views h u })
   keeps-aside u i m low places = record {
     sized = length-set b.words i m ∙ r.sized;
@@ -263,7 +263,7 @@ module _ (blocks : ℕ) (b : Board) (r : HasOneKeeper blocks b) (h : ℕ) (v : T
   }
 
   -- a change of a summary word
-  pub keeps-summary : (u : Token Known) (d m : ℕ) → u.known.hand ≡ v.known.hand
+  pub keeps-summary : (u : Token Notes) (d m : ℕ) → u.known.hand ≡ v.known.hand
       → HasOneKeeper blocks (record { words = set b.words (summary_at d) m; homes = b.homes; views = set b.views h u })
   keeps-summary u d m places = record {
     sized = length-set b.words (summary_at d) m ∙ r.sized;
@@ -278,7 +278,7 @@ module _ (blocks : ℕ) (b : Board) (r : HasOneKeeper blocks b) (h : ℕ) (v : T
     empty = λ p inside e. r.empty p inside (sym (ap (λ x. bit_at x (p % 64)) (get_or-set_other b.words (summary_at d) (free_at (p / 64)) m 0 (λ f. omega (arith, f)))) ∙ e);
   }
 
-  pub keeps-places : (u : Token Known) → ((p : ℕ) → in_hands p (set b.views h u) ≡ in_hands p b.views) → HasOneKeeper blocks (record { words = b.words; homes = b.homes; views = set b.views h u })
+  pub keeps-places : (u : Token Notes) → ((p : ℕ) → in_hands p (set b.views h u) ≡ in_hands p b.views) → HasOneKeeper blocks (record { words = b.words; homes = b.homes; views = set b.views h u })
   keeps-places u same = record {
     sized = r.sized;
     room = r.room;
@@ -288,5 +288,5 @@ module _ (blocks : ℕ) (b : Board) (r : HasOneKeeper blocks b) (h : ℕ) (v : T
     empty = r.empty;
   }
 
-  pub keeps-view : (u : Token Known) → u.known.hand ≡ v.known.hand → HasOneKeeper blocks (record { words = b.words; homes = b.homes; views = set b.views h u })
+  pub keeps-view : (u : Token Notes) → u.known.hand ≡ v.known.hand → HasOneKeeper blocks (record { words = b.words; homes = b.homes; views = set b.views h u })
   keeps-view u places = keeps-places u (hands-same u places)

@@ -6,13 +6,13 @@ use mathlib.Core.Option as maybe
 use native.Mathlib.Decide.{ℕ_discrete}
 use lib.ListN.{get_elem?}
 use Rattle.arachne_weights.specs.declared.token.Token.{Token}
-use Rattle.arachne_exec.specs.declared.view.Known.{Known}
+use Rattle.arachne_exec.specs.declared.view.Notes.{Notes}
 use Rattle.arachne_exec.specs.Layout.{summary_at, ready_at, in_word}
 use Rattle.arachne_exec.specs.Board.{Board, IsShown}
 use Rattle.arachne_exec.proofs.Bits.{one-same}
 use Rattle.arachne_exec.proofs.Debts.{with-same, with-more, with-others}
 
-module _ (blocks : ℕ) (b : Board) (r : IsShown blocks b) (h : ℕ) (v u : Token Known) (mine : get_elem? b.views h ≡ some v) (ws : List ℕ) (homes : List (maybe.Option ℕ)) where
+module _ (blocks : ℕ) (b : Board) (r : IsShown blocks b) (h : ℕ) (v u : Token Notes) (mine : get_elem? b.views h ≡ some v) (ws : List ℕ) (homes : List (maybe.Option ℕ)) where
   -- no block's ready word gets its first job, and no summary word changes
   pub shows-on : ((c : ℕ) → 0 < get_or ws (ready_at c) 0 → 0 < get_or b.words (ready_at c) 0) → ((c : ℕ) → in_word summary_at ws c ≡ in_word summary_at b.words c)
       → u.known.unshown ≡ v.known.unshown → IsShown blocks (record { words = ws; homes = homes; views = set b.views h u })

@@ -14,7 +14,7 @@ use lib.ListN.{get_elem?}
 use Rattle.atomic_table.specs.Table.{Act, keeps, chain, step, Allows, stepped, homes_after, carried_after, Valid}
 use Rattle.arachne_weights.specs.declared.token.Token.{Token}
 use Rattle.arachne_weights.specs.Tokens.{held}
-use Rattle.arachne_exec.specs.declared.view.Known.{Known}
+use Rattle.arachne_exec.specs.declared.view.Notes.{Notes}
 use Rattle.arachne_exec.specs.Layout.{ready_at, others, places_from, places_in_word}
 use Rattle.arachne_exec.specs.Board.{Board, IsLawful}
 use Rattle.arachne_exec.specs.Changes.{gaining, noted}
@@ -28,13 +28,13 @@ pub and_within : (word other : ℕ) → bit_and word (bit_and word other) ≡ bi
 and_within word other = sym (and_assoc other word word) ∙ ap (λ (z : ℕ). bit_and z other) (and_self word)
 
 -- a seat that is there has the view that it was given
-set_mine : (views : List (Token Known)) (id : ℕ) (v u : Token Known) → get_elem? views id ≡ some v → get_elem? (set views id u) id ≡ some u
+set_mine : (views : List (Token Notes)) (id : ℕ) (v u : Token Notes) → get_elem? views id ≡ some v → get_elem? (set views id u) id ≡ some u
 set_mine [] id v u e = absurd (some-ne-none v (sym e))
 set_mine (x ∷ xs) zero v u e = refl
 set_mine (x ∷ xs) (suc id) v u e = set_mine xs id v u e
 
 -- the bits from an index on, of so many, that were picked are cleared: the seat has the places of those that were set
-record Cleared (shards id w block pick : ℕ) (s : Board) (k : Known) (xs : List (ℕ × ℕ)) (i more : ℕ) : Type 0 where
+record Cleared (shards id w block pick : ℕ) (s : Board) (k : Notes) (xs : List (ℕ × ℕ)) (i more : ℕ) : Type 0 where
   pub jobs : List (ℕ × ℕ)
   pub act : Act ℕ
   pub word : ℕ
@@ -46,7 +46,7 @@ record Cleared (shards id w block pick : ℕ) (s : Board) (k : Known) (xs : List
   pub valid : Valid s.homes xs act
   pub lawful : IsLawful shards (stepped s (ready_at block) word id xs (held w (gaining jobs k)) act)
 
-module _ (shards id w block pick : ℕ) (inside : block < 64 * shards) (s : Board) (h : IsLawful shards s) (k l : Known) (xs : List (ℕ × ℕ)) (mine : get_elem? s.views id ≡ some (held w k))
+module _ (shards id w block pick : ℕ) (inside : block < 64 * shards) (s : Board) (h : IsLawful shards s) (k l : Notes) (xs : List (ℕ × ℕ)) (mine : get_elem? s.views id ≡ some (held w k))
     (small : get_or s.words (ready_at block) 0 < 2 ^ 64) (start : IsLawful shards (stepped s (ready_at block) (get_or s.words (ready_at block) 0) id xs (held w l) keeps)) where
   n : ℕ
   n = get_or s.words (ready_at block) 0
@@ -58,7 +58,7 @@ module _ (shards id w block pick : ℕ) (inside : block < 64 * shards) (s : Boar
       let both = bit_at_and (get_or s.words (ready_at block) 0) pick i in
       let set_there : bit_at (get_or s.words (ready_at block) 0) i ≡ 1 = omega (arith, both, there, bit_at-lt (get_or s.words (ready_at block) 0) i, bit_at-lt pick i) in
       let picked : bit_at pick i ≡ 1 = omega (arith, both, there, bit_at-lt (get_or s.words (ready_at block) 0) i, bit_at-lt pick i) in
-      let seat : Token Known = held w (gaining c.jobs l) in let carried : List (ℕ × ℕ) = carried_after xs c.act in
+      let seat : Token Notes = held w (gaining c.jobs l) in let carried : List (ℕ × ℕ) = carried_after xs c.act in
       let t : Board = stepped s (ready_at block) c.word id xs seat c.act in
       let word_is : get_or t.words (ready_at block) 0 ≡ c.word = get_or-set_same s.words (ready_at block) c.word 0 (omega (arith, h.keeper.sized, inside)) in
       let word_at : get_or t.words (ready_at (q / 64)) 0 ≡ c.word = ap (λ b. get_or t.words (ready_at b) 0) row ∙ word_is in
@@ -67,7 +67,7 @@ module _ (shards id w block pick : ℕ) (inside : block < 64 * shards) (s : Boar
       let told = (taken.4 q refl refl).0 bit_there in
       let now : ℕ = bit_and c.word (others i) in
       let words = (λ j. set t.words (ready_at (row j)) (bit_and (word_at j) (others (col j)))) ∙ set-set s.words (ready_at block) c.word now in
-      let views = set-set s.views id seat taken.0 ∙ ap (λ (m : Token Known × List (ℕ × ℕ)). set s.views id m.0) told.1 in
+      let views = set-set s.views id seat taken.0 ∙ ap (λ (m : Token Notes × List (ℕ × ℕ)). set s.views id m.0) told.1 in
       record {
         jobs = (q, told.0) ∷ c.jobs;
         act = chain c.act taken.1;
@@ -82,9 +82,9 @@ module _ (shards id w block pick : ℕ) (inside : block < 64 * shards) (s : Boar
         gone = λ j from inner is. dite (ℕ_discrete j i)
             (λ e. ap (bit_at now) e ∙ clear_same c.word i low)
             (λ ne. clear_other c.word i low j inner ne ∙ c.gone j (let apart : ¬ (j ≡ i) = ne in omega (arith, from, apart)) inner is);
-        carried = ap (λ (m : Token Known × List (ℕ × ℕ)). m.1) told.1 ∙ ap (λ (zs : List (ℕ × ℕ)). (q, told.0) ∷ zs) c.carried;
+        carried = ap (λ (m : Token Notes × List (ℕ × ℕ)). m.1) told.1 ∙ ap (λ (zs : List (ℕ × ℕ)). (q, told.0) ∷ zs) c.carried;
         valid = (c.valid, taken.2);
-        lawful = subst (λ (z : List ℕ × List (Token Known)). IsLawful shards (record { words = z.0; homes = homes_after s.homes xs (chain c.act taken.1); views = z.1 })) (λ j. (words j, views j)) taken.3;
+        lawful = subst (λ (z : List ℕ × List (Token Notes)). IsLawful shards (record { words = z.0; homes = homes_after s.homes xs (chain c.act taken.1); views = z.1 })) (λ j. (words j, views j)) taken.3;
       }
 
   -- it isn't
@@ -133,10 +133,10 @@ same_word n pick word small low below kept gone = same_from_bits_below 64 word (
     (λ is. let z = gone j (omega arith) inner is in omega (arith, both, other, is, z))
     (λ no. let z = not_one pick j no in let same = kept j inner (inr z) in omega (arith, both, other, z, same, b)))
 
-pub takes_many : (shards slots id w : ℕ) (k : Known) (xs : List (ℕ × ℕ)) (block pick : ℕ) → block < 64 * shards → pick < 2 ^ 64
+pub takes_many : (shards slots id w : ℕ) (k : Notes) (xs : List (ℕ × ℕ)) (block pick : ℕ) → block < 64 * shards → pick < 2 ^ 64
     → Allows (IsLawful shards) slots id (held w k, xs) (ready_at block) (λ n. bit_and n (2 ^ 64 - 1 - pick)) (TakesMany (step slots (ready_at block) (2 ^ 64 - 1 - pick) 0 none) (held w k, xs))
 takes_many shards slots id w k xs block pick inside low s h _ mine small =
-    let n : ℕ = get_or s.words (ready_at block) 0 in let l : Known = noted (ready_at block) n k in
+    let n : ℕ = get_or s.words (ready_at block) 0 in let l : Notes = noted (ready_at block) n k in
     let c = all shards id w block pick inside s h k l xs mine small (noting shards slots id w s h k mine xs (ready_at block) n) 64 0 refl in
     let is = same_word (get_or s.words (ready_at block) 0) pick c.word small low c.below c.kept c.gone in (
       held w (gaining c.jobs l),

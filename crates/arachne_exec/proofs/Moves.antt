@@ -15,7 +15,7 @@ use Rattle.atomic_table.specs.Table.{step, keeps, takes, gives, Act, Allows, ste
 use Rattle.atomic_table.proofs.Lists.{exchanged}
 use Rattle.arachne_weights.specs.declared.token.Token.{Token}
 use Rattle.arachne_weights.specs.Tokens.{held, learns}
-use Rattle.arachne_exec.specs.declared.view.Known.{Known}
+use Rattle.arachne_exec.specs.declared.view.Notes.{Notes}
 use Rattle.arachne_exec.specs.declared.view.Deed.{Deed}
 use Rattle.arachne_exec.specs.Layout.{idle_at, numbers_at, summary_at, ready_at, free_at, mark_at, retired, others, in_word}
 use Rattle.arachne_exec.specs.Board.{is_blocked, Board, HasOneKeeper, IsBalanced, IsShown, WakesSleepers, IsLawful}
@@ -47,23 +47,23 @@ was_set n k i e = let both = bit_at_and n (others k) i in let low = bit_at-lt n 
 pub some_number : (n : ℕ) → n ≢ 0 → 0 < n
 some_number n d = let apart : ¬ (n ≡ 0) = d in omega (arith, apart)
 
-same_job : (k : Known) (q x : ℕ) (ys : List (ℕ × ℕ)) → k.hand ≡ (q, x) ∷ ys → newest_job k.hand ≡ x
+same_job : (k : Notes) (q x : ℕ) (ys : List (ℕ × ℕ)) → k.hand ≡ (q, x) ∷ ys → newest_job k.hand ≡ x
 same_job k q x ys e = ap newest_job e
 
 module _ (shards slots id w : ℕ) where
   -- ---- a step that changes no word
 
-  pub unchanged : (k : Known) (xs : List (ℕ × ℕ)) (i : ℕ) (s : Board) → IsLawful shards (record { words = s.words; homes = s.homes; views = set s.views id (held w k) })
+  pub unchanged : (k : Notes) (xs : List (ℕ × ℕ)) (i : ℕ) (s : Board) → IsLawful shards (record { words = s.words; homes = s.homes; views = set s.views id (held w k) })
       → IsLawful shards (stepped s i (get_or s.words i 0) id xs (held w k) keeps)
   unchanged k xs i s h = subst (λ ws. IsLawful shards (record { words = ws; homes = s.homes; views = set s.views id (held w k) })) (sym (set-get_or s.words i 0)) h
 
-  module _ (s : Board) (h : IsLawful shards s) (k : Known) (mine : get_elem? s.views id ≡ some (held w k)) where
-    t : Token Known
+  module _ (s : Board) (h : IsLawful shards s) (k : Notes) (mine : get_elem? s.views id ≡ some (held w k)) where
+    t : Token Notes
     t = held w k
 
     -- what it has done is noted
     pub telling : (ds : List Deed) → IsLawful shards (record { words = s.words; homes = s.homes; views = set s.views id (held w (record k { deeds = ds })) })
-    telling ds = let l : Known = record k { deeds = ds } in record {
+    telling ds = let l : Notes = record k { deeds = ds } in record {
       shared = learns h.shared id w k l mine;
       keeper = keeps-view (64 * shards) s h.keeper id (held w k) mine (held w l) refl;
       balance = balanced-same s h.balance id (held w k) (held w l) mine s.words refl refl refl;
@@ -95,7 +95,7 @@ module _ (shards slots id w : ℕ) where
       same_shown never c = ap (λ x. bit_at x (c % 64)) (get_or-set_other s.words i (summary_at (c / 64)) now 0 (never (c / 64)))
 
       -- no block is shown or hidden, and nobody sleeps or is woken
-      module _ (l : Known) (homes : List (maybe.Option ℕ)) where
+      module _ (l : Notes) (homes : List (maybe.Option ℕ)) where
         pub quiet-shows : ((c : ℕ) → ready_at c ≢ i) → ((c : ℕ) → summary_at c ≢ i) → l.unshown ≡ k.unshown → IsShown (64 * shards) (record { words = set s.words i now; homes = homes; views = set s.views id (held w l) })
         quiet-shows none_ready none_shown same = shows-on (64 * shards) s h.shows id (held w k) (held w l) mine (set s.words i now) homes (same_ready none_ready) (same_shown none_shown) same
 
@@ -119,7 +119,7 @@ module _ (shards slots id w : ℕ) where
         (λ ne. let same = get_or-set_other s.words (summary_at d) (summary_at c) now 0 ne in omega (arith, some_shown, same))
 
     -- a mark that is written
-    module _ (q now : ℕ) (l : Known) (homes : List (maybe.Option ℕ)) where
+    module _ (q now : ℕ) (l : Notes) (homes : List (maybe.Option ℕ)) where
       mark-shows : l.unshown ≡ k.unshown → IsShown (64 * shards) (record { words = set s.words (mark_at q) now; homes = homes; views = set s.views id (held w l) })
       mark-shows same = quiet-shows (mark_at q) now l homes (λ c e. omega (arith, e)) (λ c e. omega (arith, e)) same
 
@@ -127,7 +127,7 @@ module _ (shards slots id w : ℕ) where
       mark-sleep owes worker seen = quiet-sleep (mark_at q) now l homes (λ e. omega (arith, e)) (λ e. omega (arith, e)) (λ c e. omega (arith, e)) owes worker seen
 
     -- a ready bit that is set: the place was in hand
-    module _ (q x y : ℕ) (within : q < 64 * (64 * shards)) (l : Known) where
+    module _ (q x y : ℕ) (within : q < 64 * (64 * shards)) (l : Notes) where
       ready-law : (now : ℕ) → now ≡ bit_or (get_or s.words (ready_at (q / 64)) 0) (2 ^ (q % 64)) → k.hand ≡ (q, x) ∷ l.hand
           → IsBalanced (record { words = set s.words (ready_at (q / 64)) now; homes = set s.homes q (some y); views = set s.views id (held w l) }) → l.woken ≡ k.woken → l.heard ≡ k.heard
           → IsShown (64 * shards) (record { words = set s.words (ready_at (q / 64)) now; homes = set s.homes q (some y); views = set s.views id (held w l) })
@@ -160,14 +160,14 @@ module _ (shards slots id w : ℕ) where
 
   -- ---- looks, and bits that are cleared
 
-  pub looks : (k : Known) (xs : List (ℕ × ℕ)) (i : ℕ) → Allows (IsLawful shards) slots id (held w k, xs) i (λ n. n) (Looks (step slots i 0 0 none) (held w k, xs))
+  pub looks : (k : Notes) (xs : List (ℕ × ℕ)) (i : ℕ) → Allows (IsLawful shards) slots id (held w k, xs) i (λ n. n) (Looks (step slots i 0 0 none) (held w k, xs))
   looks k xs i s h _ mine _ = (held w (noted i (get_or s.words i 0) k), keeps, tt, noting s h k mine xs i (get_or s.words i 0), refl)
 
-  pub takes_ready : (k : Known) (xs : List (ℕ × ℕ)) (q : ℕ) → q < 64 * (64 * shards)
+  pub takes_ready : (k : Notes) (xs : List (ℕ × ℕ)) (q : ℕ) → q < 64 * (64 * shards)
       → Allows (IsLawful shards) slots id (held w k, xs) (ready_at (q / 64)) (λ n. bit_and n (others (q % 64))) (Takes (step slots (ready_at (q / 64)) (others (q % 64)) 0 none) (held w k, xs))
   takes_ready k xs q within s h _ mine small =
       let i : ℕ = ready_at (q / 64) in let n : ℕ = get_or s.words i 0 in let now : ℕ = bit_and n (others (q % 64)) in let m : Mine = (held w k, xs) in dite (ℕ_discrete (bit_at n (q % 64)) 1)
-      (λ there. let job = home-of-ready (64 * shards) s h.keeper id (held w k) mine q within there in let l : Known = gained q job.0 k in (
+      (λ there. let job = home-of-ready (64 * shards) s h.keeper id (held w k) mine q within there in let l : Notes = gained q job.0 k in (
         held w l,
         takes q job.0,
         job.1,
@@ -196,11 +196,11 @@ module _ (shards slots id w : ℕ) where
         ),
       ))
 
-  pub claims : (k : Known) (xs : List (ℕ × ℕ)) (q : ℕ) → q < 64 * (64 * shards)
+  pub claims : (k : Notes) (xs : List (ℕ × ℕ)) (q : ℕ) → q < 64 * (64 * shards)
       → Allows (IsLawful shards) slots id (held w k, xs) (free_at (q / 64)) (λ n. bit_and n (others (q % 64))) (Claims free_at (step slots (free_at (q / 64)) (others (q % 64)) 0 none) (held w k, xs))
   claims k xs q within s h _ mine small =
       let i : ℕ = free_at (q / 64) in let n : ℕ = get_or s.words i 0 in let now : ℕ = bit_and n (others (q % 64)) in let m : Mine = (held w k, xs) in dite (ℕ_discrete (bit_at n (q % 64)) 1)
-      (λ there. let empty = h.keeper.empty q within there in let l : Known = gained q 0 k in (
+      (λ there. let empty = h.keeper.empty q within there in let l : Notes = gained q 0 k in (
         held w l,
         takes q 0,
         empty,
@@ -230,7 +230,7 @@ module _ (shards slots id w : ℕ) where
 
   -- ---- the newest place is put somewhere
 
-  module _ (k : Known) (q x : ℕ) (xs : List (ℕ × ℕ)) (hand : k.hand ≡ (q, x) ∷ older k.hand) (within : q < 64 * (64 * shards)) where
+  module _ (k : Notes) (q x : ℕ) (xs : List (ℕ × ℕ)) (hand : k.hand ≡ (q, x) ∷ older k.hand) (within : q < 64 * (64 * shards)) where
     module _ (s : Board) (h : IsLawful shards s) (mine : get_elem? s.views id ≡ some (held w k)) where
       out : get_elem? s.homes q ≡ some none
       out = h.keeper.away q within (in-hand (64 * shards) s h.keeper id (held w k) mine q x (older k.hand) hand)
@@ -243,7 +243,7 @@ module _ (shards slots id w : ℕ) where
 
     pub frees : Allows (IsLawful shards) slots id (held w k, (q, 0) ∷ xs) (free_at (q / 64)) (λ n. bit_or n (2 ^ (q % 64))) (Frees (step slots (free_at (q / 64)) (2 ^ (q % 64)) 0 none) (held w k, (q, 0) ∷ xs))
     frees s h _ mine small =
-        let i : ℕ = free_at (q / 64) in let now : ℕ = bit_or (get_or s.words i 0) (2 ^ (q % 64)) in let l : Known = ending k in (
+        let i : ℕ = free_at (q / 64) in let now : ℕ = bit_or (get_or s.words i 0) (2 ^ (q % 64)) in let l : Notes = ending k in (
           held w l,
           gives,
           tt,
@@ -261,7 +261,7 @@ module _ (shards slots id w : ℕ) where
     pub readies : k.unshown ≡ 0 → Allows (IsLawful shards) slots id (held w k, (q, x) ∷ xs) (ready_at (q / 64)) (λ n. bit_or n (2 ^ (q % 64))) (Readies (step slots (ready_at (q / 64)) (2 ^ (q % 64)) 0 none) (held w k, (q, x) ∷ xs))
     readies shown s h _ mine small =
         let d : ℕ = q / 64 in let n : ℕ = get_or s.words (ready_at d) 0 in let now : ℕ = bit_or n (2 ^ (q % 64)) in let m : Mine = (held w k, (q, x) ∷ xs) in dite (ℕ_discrete n 0)
-        (λ empty. let l : Known = unshowing (d + 1) (readying k) in (
+        (λ empty. let l : Notes = unshowing (d + 1) (readying k) in (
           held w l,
           gives,
           tt,
@@ -272,7 +272,7 @@ module _ (shards slots id w : ℕ) where
             λ full. absurd (full empty),
           ),
         ))
-        (λ full. let l : Known = readying k in (
+        (λ full. let l : Notes = readying k in (
           held w l,
           gives,
           tt,
@@ -285,8 +285,8 @@ module _ (shards slots id w : ℕ) where
     pub blocks_at : (old new : ℕ) → old % 4 ≡ 0 → new ≡ old + 2 → Allows (IsLawful shards) slots id (held w k, (q, x) ∷ xs) (mark_at q) (λ n. either (eqb n old) new n) (Blocks (step slots (mark_at q) old new none) (held w k, (q, x) ∷ xs))
     blocks_at old new unwoken is s h _ mine small =
         let i : ℕ = mark_at q in let n : ℕ = get_or s.words i 0 in let m : Mine = (held w k, (q, x) ∷ xs) in
-        exchanged n old new (λ y. (u : Token Known) × (a : Act ℕ) × Valid s.homes m.1 a × IsLawful shards (stepped s i y id m.1 u a) × Blocks (step slots i old new none) m n (u, carried_after m.1 a))
-        (λ hit. let l : Known = blocking k in (
+        exchanged n old new (λ y. (u : Token Notes) × (a : Act ℕ) × Valid s.homes m.1 a × IsLawful shards (stepped s i y id m.1 u a) × Blocks (step slots i old new none) m n (u, carried_after m.1 a))
+        (λ hit. let l : Notes = blocking k in (
           held w l,
           gives,
           tt,
@@ -303,7 +303,7 @@ module _ (shards slots id w : ℕ) where
         (λ miss. (held w (noted i n k), keeps, tt, noting s h k mine m.1 i n, ((λ hit. absurd (miss hit)), (λ _. refl), omega (arith, unwoken, is))))
 
     -- a new mark, by who has the place
-    module _ (new : ℕ) (clear : new % 2 ≡ 0) (s : Board) (h : IsLawful shards s) (mine : get_elem? s.views id ≡ some (held w k)) (l : Known) where
+    module _ (new : ℕ) (clear : new % 2 ≡ 0) (s : Board) (h : IsLawful shards s) (mine : get_elem? s.views id ≡ some (held w k)) (l : Notes) where
       renewed : new / 2 % 2 ≡ 0 → l.hand ≡ k.hand → l.spawned ≡ k.spawned → l.ended ≡ k.ended → l.woken ≡ k.woken → l.heard ≡ (hearing (get_or s.words (mark_at q) 0 % 2) q k).heard → l.unshown ≡ k.unshown
           → l.owes ≡ k.owes → l.worker ≡ k.worker → l.seen ≡ k.seen
           → IsLawful shards (record { words = set s.words (mark_at q) new; homes = s.homes; views = set s.views id (held w l) })
@@ -319,7 +319,7 @@ module _ (shards slots id w : ℕ) where
     module _ (y : ℕ) where
       pub renews : (new : ℕ) → new % 4 ≡ 0 → Allows (IsLawful shards) slots id (held w k, (q, y) ∷ xs) (mark_at q) (λ _. new) (Renews (step slots (mark_at q) new 0 none) (held w k, (q, y) ∷ xs))
       renews new clear s h _ mine small =
-          let n : ℕ = get_or s.words (mark_at q) 0 in let l : Known = noted (mark_at q) new (hearing (n % 2) q k) in let m : Mine = (held w k, (q, y) ∷ xs) in (
+          let n : ℕ = get_or s.words (mark_at q) 0 in let l : Notes = noted (mark_at q) new (hearing (n % 2) q k) in let m : Mine = (held w k, (q, y) ∷ xs) in (
             held w l,
             keeps,
             tt,
@@ -329,7 +329,7 @@ module _ (shards slots id w : ℕ) where
 
     pub retires : (new : ℕ) → new % 4 ≡ 2 → new ≡ retired → Allows (IsLawful shards) slots id (held w k, (q, 0) ∷ xs) (mark_at q) (λ _. new) (Retires (step slots (mark_at q) new 0 none) (held w k, (q, 0) ∷ xs))
     retires new is gone s h _ mine small =
-        let n : ℕ = get_or s.words (mark_at q) 0 in let l : Known = ending (hearing (n % 2) q k) in let m : Mine = (held w k, (q, 0) ∷ xs) in (
+        let n : ℕ = get_or s.words (mark_at q) 0 in let l : Notes = ending (hearing (n % 2) q k) in let m : Mine = (held w k, (q, 0) ∷ xs) in (
           held w l,
           gives,
           tt,
@@ -358,7 +358,7 @@ module _ (shards slots id w : ℕ) where
 
       pub hears_wake : Allows (IsLawful shards) slots id (held w k, (q, y) ∷ xs) (mark_at q) (λ n. bit_and n (2 ^ 64 - 1 - 3)) (Hears (step slots (mark_at q) (2 ^ 64 - 1 - 3) 0 none) (held w k, (q, y) ∷ xs))
       hears_wake s h _ mine small =
-          let n : ℕ = get_or s.words (mark_at q) 0 in let l : Known = hearing (n % 2) q k in let m : Mine = (held w k, (q, y) ∷ xs) in (
+          let n : ℕ = get_or s.words (mark_at q) 0 in let l : Notes = hearing (n % 2) q k in let m : Mine = (held w k, (q, y) ∷ xs) in (
             held w l,
             keeps,
             tt,
@@ -367,12 +367,12 @@ module _ (shards slots id w : ℕ) where
           )
 
   -- a job that was laid into the slot of a place which had none
-  pub spawns : (k : Known) (q y : ℕ) (xs : List (ℕ × ℕ)) → k.hand ≡ (q, 0) ∷ older k.hand → q < 64 * (64 * shards) → k.unshown ≡ 0
+  pub spawns : (k : Notes) (q y : ℕ) (xs : List (ℕ × ℕ)) → k.hand ≡ (q, 0) ∷ older k.hand → q < 64 * (64 * shards) → k.unshown ≡ 0
       → Allows (IsLawful shards) slots id (held w k, (q, y) ∷ xs) (ready_at (q / 64)) (λ n. bit_or n (2 ^ (q % 64))) (Spawns (step slots (ready_at (q / 64)) (2 ^ (q % 64)) 0 none) (held w k, (q, y) ∷ xs))
   spawns k q y xs hand within shown s h _ mine small =
       let d : ℕ = q / 64 in let n : ℕ = get_or s.words (ready_at d) 0 in let now : ℕ = bit_or n (2 ^ (q % 64)) in let m : Mine = (held w k, (q, y) ∷ xs) in
       let away = out k q 0 xs hand within s h mine in dite (ℕ_discrete n 0)
-      (λ empty. let l : Known = unshowing (d + 1) (spawning y k) in (
+      (λ empty. let l : Notes = unshowing (d + 1) (spawning y k) in (
         held w l,
         gives,
         tt,
@@ -383,7 +383,7 @@ module _ (shards slots id w : ℕ) where
           λ full. absurd (full empty),
         ),
       ))
-      (λ full. let l : Known = spawning y k in (
+      (λ full. let l : Notes = spawning y k in (
         held w l,
         gives,
         tt,
@@ -393,10 +393,10 @@ module _ (shards slots id w : ℕ) where
       ))
 
   -- the same, where the place stays in hand
-  pub begins : (k : Known) (q y : ℕ) (xs : List (ℕ × ℕ)) (i : ℕ) → k.hand ≡ (q, 0) ∷ older k.hand
+  pub begins : (k : Notes) (q y : ℕ) (xs : List (ℕ × ℕ)) (i : ℕ) → k.hand ≡ (q, 0) ∷ older k.hand
       → Allows (IsLawful shards) slots id (held w k, (q, y) ∷ xs) i (λ n. n) (Begins (step slots i 0 0 none) (held w k, (q, y) ∷ xs))
   begins k q y xs i hand s h _ mine small =
-      let n : ℕ = get_or s.words i 0 in let l : Known = beginning y (noted i n k) in
+      let n : ℕ = get_or s.words i 0 in let l : Notes = beginning y (noted i n k) in
       let now : l.hand ≡ (q, y) ∷ older k.hand = ap (λ (zs : List (ℕ × ℕ)). (newest_place zs, y) ∷ older k.hand) hand in (
         held w l,
         keeps,
@@ -414,13 +414,13 @@ module _ (shards slots id w : ℕ) where
 
   -- ---- a wake
 
-  module _ (k : Known) (xs : List (ℕ × ℕ)) (q : ℕ) (within : q < 64 * (64 * shards)) (old new : ℕ) where
+  module _ (k : Notes) (xs : List (ℕ × ℕ)) (q : ℕ) (within : q < 64 * (64 * shards)) (old new : ℕ) where
     pub wakes : old % 4 ≡ 2 → new ≡ old - 2 → Allows (IsLawful shards) slots id (held w k, xs) (mark_at q) (λ n. either (eqb n old) new n) (Wakes (step slots (mark_at q) old new none) (held w k, xs))
     wakes was now s h _ mine small =
         let i : ℕ = mark_at q in let n : ℕ = get_or s.words i 0 in let m : Mine = (held w k, xs) in
-        exchanged n old new (λ y. (u : Token Known) × (a : Act ℕ) × Valid s.homes m.1 a × IsLawful shards (stepped s i y id m.1 u a) × Wakes (step slots i old new none) m n (u, carried_after m.1 a))
+        exchanged n old new (λ y. (u : Token Notes) × (a : Act ℕ) × Valid s.homes m.1 a × IsLawful shards (stepped s i y id m.1 u a) × Wakes (step slots i old new none) m n (u, carried_after m.1 a))
         (λ hit. let is_there : is_blocked s.words q ≡ 1 = ap (λ z. z / 2 % 2) hit ∙ omega (arith, was) in
-        let job = home-of-blocked (64 * shards) s h.keeper id (held w k) mine q within is_there in let l : Known = unblocking q job.0 k in (
+        let job = home-of-blocked (64 * shards) s h.keeper id (held w k) mine q within is_there in let l : Notes = unblocking q job.0 k in (
           held w l,
           takes q job.0,
           job.1,
@@ -441,8 +441,8 @@ module _ (shards slots id w : ℕ) where
     pub marks : old % 4 ≡ 0 → new ≡ old + 1 → Allows (IsLawful shards) slots id (held w k, xs) (mark_at q) (λ n. either (eqb n old) new n) (Marks (step slots (mark_at q) old new none) (held w k, xs))
     marks was now s h _ mine small =
         let i : ℕ = mark_at q in let n : ℕ = get_or s.words i 0 in let m : Mine = (held w k, xs) in
-        exchanged n old new (λ y. (u : Token Known) × (a : Act ℕ) × Valid s.homes m.1 a × IsLawful shards (stepped s i y id m.1 u a) × Marks (step slots i old new none) m n (u, carried_after m.1 a))
-        (λ hit. let l : Known = marking q k in (
+        exchanged n old new (λ y. (u : Token Notes) × (a : Act ℕ) × Valid s.homes m.1 a × IsLawful shards (stepped s i y id m.1 u a) × Marks (step slots i old new none) m n (u, carried_after m.1 a))
+        (λ hit. let l : Notes = marking q k in (
           held w l,
           keeps,
           tt,

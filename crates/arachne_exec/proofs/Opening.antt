@@ -13,7 +13,7 @@ use Rattle.atomic_table.proofs.Lists.{set_else, at_set, at_snoc, some_there}
 use Rattle.arachne_weights.specs.declared.token.Token.{Token}
 use Rattle.arachne_weights.specs.Tokens.{held, spent, begins, splits, joins}
 use Rattle.arachne_weights.proofs.Totals.{total-set, total-snoc}
-use Rattle.arachne_exec.specs.declared.view.Known.{Known}
+use Rattle.arachne_exec.specs.declared.view.Notes.{Notes}
 use Rattle.arachne_exec.specs.Layout.{ready_at, free_at, mark_at}
 use Rattle.arachne_exec.specs.Board.{is_free, is_ready, is_blocked, one, times, places_in, jobs_in, by_all, in_hands, seats_of, Board, IsLawful, blank, first_view, is_number, at_home}
 use Rattle.arachne_exec.specs.Changes.{first_of, second_of, together, both_of}
@@ -29,7 +29,7 @@ full_at i ne e = ap (λ b. if b then 2 ^ 64 - 1 else (if i % 96 == 32 then 2 ^ 6
 empty_at : (i : ℕ) → i ≢ 8 → i % 96 ≢ 32 → first_word i ≡ 0
 empty_at i ne d = ap (λ b. if b then 2 ^ 64 - 1 else (if i % 96 == 32 then 2 ^ 64 - 1 else 0)) (ne_eqb i 8 ne) ∙ ap (λ b. if b then 2 ^ 64 - 1 else 0) (ne_eqb (i % 96) 32 d)
 
-the_one : (h : ℕ) (v : Token Known) → get_elem? (first_view ∷ []) h ≡ some v → first_view ≡ v
+the_one : (h : ℕ) (v : Token Notes) → get_elem? (first_view ∷ []) h ≡ some v → first_view ≡ v
 the_one zero v e = some-injective first_view v e
 the_one (suc h) v e = absurd (some-ne-none v (sym e))
 
@@ -67,13 +67,13 @@ opens shards ws xs a slots clear = record {
   };
   balance = record {
     balanced = λ job some_job. let n : at_home job (map some xs) ≡ 0 = none_home job xs some_job clear in
-        let p : by_all (λ (k : Known). times job k.spawned) (first_view ∷ []) ≡ 0 = refl in let t : by_all (λ (k : Known). times job k.ended) (first_view ∷ []) ≡ 0 = refl in
-        let d : by_all (λ (k : Known). jobs_in job k.hand) (first_view ∷ []) ≡ 0 = refl in omega (arith, n, p, t, d);
+        let p : by_all (λ (k : Notes). times job k.spawned) (first_view ∷ []) ≡ 0 = refl in let t : by_all (λ (k : Notes). times job k.ended) (first_view ∷ []) ≡ 0 = refl in
+        let d : by_all (λ (k : Notes). jobs_in job k.hand) (first_view ∷ []) ≡ 0 = refl in omega (arith, n, p, t, d);
   };
   hears = record {
     marks = λ p inside.
         let m : get_or ws (mark_at p) 0 ≡ 0 = a.1 (mark_at p) (omega (arith, inside)) ∙ empty_at (mark_at p) (λ e. omega (arith, e)) (λ e. omega (arith, e)) in
-        let w : by_all (λ (k : Known). times p k.woken) (first_view ∷ []) ≡ 0 = refl in let d : by_all (λ (k : Known). times p k.heard) (first_view ∷ []) ≡ 0 = refl in omega (arith, m, w, d);
+        let w : by_all (λ (k : Notes). times p k.woken) (first_view ∷ []) ≡ 0 = refl in let d : by_all (λ (k : Notes). times p k.heard) (first_view ∷ []) ≡ 0 = refl in omega (arith, m, w, d);
   };
   shows = record {
     shown = λ c inside some_ready.
@@ -84,29 +84,29 @@ opens shards ws xs a slots clear = record {
         let f : bit_at (get_or ws 8 0) w ≡ 1 = ap (λ x. bit_at x w) (a.1 8 (omega arith) ∙ full) ∙ bit_at_ones 64 w low in
         let n : seats_of w (first_view ∷ []) ≡ one 0 (w + 1) = omega arith in
         omega (arith, f, n, one_zero w);
-    near = λ h v there. subst (λ (x : Token Known). x.known.worker ≤ 64) (the_one h v there) (omega arith);
-    awake = λ h v there w k is below. let none_seen : v.known.seen ≡ 0 = ap (λ (x : Token Known). x.known.seen) (sym (the_one h v there)) in absurd (omega (arith, below, none_seen));
+    near = λ h v there. subst (λ (x : Token Notes). x.known.worker ≤ 64) (the_one h v there) (omega arith);
+    awake = λ h v there w k is below. let none_seen : v.known.seen ≡ 0 = ap (λ (x : Token Notes). x.known.seen) (sym (the_one h v there)) in absurd (omega (arith, below, none_seen));
   };
 }
 
 -- ---- totals over seats that are split and joined
 
-module _ (f : Known → ℕ) (none_blank : f blank ≡ 0) where
-  split-total : (views : List (Token Known)) (id w : ℕ) (k : Known) → get_elem? views id ≡ some (held w k)
+module _ (f : Notes → ℕ) (none_blank : f blank ≡ 0) where
+  split-total : (views : List (Token Notes)) (id w : ℕ) (k : Notes) → get_elem? views id ≡ some (held w k)
       → by_all f (set views id (first_of (held w k)) ++ second_of (held w k) ∷ []) ≡ by_all f views
   split-total views id w k mine =
-      let one_ = total-set (λ (t : Token Known). f t.known) views id (held w k) (first_of (held w k)) mine in
-      let two = total-snoc (λ (t : Token Known). f t.known) (set views id (first_of (held w k))) (second_of (held w k)) in omega (arith, one_, two, none_blank)
+      let one_ = total-set (λ (t : Token Notes). f t.known) views id (held w k) (first_of (held w k)) mine in
+      let two = total-snoc (λ (t : Token Notes). f t.known) (set views id (first_of (held w k))) (second_of (held w k)) in omega (arith, one_, two, none_blank)
 
-  join-total : (views : List (Token Known)) (id w other x : ℕ) (k l : Known) → get_elem? views id ≡ some (held w k) → other ≢ id → get_elem? views other ≡ some (held x l)
+  join-total : (views : List (Token Notes)) (id w other x : ℕ) (k l : Notes) → get_elem? views id ≡ some (held w k) → other ≢ id → get_elem? views other ≡ some (held x l)
       → f (together k l) ≡ f k + f l
       → by_all f (set (set views id (both_of (held w k) (held x l))) other (spent blank)) ≡ by_all f views
   join-total views id w other x k l mine apart from sum =
       let there = set_else views id other (both_of (held w k) (held x l)) apart ∙ from in
-      let one_ = total-set (λ (t : Token Known). f t.known) views id (held w k) (both_of (held w k) (held x l)) mine in
-      let two = total-set (λ (t : Token Known). f t.known) (set views id (both_of (held w k) (held x l))) other (held x l) (spent blank) there in omega (arith, one_, two, none_blank, sum)
+      let one_ = total-set (λ (t : Token Notes). f t.known) views id (held w k) (both_of (held w k) (held x l)) mine in
+      let two = total-set (λ (t : Token Notes). f t.known) (set views id (both_of (held w k) (held x l))) other (held x l) (spent blank) there in omega (arith, one_, two, none_blank, sum)
 
-deals-law : (shards id w : ℕ) (k : Known) (s : Board) → IsLawful shards s → get_elem? s.views id ≡ some (held w k)
+deals-law : (shards id w : ℕ) (k : Notes) (s : Board) → IsLawful shards s → get_elem? s.views id ≡ some (held w k)
     → IsLawful shards (record { words = s.words; homes = s.homes; views = set s.views id (first_of (held w k)) ++ second_of (held w k) ∷ [] })
 deals-law shards id w k s h mine = record {
   shared = splits h.shared id w k k blank mine;
@@ -133,26 +133,26 @@ deals-law shards id w k s h mine = record {
   sleep = record {
     single = λ j low. let same = split-total (λ l. one l.worker (j + 1)) (one_zero j) s.views id w k mine in let old = h.sleep.single j low in omega (arith, old, same);
     near = λ j x there. ⊎_elim
-        (λ old. ⊎_elim (λ t. subst (λ (y : Token Known). y.known.worker ≤ 64) t.1 (h.sleep.near id (held w k) mine)) (λ t. h.sleep.near j x t.1) (at_set s.views id j (first_of (held w k)) x old))
-        (λ new. subst (λ (y : Token Known). y.known.worker ≤ 64) new (omega arith))
+        (λ old. ⊎_elim (λ t. subst (λ (y : Token Notes). y.known.worker ≤ 64) t.1 (h.sleep.near id (held w k) mine)) (λ t. h.sleep.near j x t.1) (at_set s.views id j (first_of (held w k)) x old))
+        (λ new. subst (λ (y : Token Notes). y.known.worker ≤ 64) new (omega arith))
         (at_snoc (set s.views id (first_of (held w k))) (second_of (held w k)) x j there);
     awake = λ j x there g n is below idle some_ready.
         let same = split-total (λ l. one l.owes (g + 64 * n + 1)) (one_zero (g + 64 * n)) s.views id w k mine in ⊎_elim
         (λ old. ⊎_elim
-        (λ t. let is_mine = ap (λ (y : Token Known). y.known.worker) t.1 ∙ is in let within : n < k.seen = subst (λ (y : Token Known). n < y.known.seen) (sym t.1) below in
+        (λ t. let is_mine = ap (λ (y : Token Notes). y.known.worker) t.1 ∙ is in let within : n < k.seen = subst (λ (y : Token Notes). n < y.known.seen) (sym t.1) below in
         let was = h.sleep.awake id (held w k) mine g n is_mine within idle some_ready in omega (arith, was, same))
         (λ t. let was = h.sleep.awake j x t.1 g n is below idle some_ready in omega (arith, was, same))
         (at_set s.views id j (first_of (held w k)) x old))
-        (λ new. let none_seen : x.known.seen ≡ 0 = ap (λ (y : Token Known). y.known.seen) (sym new) in absurd (omega (arith, below, none_seen)))
+        (λ new. let none_seen : x.known.seen ≡ 0 = ap (λ (y : Token Notes). y.known.seen) (sym new) in absurd (omega (arith, below, none_seen)))
         (at_snoc (set s.views id (first_of (held w k))) (second_of (held w k)) x j there);
   };
 }
 
-pub deals : (shards id w : ℕ) (k : Known) → Splits (IsLawful shards) id (held w k) (first_of (held w k)) (second_of (held w k))
+pub deals : (shards id w : ℕ) (k : Notes) → Splits (IsLawful shards) id (held w k) (first_of (held w k)) (second_of (held w k))
 deals shards id w k s h mine = deals-law shards id w k s h mine
 
 -- a seat that is taken in has an empty hand, no number, and owes nothing
-module _ (shards id w other x : ℕ) (k l : Known) (nothing : (l.hand ≡ []) × (l.worker ≡ 0) × (l.unshown ≡ 0) × (l.owes ≡ 0)) where
+module _ (shards id w other x : ℕ) (k l : Notes) (nothing : (l.hand ≡ []) × (l.worker ≡ 0) × (l.unshown ≡ 0) × (l.owes ≡ 0)) where
   gathers-law : (s : Board) → IsLawful shards s → get_elem? s.views id ≡ some (held w k) → other ≢ id → get_elem? s.views other ≡ some (held x l)
       → IsLawful shards (record { words = s.words; homes = s.homes; views = set (set s.views id (both_of (held w k) (held x l))) other (spent blank) })
   gathers-law s h mine apart from =
@@ -190,13 +190,13 @@ module _ (shards id w other x : ℕ) (k l : Known) (nothing : (l.hand ≡ []) ×
               let same = join-total (λ m. one m.worker (j + 1)) (one_zero j) s.views id w other x k l mine apart from (let e = ap (λ n. one n (j + 1)) nothing.1 ∙ one_zero j in omega (arith, e)) in
               let old = h.sleep.single j low in omega (arith, old, same);
           near = λ j y there. ⊎_elim
-              (λ t. subst (λ (z : Token Known). z.known.worker ≤ 64) t.1 (omega arith))
-              (λ t. ⊎_elim (λ u. subst (λ (z : Token Known). z.known.worker ≤ 64) u.1 (h.sleep.near id (held w k) mine)) (λ u. h.sleep.near j y u.1) (at_set s.views id j (both_of (held w k) (held x l)) y t.1))
+              (λ t. subst (λ (z : Token Notes). z.known.worker ≤ 64) t.1 (omega arith))
+              (λ t. ⊎_elim (λ u. subst (λ (z : Token Notes). z.known.worker ≤ 64) u.1 (h.sleep.near id (held w k) mine)) (λ u. h.sleep.near j y u.1) (at_set s.views id j (both_of (held w k) (held x l)) y t.1))
               (at_set (set s.views id (both_of (held w k) (held x l))) other j (spent blank) y there);
           awake = λ j y there g n is below idle some_ready. let same = owes_of (g + 64 * n) in ⊎_elim
-              (λ t. let none_seen : y.known.seen ≡ 0 = ap (λ (z : Token Known). z.known.seen) (sym t.1) in absurd (omega (arith, below, none_seen)))
+              (λ t. let none_seen : y.known.seen ≡ 0 = ap (λ (z : Token Notes). z.known.seen) (sym t.1) in absurd (omega (arith, below, none_seen)))
               (λ t. ⊎_elim
-              (λ u. let is_mine = ap (λ (z : Token Known). z.known.worker) u.1 ∙ is in let within : n < k.seen = subst (λ (z : Token Known). n < z.known.seen) (sym u.1) below in
+              (λ u. let is_mine = ap (λ (z : Token Notes). z.known.worker) u.1 ∙ is in let within : n < k.seen = subst (λ (z : Token Notes). n < z.known.seen) (sym u.1) below in
               let was = h.sleep.awake id (held w k) mine g n is_mine within idle some_ready in omega (arith, was, same))
               (λ u. let was = h.sleep.awake j y u.1 g n is below idle some_ready in omega (arith, was, same))
               (at_set s.views id j (both_of (held w k) (held x l)) y t.1))

@@ -9,7 +9,7 @@ use native.Mathlib.Decide.{ℕ_discrete}
 use lib.ListN.{get_elem?}
 use Rattle.atomic_table.specs.Table.{step, keeps, Allows, stepped}
 use Rattle.arachne_weights.specs.Tokens.{held, learns}
-use Rattle.arachne_exec.specs.declared.view.Known.{Known}
+use Rattle.arachne_exec.specs.declared.view.Notes.{Notes}
 use Rattle.arachne_exec.specs.Layout.{idle_at, numbers_at, summary_at, ready_at, worker_of, others, in_word}
 use Rattle.arachne_exec.specs.Board.{is_idle, Board, IsShown, WakesSleepers, IsLawful}
 use Rattle.arachne_exec.specs.Changes.{noted, rousing, unshowing, owing, having_seen, working}
@@ -24,7 +24,7 @@ use Rattle.arachne_exec.proofs.Sleeping.{seats-same, keeps-sleep, sleeps-on}
 use Rattle.arachne_exec.proofs.Moves.{summary_apart, clash, was_set, some_number, unchanged, stays, unmarked, sunk, same_ready, quiet-shows, noting}
 
 module _ (shards slots id w : ℕ) where
-  module _ (s : Board) (h : IsLawful shards s) (k l : Known) (mine : get_elem? s.views id ≡ some (held w k)) (hand : l.hand ≡ k.hand) (spawned : l.spawned ≡ k.spawned) (ended : l.ended ≡ k.ended)
+  module _ (s : Board) (h : IsLawful shards s) (k l : Notes) (mine : get_elem? s.views id ≡ some (held w k)) (hand : l.hand ≡ k.hand) (spawned : l.spawned ≡ k.spawned) (ended : l.ended ≡ k.ended)
       (woken : l.woken ≡ k.woken) (heard : l.heard ≡ k.heard) where
     -- no word changes
     view-law : IsShown (64 * shards) (record { words = s.words; homes = s.homes; views = set s.views id (held w l) }) → WakesSleepers (record { words = s.words; homes = s.homes; views = set s.views id (held w l) })
@@ -64,7 +64,7 @@ module _ (shards slots id w : ℕ) where
 
   -- ---- the summary word
 
-  module _ (k : Known) (xs : List (ℕ × ℕ)) (block : ℕ) (within : block < 64 * shards) where
+  module _ (k : Notes) (xs : List (ℕ × ℕ)) (block : ℕ) (within : block < 64 * shards) where
     -- the seat has paid for the block, and no word changes
     paid-law : (s : Board) → IsLawful shards s → get_elem? s.views id ≡ some (held w k) → k.unshown ≡ block + 1 → (0 < get_or s.words (ready_at block) 0 → in_word summary_at s.words block ≡ 1)
         → IsLawful shards (record { words = s.words; homes = s.homes; views = set s.views id (held w (unshowing 0 k)) })
@@ -104,7 +104,7 @@ module _ (shards slots id w : ℕ) where
         (λ full. (held w k, keeps, tt, stays shards slots id w s h k mine xs i, ((λ empty. absurd (full empty)), λ _. refl)))
 
     -- the block's bit is set
-    module _ (s : Board) (h : IsLawful shards s) (mine : get_elem? s.views id ≡ some (held w k)) (debt : k.unshown ≡ block + 1) (l : Known) (paid : l.unshown ≡ 0) where
+    module _ (s : Board) (h : IsLawful shards s) (mine : get_elem? s.views id ≡ some (held w k)) (debt : k.unshown ≡ block + 1) (l : Notes) (paid : l.unshown ≡ 0) where
       shown-now : let now : ℕ = bit_or (get_or s.words (summary_at (block / 64)) 0) (2 ^ (block % 64)) in
           IsShown (64 * shards) (record { words = set s.words (summary_at (block / 64)) now; homes = s.homes; views = set s.views id (held w l) })
       shown-now =
@@ -120,7 +120,7 @@ module _ (shards slots id w : ℕ) where
     shows debt free s h _ mine small =
         let d : ℕ = block / 64 in let i : ℕ = summary_at d in let n : ℕ = get_or s.words i 0 in let now : ℕ = bit_or n (2 ^ (block % 64)) in let m : Mine = (held w k, xs) in
         let numbers = get_or-set_other s.words i numbers_at now 0 (λ e. omega (arith, e)) in let idles = get_or-set_other s.words i idle_at now 0 (λ e. omega (arith, e)) in dite (ℕ_discrete n 0)
-        (λ empty. let l : Known = owing (d + 1) (unshowing 0 k) in (
+        (λ empty. let l : Notes = owing (d + 1) (unshowing 0 k) in (
           held w l,
           keeps,
           tt,
@@ -135,7 +135,7 @@ module _ (shards slots id w : ℕ) where
               (λ j c is below. inl (is, below))),
           λ c at. let same : d ≡ c / 64 = summary_apart d (c / 64) at in ((λ _. ap (λ x. knowing m (owing (x + 1) (unshowing 0 k))) same), λ full. absurd (full empty)),
         ))
-        (λ full. let l : Known = unshowing 0 k in (
+        (λ full. let l : Notes = unshowing 0 k in (
           held w l,
           keeps,
           tt,
@@ -150,7 +150,7 @@ module _ (shards slots id w : ℕ) where
 
     pub hides : k.unshown ≡ 0 → Allows (IsLawful shards) slots id (held w k, xs) (summary_at (block / 64)) (λ n. bit_and n (others (block % 64))) (Hides (step slots (summary_at (block / 64)) (others (block % 64)) 0 none) (held w k, xs))
     hides free s h _ mine small =
-        let d : ℕ = block / 64 in let i : ℕ = summary_at d in let n : ℕ = get_or s.words i 0 in let now : ℕ = bit_and n (others (block % 64)) in let m : Mine = (held w k, xs) in let l : Known = unshowing (block + 1) k in
+        let d : ℕ = block / 64 in let i : ℕ = summary_at d in let n : ℕ = get_or s.words i 0 in let now : ℕ = bit_and n (others (block % 64)) in let m : Mine = (held w k, xs) in let l : Notes = unshowing (block + 1) k in
         let room : i < length s.words = omega (arith, h.keeper.sized, within) in (
           held w l,
           keeps,
@@ -167,7 +167,7 @@ module _ (shards slots id w : ℕ) where
 
   -- ---- the idle word
 
-  module _ (s : Board) (h : IsLawful shards s) (k l : Known) (mine : get_elem? s.views id ≡ some (held w k)) (unshown : l.unshown ≡ k.unshown) where
+  module _ (s : Board) (h : IsLawful shards s) (k l : Notes) (mine : get_elem? s.views id ≡ some (held w k)) (unshown : l.unshown ≡ k.unshown) where
     -- the idle word changes, or no word
     idle-shows : (now : ℕ) → IsShown (64 * shards) (record { words = set s.words idle_at now; homes = s.homes; views = set s.views id (held w l) })
     idle-shows now = quiet-shows shards slots id w s h k mine idle_at now l s.homes (λ c e. omega (arith, e)) (λ c e. omega (arith, e)) unshown
@@ -184,10 +184,10 @@ module _ (shards slots id w : ℕ) where
   numbers-room : (s : Board) → IsLawful shards s → numbers_at < length s.words
   numbers-room s h = omega (arith, h.keeper.sized)
 
-  module _ (k : Known) (xs : List (ℕ × ℕ)) (d : ℕ) (debt : k.owes ≡ d + 1) where
+  module _ (k : Notes) (xs : List (ℕ × ℕ)) (d : ℕ) (debt : k.owes ≡ d + 1) where
     pub looks_idle : Allows (IsLawful shards) slots id (held w k, xs) idle_at (λ n. n) (LooksIdle (step slots idle_at 0 0 none) (held w k, xs))
     looks_idle s h _ mine small =
-        let n : ℕ = get_or s.words idle_at 0 in let l : Known = owing 0 k in dite (ℕ_discrete (bit_at n (worker_of d)) 1)
+        let n : ℕ = get_or s.words idle_at 0 in let l : Notes = owing 0 k in dite (ℕ_discrete (bit_at n (worker_of d)) 1)
         (λ there. (
           held w k,
           keeps,
@@ -212,7 +212,7 @@ module _ (shards slots id w : ℕ) where
         ))
 
     -- the idle bit of the worker is cleared
-    unpark-law : (s : Board) → IsLawful shards s → get_elem? s.views id ≡ some (held w k) → (l : Known) → l.hand ≡ k.hand → l.spawned ≡ k.spawned → l.ended ≡ k.ended → l.woken ≡ k.woken → l.heard ≡ k.heard
+    unpark-law : (s : Board) → IsLawful shards s → get_elem? s.views id ≡ some (held w k) → (l : Notes) → l.hand ≡ k.hand → l.spawned ≡ k.spawned → l.ended ≡ k.ended → l.woken ≡ k.woken → l.heard ≡ k.heard
         → l.unshown ≡ k.unshown → l.owes ≡ 0 → l.worker ≡ k.worker → l.seen ≡ k.seen → (now : ℕ) → now ≡ bit_and (get_or s.words idle_at 0) (others (worker_of d))
         → IsLawful shards (record { words = set s.words idle_at now; homes = s.homes; views = set s.views id (held w l) })
     unpark-law s h mine l hand spawned ended woken heard unshown owes worker seen now is_now =
@@ -250,7 +250,7 @@ module _ (shards slots id w : ℕ) where
           λ c e. let is : d ≡ c = omega (arith, debt, e) in ((λ there. absurd (clash n (worker_of d) (subst (λ x. bit_at n (worker_of x) ≡ 1) (sym is) there) clear)), λ _. refl),
         ))
 
-  module _ (k : Known) (xs : List (ℕ × ℕ)) (j : ℕ) where
+  module _ (k : Notes) (xs : List (ℕ × ℕ)) (j : ℕ) where
     -- the worker's own idle bit is cleared
     pub rises : Allows (IsLawful shards) slots id (held w k, xs) idle_at (λ n. bit_and n (others j)) (Rises (step slots idle_at (others j) 0 none) (held w k, xs))
     rises s h _ mine small =
@@ -273,7 +273,7 @@ module _ (shards slots id w : ℕ) where
     -- the worker's idle bit is set
     pub rests : k.worker ≡ j + 1 → Allows (IsLawful shards) slots id (held w k, xs) idle_at (λ n. bit_or n (2 ^ j)) (Rests (step slots idle_at (2 ^ j) 0 none) (held w k, xs))
     rests is_worker s h _ mine small =
-        let n : ℕ = get_or s.words idle_at 0 in let now : ℕ = bit_or n (2 ^ j) in let l : Known = having_seen 0 k in
+        let n : ℕ = get_or s.words idle_at 0 in let now : ℕ = bit_or n (2 ^ j) in let l : Notes = having_seen 0 k in
         let there : get_or (set s.words idle_at now) idle_at 0 ≡ now = get_or-set_same s.words idle_at now 0 (idle-room s h) in (
           held w l,
           keeps,
@@ -294,7 +294,7 @@ module _ (shards slots id w : ℕ) where
     -- the next one of the worker's summary words is looked at
     pub looks_next : k.worker ≡ j + 1 → Allows (IsLawful shards) slots id (held w k, xs) (summary_at (j + 64 * k.seen)) (λ n. n) (LooksNext (step slots (summary_at (j + 64 * k.seen)) 0 0 none) (held w k, xs))
     looks_next is_worker s h _ mine small =
-        let i : ℕ = summary_at (j + 64 * k.seen) in let n : ℕ = get_or s.words i 0 in let l : Known = having_seen (k.seen + 1) k in dite (ℕ_discrete n 0)
+        let i : ℕ = summary_at (j + 64 * k.seen) in let n : ℕ = get_or s.words i 0 in let l : Notes = having_seen (k.seen + 1) k in dite (ℕ_discrete n 0)
         (λ empty. (
           held w l,
           keeps,
@@ -317,7 +317,7 @@ module _ (shards slots id w : ℕ) where
     -- the seat becomes the worker of a number
     pub registers : j < 64 → k.worker ≡ 0 → Allows (IsLawful shards) slots id (held w k, xs) numbers_at (λ n. bit_and n (others j)) (Registers (step slots numbers_at (others j) 0 none) (held w k, xs))
     registers low no_worker s h _ mine small =
-        let i : ℕ = numbers_at in let n : ℕ = get_or s.words i 0 in let now : ℕ = bit_and n (others j) in let l : Known = working (j + 1) k in let m : Mine = (held w k, xs) in
+        let i : ℕ = numbers_at in let n : ℕ = get_or s.words i 0 in let now : ℕ = bit_and n (others j) in let l : Notes = working (j + 1) k in let m : Mine = (held w k, xs) in
         let there_now : get_or (set s.words i now) i 0 ≡ now = get_or-set_same s.words i now 0 (numbers-room s h) in dite (ℕ_discrete (bit_at n j) 1)
         (λ there. (
           held w l,
@@ -356,7 +356,7 @@ module _ (shards slots id w : ℕ) where
     -- the seat has no number any more
     pub leaves : j < 64 → k.worker ≡ j + 1 → Allows (IsLawful shards) slots id (held w k, xs) numbers_at (λ n. bit_or n (2 ^ j)) (Leaves (step slots numbers_at (2 ^ j) 0 none) (held w k, xs))
     leaves low is_worker s h _ mine small =
-        let i : ℕ = numbers_at in let n : ℕ = get_or s.words i 0 in let now : ℕ = bit_or n (2 ^ j) in let l : Known = working 0 k in
+        let i : ℕ = numbers_at in let n : ℕ = get_or s.words i 0 in let now : ℕ = bit_or n (2 ^ j) in let l : Notes = working 0 k in
         let there_now : get_or (set s.words i now) i 0 ≡ now = get_or-set_same s.words i now 0 (numbers-room s h) in (
           held w l,
           keeps,

@@ -7,20 +7,20 @@ use lib.ListN.{get_elem?}
 use Rattle.atomic_table.proofs.Lists.{at_set}
 use Rattle.arachne_weights.specs.declared.token.Token.{Token}
 use Rattle.arachne_weights.proofs.Totals.{two-le-total}
-use Rattle.arachne_exec.specs.declared.view.Known.{Known}
+use Rattle.arachne_exec.specs.declared.view.Notes.{Notes}
 use Rattle.arachne_exec.specs.Layout.{idle_at, numbers_at, summary_at}
 use Rattle.arachne_exec.specs.Board.{one, owed, seats_of, is_idle, Board, WakesSleepers}
 use Rattle.arachne_exec.proofs.Bits.{one-same}
 use Rattle.arachne_exec.proofs.Debts.{with-same}
 
-module _ (b : Board) (r : WakesSleepers b) (h : ℕ) (v u : Token Known) (mine : get_elem? b.views h ≡ some v) where
+module _ (b : Board) (r : WakesSleepers b) (h : ℕ) (v u : Token Notes) (mine : get_elem? b.views h ≡ some v) where
   pub seats-same : u.known.worker ≡ v.known.worker → (w : ℕ) → seats_of w (set b.views h u) ≡ seats_of w b.views
   seats-same e w = with-same (λ k. k.worker) b.views h v u mine e w
 
   -- no two seats are one worker
-  pub alone : (j w : ℕ) (x : Token Known) → j ≢ h → get_elem? b.views j ≡ some x → v.known.worker ≡ w + 1 → x.known.worker ≡ w + 1 → ⊥
+  pub alone : (j w : ℕ) (x : Token Notes) → j ≢ h → get_elem? b.views j ≡ some x → v.known.worker ≡ w + 1 → x.known.worker ≡ w + 1 → ⊥
   alone j w x ne there first second =
-      let two = two-le-total (λ (t : Token Known). one t.known.worker (w + 1)) b.views h j v x mine ne there in
+      let two = two-le-total (λ (t : Token Notes). one t.known.worker (w + 1)) b.views h j v x mine ne there in
       let one_ = one-same v.known.worker (w + 1) first in let other = one-same x.known.worker (w + 1) second in
       let low : w < 64 = let within = r.near h v mine in omega (arith, within, first) in
       omega (arith, r.single w low, two, one_, other)
@@ -39,10 +39,10 @@ module _ (b : Board) (r : WakesSleepers b) (h : ℕ) (v u : Token Known) (mine :
         let told = more (w + 64 * k) (ap (is_idle ws) at ∙ i) some_ready in
         ⊎_elim (λ old. told.0 (was old)) (λ now. now) told.1
 
-    awake : (j : ℕ) (x : Token Known) → get_elem? (set b.views h u) j ≡ some x → (w k : ℕ) → x.known.worker ≡ w + 1 → k < x.known.seen → is_idle ws w ≡ 1
+    awake : (j : ℕ) (x : Token Notes) → get_elem? (set b.views h u) j ≡ some x → (w k : ℕ) → x.known.worker ≡ w + 1 → k < x.known.seen → is_idle ws w ≡ 1
         → 0 < get_or ws (summary_at (w + 64 * k)) 0 → 0 < owed (w + 64 * k) (set b.views h u)
     awake j x there w k is small i some_ready = ⊎_elim
-        (λ t. let worker = ap (λ (y : Token Known). y.known.worker) t.1 ∙ is in let within : k < u.known.seen = subst (λ (y : Token Known). k < y.known.seen) (sym t.1) small in ⊎_elim
+        (λ t. let worker = ap (λ (y : Token Notes). y.known.worker) t.1 ∙ is in let within : k < u.known.seen = subst (λ (y : Token Notes). k < y.known.seen) (sym t.1) small in ⊎_elim
         (λ o. ⊎_elim
         (λ old. let near = r.near h v mine in finish w k (omega (arith, near, o.0)) i some_ready (r.awake h v mine w k o.0 o.1 old))
         (λ fresh. absurd (omega (arith, within, fresh.1)))
@@ -58,7 +58,7 @@ module _ (b : Board) (r : WakesSleepers b) (h : ℕ) (v u : Token Known) (mine :
     pub keeps-sleep : WakesSleepers (record { words = ws; homes = homes; views = set b.views h u })
     keeps-sleep = record {
       single = number;
-      near = λ j x there. ⊎_elim (λ t. subst (λ (y : Token Known). y.known.worker ≤ 64) t.1 low) (λ t. r.near j x t.1) (at_set b.views h j u x there);
+      near = λ j x there. ⊎_elim (λ t. subst (λ (y : Token Notes). y.known.worker ≤ 64) t.1 low) (λ t. r.near j x t.1) (at_set b.views h j u x there);
       awake = awake;
     }
 

@@ -9,19 +9,19 @@ use Rattle.atomic_table.specs.Table.{State}
 use Rattle.arachne_weights.specs.declared.token.Token.{Token}
 use Rattle.arachne_weights.specs.Tokens.{IsReachable, held}
 use Rattle.arachne_weights.specs.Weight.{whole}
-use Rattle.arachne_exec.specs.declared.view.Known.{Known}
+use Rattle.arachne_exec.specs.declared.view.Notes.{Notes}
 use Rattle.arachne_exec.specs.Layout.{idle_at, numbers_at, summary_at, ready_at, free_at, mark_at, words_of, in_word}
 
 -- the words, the jobs that are at home, and what seats know
 abbrev pub Board : Type 0
-Board = State ℕ (Token Known)
+Board = State ℕ (Token Notes)
 
 -- a seat that has done nothing
-abbrev pub blank : Known
+abbrev pub blank : Notes
 blank = record { hand = []; spawned = []; ended = []; woken = []; heard = []; roused = []; deeds = []; unshown = 0; owes = 0; worker = 0; seen = 0 }
 
 -- the first seat has the whole weight
-abbrev pub first_view : Token Known
+abbrev pub first_view : Token Notes
 first_view = held whole blank
 
 -- ---- counting
@@ -44,8 +44,8 @@ is_number job none = 0
 is_number job (some other) = one other job
 
 -- how often over all seats
-abbrev pub by_all : (Known → ℕ) → List (Token Known) → ℕ
-by_all count views = sum_by (λ (t : Token Known). count t.known) views
+abbrev pub by_all : (Notes → ℕ) → List (Token Notes) → ℕ
+by_all count views = sum_by (λ (t : Token Notes). count t.known) views
 
 -- ---- who keeps a place
 
@@ -60,8 +60,8 @@ abbrev pub is_blocked : List ℕ → ℕ → ℕ
 is_blocked words place = slice_index words (mark_at place) / 2 % 2
 
 -- how often seats have the place in hand
-abbrev pub in_hands : ℕ → List (Token Known) → ℕ
-in_hands place views = by_all (λ (k : Known). places_in place k.hand) views
+abbrev pub in_hands : ℕ → List (Token Notes) → ℕ
+in_hands place views = by_all (λ (k : Notes). places_in place k.hand) views
 
 -- Each place has one keeper: the free word, the ready word, its mark, or a seat. Where no seat has it in hand, its slot
 -- is at home, and where it is free there is no job in it.
@@ -81,20 +81,20 @@ at_home job homes = sum_by (λ (h : maybe.Option ℕ). is_number job h) homes
 -- each job number but 0 was spawned as often as it has ended, is in a hand, and lies in a slot
 pub record IsBalanced (b : Board) : Type 0 where
   pub balanced : (job : ℕ) → 0 < job
-      → by_all (λ (k : Known). times job k.spawned) b.views ≡ by_all (λ (k : Known). times job k.ended) b.views + by_all (λ (k : Known). jobs_in job k.hand) b.views + at_home job b.homes
+      → by_all (λ (k : Notes). times job k.spawned) b.views ≡ by_all (λ (k : Notes). times job k.ended) b.views + by_all (λ (k : Notes). jobs_in job k.hand) b.views + at_home job b.homes
 
 -- ---- wakes of a job that isn't blocked
 
 -- each mark that a wake has set was heard by who had the place in hand, or is there
 pub record HearsWakes (blocks : ℕ) (b : Board) : Type 0 where
   pub marks : (place : ℕ) → place < 64 * blocks
-      → by_all (λ (k : Known). times place k.woken) b.views ≡ by_all (λ (k : Known). times place k.heard) b.views + slice_index b.words (mark_at place) % 2
+      → by_all (λ (k : Notes). times place k.woken) b.views ≡ by_all (λ (k : Notes). times place k.heard) b.views + slice_index b.words (mark_at place) % 2
 
 -- ---- which blocks a shard shows
 
 -- how many seats owe the block its bit in the summary word
-abbrev pub unshown_by : ℕ → List (Token Known) → ℕ
-unshown_by block views = by_all (λ (k : Known). one k.unshown (block + 1)) views
+abbrev pub unshown_by : ℕ → List (Token Notes) → ℕ
+unshown_by block views = by_all (λ (k : Notes). one k.unshown (block + 1)) views
 
 -- a block whose ready word isn't empty has its bit in the summary word of its shard, or a seat owes it
 pub record IsShown (blocks : ℕ) (b : Board) : Type 0 where
@@ -103,12 +103,12 @@ pub record IsShown (blocks : ℕ) (b : Board) : Type 0 where
 -- ---- who wakes a sleeper
 
 -- how many seats have made the shard's summary word no longer empty, and haven't looked since whether its worker sleeps
-abbrev pub owed : ℕ → List (Token Known) → ℕ
-owed shard views = by_all (λ (k : Known). one k.owes (shard + 1)) views
+abbrev pub owed : ℕ → List (Token Notes) → ℕ
+owed shard views = by_all (λ (k : Notes). one k.owes (shard + 1)) views
 
 -- how many seats are that worker
-abbrev pub seats_of : ℕ → List (Token Known) → ℕ
-seats_of worker views = by_all (λ (k : Known). one k.worker (worker + 1)) views
+abbrev pub seats_of : ℕ → List (Token Notes) → ℕ
+seats_of worker views = by_all (λ (k : Notes). one k.worker (worker + 1)) views
 
 abbrev pub is_idle : List ℕ → ℕ → ℕ
 is_idle words worker = bit_at (slice_index words idle_at) worker
@@ -117,8 +117,8 @@ is_idle words worker = bit_at (slice_index words idle_at) worker
 -- found empty since it set that bit is empty, or a seat owes the look at the idle word.
 pub record WakesSleepers (b : Board) : Type 0 where
   pub single : (worker : ℕ) → worker < 64 → bit_at (slice_index b.words numbers_at) worker + seats_of worker b.views ≡ 1
-  pub near : (h : ℕ) (t : Token Known) → get_elem? b.views h ≡ some t → t.known.worker ≤ 64
-  pub awake : (h : ℕ) (t : Token Known) → get_elem? b.views h ≡ some t → (worker k : ℕ) → t.known.worker ≡ worker + 1 → k < t.known.seen → is_idle b.words worker ≡ 1
+  pub near : (h : ℕ) (t : Token Notes) → get_elem? b.views h ≡ some t → t.known.worker ≤ 64
+  pub awake : (h : ℕ) (t : Token Notes) → get_elem? b.views h ≡ some t → (worker k : ℕ) → t.known.worker ≡ worker + 1 → k < t.known.seen → is_idle b.words worker ≡ 1
       → 0 < slice_index b.words (summary_at (worker + 64 * k)) → 0 < owed (worker + 64 * k) b.views
 
 -- the rule of an executor with so many shards

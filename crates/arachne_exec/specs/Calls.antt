@@ -2,24 +2,25 @@
 use Rattle.std.specs.Prelude.{◌≡◌, ◌≢◌, ◌⊎◌, ℕ, ◌+◌, ◌*◌, ◌/◌, ◌%◌, ◌<◌, ◌≤◌, ◌^◌, ◌↔◌, IsTrue, List, ◌∷◌, ◌++◌, map}
 use Rattle.std.specs.Int.{bit_at}
 use Rattle.std.specs.Int.RustNames.{bit_and}
-use Rattle.arachne_exec.specs.declared.view.Known.{Known}
-use Rattle.arachne_exec.specs.declared.answers.Job.{Job}
-use Rattle.arachne_exec.specs.declared.answers.Placed.{Placed}
+use Rattle.atomic_table.specs.Table.{rest}
+use Rattle.arachne_exec.specs.declared.view.Notes.{Notes}
+use Rattle.arachne_exec.specs.declared.answers.HeldJob.{HeldJob}
+use Rattle.arachne_exec.specs.declared.answers.PlacedJob.{PlacedJob}
 use Rattle.arachne_exec.specs.declared.answers.Next.{Next}
 use Rattle.arachne_exec.specs.declared.answers.Next.TheVariants as next
-use Rattle.arachne_exec.specs.declared.answers.Rested.{Rested}
-use Rattle.arachne_exec.specs.declared.answers.Rested.TheVariants as rested
-use Rattle.arachne_exec.specs.declared.answers.Spawned.{Spawned}
-use Rattle.arachne_exec.specs.declared.answers.Spawned.TheVariants as spawned
+use Rattle.arachne_exec.specs.declared.answers.JobRested.{JobRested}
+use Rattle.arachne_exec.specs.declared.answers.JobRested.TheVariants as rested
+use Rattle.arachne_exec.specs.declared.answers.JobSpawned.{JobSpawned}
+use Rattle.arachne_exec.specs.declared.answers.JobSpawned.TheVariants as spawned
 use Rattle.arachne_exec.specs.declared.answers.SpawnedHere.{SpawnedHere}
 use Rattle.arachne_exec.specs.declared.answers.SpawnedHere.TheVariants as spawned_here
-use Rattle.arachne_exec.specs.declared.answers.Woken.{Woken}
-use Rattle.arachne_exec.specs.declared.answers.Woken.TheVariants as woken
+use Rattle.arachne_exec.specs.declared.answers.JobWoken.{JobWoken}
+use Rattle.arachne_exec.specs.declared.answers.JobWoken.TheVariants as woken
 use Rattle.arachne_exec.specs.declared.answers.WokenHere.{WokenHere}
 use Rattle.arachne_exec.specs.declared.answers.WokenHere.TheVariants as here
-use Rattle.arachne_exec.specs.declared.waking.Found.{Found}
-use Rattle.arachne_exec.specs.declared.waking.Found.TheVariants as found
-use Rattle.arachne_exec.specs.declared.turns.Taken.{Taken}
+use Rattle.arachne_exec.specs.declared.waking.RouseResult.{RouseResult}
+use Rattle.arachne_exec.specs.declared.waking.RouseResult.TheVariants as found
+use Rattle.arachne_exec.specs.declared.turns.TakenJob.{TakenJob}
 use Rattle.arachne_exec.specs.Seats.{CallView}
 use Rattle.arachne_exec.specs.Turns.{IsFirstFrom}
 use Rattle.arachne_exec.specs.Layout.{summary_at, ready_at, free_at, mark_at, places_in_word, PicksLowest, worker_of, last_generation, name_of}
@@ -30,7 +31,7 @@ abbrev pub worker_at : ℕ → ℕ
 worker_at place = worker_of (place / 4096)
 
 -- a bit of a word was found set, and then clear: another seat has cleared it
-pub record HasMissed (word : ℕ) (k after : Known) : Type 0 where
+pub record HasMissed (word : ℕ) (k after : Notes) : Type 0 where
   pub first : ℕ
   pub then : ℕ
   pub index : ℕ
@@ -40,7 +41,7 @@ pub record HasMissed (word : ℕ) (k after : Known) : Type 0 where
   pub known : after ≡ noted word then (noted word first k)
 
 -- the free bit of a place of the block was found set, and the job was laid there; the name is what its mark says
-pub record HasPlaced (at : Placed) (block job : ℕ) (k after : Known) : Type 0 where
+pub record HasPlaced (at : PlacedJob) (block job : ℕ) (k after : Notes) : Type 0 where
   pub there : at.place / 64 ≡ block
   pub free : ℕ
   pub mark : ℕ
@@ -48,14 +49,14 @@ pub record HasPlaced (at : Placed) (block job : ℕ) (k after : Known) : Type 0 
   pub known : after ≡ rousing at.unpark (worker_at at.place) (spawning job (noted (mark_at at.place) mark (gained at.place 0 (noted (free_at block) free k))))
 
 -- Full: the block's free word was found empty. Lost: another seat has claimed a place that was found free
-abbrev pub HasSpawned : Spawned → ℕ → ℕ → Known → Known → Type 0
+abbrev pub HasSpawned : JobSpawned → ℕ → ℕ → Notes → Notes → Type 0
 HasSpawned (spawned.Placed at) block job k after = HasPlaced at block job k after
 HasSpawned spawned.Full block job k after = after ≡ noted (free_at block) 0 k
 HasSpawned spawned.Lost block job k after = HasMissed (free_at block) k after
 
 -- the free bit of a place of the block was found set, and the job was laid there and is in hand; the name is what its
 -- mark says
-pub record HasBegun (job : Job) (block number : ℕ) (k after : Known) : Type 0 where
+pub record HasBegun (job : HeldJob) (block number : ℕ) (k after : Notes) : Type 0 where
   pub there : job.place / 64 ≡ block
   pub given : job.job ≡ number
   pub free : ℕ
@@ -63,13 +64,13 @@ pub record HasBegun (job : Job) (block number : ℕ) (k after : Known) : Type 0 
   pub named : job.name ≡ name_of job.place mark
   pub known : after ≡ beginning number (noted (mark_at job.place) mark (gained job.place 0 (noted (free_at block) free k)))
 
-abbrev pub HasSpawnedHere : SpawnedHere → ℕ → ℕ → Known → Known → Type 0
+abbrev pub HasSpawnedHere : SpawnedHere → ℕ → ℕ → Notes → Notes → Type 0
 HasSpawnedHere (spawned_here.Held job) block number k after = HasBegun job block number k after
 HasSpawnedHere spawned_here.Full block number k after = after ≡ noted (free_at block) 0 k
 HasSpawnedHere spawned_here.Lost block number k after = HasMissed (free_at block) k after
 
 -- the ready bit of a place of the block was found set; the name is what its mark says
-pub record HasTaken (job : Job) (block : ℕ) (k after : Known) : Type 0 where
+pub record HasTaken (job : HeldJob) (block : ℕ) (k after : Notes) : Type 0 where
   pub there : job.place / 64 ≡ block
   pub ready : ℕ
   pub mark : ℕ
@@ -78,20 +79,26 @@ pub record HasTaken (job : Job) (block : ℕ) (k after : Known) : Type 0 where
   pub known : after ≡ hearing (heard % 2) job.place (noted (mark_at job.place) mark (gained job.place job.job (noted (ready_at block) ready k)))
 
 -- within a call: of the ready places of the block it was the first from that index on; with it whether there was another behind
-pub record HasTakenFrom (from : ℕ) (taken : Taken) (block : ℕ) (k after : Known) : Type 0 where
+pub record HasTakenFrom (from : ℕ) (taken : TakenJob) (block : ℕ) (k after : Notes) : Type 0 where
   pub took : HasTaken taken.job block k after
   pub first : IsFirstFrom took.ready from (taken.job.place % 64)
   pub more : IsTrue taken.more ↔ (2 * 2 ^ (taken.job.place % 64) ≤ took.ready)
 
 -- The ready word was found empty; or its lowest places were picked, so many or all, and those whose bits were then found
 -- set are in hand, with their jobs, the lowest as the newest.
-abbrev pub HasTakenMany : ℕ → ℕ → ℕ → Known → Known → Type 0
+abbrev pub HasTakenMany : ℕ → ℕ → ℕ → Notes → Notes → Type 0
 HasTakenMany bits block most k after = ((bits ≡ 0) × (after ≡ noted (ready_at block) 0 k))
     ⊎ ((ready pick found : ℕ) × (jobs : List (ℕ × ℕ)) × (0 < pick) × (bit_and ready pick ≡ pick) × (bits ≡ bit_and found pick) × (map (λ (x : ℕ × ℕ). x.0) jobs ≡ places_in_word block bits)
     × PicksLowest block ready most pick × (after ≡ gaining jobs (noted (ready_at block) found (noted (ready_at block) ready k))))
 
+-- within a call: of the bits that were picked in the block's ready word those that were then found set are in hand, with
+-- their jobs
+abbrev pub HasTakenBits : (bits block pick : ℕ) → CallView → CallView → Type 0
+HasTakenBits bits block pick v after = (jobs : List (ℕ × ℕ)) × (found : ℕ) × (bits ≡ bit_and found pick) × (map (λ (x : ℕ × ℕ). x.0) jobs ≡ places_in_word block bits)
+    × (after ≡ record v { known = gaining jobs (noted (ready_at block) found v.known); slots = jobs ++ v.slots })
+
 -- the newest job in hand, with the name that its mark says; a wake that the mark said of is used up
-pub record HasStarted (job : Job) (place : ℕ) (k after : Known) : Type 0 where
+pub record HasStarted (job : HeldJob) (place : ℕ) (k after : Notes) : Type 0 where
   pub there : job.place ≡ place
   pub newest : k.hand ≡ (place, job.job) ∷ older k.hand
   pub mark : ℕ
@@ -100,11 +107,20 @@ pub record HasStarted (job : Job) (place : ℕ) (k after : Known) : Type 0 where
   pub known : after ≡ hearing (heard % 2) place (noted (mark_at place) mark k)
 
 -- the ready word was found empty, or another seat has taken a job that was found ready
-abbrev pub HasTakenNone : ℕ → Known → Known → Type 0
+abbrev pub HasTakenNone : ℕ → Notes → Notes → Type 0
 HasTakenNone block k after = (after ≡ noted (ready_at block) 0 k) ⊎ HasMissed (ready_at block) k after
 
+-- within a call: the mark at the place was found to say of no wake, and the newest place is blocked
+abbrev pub HasBlocked : ℕ → CallView → CallView → Type 0
+HasBlocked place v after = (mark : ℕ) × (mark % 4 ≡ 0) × (after ≡ record v { known = blocking (noted (mark_at place) mark v.known); slots = rest v.slots })
+
+-- within a call: the mark at the place was found to say of a wake, or became another
+abbrev pub HasSeenWake : ℕ → CallView → CallView → Type 0
+HasSeenWake place v after = (mark : ℕ) × (((mark % 4 ≢ 0) × (after ≡ record v { known = noted (mark_at place) mark v.known }))
+    ⊎ ((then : ℕ) × (then ≢ mark) × (after ≡ record v { known = noted (mark_at place) then (noted (mark_at place) mark v.known) })))
+
 -- Blocked: its mark said of no wake. Ready: it said of one, or became another
-abbrev pub HasRested : Rested → ℕ → Known → Known → Type 0
+abbrev pub HasRested : JobRested → ℕ → Notes → Notes → Type 0
 HasRested rested.Blocked place k after = (mark : ℕ) × (mark % 4 ≡ 0) × (after ≡ blocking (noted (mark_at place) mark k))
 HasRested (rested.Ready unpark) place k after = (mark : ℕ)
     × (((mark % 4 ≢ 0) × (after ≡ rousing unpark (worker_at place) (readying (noted (mark_at place) mark k))))
@@ -112,42 +128,42 @@ HasRested (rested.Ready unpark) place k after = (mark : ℕ)
 
 -- the job of the newest place has ended, and the next one there has the next generation; or there is none any more, and
 -- the place is retired
-pub record HasFinished (place : ℕ) (k after : Known) : Type 0 where
+pub record HasFinished (place : ℕ) (k after : Notes) : Type 0 where
   pub mark : ℕ
   pub heard : ℕ
   pub known : ((mark / 4 + 1 < last_generation) × (after ≡ ending (noted (mark_at place) (4 * (mark / 4 + 1)) (hearing (heard % 2) place (noted (mark_at place) mark k)))))
       ⊎ ((last_generation ≤ mark / 4 + 1) × (after ≡ ending (hearing (heard % 2) place (noted (mark_at place) mark k))))
 
 -- the mark at the place was found not to be of this generation; or there is no such place, or no such generation
-abbrev pub IsGone : ℕ → ℕ → ℕ → Known → Known → Type 0
+abbrev pub IsGone : ℕ → ℕ → ℕ → Notes → Notes → Type 0
 IsGone places place generation k after = ((after ≡ k) × ((places ≤ place) ⊎ (last_generation ≤ generation)))
     ⊎ ((mark : ℕ) × (mark / 4 ≢ generation) × (after ≡ noted (mark_at place) mark k))
 
 -- the mark was found to be that of a job of the generation which was woken before
-abbrev pub IsAlready : ℕ → ℕ → Known → Known → Type 0
+abbrev pub IsAlready : ℕ → ℕ → Notes → Notes → Type 0
 IsAlready place generation k after = (mark : ℕ) × (mark / 4 ≡ generation) × (mark % 2 ≡ 1) × (after ≡ noted (mark_at place) mark k)
 
 -- the mark was found to be that of a job of the generation which wasn't woken before, and then another
-abbrev pub IsLost : ℕ → ℕ → Known → Known → Type 0
+abbrev pub IsLost : ℕ → ℕ → Notes → Notes → Type 0
 IsLost place generation k after = (mark then : ℕ) × (mark / 4 ≡ generation) × (mark % 2 ≢ 1) × (then ≢ mark) × (after ≡ noted (mark_at place) then (noted (mark_at place) mark k))
 
 -- the mark was found to be that of a blocked job of the generation, which came into the hand
-abbrev pub HasUnblocked : ℕ → ℕ → ℕ → Known → Known → Type 0
+abbrev pub HasUnblocked : ℕ → ℕ → ℕ → Notes → Notes → Type 0
 HasUnblocked place generation job k after = (generation < last_generation) × (after ≡ unblocking place job (noted (mark_at place) (4 * generation + 2) k))
 
 -- the mark was found to be that of a job of the generation that isn't blocked, and says of a wake now
-abbrev pub HasMarked : ℕ → ℕ → Known → Known → Type 0
+abbrev pub HasMarked : ℕ → ℕ → Notes → Notes → Type 0
 HasMarked place generation k after = after ≡ marking place (noted (mark_at place) (4 * generation) k)
 
 -- of an executor with so many places
-abbrev pub HasWoken : Woken → ℕ → ℕ → ℕ → Known → Known → Type 0
-HasWoken (woken.Ready unpark) places place generation k after = (job : ℕ) × (held : Known) × HasUnblocked place generation job k held × (after ≡ rousing unpark (worker_at place) (readying held))
+abbrev pub HasWoken : JobWoken → ℕ → ℕ → ℕ → Notes → Notes → Type 0
+HasWoken (woken.Ready unpark) places place generation k after = (job : ℕ) × (held : Notes) × HasUnblocked place generation job k held × (after ≡ rousing unpark (worker_at place) (readying held))
 HasWoken woken.Marked places place generation k after = HasMarked place generation k after
 HasWoken woken.Already places place generation k after = IsAlready place generation k after
 HasWoken woken.Gone places place generation k after = IsGone places place generation k after
 HasWoken woken.Lost places place generation k after = IsLost place generation k after
 
-abbrev pub HasWokenHere : WokenHere → ℕ → ℕ → ℕ → Known → Known → Type 0
+abbrev pub HasWokenHere : WokenHere → ℕ → ℕ → ℕ → Notes → Notes → Type 0
 HasWokenHere (here.Held job) places place generation k after = (job.place ≡ place) × (job.name ≡ name_of place (4 * generation + 2)) × HasUnblocked place generation job.job k after
 HasWokenHere here.Marked places place generation k after = HasMarked place generation k after
 HasWokenHere here.Already places place generation k after = IsAlready place generation k after
@@ -155,29 +171,33 @@ HasWokenHere here.Gone places place generation k after = IsGone places place gen
 HasWokenHere here.Lost places place generation k after = IsLost place generation k after
 
 -- it has looked at words, and told workers to be unparked
-abbrev pub HasLooked : Known → Known → Type 0
+abbrev pub HasLooked : Notes → Notes → Type 0
 HasLooked k after = after ≡ record k { deeds = after.deeds; roused = after.roused }
 
+-- it has looked, and then taken a job of a block of that shard, one of so many
+abbrev pub HasTakenInShard : HeldJob → (shards shard : ℕ) → Notes → Notes → Type 0
+HasTakenInShard job shards shard k after = (block : ℕ) × (looked : Notes) × (block < 64 * shards) × (block / 64 ≡ shard) × HasLooked k looked × HasTaken job block looked after
+
 -- since its idle bit was set, the worker has found each of its summary words empty
-abbrev pub HasSeenAll : ℕ → Known → Type 0
+abbrev pub HasSeenAll : ℕ → Notes → Type 0
 HasSeenAll shards k = (worker j : ℕ) → k.worker ≡ worker + 1 → worker + 64 * j < shards → j < k.seen
 
 -- it has set its idle bit, and then found all of its summary words empty
-abbrev pub HasFoundNone : ℕ → Known → Known → Type 0
+abbrev pub HasFoundNone : ℕ → Notes → Notes → Type 0
 HasFoundNone shards k after = (seen : ℕ) × (after ≡ having_seen seen k) × HasSeenAll shards after
 
 -- it has set its idle bit, and then found one of its summary words not empty
-abbrev pub HasFoundSome : ℕ → ℕ → Known → Known → Type 0
+abbrev pub HasFoundSome : ℕ → ℕ → Notes → Notes → Type 0
 HasFoundSome shards worker k after = (seen shard shown : ℕ) × (shard < shards) × (worker_of shard ≡ worker) × (shown ≢ 0) × (after ≡ noted (summary_at shard) shown (having_seen seen k))
 
 -- Run: a job of a block of the worker's. Park: all of its summary words were found empty. Again: one wasn't
-abbrev pub HasAnswered : Next → ℕ → ℕ → Known → Known → Type 0
-HasAnswered (next.Run job) shards worker k after = (block : ℕ) × (looked : Known) × (block < 64 * shards) × (worker_of (block / 64) ≡ worker) × HasLooked k looked × HasTaken job block looked after
-HasAnswered next.Park shards worker k after = (looked : Known) × HasLooked k looked × HasFoundNone shards looked after
-HasAnswered next.Again shards worker k after = (looked : Known) × HasLooked k looked × HasFoundSome shards worker looked after
+abbrev pub HasAnswered : Next → ℕ → ℕ → Notes → Notes → Type 0
+HasAnswered (next.Run job) shards worker k after = (block : ℕ) × (looked : Notes) × (block < 64 * shards) × (worker_of (block / 64) ≡ worker) × HasLooked k looked × HasTaken job block looked after
+HasAnswered next.Park shards worker k after = (looked : Notes) × HasLooked k looked × HasFoundNone shards looked after
+HasAnswered next.Again shards worker k after = (looked : Notes) × HasLooked k looked × HasFoundSome shards worker looked after
 
 -- what a wake has found, within a call
-abbrev pub IsFound : Found → ℕ → ℕ → ℕ → CallView → CallView → Type 0
+abbrev pub IsFound : RouseResult → ℕ → ℕ → ℕ → CallView → CallView → Type 0
 IsFound (found.Held at) places place generation v after = (at ≡ place) × (place < places) × (generation < last_generation)
     × ((job : ℕ) × (after ≡ record v { known = unblocking place job (noted (mark_at place) (4 * generation + 2) v.known); slots = (place, job) ∷ v.slots }))
 IsFound found.Marked places place generation v after = (after ≡ record v { known = after.known }) × HasMarked place generation v.known after.known
@@ -188,32 +208,32 @@ IsFound found.Lost places place generation v after = (after ≡ record v { known
 -- ---- what a call leaves in the hand
 
 -- the hand and the worker number are as before
-abbrev pub KeepsHand : Known → Known → Type 0
+abbrev pub KeepsHand : Notes → Notes → Type 0
 KeepsHand k after = (after.hand ≡ k.hand) × (after.worker ≡ k.worker)
 
 -- a job more is in the hand, of an executor with so many places
-abbrev pub HandsOver : ℕ → Job → Known → Known → Type 0
+abbrev pub HandsOver : ℕ → HeldJob → Notes → Notes → Type 0
 HandsOver places job k after = (job.place < places) × (after.hand ≡ (job.place, job.job) ∷ k.hand) × (after.worker ≡ k.worker)
 
 -- these places of a block are in the hand too
-abbrev pub HandsMany : ℕ → ℕ → Known → Known → Type 0
+abbrev pub HandsMany : ℕ → ℕ → Notes → Notes → Type 0
 HandsMany bits block k after = ((jobs : List (ℕ × ℕ)) × (map (λ (x : ℕ × ℕ). x.0) jobs ≡ places_in_word block bits) × (after.hand ≡ jobs ++ k.hand)) × (after.worker ≡ k.worker)
 
 -- the newest job is no longer in the hand
-abbrev pub LaysDown : Known → Known → Type 0
+abbrev pub LaysDown : Notes → Notes → Type 0
 LaysDown k after = (after.hand ≡ older k.hand) × (after.worker ≡ k.worker)
 
-abbrev pub HandsNext : Next → ℕ → Known → Known → Type 0
+abbrev pub HandsNext : Next → ℕ → Notes → Notes → Type 0
 HandsNext (next.Run job) places k after = HandsOver places job k after
 HandsNext next.Park places k after = KeepsHand k after
 HandsNext next.Again places k after = KeepsHand k after
 
-abbrev pub HandsSpawned : SpawnedHere → ℕ → Known → Known → Type 0
+abbrev pub HandsSpawned : SpawnedHere → ℕ → Notes → Notes → Type 0
 HandsSpawned (spawned_here.Held job) places k after = HandsOver places job k after
 HandsSpawned spawned_here.Full places k after = KeepsHand k after
 HandsSpawned spawned_here.Lost places k after = KeepsHand k after
 
-abbrev pub HandsWoken : WokenHere → ℕ → Known → Known → Type 0
+abbrev pub HandsWoken : WokenHere → ℕ → Notes → Notes → Type 0
 HandsWoken (here.Held job) places k after = HandsOver places job k after
 HandsWoken here.Marked places k after = KeepsHand k after
 HandsWoken here.Already places k after = KeepsHand k after

@@ -3,7 +3,7 @@ use Rattle.std.specs.Prelude.{ℕ, zero, suc, Bool, true, false, List, [], ◌�
 use Rattle.arachne_weights.specs.declared.token.Token.{Token}
 use Rattle.arachne_weights.specs.Tokens.{held}
 use Rattle.arachne_weights.specs.Weight.{first_part, second_part, joined}
-use Rattle.arachne_exec.specs.declared.view.Known.{Known}
+use Rattle.arachne_exec.specs.declared.view.Notes.{Notes}
 use Rattle.arachne_exec.specs.declared.view.Deed.TheVariants.{Looked, Readied, Blocked, Unblocked}
 use Rattle.arachne_exec.specs.Board.{blank}
 
@@ -20,37 +20,37 @@ newest_place [] = 0
 newest_place (x ∷ xs) = x.0
 
 -- a place with its job comes into the hand; the second: it was blocked
-abbrev pub gained : ℕ → ℕ → Known → Known
+abbrev pub gained : ℕ → ℕ → Notes → Notes
 gained place job k = record k { hand = (place, job) ∷ k.hand }
 
 -- several places with their jobs
-abbrev pub gaining : List (ℕ × ℕ) → Known → Known
+abbrev pub gaining : List (ℕ × ℕ) → Notes → Notes
 gaining jobs k = record k { hand = jobs ++ k.hand }
 
-abbrev pub unblocking : ℕ → ℕ → Known → Known
+abbrev pub unblocking : ℕ → ℕ → Notes → Notes
 unblocking place job k = record k { hand = (place, job) ∷ k.hand; deeds = Unblocked place ∷ k.deeds }
 
 -- the newest place is ready, or blocked, and out of hand
-abbrev pub readying : Known → Known
+abbrev pub readying : Notes → Notes
 readying k = record k { hand = older k.hand; deeds = Readied (newest_place k.hand) ∷ k.deeds }
 
-abbrev pub blocking : Known → Known
+abbrev pub blocking : Notes → Notes
 blocking k = record k { hand = older k.hand; deeds = Blocked (newest_place k.hand) ∷ k.deeds }
 
 -- the newest place got this job, is ready, and out of hand
-abbrev pub spawning : ℕ → Known → Known
+abbrev pub spawning : ℕ → Notes → Notes
 spawning job k = record k { hand = older k.hand; spawned = job ∷ k.spawned; deeds = Readied (newest_place k.hand) ∷ k.deeds }
 
 -- the newest place got this job, and stays in hand
-abbrev pub beginning : ℕ → Known → Known
+abbrev pub beginning : ℕ → Notes → Notes
 beginning job k = record k { hand = (newest_place k.hand, job) ∷ older k.hand; spawned = job ∷ k.spawned }
 
 -- the newest job has ended
-abbrev pub ending : Known → Known
+abbrev pub ending : Notes → Notes
 ending k = record k { hand = older k.hand; ended = newest_job k.hand ∷ k.ended }
 
 -- the job at a place was marked as woken
-abbrev pub marking : ℕ → Known → Known
+abbrev pub marking : ℕ → Notes → Notes
 marking place k = record k { woken = place ∷ k.woken }
 
 -- that mark, where it is there (1), was used up
@@ -58,11 +58,11 @@ abbrev pub heard_more : ℕ → ℕ → List ℕ → List ℕ
 heard_more zero place heard = heard
 heard_more (suc n) place heard = place ∷ heard
 
-abbrev pub hearing : ℕ → ℕ → Known → Known
+abbrev pub hearing : ℕ → ℕ → Notes → Notes
 hearing n place k = record k { heard = heard_more n place k.heard }
 
 -- a number was found in a word, or put into it
-abbrev pub noted : ℕ → ℕ → Known → Known
+abbrev pub noted : ℕ → ℕ → Notes → Notes
 noted word number k = record k { deeds = Looked word number ∷ k.deeds }
 
 -- the idle bit of a worker was found set, and cleared: it is to be unparked
@@ -70,35 +70,35 @@ abbrev pub roused_more : Bool → ℕ → List ℕ → List ℕ
 roused_more false worker roused = roused
 roused_more true worker roused = worker ∷ roused
 
-abbrev pub rousing : Bool → ℕ → Known → Known
+abbrev pub rousing : Bool → ℕ → Notes → Notes
 rousing told worker k = record k { roused = roused_more told worker k.roused }
 
-abbrev pub unshowing : ℕ → Known → Known
+abbrev pub unshowing : ℕ → Notes → Notes
 unshowing block k = record k { unshown = block }
 
-abbrev pub owing : ℕ → Known → Known
+abbrev pub owing : ℕ → Notes → Notes
 owing shard k = record k { owes = shard }
 
 -- nothing is owed
-abbrev pub settled : Known → Known
+abbrev pub settled : Notes → Notes
 settled k = record k { unshown = 0; owes = 0 }
 
-abbrev pub having_seen : ℕ → Known → Known
+abbrev pub having_seen : ℕ → Notes → Notes
 having_seen count k = record k { seen = count }
 
-abbrev pub working : ℕ → Known → Known
+abbrev pub working : ℕ → Notes → Notes
 working number k = record k { worker = number; seen = 0 }
 
 -- ---- seats that are split and joined
 
-abbrev pub first_of : Token Known → Token Known
+abbrev pub first_of : Token Notes → Token Notes
 first_of t = held (first_part t.weight) t.known
 
-abbrev pub second_of : Token Known → Token Known
+abbrev pub second_of : Token Notes → Token Notes
 second_of t = held (second_part t.weight) blank
 
 -- what two seats know together: the second has an empty hand, no worker number, and owes nothing
-abbrev pub together : Known → Known → Known
+abbrev pub together : Notes → Notes → Notes
 together k l = record k {
   spawned = k.spawned ++ l.spawned;
   ended = k.ended ++ l.ended;
@@ -108,5 +108,5 @@ together k l = record k {
   deeds = k.deeds ++ l.deeds;
 }
 
-abbrev pub both_of : Token Known → Token Known → Token Known
+abbrev pub both_of : Token Notes → Token Notes → Token Notes
 both_of t u = held (joined t.weight u.weight) (together t.known u.known)

@@ -2,7 +2,7 @@
 use Rattle.std.specs.Prelude.{◌≡◌, ℕ, ◌*◌, ◌≤◌, List, ◌∷◌}
 use Rattle.atomic_table.specs.Seated.{TableId}
 use Rattle.atomic_table.specs.Table.{rest}
-use Rattle.arachne_exec.specs.declared.view.Known.{Known}
+use Rattle.arachne_exec.specs.declared.view.Notes.{Notes}
 use Rattle.arachne_exec.specs.Layout.{words_of}
 use Rattle.arachne_exec.specs.Changes.{older}
 
@@ -21,23 +21,23 @@ pub record IsLaidOut (table : TableId) (key shards : ℕ) : Type 0 where
 pub record SeatView : Type 0 where
   pub table : TableId
   pub weight : ℕ
-  pub known : Known
+  pub known : Notes
 
 -- the same within a call, where slots are out with it, the one taken last first
 pub record CallView : Type 0 where
   pub table : TableId
   pub weight : ℕ
-  pub known : Known
+  pub known : Notes
   pub slots : List (ℕ × ℕ)
 
 -- Between two calls the slots of the places in hand are out with the seat, and no other, and it owes nothing.
-pub record IsCalm (k : Known) (slots : List (ℕ × ℕ)) : Type 0 where
+pub record IsCalm (k : Notes) (slots : List (ℕ × ℕ)) : Type 0 where
   pub out : slots ≡ k.hand
   pub shown : k.unshown ≡ 0
   pub debt : k.owes ≡ 0
 
 -- the newest place in hand
-pub record IsNewest (place : ℕ) (k : Known) : Type 0 where
+pub record IsNewest (place : ℕ) (k : Notes) : Type 0 where
   pub job : ℕ
   pub hand : k.hand ≡ (place, job) ∷ older k.hand
 

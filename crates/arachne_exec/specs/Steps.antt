@@ -5,23 +5,23 @@ use Rattle.std.specs.Int.RustNames.{bit_and}
 use Rattle.atomic_table.specs.Table.{Me, Step, rest}
 use Rattle.arachne_weights.specs.declared.token.Token.{Token}
 use Rattle.arachne_weights.specs.Tokens.{held}
-use Rattle.arachne_exec.specs.declared.view.Known.{Known}
+use Rattle.arachne_exec.specs.declared.view.Notes.{Notes}
 use Rattle.arachne_exec.specs.Layout.{summary_at, ready_at, mark_at, retired, worker_of, others, places_in_word}
 use Rattle.arachne_exec.specs.Changes.{newest_job, gained, gaining, unblocking, readying, blocking, spawning, beginning, ending, marking, hearing, noted, rousing, unshowing, owing, having_seen, working}
 
 -- a view, and the slots that are out with the seat: each a place with what is in it
 abbrev pub Mine : Type 0
-Mine = Me ℕ (Token Known)
+Mine = Me ℕ (Token Notes)
 
 abbrev pub IsLive : Mine → Type 0
 IsLive me = me.0 ≡ held me.0.weight me.0.known
 
 -- the seat with other knowledge and other slots
-abbrev pub with : Mine → Known → List (ℕ × ℕ) → Mine
+abbrev pub with : Mine → Notes → List (ℕ × ℕ) → Mine
 with m k slots = (held m.0.weight k, slots)
 
 -- the seat with other knowledge
-abbrev pub knowing : Mine → Known → Mine
+abbrev pub knowing : Mine → Notes → Mine
 knowing m k = with m k m.1
 
 -- the number is noted

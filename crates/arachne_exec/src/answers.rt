@@ -2,7 +2,7 @@
 
 /// A job in hand: where it stands, its name, and its number.
 #[derive(Clone, Copy, Debug, PartialEq, Eq)]
-pub struct Job {
+pub struct HeldJob {
     pub place: usize,
     pub name: u64,
     pub job: u64,
@@ -10,7 +10,7 @@ pub struct Job {
 
 /// Where a job was put, and its name. `unpark` is whether the worker of the place is to be unparked.
 #[derive(Clone, Copy, Debug, PartialEq, Eq)]
-pub struct Placed {
+pub struct PlacedJob {
     pub place: usize,
     pub name: u64,
     pub unpark: bool,
@@ -18,8 +18,8 @@ pub struct Placed {
 
 /// What became of a job that was to be spawned.
 #[derive(Clone, Copy, Debug, PartialEq, Eq)]
-pub enum Spawned {
-    Placed(Placed),
+pub enum JobSpawned {
+    Placed(PlacedJob),
     /// No place of the block was free.
     Full,
     /// Another thread claimed the place first: ask again.
@@ -29,7 +29,7 @@ pub enum Spawned {
 /// What became of a job that was to be spawned into the hand.
 #[derive(Clone, Copy, Debug, PartialEq, Eq)]
 pub enum SpawnedHere {
-    Held(Job),
+    Held(HeldJob),
     /// No place of the block was free.
     Full,
     /// Another thread claimed the place first: ask again.
@@ -38,7 +38,7 @@ pub enum SpawnedHere {
 
 /// What became of a job that waits.
 #[derive(Clone, Copy, Debug, PartialEq, Eq)]
-pub enum Rested {
+pub enum JobRested {
     Blocked,
     /// It was woken since it was taken, and is ready.
     Ready { unpark: bool },
@@ -47,7 +47,7 @@ pub enum Rested {
 /// What a worker is to do next.
 #[derive(Clone, Copy, Debug, PartialEq, Eq)]
 pub enum Next {
-    Run(Job),
+    Run(HeldJob),
     /// To park: its idle bit is set, and each of its summary words was found empty after that.
     Park,
     /// To ask again.
@@ -56,7 +56,7 @@ pub enum Next {
 
 /// What a wake found.
 #[derive(Clone, Copy, Debug, PartialEq, Eq)]
-pub enum Woken {
+pub enum JobWoken {
     /// The job was blocked, and is ready.
     Ready { unpark: bool },
     /// The job is ready, and runs after this; or it runs, and is ready at its next rest.
@@ -73,7 +73,7 @@ pub enum Woken {
 #[derive(Clone, Copy, Debug, PartialEq, Eq)]
 pub enum WokenHere {
     /// The job was blocked, and is in hand.
-    Held(Job),
+    Held(HeldJob),
     Marked,
     Already,
     Gone,

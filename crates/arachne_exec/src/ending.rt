@@ -5,7 +5,7 @@ ghost use Rattle.arachne_weights.specs.Weight.{whole};
 ghost use Rattle.arachne_exec.specs.Ending.{IsSettled};
 
 use crate::executor::Executor;
-use crate::seat::{CallSeat, ExecSeat};
+use crate::seat::{ExecSeat, SeatInCall};
 use std::alloc::Global;
 
 impl Executor {
@@ -38,7 +38,7 @@ impl Executor {
         let places = self.table.slot_count();
         let Executor { table, shards: _ } = self;
         let ExecSeat { at, .. } = seat;
-        let CallSeat { seat } = at;
+        let SeatInCall { seat } = at;
         let mut closed = table.close_with(seat);
         for place in 0..places {
             let job = closed.take(place);

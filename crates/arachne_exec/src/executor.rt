@@ -5,9 +5,9 @@ ghost use Rattle.arachne_exec.specs.Board.{blank};
 ghost use Rattle.arachne_exec.specs.Changes.{together};
 
 use crate::layout::{empty_slots, first_words};
-use crate::seat::{CallSeat, ExecSeat};
-use crate::steps::{Deal, Lawful};
-use crate::turns::{TakeTurn, Turn};
+use crate::seat::{ExecSeat, SeatInCall};
+use crate::steps::{Halve, Lawful};
+use crate::turns::{SearchTurn, TakeTurn};
 use crate::view::View;
 use arachne_weights::Weight;
 use atomic_table::Table;
@@ -47,9 +47,9 @@ impl Executor {
             return Err(AllocError);
         };
         let seat = ExecSeat {
-            at: CallSeat { seat },
+            at: SeatInCall { seat },
             weight: Weight::whole(),
-            turn: Turn::start(),
+            turn: SearchTurn::start(),
             take_turn: TakeTurn::start(),
         };
         Ok((Executor { table, shards }, seat))
@@ -77,24 +77,24 @@ impl Executor {
         let _ = &self.shards;
     }
 
-    fn cut(&self, seat: &mut CallSeat) -> CallSeat
+    fn cut(&self, seat: &mut SeatInCall) -> SeatInCall
         requires own { seat.old.table ≡ self.now.table }
         ensures first { seat.new ≡ record seat.old { weight = first_part seat.old.weight } }
         ensures second { result ≡ record { table = seat.old.table; weight = second_part seat.old.weight; known = blank; slots = [] } }
     {
         let _ = self.shards;
-        let other = self.table.shared.split_seat::<Deal>(&mut seat.seat);
-        CallSeat { seat: other }
+        let other = self.table.shared.split_seat::<Halve>(&mut seat.seat);
+        SeatInCall { seat: other }
     }
 
-    fn take_in(&self, seat: &mut CallSeat, other: CallSeat)
+    fn take_in(&self, seat: &mut SeatInCall, other: SeatInCall)
         requires own { (seat.old.table ≡ self.now.table) × (other.table ≡ self.now.table) }
         requires nothing { (other.slots ≡ []) × (other.known.hand ≡ []) × (other.known.worker ≡ 0) × (other.known.unshown ≡ 0) × (other.known.owes ≡ 0) }
         ensures { seat.new ≡ record seat.old { weight = joined seat.old.weight other.weight; known = together seat.old.known other.known } }
     {
         let _ = self.shards;
-        let CallSeat { seat: spent } = other;
-        self.table.shared.join_seat::<Deal>(&mut seat.seat, spent);
+        let SeatInCall { seat: spent } = other;
+        self.table.shared.join_seat::<Halve>(&mut seat.seat, spent);
     }
 
     /// A seat for another thread, with half the weight and nothing else. At weight 1 or 0 neither keeps any.
@@ -109,7 +109,7 @@ impl Executor {
         ExecSeat {
             at: other,
             weight: second,
-            turn: Turn::start(),
+            turn: SearchTurn::start(),
             take_turn: TakeTurn::start(),
         }
     }

@@ -1,16 +1,15 @@
 //! The way of a job: spawn, take, rest, finish.
-ghost use Rattle.std.specs.Prelude.{◌≡◌, ◌≢◌, ◌⊎◌, ℕ, ◌+◌, ◌*◌, ◌/◌, ◌%◌, ◌^◌, ◌<◌, IsTrue, IsFalse, IfSome, IfNone};
-ghost use Rattle.atomic_table.specs.Table.{rest};
+ghost use Rattle.std.specs.Prelude.{◌≡◌, ℕ, ◌*◌, ◌%◌, ◌<◌, IsTrue, IsFalse, IfSome, IfNone};
 ghost use Rattle.arachne_exec.specs.Layout.{mark_at, name_of};
-ghost use Rattle.arachne_exec.specs.Changes.{readying, blocking, hearing, noted, rousing};
+ghost use Rattle.arachne_exec.specs.Changes.{readying, hearing, noted, rousing};
 ghost use Rattle.arachne_exec.specs.Seats.{HasNewest, IsNewest};
-ghost use Rattle.arachne_exec.specs.Calls.{worker_at, HasSpawned, HasSpawnedHere, HandsSpawned, HasTaken, HasTakenFrom, HasTakenNone, HasRested, HasFinished, KeepsHand, HandsOver, LaysDown};
+ghost use Rattle.arachne_exec.specs.Calls.{worker_at, HasSpawned, HasSpawnedHere, HandsSpawned, HasTaken, HasTakenFrom, HasTakenNone, HasBlocked, HasSeenWake, HasRested, HasFinished, KeepsHand, HandsOver, LaysDown};
 
-use crate::answers::{Job, Placed, Rested, Spawned, SpawnedHere};
+use crate::answers::{HeldJob, JobRested, JobSpawned, PlacedJob, SpawnedHere};
 use crate::executor::Executor;
 use crate::layout::{LAST_GENERATION, free_word, mark_word, name_at, ready_word};
-use crate::seat::{CallSeat, ExecSeat};
-use crate::turns::{First, Taken, first_from, has_more, lowest_index};
+use crate::seat::{ExecSeat, SeatInCall};
+use crate::turns::{First, TakenJob, first_from, has_more, lowest_index};
 use crate::words::Heard;
 
 /// The mark of a place in hand, in which a wake was used up if there was one. [`Executor::refresh`] alone gives one,
@@ -40,11 +39,11 @@ impl Refreshed {
 
     /// The job of this number at the place.
     #[inline(always)]
-    pub(crate) fn job_at(&self, place: usize, job: u64) -> Job
+    pub(crate) fn job_at(&self, place: usize, job: u64) -> HeldJob
         requires { place < 1048576 }
         ensures { result ≡ record { place = place; name = name_of place self.now.mark; job = job } }
     {
-        Job {
+        HeldJob {
             place,
             name: name_at(place, self.mark),
             job,
@@ -54,7 +53,7 @@ impl Refreshed {
 
 impl Executor {
     /// The mark of the newest place says of no wake from now on. The mark that was found.
-    pub(crate) fn refresh(&self, seat: &mut CallSeat, place: usize) -> Refreshed
+    pub(crate) fn refresh(&self, seat: &mut SeatInCall, place: usize) -> Refreshed
         requires own { seat.old.table ≡ self.now.table }
         requires place { place < 4096 * self.now.shards }
         requires newest { (job : ℕ) × (inside : ℕ) × HasNewest place job inside seat.old }
@@ -69,7 +68,7 @@ impl Executor {
     }
 
     /// Puts a job at a free place of a block, where it is ready: one try.
-    pub fn spawn(&self, seat: &mut ExecSeat, block: usize, job: u64) -> Spawned
+    pub fn spawn(&self, seat: &mut ExecSeat, block: usize, job: u64) -> JobSpawned
         requires own { seat.old.table ≡ self.now.table }
         requires block { block < 64 * self.now.shards }
         ensures seat { seat.new ≡ record seat.old { known = seat.new.known } }
@@ -79,16 +78,16 @@ impl Executor {
         self.few();
         let free = self.look(&mut seat.at, free_word(block));
         if free == 0 {
-            return Spawned::Full;
+            return JobSpawned::Full;
         }
         let place = 64 * block + lowest_index(free);
         if !self.claim_bit(&mut seat.at, place) {
-            return Spawned::Lost;
+            return JobSpawned::Lost;
         }
         let mark = self.look(&mut seat.at, mark_word(place));
         self.lay(&mut seat.at, place, job);
         let unpark = self.publish_new(&mut seat.at, place, job);
-        Spawned::Placed(Placed {
+        JobSpawned::Placed(PlacedJob {
             place,
             name: name_at(place, mark),
             unpark,
@@ -114,7 +113,7 @@ impl Executor {
         }
         self.lay(&mut seat.at, place, job);
         let mark = self.begin(&mut seat.at, place, job);
-        SpawnedHere::Held(Job {
+        SpawnedHere::Held(HeldJob {
             place,
             name: name_at(place, mark),
             job,
@@ -123,7 +122,12 @@ impl Executor {
 
     /// Takes a job that is ready at a block: one try, at the first ready place from this index on, round the block.
     /// With it whether the block had another behind that place.
-    pub(crate) fn take_from(&self, seat: &mut ExecSeat, block: usize, from: First) -> Option<Taken>
+    pub(crate) fn take_from(
+        &self,
+        seat: &mut ExecSeat,
+        block: usize,
+        from: First,
+    ) -> Option<TakenJob>
         requires own { seat.old.table ≡ self.now.table }
         requires block { block < 64 * self.now.shards }
         requires from { from.block.value ≡ block }
@@ -147,12 +151,12 @@ impl Executor {
         let mark = self.refresh(&mut seat.at, place);
         let job = self.lay(&mut seat.at, place, 0);
         self.lay(&mut seat.at, place, job);
-        Some(Taken::new(mark.job_at(place, job), has_more(ready, index)))
+        Some(TakenJob::new(mark.job_at(place, job), has_more(ready, index)))
     }
 
     /// Takes a job that is ready at a block, of any worker: one try, at the first ready place behind the index of the
     /// one that the seat took last so, round the block.
-    pub fn take(&self, seat: &mut ExecSeat, block: usize) -> Option<Job>
+    pub fn take(&self, seat: &mut ExecSeat, block: usize) -> Option<HeldJob>
         requires own { seat.old.table ≡ self.now.table }
         requires block { block < 64 * self.now.shards }
         ensures seat { seat.new ≡ record seat.old { known = seat.new.known } }
@@ -177,13 +181,12 @@ impl Executor {
     }
 
     /// The newest place is blocked, unless its mark says of a wake.
-    fn try_block(&self, seat: &mut CallSeat, place: usize) -> bool
+    fn try_block(&self, seat: &mut SeatInCall, place: usize) -> bool
         requires own { seat.old.table ≡ self.now.table }
         requires place { place < 4096 * self.now.shards }
         requires newest { (job : ℕ) × HasNewest place job job seat.old }
-        ensures put { IsTrue result → (mark : ℕ) × (mark % 4 ≡ 0) × (seat.new ≡ record seat.old { known = blocking (noted (mark_at place) mark seat.old.known); slots = rest seat.old.slots }) }
-        ensures missed { IsFalse result → (mark : ℕ) × (((mark % 4 ≢ 0) × (seat.new ≡ record seat.old { known = noted (mark_at place) mark seat.old.known }))
-            ⊎ ((then : ℕ) × (then ≢ mark) × (seat.new ≡ record seat.old { known = noted (mark_at place) then (noted (mark_at place) mark seat.old.known) }))) }
+        ensures put { IsTrue result → HasBlocked place seat.old seat.new }
+        ensures missed { IsFalse result → HasSeenWake place seat.old seat.new }
     {
         self.few();
         let mark = self.look(seat, mark_word(place));
@@ -194,7 +197,7 @@ impl Executor {
     }
 
     /// The newest job in hand waits, unless it was woken since it was taken.
-    pub fn rest_blocked(&self, seat: &mut ExecSeat, place: usize) -> Rested
+    pub fn rest_blocked(&self, seat: &mut ExecSeat, place: usize) -> JobRested
         requires own { seat.old.table ≡ self.now.table }
         requires place { place < 4096 * self.now.shards }
         requires newest { IsNewest place seat.old.known }
@@ -203,10 +206,10 @@ impl Executor {
         ensures hand { LaysDown seat.old.known seat.new.known }
     {
         if self.try_block(&mut seat.at, place) {
-            return Rested::Blocked;
+            return JobRested::Blocked;
         }
         let unpark = self.publish(&mut seat.at, place);
-        Rested::Ready { unpark }
+        JobRested::Ready { unpark }
     }
 
     /// The newest job in hand has ended. Its place is free, for a job of the next generation.

@@ -20,7 +20,9 @@ mod view;
 mod waking;
 mod words;
 
-pub use answers::{Job, Next, Placed, Rested, Spawned, SpawnedHere, Woken, WokenHere};
+pub use answers::{
+    HeldJob, JobRested, JobSpawned, JobWoken, Next, PlacedJob, SpawnedHere, WokenHere,
+};
 pub use executor::Executor;
 pub use laws::{
     executors_cross_threads, free_places_are_empty, jobs_are_conserved, ready_blocks_are_shown,
@@ -31,4 +33,4 @@ pub use layout::{
 };
 pub use seat::ExecSeat;
 pub use sleepers::Risen;
-pub use view::{Deed, Known, View};
+pub use view::{Deed, Notes, View};

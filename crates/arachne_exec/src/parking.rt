@@ -1,16 +1,15 @@
 //! What a worker does next, and when it may park.
-ghost use Rattle.std.specs.Prelude.{◌≡◌, ℕ, ◌+◌, ◌*◌, ◌/◌, ◌<◌, ◌≤◌, IsTrue, IsFalse, IfSome, IfNone, OnOk, OnErr};
+ghost use Rattle.std.specs.Prelude.{◌≡◌, ℕ, ◌+◌, ◌*◌, ◌<◌, IsTrue, IsFalse, IfSome, IfNone, OnOk, OnErr};
 ghost use Rattle.std.specs.Int.{bit_at};
-ghost use Rattle.arachne_exec.specs.declared.view.Known.{Known};
 ghost use Rattle.arachne_exec.specs.Layout.{numbers_at};
 ghost use Rattle.arachne_exec.specs.Changes.{noted, working};
-ghost use Rattle.arachne_exec.specs.Calls.{HasAnswered, HasFoundNone, HasFoundSome, HasLooked, HasTaken, HandsNext, HandsOver, KeepsHand};
+ghost use Rattle.arachne_exec.specs.Calls.{HasAnswered, HasFoundNone, HasFoundSome, HasLooked, HasTakenInShard, HandsNext, HandsOver, KeepsHand};
 
-use crate::answers::{Job, Next};
+use crate::answers::{HeldJob, Next};
 use crate::executor::Executor;
 use crate::layout::summary_word;
 use crate::rounds::{InTurn, Round};
-use crate::seat::{CallSeat, ExecSeat};
+use crate::seat::{ExecSeat, SeatInCall};
 use crate::sleepers::Risen;
 
 /// How many of so many shards a worker looks after.
@@ -58,7 +57,7 @@ impl Executor {
     }
 
     /// The worker is idle, unless one of its summary words isn't empty: then it has risen.
-    fn lie_down(&self, seat: &mut CallSeat, worker: usize) -> Result<(), Risen>
+    fn lie_down(&self, seat: &mut SeatInCall, worker: usize) -> Result<(), Risen>
         requires own { seat.old.table ≡ self.now.table }
         requires worker { (seat.old.known.worker ≡ worker + 1) × (worker < 64) }
         ensures seat { seat.new ≡ record seat.old { known = seat.new.known } }
@@ -88,11 +87,11 @@ impl Executor {
 
     /// A job that is ready at a shard whose turn it is, the first from the seat's turn on. Bits of blocks that have
     /// none are cleared in its summary word.
-    fn take_in_shard(&self, seat: &mut ExecSeat, shard: InTurn) -> Option<Job>
+    fn take_in_shard(&self, seat: &mut ExecSeat, shard: InTurn) -> Option<HeldJob>
         requires own { seat.old.table ≡ self.now.table }
         requires shard { shard.shard < self.now.shards }
         ensures seat { seat.new ≡ record seat.old { known = seat.new.known } }
-        ensures took { IfSome result (λ job. (block : ℕ) × (looked : Known) × (block < 64 * self.now.shards) × (block / 64 ≡ shard.shard) × HasLooked seat.old.known looked × HasTaken job block looked seat.new.known) }
+        ensures took { IfSome result (λ job. HasTakenInShard job self.now.shards shard.shard seat.old.known seat.new.known) }
         ensures none { IfNone result (HasLooked seat.old.known seat.new.known) }
         ensures hand { IfSome result (λ job. HandsOver (4096 * self.now.shards) job seat.old.known seat.new.known) }
         ensures same { IfNone result (KeepsHand seat.old.known seat.new.known) }

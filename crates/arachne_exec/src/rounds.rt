@@ -1,8 +1,8 @@
 //! The shards of a worker, in the order in which a search looks at them.
 ghost use Rattle.std.specs.Prelude.{◌≡◌, ℕ, ◌+◌, ◌*◌, ◌/◌, ◌<◌, ◌≤◌, IfSome, IfNone};
 
-use crate::answers::Job;
-use crate::turns::{Turn, shard_in_turn};
+use crate::answers::HeldJob;
+use crate::turns::{SearchTurn, shard_in_turn};
 
 /// A shard whose turn it is. [`Round::next`] alone gives one, and none is searched without.
 pub(crate) struct InTurn {
@@ -35,7 +35,7 @@ pub(crate) struct Round {
 impl Round {
     /// All of a worker's shards, which are so many.
     #[inline(always)]
-    pub(crate) fn of(turn: &Turn, worker: usize, count: usize) -> Round
+    pub(crate) fn of(turn: &SearchTurn, worker: usize, count: usize) -> Round
         requires { worker + 64 * count ≤ 512 }
         ensures worker { result.worker ≡ worker }
         ensures all { (result.count ≡ count) × (result.index ≡ 0) }
@@ -72,7 +72,7 @@ impl Round {
 
     /// The search ends with this job.
     #[inline(always)]
-    pub(crate) fn found(self, job: Job) -> Job
+    pub(crate) fn found(self, job: HeldJob) -> HeldJob
         ensures { result ≡ job }
     {
         let Round {

@@ -1,5 +1,5 @@
 //! A thread's right to call.
-use crate::turns::{TakeTurn, Turn};
+use crate::turns::{SearchTurn, TakeTurn};
 use crate::view::View;
 use arachne_weights::Weight;
 use atomic_table::Seat;
@@ -7,11 +7,11 @@ use std::marker::Model;
 
 /// A seat within a call. Contracts see its table, its weight, what it knows, and the slots that are out with it.
 #[derive(Drop)]
-pub(crate) struct CallSeat {
+pub(crate) struct SeatInCall {
     pub(crate) seat: Seat<u64, View>,
 }
 
-impl Model for CallSeat {
+impl Model for SeatInCall {
     ghost use Rattle.arachne_exec.specs.Steps.{IsLive};
     ghost use Rattle.arachne_exec.specs.Seats.{CallView};
 
@@ -29,10 +29,10 @@ impl Model for CallSeat {
 /// is of, its part of the whole weight, and what it has and knows.
 #[derive(Drop)]
 pub struct ExecSeat {
-    pub(crate) at: CallSeat,
+    pub(crate) at: SeatInCall,
     pub(crate) weight: Weight,
     /// Where the next search of its worker's blocks begins.
-    pub(crate) turn: Turn,
+    pub(crate) turn: SearchTurn,
     /// Where its next `take` begins.
     pub(crate) take_turn: TakeTurn,
 }

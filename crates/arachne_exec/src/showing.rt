@@ -6,12 +6,12 @@ ghost use Rattle.arachne_exec.specs.Changes.{readying, spawning, rousing, settle
 ghost use Rattle.arachne_exec.specs.Seats.{HasNewest};
 
 use crate::executor::Executor;
-use crate::seat::CallSeat;
+use crate::seat::SeatInCall;
 use crate::sleepers::Hidden;
 
 impl Executor {
     /// Looks whether the worker of the shard is idle: where it is, it is no longer, and is to be unparked.
-    pub(crate) fn pay(&self, seat: &mut CallSeat, shard: usize) -> bool
+    pub(crate) fn pay(&self, seat: &mut SeatInCall, shard: usize) -> bool
         requires own { seat.old.table ≡ self.now.table }
         requires owed { seat.old.known.owes ≡ shard + 1 }
         ensures { seat.new ≡ record seat.old { known = rousing result (worker_of shard) (owing 0 seat.old.known) } }
@@ -23,7 +23,7 @@ impl Executor {
     }
 
     /// Shows a block whose bit is owed. Whether its worker is to be unparked.
-    pub(crate) fn show(&self, seat: &mut CallSeat, block: usize) -> bool
+    pub(crate) fn show(&self, seat: &mut SeatInCall, block: usize) -> bool
         requires own { seat.old.table ≡ self.now.table }
         requires block { block < 64 * self.now.shards }
         requires owed { (seat.old.known.unshown ≡ block + 1) × (seat.old.known.owes ≡ 0) }
@@ -39,7 +39,7 @@ impl Executor {
     }
 
     /// The newest place is ready. Whether its worker is to be unparked.
-    pub(crate) fn publish(&self, seat: &mut CallSeat, place: usize) -> bool
+    pub(crate) fn publish(&self, seat: &mut SeatInCall, place: usize) -> bool
         requires own { seat.old.table ≡ self.now.table }
         requires place { place < 4096 * self.now.shards }
         requires newest { (job : ℕ) × HasNewest place job job seat.old }
@@ -53,7 +53,7 @@ impl Executor {
     }
 
     /// The same of a place that a job was laid into.
-    pub(crate) fn publish_new(&self, seat: &mut CallSeat, place: usize, job: u64) -> bool
+    pub(crate) fn publish_new(&self, seat: &mut SeatInCall, place: usize, job: u64) -> bool
         requires own { seat.old.table ≡ self.now.table }
         requires place { place < 4096 * self.now.shards }
         requires newest { HasNewest place 0 job seat.old }
@@ -68,7 +68,7 @@ impl Executor {
 
     /// Clears the bit of a block in its summary word, unless it has a ready job. With the block whether its worker is
     /// to be unparked.
-    pub(crate) fn tidy(&self, seat: &mut CallSeat, block: usize) -> (Hidden, bool)
+    pub(crate) fn tidy(&self, seat: &mut SeatInCall, block: usize) -> (Hidden, bool)
         requires own { seat.old.table ≡ self.now.table }
         requires block { block < 64 * self.now.shards }
         requires calm { (seat.old.known.unshown ≡ 0) × (seat.old.known.owes ≡ 0) }

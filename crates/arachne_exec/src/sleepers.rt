@@ -6,9 +6,10 @@ ghost use Rattle.arachne_exec.specs.Changes.{noted, rousing, unshowing, owing, h
 
 use crate::executor::Executor;
 use crate::layout::{IDLE, NUMBERS, all_but, bit, ready_word, summary_word};
-use crate::seat::CallSeat;
+use crate::seat::SeatInCall;
 use crate::steps::{
-    FindShown, Hide, Leave, LookAgain, LookIdle, LookNext, Register, Rest, Rise, Show, Unpark,
+    FindShown, Hide, LookAgain, LookIdle, LookNext, Register, Rise, SetIdle, Show, Unpark,
+    Unregister,
 };
 
 /// A block whose bit was cleared in its summary word. [`Executor::hide`] alone gives one.
@@ -35,7 +36,7 @@ pub struct Risen {
 
 impl Executor {
     /// Whether the bit of the block is set in the summary word: then it is no longer owed.
-    pub(crate) fn finds_shown(&self, seat: &mut CallSeat, block: usize) -> bool
+    pub(crate) fn finds_shown(&self, seat: &mut SeatInCall, block: usize) -> bool
         requires own { seat.old.table ≡ self.now.table }
         requires block { block < 64 * self.now.shards }
         requires owed { seat.old.known.unshown ≡ block + 1 }
@@ -49,7 +50,7 @@ impl Executor {
     }
 
     /// Sets the bit of the block in the summary word. Whether the look at the idle word is owed.
-    pub(crate) fn put_shown(&self, seat: &mut CallSeat, block: usize) -> bool
+    pub(crate) fn put_shown(&self, seat: &mut SeatInCall, block: usize) -> bool
         requires own { seat.old.table ≡ self.now.table }
         requires block { block < 64 * self.now.shards }
         requires owed { (seat.old.known.unshown ≡ block + 1) × (seat.old.known.owes ≡ 0) }
@@ -62,7 +63,7 @@ impl Executor {
     }
 
     /// Clears the bit of the block in the summary word.
-    pub(crate) fn hide(&self, seat: &mut CallSeat, block: usize) -> Hidden
+    pub(crate) fn hide(&self, seat: &mut SeatInCall, block: usize) -> Hidden
         requires own { seat.old.table ≡ self.now.table }
         requires block { block < 64 * self.now.shards }
         requires shown { seat.old.known.unshown ≡ 0 }
@@ -80,7 +81,7 @@ impl Executor {
     }
 
     /// Whether the block has no ready job: then its bit in the summary word is no longer owed.
-    pub(crate) fn has_none(&self, seat: &mut CallSeat, block: usize) -> bool
+    pub(crate) fn has_none(&self, seat: &mut SeatInCall, block: usize) -> bool
         requires own { seat.old.table ≡ self.now.table }
         requires block { block < 64 * self.now.shards }
         requires owed { seat.old.known.unshown ≡ block + 1 }
@@ -93,7 +94,7 @@ impl Executor {
     }
 
     /// Whether the shard's worker is idle. Where it isn't, nothing is owed any more.
-    pub(crate) fn finds_idle(&self, seat: &mut CallSeat, shard: usize) -> bool
+    pub(crate) fn finds_idle(&self, seat: &mut SeatInCall, shard: usize) -> bool
         requires own { seat.old.table ≡ self.now.table }
         requires owed { seat.old.known.owes ≡ shard + 1 }
         ensures idle { IsTrue result → seat.new ≡ seat.old }
@@ -105,7 +106,7 @@ impl Executor {
     }
 
     /// Clears the idle bit of the shard's worker. Whether it was set: then the worker is to be unparked.
-    pub(crate) fn unpark(&self, seat: &mut CallSeat, shard: usize) -> bool
+    pub(crate) fn unpark(&self, seat: &mut SeatInCall, shard: usize) -> bool
         requires own { seat.old.table ≡ self.now.table }
         requires owed { seat.old.known.owes ≡ shard + 1 }
         ensures seat { seat.new ≡ record seat.old { known = rousing result (worker_of shard) (owing 0 seat.old.known) } }
@@ -117,18 +118,18 @@ impl Executor {
     }
 
     /// The worker is idle from now on.
-    pub(crate) fn set_idle(&self, seat: &mut CallSeat, worker: usize)
+    pub(crate) fn set_idle(&self, seat: &mut SeatInCall, worker: usize)
         requires own { seat.old.table ≡ self.now.table }
         requires worker { (seat.old.known.worker ≡ worker + 1) × (worker < 64) }
         ensures seat { seat.new ≡ record seat.old { known = having_seen 0 seat.old.known } }
     {
         let _ = self.shards;
         let shared = &self.table.shared;
-        shared.fetch_or::<Rest>(&mut seat.seat, IDLE, bit(worker));
+        shared.fetch_or::<SetIdle>(&mut seat.seat, IDLE, bit(worker));
     }
 
     /// The worker is idle no longer.
-    pub(crate) fn clear_idle(&self, seat: &mut CallSeat, worker: usize) -> Risen
+    pub(crate) fn clear_idle(&self, seat: &mut SeatInCall, worker: usize) -> Risen
         requires own { seat.old.table ≡ self.now.table }
         requires worker { (seat.old.known.worker ≡ worker + 1) × (worker < 64) }
         ensures risen { result.worker ≡ worker }
@@ -141,7 +142,7 @@ impl Executor {
     }
 
     /// Looks at the worker's next summary word. Whether it is empty.
-    pub(crate) fn sees_none(&self, seat: &mut CallSeat, worker: usize, next: usize) -> bool
+    pub(crate) fn sees_none(&self, seat: &mut SeatInCall, worker: usize, next: usize) -> bool
         requires own { seat.old.table ≡ self.now.table }
         requires worker { (seat.old.known.worker ≡ worker + 1) × (worker + 64 * next < self.now.shards) }
         requires next { seat.old.known.seen ≡ next }
@@ -154,7 +155,7 @@ impl Executor {
     }
 
     /// The seat becomes the worker of this number, where no seat is it. Whether it did.
-    pub(crate) fn take_number(&self, seat: &mut CallSeat, worker: usize) -> bool
+    pub(crate) fn take_number(&self, seat: &mut SeatInCall, worker: usize) -> bool
         requires own { seat.old.table ≡ self.now.table }
         requires worker { (seat.old.known.worker ≡ 0) × (worker < 64) }
         ensures registered { IsTrue result → seat.new ≡ record seat.old { known = working (worker + 1) seat.old.known } }
@@ -167,13 +168,13 @@ impl Executor {
     }
 
     /// The seat's number is free again.
-    pub(crate) fn give_number(&self, seat: &mut CallSeat, worker: usize)
+    pub(crate) fn give_number(&self, seat: &mut SeatInCall, worker: usize)
         requires own { seat.old.table ≡ self.now.table }
         requires worker { (seat.old.known.worker ≡ worker + 1) × (worker < 64) }
         ensures seat { seat.new ≡ record seat.old { known = working 0 seat.old.known } }
     {
         let _ = self.shards;
         let shared = &self.table.shared;
-        shared.fetch_or::<Leave>(&mut seat.seat, NUMBERS, bit(worker));
+        shared.fetch_or::<Unregister>(&mut seat.seat, NUMBERS, bit(worker));
     }
 }

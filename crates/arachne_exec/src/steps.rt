@@ -13,17 +13,17 @@ impl TableRule<u64, View, usize> for Lawful {
     ghost first = { λ shards. first_view };
 }
 
-pub(crate) struct Look;
+pub(crate) struct LookAtWord;
 
-impl Play<u64, View> for Look {
+impl Play<u64, View> for LookAtWord {
     ghost use Rattle.arachne_exec.specs.Steps.{Looks};
 
     ghost then = { Looks };
 }
 
-pub(crate) struct Take;
+pub(crate) struct TakeBit;
 
-impl Play<u64, View> for Take {
+impl Play<u64, View> for TakeBit {
     ghost use Rattle.arachne_exec.specs.Steps.{Takes};
 
     ghost then = { Takes };
@@ -37,9 +37,9 @@ impl Play<u64, View> for TakeMany {
     ghost then = { TakesMany };
 }
 
-pub(crate) struct Claim;
+pub(crate) struct ClaimBit;
 
-impl Play<u64, View> for Claim {
+impl Play<u64, View> for ClaimBit {
     ghost use Rattle.arachne_exec.specs.Layout.{free_at};
     ghost use Rattle.arachne_exec.specs.Steps.{Claims};
 
@@ -94,9 +94,9 @@ impl Play<u64, View> for Renew {
     ghost then = { Renews };
 }
 
-pub(crate) struct Retire;
+pub(crate) struct RetirePlace;
 
-impl Play<u64, View> for Retire {
+impl Play<u64, View> for RetirePlace {
     ghost use Rattle.arachne_exec.specs.Steps.{Retires};
 
     ghost then = { Retires };
@@ -118,9 +118,9 @@ impl Play<u64, View> for Wake {
     ghost then = { Wakes };
 }
 
-pub(crate) struct Mark;
+pub(crate) struct MarkWake;
 
-impl Play<u64, View> for Mark {
+impl Play<u64, View> for MarkWake {
     ghost use Rattle.arachne_exec.specs.Steps.{Marks};
 
     ghost then = { Marks };
@@ -182,9 +182,9 @@ impl Play<u64, View> for Rise {
     ghost then = { Rises };
 }
 
-pub(crate) struct Rest;
+pub(crate) struct SetIdle;
 
-impl Play<u64, View> for Rest {
+impl Play<u64, View> for SetIdle {
     ghost use Rattle.arachne_exec.specs.Steps.{Rests};
 
     ghost then = { Rests };
@@ -206,18 +206,18 @@ impl Play<u64, View> for Register {
     ghost then = { Registers };
 }
 
-pub(crate) struct Leave;
+pub(crate) struct Unregister;
 
-impl Play<u64, View> for Leave {
+impl Play<u64, View> for Unregister {
     ghost use Rattle.arachne_exec.specs.Steps.{Leaves};
 
     ghost then = { Leaves };
 }
 
 /// A new seat gets half the weight, and begins with nothing.
-pub(crate) struct Deal;
+pub(crate) struct Halve;
 
-impl Split<View> for Deal {
+impl Split<View> for Halve {
     ghost use Rattle.arachne_exec.specs.Changes.{first_of, second_of};
 
     ghost left = { first_of };
@@ -225,7 +225,7 @@ impl Split<View> for Deal {
     ghost right = { second_of };
 }
 
-impl Join<View> for Deal {
+impl Join<View> for Halve {
     ghost use Rattle.arachne_weights.specs.Tokens.{spent};
     ghost use Rattle.arachne_exec.specs.Board.{blank};
     ghost use Rattle.arachne_exec.specs.Changes.{both_of};

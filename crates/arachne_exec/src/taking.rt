@@ -5,7 +5,7 @@ ghost use Rattle.arachne_exec.specs.Layout.{PicksLowest};
 ghost use Rattle.arachne_exec.specs.Seats.{IsNewest};
 ghost use Rattle.arachne_exec.specs.Calls.{HasTakenMany, HasStarted, HandsMany, KeepsHand};
 
-use crate::answers::Job;
+use crate::answers::HeldJob;
 use crate::executor::Executor;
 use crate::layout::{all_but, bit, ready_word};
 use crate::seat::ExecSeat;
@@ -53,7 +53,7 @@ impl Executor {
 
     /// The newest job in hand is about to run, and a wake that has come since it was ready is used up. Its name and
     /// number.
-    pub fn start(&self, seat: &mut ExecSeat, place: usize) -> Job
+    pub fn start(&self, seat: &mut ExecSeat, place: usize) -> HeldJob
         requires own { seat.old.table ≡ self.now.table }
         requires place { place < 4096 * self.now.shards }
         requires newest { IsNewest place seat.old.known }

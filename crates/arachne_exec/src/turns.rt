@@ -5,7 +5,7 @@ ghost use Rattle.std.specs.Int.RustNames.{bit_and};
 ghost use Rattle.arachne_exec.specs.Layout.{others};
 ghost use Rattle.arachne_exec.specs.Turns.{IsFirstFrom, HasMoreBehind};
 
-use crate::answers::Job;
+use crate::answers::HeldJob;
 use crate::layout::all_but;
 use crate::sleepers::Hidden;
 use std::snapshot::Snapshot;
@@ -93,21 +93,26 @@ impl Unsearched {
 
 /// A job that was taken, and whether its block had another ready place behind it. The job is had only by noting where
 /// the next search begins, and none can be let go.
-pub(crate) struct Taken {
-    job: Job,
+pub(crate) struct TakenJob {
+    job: HeldJob,
     more: bool,
 }
 
-impl Taken {
+impl TakenJob {
     #[inline(always)]
-    pub(crate) fn new(job: Job, more: bool) -> Taken
+    pub(crate) fn new(job: HeldJob, more: bool) -> TakenJob
         ensures { result ≡ record { job = job; more = more } }
     {
-        Taken { job, more }
+        TakenJob { job, more }
     }
 
     /// The job, of a search of its worker's blocks. The next one begins behind its place.
-    pub(crate) fn in_turn(self, begun: SearchBegun, turn: &mut Turn, left: &Unsearched) -> Job
+    pub(crate) fn in_turn(
+        self,
+        begun: SearchBegun,
+        turn: &mut SearchTurn,
+        left: &Unsearched,
+    ) -> HeldJob
         requires { self.job.place < 1048576 }
         ensures job { result ≡ self.job }
         ensures in_block { self.more ≡ true → turn.new.place ≡ self.job.place + 1 }
@@ -115,19 +120,19 @@ impl Taken {
         ensures next_shard { self.more ≡ false → ¬ HasMoreBehind left.now (self.job.place / 64 % 64) → turn.new.place ≡ self.job.place - self.job.place % 4096 + 262144 }
     {
         let _ = begun;
-        let Taken { job, more } = self;
+        let TakenJob { job, more } = self;
         let in_shard = left.has_more(job.place / 64 % 64);
-        *turn = Turn::behind(job.place, more, in_shard);
+        *turn = SearchTurn::behind(job.place, more, in_shard);
         job
     }
 
     /// The job, of a take. The next one begins behind its index.
-    pub(crate) fn in_block(self, begun: TakeBegun, turn: &mut TakeTurn) -> Job
+    pub(crate) fn in_block(self, begun: TakeBegun, turn: &mut TakeTurn) -> HeldJob
         ensures job { result ≡ self.job }
         ensures index { turn.new.index ≡ self.job.place % 64 + 1 }
     {
         let _ = begun;
-        let Taken { job, more: _ } = self;
+        let TakenJob { job, more: _ } = self;
         turn.index = job.place % 64 + 1;
         job
     }
@@ -146,7 +151,7 @@ pub(crate) struct TakeBegun {
     by: (),
 }
 
-/// A block is searched from where a worker's turn says. [`Turn::first_place`] alone gives one.
+/// A block is searched from where a worker's turn says. [`SearchTurn::first_place`] alone gives one.
 #[derive(Drop)]
 pub(crate) struct SearchBegun {
     by: (),
@@ -192,19 +197,19 @@ impl TakeTurn {
 
 /// The place at which the next search of a worker's blocks begins.
 #[derive(Clone, Copy, Drop)]
-pub(crate) struct Turn {
+pub(crate) struct SearchTurn {
     place: usize,
 }
 
-impl Turn {
-    pub(crate) fn start() -> Turn
+impl SearchTurn {
+    pub(crate) fn start() -> SearchTurn
         ensures { result.place ≡ 0 }
     {
-        Turn { place: 0 }
+        SearchTurn { place: 0 }
     }
 
     /// Behind a place that was taken, with whether its block, and its shard, had another ready place behind it.
-    pub(crate) fn behind(place: usize, in_block: bool, in_shard: bool) -> Turn
+    pub(crate) fn behind(place: usize, in_block: bool, in_shard: bool) -> SearchTurn
         requires { place < 1048576 }
         ensures in_block { in_block ≡ true → result.place ≡ place + 1 }
         ensures in_shard { in_block ≡ false → in_shard ≡ true → result.place ≡ place - place % 64 + 64 }
@@ -217,7 +222,7 @@ impl Turn {
         } else {
             place - place % 4096 + 4096 * 64
         };
-        Turn { place }
+        SearchTurn { place }
     }
 
     /// Which of a worker's shards comes first, of so many.

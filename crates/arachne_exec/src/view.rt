@@ -13,7 +13,7 @@ pub enum Deed {
 }
 
 /// What a seat has and knows. Each list has the newest first.
-pub struct Known {
+pub struct Notes {
     /// The places in its hand, each with its job.
     pub hand: LinkedList<(u64, u64)>,
     /// The jobs that were spawned through it, and those that have ended in its hand.
@@ -37,4 +37,4 @@ pub struct Known {
 }
 
 /// What the table's rule sees of a seat.
-pub type View = Token<Known>;
+pub type View = Token<Notes>;

@@ -3,13 +3,13 @@ ghost use Rattle.std.specs.Prelude.{◌≡◌, ◌≢◌, ◌⊎◌, ℕ, ◌+�
 ghost use Rattle.arachne_exec.specs.Layout.{mark_at, last_generation};
 ghost use Rattle.arachne_exec.specs.Calls.{HasWoken, HasWokenHere, HandsWoken, KeepsHand, IsFound};
 
-use crate::answers::{Job, Woken, WokenHere};
+use crate::answers::{HeldJob, JobWoken, WokenHere};
 use crate::executor::Executor;
 use crate::layout::{LAST_GENERATION, mark_word, place_of};
-use crate::seat::{CallSeat, ExecSeat};
+use crate::seat::{ExecSeat, SeatInCall};
 
 /// What a wake found, where the seat may have the place in hand then.
-enum Found {
+enum RouseResult {
     Held(usize),
     Marked,
     Already,
@@ -19,49 +19,49 @@ enum Found {
 
 impl Executor {
     /// The job of that generation at a place: where it is blocked it comes into the hand.
-    fn rouse(&self, seat: &mut CallSeat, place: usize, generation: u64) -> Found
+    fn rouse(&self, seat: &mut SeatInCall, place: usize, generation: u64) -> RouseResult
         requires own { seat.old.table ≡ self.now.table }
         ensures answer { IsFound result (4096 * self.now.shards) place generation seat.old seat.new }
     {
         self.few();
         if place >= 4096 * self.shards || generation >= LAST_GENERATION {
-            return Found::Gone;
+            return RouseResult::Gone;
         }
         let mark = self.look(seat, mark_word(place));
         if mark / 4 != generation {
-            return Found::Gone;
+            return RouseResult::Gone;
         }
         if mark % 2 == 1 {
-            return Found::Already;
+            return RouseResult::Already;
         }
         if mark % 4 == 2 {
             if self.wake_mark(seat, place, mark) {
-                return Found::Held(place);
+                return RouseResult::Held(place);
             }
-            return Found::Lost;
+            return RouseResult::Lost;
         }
         if self.mark(seat, place, mark) {
-            return Found::Marked;
+            return RouseResult::Marked;
         }
-        Found::Lost
+        RouseResult::Lost
     }
 
     /// Wakes the job of a name, which may be any: one try.
-    pub fn wake(&self, seat: &mut ExecSeat, name: u64) -> Woken
+    pub fn wake(&self, seat: &mut ExecSeat, name: u64) -> JobWoken
         requires own { seat.old.table ≡ self.now.table }
         ensures seat { seat.new ≡ record seat.old { known = seat.new.known } }
         ensures answer { HasWoken result (4096 * self.now.shards) (name % 2 ^ 20) (name / 2 ^ 20) seat.old.known seat.new.known }
         ensures hand { KeepsHand seat.old.known seat.new.known }
     {
         match self.rouse(&mut seat.at, place_of(name), name >> 20) {
-            Found::Held(place) => {
+            RouseResult::Held(place) => {
                 let unpark = self.publish(&mut seat.at, place);
-                Woken::Ready { unpark }
+                JobWoken::Ready { unpark }
             }
-            Found::Marked => Woken::Marked,
-            Found::Already => Woken::Already,
-            Found::Gone => Woken::Gone,
-            Found::Lost => Woken::Lost,
+            RouseResult::Marked => JobWoken::Marked,
+            RouseResult::Already => JobWoken::Already,
+            RouseResult::Gone => JobWoken::Gone,
+            RouseResult::Lost => JobWoken::Lost,
         }
     }
 
@@ -73,15 +73,15 @@ impl Executor {
         ensures hand { HandsWoken result (4096 * self.now.shards) seat.old.known seat.new.known }
     {
         match self.rouse(&mut seat.at, place_of(name), name >> 20) {
-            Found::Held(place) => {
+            RouseResult::Held(place) => {
                 let job = self.lay(&mut seat.at, place, 0);
                 self.lay(&mut seat.at, place, job);
-                WokenHere::Held(Job { place, name, job })
+                WokenHere::Held(HeldJob { place, name, job })
             }
-            Found::Marked => WokenHere::Marked,
-            Found::Already => WokenHere::Already,
-            Found::Gone => WokenHere::Gone,
-            Found::Lost => WokenHere::Lost,
+            RouseResult::Marked => WokenHere::Marked,
+            RouseResult::Already => WokenHere::Already,
+            RouseResult::Gone => WokenHere::Gone,
+            RouseResult::Lost => WokenHere::Lost,
         }
     }
 }

@@ -1,18 +1,18 @@
 //! One function for each kind of step on a place's words. What the seat has and knows after it is what each says.
-ghost use Rattle.std.specs.Prelude.{◌≡◌, ◌≢◌, ℕ, ◌+◌, ◌-◌, ◌*◌, ◌/◌, ◌%◌, ◌^◌, ◌<◌, ◌≤◌, List, ◌∷◌, ◌++◌, map, IsTrue, IsFalse};
+ghost use Rattle.std.specs.Prelude.{◌≡◌, ◌≢◌, ℕ, ◌+◌, ◌-◌, ◌*◌, ◌/◌, ◌%◌, ◌^◌, ◌<◌, ◌∷◌, IsTrue, IsFalse};
 ghost use Rattle.std.specs.Int.{bit_at};
-ghost use Rattle.std.specs.Int.RustNames.{bit_and};
 ghost use Rattle.atomic_table.specs.Table.{rest};
-ghost use Rattle.arachne_exec.specs.Layout.{ready_at, free_at, mark_at, words_of, retired, places_in_word};
-ghost use Rattle.arachne_exec.specs.Changes.{gained, gaining, unblocking, readying, blocking, spawning, beginning, ending, marking, hearing, noted, unshowing};
+ghost use Rattle.arachne_exec.specs.Layout.{ready_at, free_at, mark_at, words_of};
+ghost use Rattle.arachne_exec.specs.Changes.{gained, unblocking, readying, blocking, spawning, beginning, ending, marking, hearing, noted, unshowing};
 ghost use Rattle.arachne_exec.specs.Seats.{HasNewest};
+ghost use Rattle.arachne_exec.specs.Calls.{HasTakenBits};
 
 use crate::executor::Executor;
 use crate::layout::{LAST_GENERATION, all_but, bit, free_word, mark_word, ready_word};
-use crate::seat::CallSeat;
+use crate::seat::SeatInCall;
 use crate::steps::{
-    Begin, Block, Claim, Hear, Look, Mark, PutFree, PutReady, PutSpawned, Renew, Retire, Take,
-    TakeMany, Wake,
+    Begin, Block, ClaimBit, Hear, LookAtWord, MarkWake, PutFree, PutReady, PutSpawned, Renew,
+    RetirePlace, TakeBit, TakeMany, Wake,
 };
 
 /// A place whose mark was cleared of a wake. [`Executor::hear`] alone gives one.
@@ -23,17 +23,17 @@ pub(crate) struct Heard {
 
 impl Executor {
     /// Looks at a word.
-    pub(crate) fn look(&self, seat: &mut CallSeat, word: usize) -> u64
+    pub(crate) fn look(&self, seat: &mut SeatInCall, word: usize) -> u64
         requires own { seat.old.table ≡ self.now.table }
         requires inside { word < words_of (64 * self.now.shards) }
         ensures seat { seat.new ≡ record seat.old { known = noted word result seat.old.known } }
     {
         let _ = self.shards;
-        self.table.shared.load::<Look>(&mut seat.seat, word)
+        self.table.shared.load::<LookAtWord>(&mut seat.seat, word)
     }
 
     /// Reads and writes the slot of the newest place.
-    pub(crate) fn lay(&self, seat: &mut CallSeat, place: usize, new: u64) -> u64
+    pub(crate) fn lay(&self, seat: &mut SeatInCall, place: usize, new: u64) -> u64
         requires own { seat.old.table ≡ self.now.table }
         requires out { (old : ℕ) × (seat.old.slots ≡ (place, old) ∷ rest seat.old.slots) }
         ensures found { seat.old.slots ≡ (place, result) ∷ rest seat.old.slots }
@@ -44,7 +44,7 @@ impl Executor {
     }
 
     /// Clears the ready bit of a place. Whether it was set: then the place is in the seat's hand.
-    pub(crate) fn take_bit(&self, seat: &mut CallSeat, place: usize) -> bool
+    pub(crate) fn take_bit(&self, seat: &mut SeatInCall, place: usize) -> bool
         requires own { seat.old.table ≡ self.now.table }
         requires place { place < 4096 * self.now.shards }
         ensures took { IsTrue result → (job : ℕ) × (seat.new ≡ record seat.old { known = gained place job seat.old.known; slots = (place, job) ∷ seat.old.slots }) }
@@ -53,7 +53,7 @@ impl Executor {
         let _ = self.shards;
         let shared = &self.table.shared;
         let index = place % 64;
-        let found = shared.fetch_and::<Take>(
+        let found = shared.fetch_and::<TakeBit>(
             &mut seat.seat,
             ready_word(place / 64),
             all_but(index),
@@ -63,11 +63,10 @@ impl Executor {
 
     /// Clears the ready bits of several places of a block. Those that were set are in the seat's hand, the lowest as
     /// the newest.
-    pub(crate) fn take_bits(&self, seat: &mut CallSeat, block: usize, pick: u64) -> u64
+    pub(crate) fn take_bits(&self, seat: &mut SeatInCall, block: usize, pick: u64) -> u64
         requires own { seat.old.table ≡ self.now.table }
         requires block { block < 64 * self.now.shards }
-        ensures took { (jobs : List (ℕ × ℕ)) × (found : ℕ) × (result ≡ bit_and found pick) × (map (λ (x : ℕ × ℕ). x.0) jobs ≡ places_in_word block result)
-            × (seat.new ≡ record seat.old { known = gaining jobs (noted (ready_at block) found seat.old.known); slots = jobs ++ seat.old.slots }) }
+        ensures took { HasTakenBits result block pick seat.old seat.new }
     {
         let _ = self.shards;
         let shared = &self.table.shared;
@@ -80,7 +79,7 @@ impl Executor {
     }
 
     /// Clears the free bit of a place. Whether it was set: then the place is in the seat's hand.
-    pub(crate) fn claim_bit(&self, seat: &mut CallSeat, place: usize) -> bool
+    pub(crate) fn claim_bit(&self, seat: &mut SeatInCall, place: usize) -> bool
         requires own { seat.old.table ≡ self.now.table }
         requires place { place < 4096 * self.now.shards }
         ensures took { IsTrue result → seat.new ≡ record seat.old { known = gained place 0 seat.old.known; slots = (place, 0) ∷ seat.old.slots } }
@@ -89,7 +88,7 @@ impl Executor {
         let _ = self.shards;
         let shared = &self.table.shared;
         let index = place % 64;
-        let found = shared.fetch_and::<Claim>(
+        let found = shared.fetch_and::<ClaimBit>(
             &mut seat.seat,
             free_word(place / 64),
             all_but(index),
@@ -98,7 +97,7 @@ impl Executor {
     }
 
     /// The newest place is free from now on: its job has ended.
-    pub(crate) fn put_free(&self, seat: &mut CallSeat, place: usize)
+    pub(crate) fn put_free(&self, seat: &mut SeatInCall, place: usize)
         requires own { seat.old.table ≡ self.now.table }
         requires place { place < 4096 * self.now.shards }
         requires newest { (job : ℕ) × HasNewest place job 0 seat.old }
@@ -110,7 +109,7 @@ impl Executor {
     }
 
     /// The newest place is ready from now on. Whether its block has to be shown.
-    pub(crate) fn put_ready(&self, seat: &mut CallSeat, place: usize) -> bool
+    pub(crate) fn put_ready(&self, seat: &mut SeatInCall, place: usize) -> bool
         requires own { seat.old.table ≡ self.now.table }
         requires place { place < 4096 * self.now.shards }
         requires newest { (job : ℕ) × HasNewest place job job seat.old }
@@ -124,7 +123,7 @@ impl Executor {
     }
 
     /// The newest place, which a job was laid into, is ready from now on. Whether its block has to be shown.
-    pub(crate) fn put_spawned(&self, seat: &mut CallSeat, place: usize, job: u64) -> bool
+    pub(crate) fn put_spawned(&self, seat: &mut SeatInCall, place: usize, job: u64) -> bool
         requires own { seat.old.table ≡ self.now.table }
         requires place { place < 4096 * self.now.shards }
         requires newest { HasNewest place 0 job seat.old }
@@ -138,7 +137,7 @@ impl Executor {
     }
 
     /// The newest place has the job that was laid into it from now on, and stays in hand. Its mark.
-    pub(crate) fn begin(&self, seat: &mut CallSeat, place: usize, job: u64) -> u64
+    pub(crate) fn begin(&self, seat: &mut SeatInCall, place: usize, job: u64) -> u64
         requires own { seat.old.table ≡ self.now.table }
         requires place { place < 4096 * self.now.shards }
         requires newest { HasNewest place 0 job seat.old }
@@ -151,7 +150,7 @@ impl Executor {
     }
 
     /// The newest place is blocked from now on, where its mark is as expected, which says of no wake.
-    pub(crate) fn put_blocked(&self, seat: &mut CallSeat, place: usize, old: u64) -> bool
+    pub(crate) fn put_blocked(&self, seat: &mut SeatInCall, place: usize, old: u64) -> bool
         requires own { seat.old.table ≡ self.now.table }
         requires place { place < 4096 * self.now.shards }
         requires newest { (job : ℕ) × HasNewest place job job seat.old }
@@ -171,7 +170,7 @@ impl Executor {
     }
 
     /// Clears the mark of a wake at the newest place.
-    pub(crate) fn hear(&self, seat: &mut CallSeat, place: usize) -> Heard
+    pub(crate) fn hear(&self, seat: &mut SeatInCall, place: usize) -> Heard
         requires own { seat.old.table ≡ self.now.table }
         requires place { place < 4096 * self.now.shards }
         requires newest { (job : ℕ) × (inside : ℕ) × HasNewest place job inside seat.old }
@@ -185,7 +184,7 @@ impl Executor {
     }
 
     /// The mark of the newest place says of this generation, and of no wake.
-    pub(crate) fn renew(&self, seat: &mut CallSeat, place: usize, generation: u64)
+    pub(crate) fn renew(&self, seat: &mut SeatInCall, place: usize, generation: u64)
         requires own { seat.old.table ≡ self.now.table }
         requires place { place < 4096 * self.now.shards }
         requires newest { (job : ℕ) × (inside : ℕ) × HasNewest place job inside seat.old }
@@ -198,7 +197,7 @@ impl Executor {
     }
 
     /// The newest place is blocked for ever: its job has ended, and no other comes.
-    pub(crate) fn retire(&self, seat: &mut CallSeat, place: usize)
+    pub(crate) fn retire(&self, seat: &mut SeatInCall, place: usize)
         requires own { seat.old.table ≡ self.now.table }
         requires place { place < 4096 * self.now.shards }
         requires newest { (job : ℕ) × HasNewest place job 0 seat.old }
@@ -206,11 +205,11 @@ impl Executor {
     {
         let _ = self.shards;
         let shared = &self.table.shared;
-        shared.swap::<Retire>(&mut seat.seat, mark_word(place), 4 * LAST_GENERATION + 2);
+        shared.swap::<RetirePlace>(&mut seat.seat, mark_word(place), 4 * LAST_GENERATION + 2);
     }
 
     /// The place is in the seat's hand, where its mark is as expected, which is that of a blocked job.
-    pub(crate) fn wake_mark(&self, seat: &mut CallSeat, place: usize, old: u64) -> bool
+    pub(crate) fn wake_mark(&self, seat: &mut SeatInCall, place: usize, old: u64) -> bool
         requires own { seat.old.table ≡ self.now.table }
         requires place { place < 4096 * self.now.shards }
         requires blocked { old % 4 ≡ 2 }
@@ -224,7 +223,7 @@ impl Executor {
     }
 
     /// The mark says of a wake, where it is as expected, which is that of a job that isn't blocked.
-    pub(crate) fn mark(&self, seat: &mut CallSeat, place: usize, old: u64) -> bool
+    pub(crate) fn mark(&self, seat: &mut SeatInCall, place: usize, old: u64) -> bool
         requires own { seat.old.table ≡ self.now.table }
         requires place { place < 4096 * self.now.shards }
         requires unwoken { old % 4 ≡ 0 }
@@ -233,7 +232,12 @@ impl Executor {
     {
         let _ = self.shards;
         let shared = &self.table.shared;
-        let found = shared.compare_exchange::<Mark>(&mut seat.seat, mark_word(place), old, old + 1);
+        let found = shared.compare_exchange::<MarkWake>(
+            &mut seat.seat,
+            mark_word(place),
+            old,
+            old + 1,
+        );
         found == old
     }
 }

@@ -9,7 +9,7 @@ use Rattle.std.proofs.lemmas.Nat.{and_le_l}
 use Rattle.std.proofs.lemmas.Nat.Bits.{bit_at-zero, bit_at-trailing_zeros}
 use mathlib.Core.Logic.{dite}
 use native.Mathlib.Decide.{ℕ_discrete}
-use Rattle.arachne_exec.specs.declared.answers.Job.{Job}
+use Rattle.arachne_exec.specs.declared.answers.HeldJob.{HeldJob}
 use Rattle.arachne_exec.specs.declared.answers.Next.{Next}
 use Rattle.arachne_exec.specs.declared.answers.Next.TheVariants as next
 use Rattle.arachne_exec.specs.declared.answers.WokenHere.{WokenHere}
@@ -89,7 +89,7 @@ module _ (executor : Places) (old new : SeatView) (hand : Option ℕ) (more work
   }
 
   -- a job came into it
-  pub kept-job : (job : Job) → hand ≡ None → HandsOver (4096 * executor.shards) job old.known new.known → IsKept (exec_of executor new (Some job.place) more worker)
+  pub kept-job : (job : HeldJob) → hand ≡ None → HandsOver (4096 * executor.shards) job old.known new.known → IsKept (exec_of executor new (Some job.place) more worker)
   kept-job job none has = let nothing = empty none in record {
     own = own;
     held = (

@@ -1,5 +1,6 @@
 -- What a handle on ledgers holds, and what a call makes of it.
 use Rattle.std.specs.Prelude.{◌≡◌, ℕ, Bool, true, false, ◌%◌, ◌^◌, ◌<◌, replicate, length, slice_index}
+use Rattle.std.specs.Option.{option_map, IsSomeAnd}
 use Rattle.std.specs.declared.option.Option.{Option}
 use Rattle.std.specs.declared.option.Option.TheVariants.{None, Some}
 use Rattle.arachne_weights.specs.Weight.{whole, first_part, second_part, joined}
@@ -34,6 +35,10 @@ total_of ledger adder = slice_index adder.share.sums ledger % 2 ^ 64
 -- the share keeps the number that it found last
 abbrev pub with_reading : ℕ → Adder → Adder
 with_reading ledger adder = record adder { share = record adder.share { last_read = Some (record { ledger = ledger; number = total_of ledger adder }) } }
+
+-- this is the total of the ledger, and the share keeps it
+abbrev pub HasRead : (ledger total : ℕ) → Option Adder → Option Adder → Type 0
+HasRead ledger total old new = IsSomeAnd old (λ adder. total ≡ total_of ledger adder) × (new ≡ option_map (with_reading ledger) old)
 
 -- the parts of a share that is cut in two: the first keeps its sums, and the second begins with nothing
 abbrev pub first_of : Adder → Adder

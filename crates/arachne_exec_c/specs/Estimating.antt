@@ -1,10 +1,11 @@
 -- What an estimator and a sample in a caller's memory stand for.
-use Rattle.std.specs.Prelude.{◌≡◌, ℕ, ◌≤◌, true}
+use Rattle.std.specs.Prelude.{◌≡◌, ℕ, ◌≤◌, List, ◌∷◌, true}
 use Rattle.arachne_policy.specs.declared.samples.Advice.{Advice}
 use Rattle.arachne_policy.specs.declared.samples.Advice.TheVariants.{Add, Stay, Remove}
 use Rattle.arachne_policy.specs.declared.samples.Sample.{Sample}
+use Rattle.arachne_policy.specs.Advice.{advice}
 use Rattle.arachne_policy.specs.Sample.{is_good}
-use Rattle.arachne_policy.specs.State.{State, most_cores}
+use Rattle.arachne_policy.specs.State.{State, StandsFor, most_cores}
 use Rattle.arachne_exec_c.specs.declared.policy.ArachneEstimator.{ArachneEstimator}
 use Rattle.arachne_exec_c.specs.declared.policy.ArachneSample.{ArachneSample}
 
@@ -27,3 +28,8 @@ refused = 1
 -- the estimator may judge the sample
 abbrev pub MayJudge : ArachneEstimator → ArachneSample → Type 0
 MayJudge e s = (e.max ≤ most_cores) × (is_good e.max (sample_of s) ≡ true)
+
+-- the answer is the advice on this sample after those, and the estimator stands for them and this one then
+abbrev pub HasJudged : List Sample → ArachneEstimator → ArachneSample → ℕ → ArachneEstimator → Type 0
+HasJudged past before s answer after =
+    (answer ≡ number_of (advice (state_of before).settings past (sample_of s))) × StandsFor (state_of after) (sample_of s ∷ past)

@@ -4,17 +4,17 @@ use Rattle.std.specs.Int.{bit_at}
 use Rattle.std.specs.Option.{MatchOption}
 use Rattle.std.specs.declared.option.Option.{Option}
 use Rattle.std.specs.declared.option.Option.TheVariants.{None, Some}
-use Rattle.arachne_exec.specs.declared.answers.Job.{Job}
+use Rattle.arachne_exec.specs.declared.answers.HeldJob.{HeldJob}
 use Rattle.arachne_exec.specs.declared.answers.Next.{Next}
 use Rattle.arachne_exec.specs.declared.answers.Next.TheVariants as next
-use Rattle.arachne_exec.specs.declared.answers.Rested.{Rested}
-use Rattle.arachne_exec.specs.declared.answers.Rested.TheVariants as rested
-use Rattle.arachne_exec.specs.declared.answers.Spawned.{Spawned}
-use Rattle.arachne_exec.specs.declared.answers.Spawned.TheVariants as spawned
+use Rattle.arachne_exec.specs.declared.answers.JobRested.{JobRested}
+use Rattle.arachne_exec.specs.declared.answers.JobRested.TheVariants as rested
+use Rattle.arachne_exec.specs.declared.answers.JobSpawned.{JobSpawned}
+use Rattle.arachne_exec.specs.declared.answers.JobSpawned.TheVariants as spawned
 use Rattle.arachne_exec.specs.declared.answers.SpawnedHere.{SpawnedHere}
 use Rattle.arachne_exec.specs.declared.answers.SpawnedHere.TheVariants as spawned_here
-use Rattle.arachne_exec.specs.declared.answers.Woken.{Woken}
-use Rattle.arachne_exec.specs.declared.answers.Woken.TheVariants as woken
+use Rattle.arachne_exec.specs.declared.answers.JobWoken.{JobWoken}
+use Rattle.arachne_exec.specs.declared.answers.JobWoken.TheVariants as woken
 use Rattle.arachne_exec.specs.declared.answers.WokenHere.{WokenHere}
 use Rattle.arachne_exec.specs.declared.answers.WokenHere.TheVariants as here
 use Rattle.arachne_exec.specs.Calls.{worker_at, HasSpawned, HasSpawnedHere, HasTaken, HasTakenNone, HasTakenMany, HasStarted, HasRested, HasFinished, HasWoken, HasWokenHere, HasAnswered, HasFoundNone, HasFoundSome}
@@ -34,10 +34,10 @@ code_alone k = record { name = 0; job = 0; code = k; unpark = code.nobody }
 abbrev pub code_unparking : ℕ → ℕ → ArachneExecTold
 code_unparking k worker = record { name = 0; job = 0; code = k; unpark = worker }
 
-abbrev pub told_job : Job → ArachneExecTold
+abbrev pub told_job : HeldJob → ArachneExecTold
 told_job job = record { name = job.name; job = job.job; code = code.run; unpark = code.nobody }
 
-abbrev pub told_spawned : Spawned → ArachneExecTold
+abbrev pub told_spawned : JobSpawned → ArachneExecTold
 told_spawned (spawned.Placed at) = record { name = at.name; job = 0; code = code.ready; unpark = whom at.unpark at.place }
 told_spawned spawned.Full = code_alone code.full
 told_spawned spawned.Lost = code_alone code.lost
@@ -47,7 +47,7 @@ told_spawned_here (spawned_here.Held job) = told_job job
 told_spawned_here spawned_here.Full = code_alone code.full
 told_spawned_here spawned_here.Lost = code_alone code.lost
 
-abbrev pub told_taken : Option Job → ArachneExecTold
+abbrev pub told_taken : Option HeldJob → ArachneExecTold
 told_taken None = code_alone code.again
 told_taken (Some job) = told_job job
 
@@ -56,11 +56,11 @@ told_next (next.Run job) = told_job job
 told_next next.Park = code_alone code.park
 told_next next.Again = code_alone code.again
 
-abbrev pub told_rested : ℕ → Rested → ArachneExecTold
+abbrev pub told_rested : ℕ → JobRested → ArachneExecTold
 told_rested place rested.Blocked = code_alone code.blocked
 told_rested place (rested.Ready unpark) = code_unparking code.ready (whom unpark place)
 
-abbrev pub told_woken : ℕ → Woken → ArachneExecTold
+abbrev pub told_woken : ℕ → JobWoken → ArachneExecTold
 told_woken place (woken.Ready unpark) = code_unparking code.ready (whom unpark place)
 told_woken place woken.Marked = code_alone code.marked
 told_woken place woken.Already = code_alone code.already_marked
@@ -76,21 +76,21 @@ told_woken_here here.Lost = code_alone code.lost
 
 -- ---- what comes into the hand
 
-abbrev pub place_of_job : Option Job → Option ℕ
+abbrev pub place_of_job : Option HeldJob → Option ℕ
 place_of_job None = None
 place_of_job (Some job) = Some job.place
 
-abbrev pub job_to_run : Next → Option Job
+abbrev pub job_to_run : Next → Option HeldJob
 job_to_run (next.Run job) = Some job
 job_to_run next.Park = None
 job_to_run next.Again = None
 
-abbrev pub job_spawned : SpawnedHere → Option Job
+abbrev pub job_spawned : SpawnedHere → Option HeldJob
 job_spawned (spawned_here.Held job) = Some job
 job_spawned spawned_here.Full = None
 job_spawned spawned_here.Lost = None
 
-abbrev pub job_woken : WokenHere → Option Job
+abbrev pub job_woken : WokenHere → Option HeldJob
 job_woken (here.Held job) = Some job
 job_woken here.Marked = None
 job_woken here.Already = None
@@ -99,7 +99,7 @@ job_woken here.Lost = None
 
 -- ---- what each call does, as `arachne_exec` defines it
 
-pub record Spawns (block job : ℕ) (old new : Exec) (answer : Spawned) : Type 0 where
+pub record Spawns (block job : ℕ) (old new : Exec) (answer : JobSpawned) : Type 0 where
   pub stays : new ≡ now old new.seat.known old.hand
   pub did : HasSpawned answer block job old.seat.known new.seat.known
 
@@ -111,7 +111,7 @@ pub record SpawnsHere (block job : ℕ) (old new : Exec) (answer : SpawnedHere) 
 abbrev pub LooksAt : ℕ → Exec → Exec → ℕ → Type 0
 LooksAt word old new answer = new ≡ now old (noted word answer old.seat.known) old.hand
 
-pub record Takes (block : ℕ) (old new : Exec) (answer : Option Job) : Type 0 where
+pub record Takes (block : ℕ) (old new : Exec) (answer : Option HeldJob) : Type 0 where
   pub stays : new ≡ now old new.seat.known (place_of_job answer)
   pub did : MatchOption answer (HasTakenNone block old.seat.known new.seat.known) (λ job. HasTaken job block old.seat.known new.seat.known)
 
@@ -119,7 +119,7 @@ pub record TakesMany (block most : ℕ) (old new : Exec) (bits : ℕ) : Type 0 w
   pub stays : new ≡ holding old new.seat.known block bits
   pub did : HasTakenMany bits block most old.seat.known new.seat.known
 
-pub record Starts (place : ℕ) (old new : Exec) (job : Job) : Type 0 where
+pub record Starts (place : ℕ) (old new : Exec) (job : HeldJob) : Type 0 where
   pub stays : new ≡ now old new.seat.known old.hand
   pub did : HasStarted job place old.seat.known new.seat.known
 
@@ -127,7 +127,7 @@ pub record GoesOn (old new : Exec) (answer : Next) : Type 0 where
   pub stays : new ≡ now old new.seat.known (place_of_job (job_to_run answer))
   pub did : (worker : ℕ) → old.worker ≡ worker + 1 → HasAnswered answer old.executor.shards worker old.seat.known new.seat.known
 
-pub record Rests (place : ℕ) (old new : Exec) (answer : Rested) : Type 0 where
+pub record Rests (place : ℕ) (old new : Exec) (answer : JobRested) : Type 0 where
   pub stays : new ≡ holding old new.seat.known (place / 64) old.more
   pub did : HasRested answer place old.seat.known new.seat.known
 
@@ -139,7 +139,7 @@ pub record Ends (place : ℕ) (old new : Exec) : Type 0 where
   pub stays : new ≡ holding old new.seat.known (place / 64) old.more
   pub did : HasFinished place old.seat.known new.seat.known
 
-pub record Wakes (name : ℕ) (old new : Exec) (answer : Woken) : Type 0 where
+pub record Wakes (name : ℕ) (old new : Exec) (answer : JobWoken) : Type 0 where
   pub stays : new ≡ now old new.seat.known old.hand
   pub did : HasWoken answer (4096 * old.executor.shards) (name % 2 ^ 20) (name / 2 ^ 20) old.seat.known new.seat.known
 

@@ -5,7 +5,7 @@ use Rattle.std.specs.Int.RustNames.{bit_and}
 use Rattle.std.specs.declared.option.Option.{Option}
 use Rattle.std.specs.declared.option.Option.TheVariants.{None, Some}
 use Rattle.arachne_weights.specs.Weight.{whole, first_part, second_part, joined}
-use Rattle.arachne_exec.specs.declared.view.Known.{Known}
+use Rattle.arachne_exec.specs.declared.view.Notes.{Notes}
 use Rattle.arachne_exec.specs.Board.{blank}
 use Rattle.arachne_exec.specs.Layout.{others, places_in_word}
 use Rattle.arachne_exec.specs.Changes.{together}
@@ -37,7 +37,7 @@ pub record IsKept (exec : Exec) : Type 0 where
   pub few : exec.worker ≤ 64
 
 -- the seat knows this, and has this in hand
-abbrev pub now : Exec → Known → Option ℕ → Exec
+abbrev pub now : Exec → Notes → Option ℕ → Exec
 now exec known hand = record { executor = exec.executor; seat = record exec.seat { known = known }; hand = hand; more = exec.more; worker = exec.worker }
 
 -- the place of the lowest bit of a block's word, and the other bits
@@ -48,7 +48,7 @@ abbrev pub without_lowest : ℕ → ℕ
 without_lowest word = if word == 0 then 0 else bit_and word (others (trailing_zeros w64 word))
 
 -- the seat knows this, and of a block's places it has those in hand whose bits are set in a word
-abbrev pub holding : Exec → Known → ℕ → ℕ → Exec
+abbrev pub holding : Exec → Notes → ℕ → ℕ → Exec
 holding exec known block word = record {
   executor = exec.executor;
   seat = record exec.seat { known = known };

@@ -4,16 +4,16 @@ use Rattle.std.specs.declared.option.Option.{Option}
 use Rattle.std.specs.declared.option.Option.TheVariants.{None, Some}
 use Rattle.std.specs.declared.result.Result.{Result}
 use Rattle.std.specs.declared.result.Result.TheVariants.{Ok, Err}
-use Rattle.arachne_lock.specs.declared.answer.Asked.{Asked}
-use Rattle.arachne_lock.specs.declared.answer.Asked.TheVariants.{Granted, Queued}
-use Rattle.arachne_lock.specs.declared.answer.AskFault.{AskFault}
-use Rattle.arachne_lock.specs.declared.answer.AskFault.TheVariants.{AlreadyIn, Memory}
-use Rattle.arachne_lock.specs.declared.answer.Freed.{Freed}
-use Rattle.arachne_lock.specs.declared.answer.NotHolder.{NotHolder}
+use Rattle.arachne_lock.specs.declared.answer.Admitted.{Admitted}
+use Rattle.arachne_lock.specs.declared.answer.Admitted.TheVariants.{Granted, Queued}
+use Rattle.arachne_lock.specs.declared.answer.AskRefusal.{AskRefusal}
+use Rattle.arachne_lock.specs.declared.answer.AskRefusal.TheVariants.{AlreadyIn, Memory}
+use Rattle.arachne_lock.specs.declared.answer.Released.{Released}
+use Rattle.arachne_lock.specs.declared.answer.NotOwner.{NotOwner}
 use Rattle.arachne_lock.specs.declared.answer.Withdrawn.{Withdrawn}
 use Rattle.arachne_lock.specs.declared.answer.Withdrawn.TheVariants.{Left, Holds, Outside}
-use Rattle.arachne_lock.specs.declared.answer.Tried.{Tried}
-use Rattle.arachne_lock.specs.declared.answer.Tried.TheVariants.{Answered, Contended}
+use Rattle.arachne_lock.specs.declared.answer.Attempt.{Attempt}
+use Rattle.arachne_lock.specs.declared.answer.Attempt.TheVariants.{Answered, Contended}
 use Rattle.arachne_lock.specs.Calls.{AskAnswer, FreeAnswer, WithdrawAnswer, CheckAnswer}
 use Rattle.arachne_lock.specs.Views.{SeatView}
 use Rattle.arachne_exec_c.specs.Codes as code
@@ -27,7 +27,7 @@ code_alone k = record { at = 0; next = 0; code = k }
 abbrev pub code_at : ℕ → ℕ → ArachneLockTold
 code_at k at = record { at = at; next = 0; code = k }
 
-abbrev pub told_asked : Tried (Result Asked AskFault) → ArachneLockTold
+abbrev pub told_asked : Attempt (Result Admitted AskRefusal) → ArachneLockTold
 told_asked Contended = code_alone code.contended
 told_asked (Answered (Ok (Granted at))) = code_at code.granted at
 told_asked (Answered (Ok (Queued at))) = code_at code.queued at
@@ -39,18 +39,18 @@ abbrev pub told_handed : ℕ → Option ℕ → ArachneLockTold
 told_handed at None = code_at code.freed at
 told_handed at (Some next) = record { at = at; next = next; code = code.handed_on }
 
-abbrev pub told_freed : Tried (Result Freed NotHolder) → ArachneLockTold
+abbrev pub told_freed : Attempt (Result Released NotOwner) → ArachneLockTold
 told_freed Contended = code_alone code.contended
 told_freed (Answered (Ok freed)) = told_handed freed.at freed.next
 told_freed (Answered (Err fault)) = code_alone code.not_holder
 
-abbrev pub told_withdrawn : Tried Withdrawn → ArachneLockTold
+abbrev pub told_withdrawn : Attempt Withdrawn → ArachneLockTold
 told_withdrawn Contended = code_alone code.contended
 told_withdrawn (Answered (Left at)) = code_at code.left at
 told_withdrawn (Answered (Holds at)) = code_at code.granted at
 told_withdrawn (Answered Outside) = code_alone code.not_holder
 
-abbrev pub told_checked : Tried (Option ℕ) → ArachneLockTold
+abbrev pub told_checked : Attempt (Option ℕ) → ArachneLockTold
 told_checked Contended = code_alone code.contended
 told_checked (Answered None) = code_alone code.not_holder
 told_checked (Answered (Some at)) = code_at code.granted at

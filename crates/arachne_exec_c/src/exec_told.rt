@@ -6,7 +6,8 @@ use crate::codes::{
     AGAIN, ALREADY_MARKED, BLOCKED, FULL, GONE, LOST, MARKED, NOBODY, PARK, READY, RUN,
 };
 use arachne_exec::{
-    Job, Next, Rested, Spawned, SpawnedHere, Woken, WokenHere, place_of, worker_of_place,
+    HeldJob, JobRested, JobSpawned, JobWoken, Next, SpawnedHere, WokenHere, place_of,
+    worker_of_place,
 };
 
 /// The answer of an executor.
@@ -65,7 +66,7 @@ pub(crate) fn code_alone(code: u32) -> ArachneExecTold
     code_unparking(code, NOBODY)
 }
 
-pub(crate) fn told_job(job: &Job) -> ArachneExecTold
+pub(crate) fn told_job(job: &HeldJob) -> ArachneExecTold
     ensures { result ≡ told_job job.now }
 {
     ArachneExecTold {
@@ -76,18 +77,18 @@ pub(crate) fn told_job(job: &Job) -> ArachneExecTold
     }
 }
 
-pub(crate) fn told_spawned(answer: &Spawned) -> ArachneExecTold
+pub(crate) fn told_spawned(answer: &JobSpawned) -> ArachneExecTold
     ensures { result ≡ told_spawned answer.now }
 {
     match answer {
-        Spawned::Placed(placed) => ArachneExecTold {
+        JobSpawned::Placed(placed) => ArachneExecTold {
             name: placed.name,
             job: 0,
             code: READY,
             unpark: whom(placed.unpark, placed.place),
         },
-        Spawned::Full => code_alone(FULL),
-        Spawned::Lost => code_alone(LOST),
+        JobSpawned::Full => code_alone(FULL),
+        JobSpawned::Lost => code_alone(LOST),
     }
 }
 
@@ -101,7 +102,7 @@ pub(crate) fn told_spawned_here(answer: &SpawnedHere) -> ArachneExecTold
     }
 }
 
-pub(crate) fn told_taken(answer: &Option<Job>) -> ArachneExecTold
+pub(crate) fn told_taken(answer: &Option<HeldJob>) -> ArachneExecTold
     ensures { result ≡ told_taken answer.now }
 {
     match answer {
@@ -126,24 +127,24 @@ pub(crate) fn told_ready(place: usize, unpark: bool) -> ArachneExecTold
     code_unparking(READY, whom(unpark, place))
 }
 
-pub(crate) fn told_rested(place: usize, answer: &Rested) -> ArachneExecTold
+pub(crate) fn told_rested(place: usize, answer: &JobRested) -> ArachneExecTold
     ensures { result ≡ told_rested place answer.now }
 {
     match answer {
-        Rested::Blocked => code_alone(BLOCKED),
-        Rested::Ready { unpark } => told_ready(place, *unpark),
+        JobRested::Blocked => code_alone(BLOCKED),
+        JobRested::Ready { unpark } => told_ready(place, *unpark),
     }
 }
 
-pub(crate) fn told_woken(name: u64, answer: &Woken) -> ArachneExecTold
+pub(crate) fn told_woken(name: u64, answer: &JobWoken) -> ArachneExecTold
     ensures { result ≡ told_woken (name % 2 ^ 20) answer.now }
 {
     match answer {
-        Woken::Ready { unpark } => told_ready(place_of(name), *unpark),
-        Woken::Marked => code_alone(MARKED),
-        Woken::Already => code_alone(ALREADY_MARKED),
-        Woken::Gone => code_alone(GONE),
-        Woken::Lost => code_alone(LOST),
+        JobWoken::Ready { unpark } => told_ready(place_of(name), *unpark),
+        JobWoken::Marked => code_alone(MARKED),
+        JobWoken::Already => code_alone(ALREADY_MARKED),
+        JobWoken::Gone => code_alone(GONE),
+        JobWoken::Lost => code_alone(LOST),
     }
 }
 

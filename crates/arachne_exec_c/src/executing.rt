@@ -12,7 +12,8 @@ ghost use Rattle.arachne_exec_c.specs.ExecTold.{Spawns, SpawnsHere, LooksAt, Tak
 
 use crate::codes::{NO_MEMORY, REFUSED};
 use arachne_exec::{
-    BLOCKS_PER_SHARD, ExecSeat, Executor, Job, Next, Rested, Spawned, SpawnedHere, Woken, WokenHere,
+    BLOCKS_PER_SHARD, ExecSeat, Executor, HeldJob, JobRested, JobSpawned, JobWoken, Next,
+    SpawnedHere, WokenHere,
 };
 use std::alloc::{AllocError, Global};
 use std::marker::Model;
@@ -109,7 +110,7 @@ impl Executing {
         self.hand
     }
 
-    pub(crate) fn spawn(&mut self, block: usize, job: u64) -> Spawned
+    pub(crate) fn spawn(&mut self, block: usize, job: u64) -> JobSpawned
         requires { HasBlock block self.old }
         ensures { Spawns block job self.old self.new result }
     {
@@ -143,7 +144,7 @@ impl Executing {
         self.executor.ready(&mut self.seat, block)
     }
 
-    pub(crate) fn take(&mut self, block: usize) -> Option<Job>
+    pub(crate) fn take(&mut self, block: usize) -> Option<HeldJob>
         requires { MayTake block self.old }
         ensures { Takes block self.old self.new result }
     {
@@ -166,7 +167,7 @@ impl Executing {
     }
 
     /// The newest job in hand is about to run.
-    pub(crate) fn start(&mut self, place: usize) -> Job
+    pub(crate) fn start(&mut self, place: usize) -> HeldJob
         requires { self.old.hand ≡ Some place }
         ensures { Starts place self.old self.new result }
     {
@@ -209,7 +210,7 @@ impl Executing {
         unpark
     }
 
-    pub(crate) fn rest_blocked(&mut self, place: usize) -> Rested
+    pub(crate) fn rest_blocked(&mut self, place: usize) -> JobRested
         requires { self.old.hand ≡ Some place }
         ensures { Rests place self.old self.new result }
     {
@@ -226,7 +227,7 @@ impl Executing {
         (self.hand, self.more) = in_hand(place / 64, self.more);
     }
 
-    pub(crate) fn wake(&mut self, name: u64) -> Woken
+    pub(crate) fn wake(&mut self, name: u64) -> JobWoken
         ensures { Wakes name self.old self.new result }
     {
         self.executor.wake(&mut self.seat, name)

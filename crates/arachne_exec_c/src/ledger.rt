@@ -2,7 +2,7 @@
 ghost use Rattle.std.specs.Prelude.{◌≡◌, ◌↔◌, IsTrue, MatchBool};
 ghost use Rattle.std.specs.Option.{option_map, IsSomeAnd};
 ghost use Rattle.std.specs.declared.option.Option.TheVariants.{None};
-ghost use Rattle.arachne_exec_c.specs.Adder.{HasLedger, MayRead, IsMade, IsSplit, IsJoined, with_amount, with_reading, total_of};
+ghost use Rattle.arachne_exec_c.specs.Adder.{HasLedger, MayRead, IsMade, IsSplit, IsJoined, HasRead, with_amount};
 ghost use Rattle.arachne_exec_c.specs.AdderHeld.{held, IsOfOne};
 
 use crate::adder::ArachneAdder;
@@ -65,7 +65,7 @@ pub extern "C" fn arachne_ledger_total(
 ) -> bool
     ensures read { IsTrue result ↔ IsSomeAnd (held adder.old) (MayRead ledger) }
     ensures told { MatchBool result
-        (IsSomeAnd (held adder.old) (λ old. total.new ≡ total_of ledger old) × (held adder.new ≡ option_map (with_reading ledger) (held adder.old)))
+        (HasRead ledger total.new (held adder.old) (held adder.new))
         ((total.new ≡ total.old) × (held adder.new ≡ held adder.old)) }
 {
     let Some(mut value) = adder.take(alloc) else {

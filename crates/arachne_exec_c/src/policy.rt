@@ -1,11 +1,10 @@
 //! The exports for the core policy.
 //!
 //! An estimator lies in the caller's memory, and none is taken. Whatever its bytes are, no call can go wrong.
-ghost use Rattle.std.specs.Prelude.{◌≡◌, ◌≢◌, ◌≤◌, ◌↔◌, List, [], ◌∷◌, IsTrue, MatchBool};
+ghost use Rattle.std.specs.Prelude.{◌≡◌, ◌≢◌, ◌≤◌, ◌↔◌, List, [], IsTrue, MatchBool};
 ghost use Rattle.arachne_policy.specs.declared.samples.Sample.{Sample as Past};
-ghost use Rattle.arachne_policy.specs.Advice.{advice};
 ghost use Rattle.arachne_policy.specs.State.{most_cores, StandsFor};
-ghost use Rattle.arachne_exec_c.specs.Estimating.{state_of, sample_of, number_of, refused, MayJudge};
+ghost use Rattle.arachne_exec_c.specs.Estimating.{state_of, sample_of, number_of, refused, HasJudged, MayJudge};
 
 use crate::codes::{ADD, REFUSED, REMOVE, STAY};
 use arachne_policy::{Advice, Estimator, MAX_CORES, Sample};
@@ -68,8 +67,7 @@ pub extern "C" fn arachne_estimator_judge(
     ensures settings { (state_of estimator.new).settings ≡ (state_of estimator.old).settings }
     // The advice is that after the samples so far, and the estimator stands for them and this one then.
     ensures history { (past : List Past) → StandsFor (state_of estimator.old) past → MayJudge estimator.old sample.now
-        → (result ≡ number_of (advice (state_of estimator.old).settings past (sample_of sample.now)))
-        × StandsFor (state_of estimator.new) (sample_of sample.now ∷ past) }
+        → HasJudged past estimator.old sample.now result estimator.new }
 {
     if estimator.max > MAX_CORES as u64 {
         return REFUSED;

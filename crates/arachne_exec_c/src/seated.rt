@@ -9,7 +9,9 @@ use crate::codes::{DONE, REFUSED};
 use crate::told::{
     ArachneLockTold, code_alone, told_asked, told_checked, told_freed, told_withdrawn,
 };
-use arachne_lock::{AskFault, Asked, Freed, LockSeat, Locks, NotHolder, Tried, Withdrawn};
+use arachne_lock::{
+    Admitted, AskRefusal, Attempt, LockSetSeat, Locks, NotOwner, Released, Withdrawn,
+};
 use std::alloc::{AllocError, Global};
 use std::marker::Model;
 use std::sync::Arc;
@@ -18,7 +20,7 @@ use std::sync::Arc;
 #[derive(Drop)]
 pub struct Seated {
     locks: Arc<Locks>,
-    seat: LockSeat,
+    seat: LockSetSeat,
 }
 
 impl Model for Seated {
@@ -49,7 +51,7 @@ impl Seated {
         lock < self.locks.count()
     }
 
-    fn ask(&mut self, lock: usize, who: u64) -> Tried<Result<Asked, AskFault>>
+    fn ask(&mut self, lock: usize, who: u64) -> Attempt<Result<Admitted, AskRefusal>>
         requires { HasLock lock self.old }
         ensures stays { self.new ≡ with_seat self.old self.new.seat }
         ensures answer { AskAnswer lock who self.old.seat result self.new.seat }
@@ -57,7 +59,7 @@ impl Seated {
         self.locks.ask(&mut self.seat, lock, who)
     }
 
-    fn free(&mut self, lock: usize, who: u64) -> Tried<Result<Freed, NotHolder>>
+    fn free(&mut self, lock: usize, who: u64) -> Attempt<Result<Released, NotOwner>>
         requires { HasLock lock self.old }
         ensures stays { self.new ≡ with_seat self.old self.new.seat }
         ensures answer { FreeAnswer lock who self.old.seat result self.new.seat }
@@ -65,7 +67,7 @@ impl Seated {
         self.locks.free(&mut self.seat, lock, who)
     }
 
-    fn withdraw(&mut self, lock: usize, who: u64) -> Tried<Withdrawn>
+    fn withdraw(&mut self, lock: usize, who: u64) -> Attempt<Withdrawn>
         requires { HasLock lock self.old }
         ensures stays { self.new ≡ with_seat self.old self.new.seat }
         ensures answer { WithdrawAnswer lock who self.old.seat result self.new.seat }
@@ -73,7 +75,7 @@ impl Seated {
         self.locks.withdraw(&mut self.seat, lock, who)
     }
 
-    fn check(&mut self, lock: usize, who: u64) -> Tried<Option<u64>>
+    fn check(&mut self, lock: usize, who: u64) -> Attempt<Option<u64>>
         requires { HasLock lock self.old }
         ensures stays { self.new ≡ with_seat self.old self.new.seat }
         ensures answer { CheckAnswer lock who self.old.seat result self.new.seat }

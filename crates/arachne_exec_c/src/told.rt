@@ -6,7 +6,7 @@ ghost use Rattle.arachne_exec_c.specs.LockTold.{code_alone, code_at, told_asked,
 use crate::codes::{
     ALREADY_IN, CONTENDED, FREED, GRANTED, HANDED_ON, LEFT, NO_MEMORY, NOT_HOLDER, QUEUED,
 };
-use arachne_lock::{AskFault, Asked, Freed, NotHolder, Tried, Withdrawn};
+use arachne_lock::{Admitted, AskRefusal, Attempt, NotOwner, Released, Withdrawn};
 
 /// The answer of a lock. Numbers of events count from 0 for each lock by itself, modulo 2^64.
 #[repr(C)]
@@ -31,28 +31,28 @@ fn code_at(code: u32, at: u64) -> ArachneLockTold
     ArachneLockTold { at, next: 0, code }
 }
 
-pub(crate) fn told_asked(answer: Tried<Result<Asked, AskFault>>) -> ArachneLockTold
+pub(crate) fn told_asked(answer: Attempt<Result<Admitted, AskRefusal>>) -> ArachneLockTold
     ensures { result ≡ told_asked answer }
 {
     match answer {
-        Tried::Contended => code_alone(CONTENDED),
-        Tried::Answered(Ok(Asked::Granted { at })) => code_at(GRANTED, at),
-        Tried::Answered(Ok(Asked::Queued { at })) => code_at(QUEUED, at),
-        Tried::Answered(Err(AskFault::AlreadyIn)) => code_alone(ALREADY_IN),
-        Tried::Answered(Err(AskFault::Memory)) => code_alone(NO_MEMORY),
+        Attempt::Contended => code_alone(CONTENDED),
+        Attempt::Answered(Ok(Admitted::Granted { at })) => code_at(GRANTED, at),
+        Attempt::Answered(Ok(Admitted::Queued { at })) => code_at(QUEUED, at),
+        Attempt::Answered(Err(AskRefusal::AlreadyIn)) => code_alone(ALREADY_IN),
+        Attempt::Answered(Err(AskRefusal::Memory)) => code_alone(NO_MEMORY),
     }
 }
 
-pub(crate) fn told_freed(answer: Tried<Result<Freed, NotHolder>>) -> ArachneLockTold
+pub(crate) fn told_freed(answer: Attempt<Result<Released, NotOwner>>) -> ArachneLockTold
     ensures { result ≡ told_freed answer }
 {
     match answer {
-        Tried::Contended => code_alone(CONTENDED),
-        Tried::Answered(Err(_)) => code_alone(NOT_HOLDER),
-        Tried::Answered(Ok(Freed { next: None, at })) => code_at(FREED, at),
-        Tried::Answered(
+        Attempt::Contended => code_alone(CONTENDED),
+        Attempt::Answered(Err(_)) => code_alone(NOT_HOLDER),
+        Attempt::Answered(Ok(Released { next: None, at })) => code_at(FREED, at),
+        Attempt::Answered(
             Ok(
-                Freed {
+                Released {
                     next: Some(next),
                     at,
                 },
@@ -65,23 +65,23 @@ pub(crate) fn told_freed(answer: Tried<Result<Freed, NotHolder>>) -> ArachneLock
     }
 }
 
-pub(crate) fn told_withdrawn(answer: Tried<Withdrawn>) -> ArachneLockTold
+pub(crate) fn told_withdrawn(answer: Attempt<Withdrawn>) -> ArachneLockTold
     ensures { result ≡ told_withdrawn answer }
 {
     match answer {
-        Tried::Contended => code_alone(CONTENDED),
-        Tried::Answered(Withdrawn::Left { at }) => code_at(LEFT, at),
-        Tried::Answered(Withdrawn::Holds { at }) => code_at(GRANTED, at),
-        Tried::Answered(Withdrawn::Outside) => code_alone(NOT_HOLDER),
+        Attempt::Contended => code_alone(CONTENDED),
+        Attempt::Answered(Withdrawn::Left { at }) => code_at(LEFT, at),
+        Attempt::Answered(Withdrawn::Holds { at }) => code_at(GRANTED, at),
+        Attempt::Answered(Withdrawn::Outside) => code_alone(NOT_HOLDER),
     }
 }
 
-pub(crate) fn told_checked(answer: Tried<Option<u64>>) -> ArachneLockTold
+pub(crate) fn told_checked(answer: Attempt<Option<u64>>) -> ArachneLockTold
     ensures { result ≡ told_checked answer }
 {
     match answer {
-        Tried::Contended => code_alone(CONTENDED),
-        Tried::Answered(None) => code_alone(NOT_HOLDER),
-        Tried::Answered(Some(at)) => code_at(GRANTED, at),
+        Attempt::Contended => code_alone(CONTENDED),
+        Attempt::Answered(None) => code_alone(NOT_HOLDER),
+        Attempt::Answered(Some(at)) => code_at(GRANTED, at),
     }
 }

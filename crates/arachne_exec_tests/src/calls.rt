@@ -1,14 +1,14 @@
 //! Each call once, on one thread.
 use arachne_exec::{
-    Executor, Job, Next, Placed, Rested, Spawned, SpawnedHere, Woken, WokenHere, place_of,
-    worker_of_place,
+    Executor, HeldJob, JobRested, JobSpawned, JobWoken, Next, PlacedJob, SpawnedHere, WokenHere,
+    place_of, worker_of_place,
 };
 use std::test::Fail;
 
 /// The name of the second job at place 192.
 const SECOND: u64 = 192 + (1 << 20);
 
-const FIRST: Job = Job {
+const FIRST: HeldJob = HeldJob {
     place: 192,
     name: 192,
     job: 77,
@@ -22,12 +22,12 @@ fn a_job_is_spawned_taken_and_ends(rt: HostRuntime) -> Result<(), Fail> {
     let mut other = executor.split(&mut seat);
     assert!(rt; !executor.register(&mut other, 0));
     assert!(rt; executor.next(&mut seat, 0) == Next::Park);
-    let placed = Placed {
+    let placed = PlacedJob {
         place: 192,
         name: 192,
         unpark: true,
     };
-    assert!(rt; executor.spawn(&mut other, 3, 77) == Spawned::Placed(placed));
+    assert!(rt; executor.spawn(&mut other, 3, 77) == JobSpawned::Placed(placed));
     assert!(rt; !executor.may_park(&mut seat, 0));
     assert!(rt; place_of(SECOND) == 192 && worker_of_place(192) == 0);
     let Next::Run(job) = executor.next(&mut seat, 0) else {
@@ -35,7 +35,7 @@ fn a_job_is_spawned_taken_and_ends(rt: HostRuntime) -> Result<(), Fail> {
     };
     assert!(rt; job == FIRST);
     executor.finish(&mut seat, job.place);
-    assert!(rt; executor.wake(&mut other, 192) == Woken::Gone);
+    assert!(rt; executor.wake(&mut other, 192) == JobWoken::Gone);
     assert!(rt; executor.next(&mut seat, 0) == Next::Park);
     executor.wake_up(&mut seat, 0);
     Ok(())
@@ -47,19 +47,19 @@ fn a_worker_that_stays_awake_is_not_unparked(rt: HostRuntime) -> Result<(), Fail
     assert!(rt; executor.register(&mut seat, 0));
     let mut other = executor.split(&mut seat);
     assert!(rt; executor.next(&mut seat, 0) == Next::Park);
-    let first = Placed {
+    let first = PlacedJob {
         place: 192,
         name: 192,
         unpark: true,
     };
-    assert!(rt; executor.spawn(&mut other, 3, 1) == Spawned::Placed(first));
+    assert!(rt; executor.spawn(&mut other, 3, 1) == JobSpawned::Placed(first));
     assert!(rt; !executor.may_park(&mut seat, 0));
-    let second = Placed {
+    let second = PlacedJob {
         place: 193,
         name: 193,
         unpark: false,
     };
-    assert!(rt; executor.spawn(&mut other, 3, 2) == Spawned::Placed(second));
+    assert!(rt; executor.spawn(&mut other, 3, 2) == JobSpawned::Placed(second));
     Ok(())
 }
 
@@ -70,12 +70,12 @@ fn a_worker_that_has_woken_up_is_not_unparked(rt: HostRuntime) -> Result<(), Fai
     let mut other = executor.split(&mut seat);
     assert!(rt; executor.next(&mut seat, 0) == Next::Park);
     executor.wake_up(&mut seat, 0);
-    let placed = Placed {
+    let placed = PlacedJob {
         place: 192,
         name: 192,
         unpark: false,
     };
-    assert!(rt; executor.spawn(&mut other, 3, 1) == Spawned::Placed(placed));
+    assert!(rt; executor.spawn(&mut other, 3, 1) == JobSpawned::Placed(placed));
     Ok(())
 }
 
@@ -99,21 +99,21 @@ fn a_job_waits_and_is_woken(rt: HostRuntime) -> Result<(), Fail> {
     let Some(job) = executor.take(&mut seat, 3) else {
         panic!(rt; "no job")
     };
-    assert!(rt; executor.wake(&mut other, 192) == Woken::Marked);
-    assert!(rt; executor.wake(&mut other, 192) == Woken::Already);
-    assert!(rt; executor.rest_blocked(&mut seat, job.place) == Rested::Ready { unpark: false });
+    assert!(rt; executor.wake(&mut other, 192) == JobWoken::Marked);
+    assert!(rt; executor.wake(&mut other, 192) == JobWoken::Already);
+    assert!(rt; executor.rest_blocked(&mut seat, job.place) == JobRested::Ready { unpark: false });
     let Some(job) = executor.take(&mut seat, 3) else {
         panic!(rt; "no job")
     };
-    assert!(rt; executor.rest_blocked(&mut seat, job.place) == Rested::Blocked);
+    assert!(rt; executor.rest_blocked(&mut seat, job.place) == JobRested::Blocked);
     assert!(rt; executor.take(&mut other, 3).is_none());
-    assert!(rt; executor.wake(&mut other, SECOND) == Woken::Gone);
-    assert!(rt; executor.wake(&mut other, 4096) == Woken::Gone);
-    assert!(rt; executor.wake(&mut other, 192) == Woken::Ready { unpark: false });
+    assert!(rt; executor.wake(&mut other, SECOND) == JobWoken::Gone);
+    assert!(rt; executor.wake(&mut other, 4096) == JobWoken::Gone);
+    assert!(rt; executor.wake(&mut other, 192) == JobWoken::Ready { unpark: false });
     let Some(job) = executor.take(&mut seat, 3) else {
         panic!(rt; "no job")
     };
-    assert!(rt; executor.rest_blocked(&mut seat, job.place) == Rested::Blocked);
+    assert!(rt; executor.rest_blocked(&mut seat, job.place) == JobRested::Blocked);
     assert!(rt; executor.wake_here(&mut other, 192) == WokenHere::Held(FIRST));
     Ok(())
 }
@@ -142,7 +142,7 @@ fn a_full_block_and_what_is_left(rt: HostRuntime) -> Result<(), Fail> {
     for _ in 0..64 {
         executor.spawn(&mut seat, 3, 5);
     }
-    assert!(rt; executor.spawn(&mut seat, 3, 5) == Spawned::Full);
+    assert!(rt; executor.spawn(&mut seat, 3, 5) == JobSpawned::Full);
     if let Some(job) = executor.take(&mut seat, 3) {
         executor.rest_ready(&mut seat, job.place);
     }
@@ -178,8 +178,8 @@ fn a_start_uses_up_a_wake(rt: HostRuntime) -> Result<(), Fail> {
     let Some(job) = executor.take(&mut seat, 3) else {
         panic!(rt; "no job")
     };
-    assert!(rt; executor.wake(&mut other, 192) == Woken::Marked);
+    assert!(rt; executor.wake(&mut other, 192) == JobWoken::Marked);
     assert!(rt; executor.start(&mut seat, job.place) == FIRST);
-    assert!(rt; executor.rest_blocked(&mut seat, job.place) == Rested::Blocked);
+    assert!(rt; executor.rest_blocked(&mut seat, job.place) == JobRested::Blocked);
     Ok(())
 }

@@ -1,7 +1,7 @@
 //! Executors of several sizes, to the largest.
 ghost use Rattle.std.specs.Prelude.{◌<◌, ◌≤◌};
 
-use arachne_exec::{Executor, Spawned};
+use arachne_exec::{Executor, JobSpawned};
 use std::alloc::{AllocError, Global};
 
 /// Spawns a job into the last block, and closes the executor. Where the job was put, and what was left.
@@ -9,7 +9,7 @@ fn last_place(alloc: Global, shards: usize) -> Option<(usize, Vec<u64>)>
     requires { (0 < shards) × (shards ≤ 256) }
 {
     let (executor, mut seat) = Executor::new(alloc, shards).ok()?;
-    let Spawned::Placed(placed) = executor.spawn(&mut seat, 64 * shards - 1, 7) else {
+    let JobSpawned::Placed(placed) = executor.spawn(&mut seat, 64 * shards - 1, 7) else {
         return None;
     };
     let left = executor.close(alloc, seat).ok()?;

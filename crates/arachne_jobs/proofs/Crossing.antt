@@ -12,9 +12,9 @@ use Rattle.arachne_join.proofs.sending_end.SendingEnd.TheSendSync as sending_end
 use Rattle.arachne_jobs.specs.contracts.ends.End as an_end
 use Rattle.arachne_jobs.specs.contracts.ends.WaitEnd as wait_end
 use Rattle.arachne_jobs.specs.contracts.job.Job as job
-use Rattle.arachne_jobs.specs.contracts.left.Left as left
+use Rattle.arachne_jobs.specs.contracts.left.LeftInCell as left
 use Rattle.arachne_jobs.specs.contracts.left.Waiting as waiting
-use Rattle.arachne_jobs.specs.contracts.spares.Spares as spares
+use Rattle.arachne_jobs.specs.contracts.spares.JobSpares as spares
 use Rattle.arachne_jobs.specs.contracts.ties.SpareTies as spare_ties
 use Rattle.arachne_jobs.specs.contracts.ties.Ties as ties
 use Rattle.arachne_jobs.specs.contracts.waiting.Ticket as ticket

@@ -7,9 +7,9 @@ use Rattle.arachne_jobs.specs.Threads.{Thread, program_of, name_of, tag_of}
 use Rattle.arachne_machine.specs.Nested.{IsAlone}
 use Rattle.arachne_jobs.specs.Threads.{pause_of}
 use Rattle.arachne_jobs.specs.declared.wanted.Wanted.{Wanted}
-use Rattle.arachne_jobs.specs.declared.left.Left.{Left}
+use Rattle.arachne_jobs.specs.declared.left.LeftInCell.{LeftInCell}
 use Rattle.arachne_jobs.specs.declared.left.Waiting.{Waiting}
-use Rattle.arachne_jobs.specs.declared.left.Left.TheVariants as left
+use Rattle.arachne_jobs.specs.declared.left.LeftInCell.TheVariants as left
 use Rattle.arachne_jobs.specs.declared.left.Found.{Found}
 use Rattle.arachne_jobs.specs.declared.left.Found.TheVariants as found
 
@@ -30,7 +30,7 @@ abbrev pub HasNotBegun : Thread → Type 0
 HasNotBegun thread = (pause_of thread ≡ None) × IsAlone thread
 
 -- what is left for good in the cell of a child that waited is its outcome
-abbrev pub IsLeftFor : Wanted → Left → Type 0
+abbrev pub IsLeftFor : Wanted → LeftInCell → Type 0
 IsLeftFor wanted (left.Child waiting) = ⊥
 IsLeftFor wanted (left.Outcome outcome) = IsWanted wanted outcome
 
@@ -39,7 +39,7 @@ abbrev pub IsTold : Waiting → Wanted → Type 0
 IsTold waiting wanted = (tag_of waiting.thread ≡ wanted.tag.value) × (Some waiting.parent ≡ wanted.parent.value)
 
 -- the thread whose outcome is wanted may wait there until then
-abbrev pub MayWait : Wanted → Left → Type 0
+abbrev pub MayWait : Wanted → LeftInCell → Type 0
 MayWait wanted (left.Child waiting) = IsFor waiting.thread wanted × HasNotBegun waiting.thread × IsTold waiting wanted
 MayWait wanted (left.Outcome outcome) = ⊥
 

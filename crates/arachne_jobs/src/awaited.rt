@@ -4,8 +4,8 @@ ghost use Rattle.arachne_join.specs.Openings.{awaited};
 ghost use Rattle.arachne_jobs.specs.declared.ends.End.TheVariants.{Leaves, Awaits, Waits};
 
 use crate::ends::{End, WaitEnd};
-use crate::left::Left;
-use crate::refusal::{Refusal, push};
+use crate::left::LeftInCell;
+use crate::refusal::{PushRefused, push};
 use crate::waiting::WaitCell;
 use crate::wanted::{OutcomeReceiver, OutcomeSender, Wanted};
 use arachne_join::{SendingEnd, SpareCells};
@@ -31,7 +31,7 @@ pub(crate) struct AwaitedIn<'p> {
 /// among the ends of the child.
 pub(crate) struct OwedIn<'p> {
     cell: WaitCell<'p>,
-    end: SendingEnd<Left<'p>, Wanted>,
+    end: SendingEnd<LeftInCell<'p>, Wanted>,
 }
 
 /// The two ends of a cell for what is wanted.
@@ -68,7 +68,7 @@ impl Awaited {
 
     /// It is the newest of the parent's ends.
     #[inline(always)]
-    pub(crate) fn push(self, ends: &mut Vec<End>) -> Result<(), Refusal>
+    pub(crate) fn push(self, ends: &mut Vec<End>) -> Result<(), PushRefused>
         ensures pushed { OnOk result (ends.new.items ≡ ends.old.items ++ Awaits self.receiver ∷ []) }
         ensures same { OnErr result (ends.new.items ≡ ends.old.items) }
     {
@@ -123,7 +123,7 @@ impl<'p> AwaitedIn<'p> {
 
 impl<'p> OwedIn<'p> {
     #[inline(always)]
-    pub(crate) fn of(cell: WaitCell<'p>, end: SendingEnd<Left<'p>, Wanted>) -> OwedIn<'p>
+    pub(crate) fn of(cell: WaitCell<'p>, end: SendingEnd<LeftInCell<'p>, Wanted>) -> OwedIn<'p>
         ensures { (result.cell ≡ cell.entry) × (result.end ≡ end.entry) }
     {
         OwedIn { cell, end }

@@ -1,5 +1,5 @@
 //! The ends of cells that a job has.
-use crate::left::Left;
+use crate::left::LeftInCell;
 use crate::waiting::WaitCell;
 use crate::wanted::{OutcomeReceiver, OutcomeSender, Wanted};
 use arachne_join::SendingEnd;
@@ -20,5 +20,5 @@ pub enum End {
 #[derive(Drop)]
 pub struct WaitEnd<'p> {
     pub(crate) cell: WaitCell<'p>,
-    pub(crate) end: Option<SendingEnd<Left<'p>, Wanted>>,
+    pub(crate) end: Option<SendingEnd<LeftInCell<'p>, Wanted>>,
 }

@@ -1,5 +1,5 @@
 //! Why a job can't go on.
-use crate::refusal::Refusal;
+use crate::refusal::PushRefused;
 use arachne_machine::{DetachedOutcome, NotJoined, NotPlaced};
 use std::alloc::AllocError;
 use thiserror::Error;
@@ -27,13 +27,13 @@ impl From<AllocError> for JobFault {
     }
 }
 
-impl From<Refusal> for JobFault {
+impl From<PushRefused> for JobFault {
     ghost use Rattle.std.specs.Prelude.{◌≡◌};
     ghost use Rattle.arachne_jobs.specs.declared.fault.JobFault.TheVariants.{Memory};
 
     ghost from_gives = { λ _ e. e ≡ Memory };
 
-    fn from(_: Refusal) -> JobFault {
+    fn from(_: PushRefused) -> JobFault {
         JobFault::Memory
     }
 }

@@ -16,11 +16,11 @@ use crate::ends::{End, WaitEnd};
 use crate::fault::JobFault;
 use crate::left::{Found, Waiting};
 use crate::left_behind::OutcomeLeft;
-use crate::openings::{Asked, Openings};
-use crate::refusal::{Refusal, reserve_both};
+use crate::openings::{ForkPlacing, Openings};
+use crate::refusal::{PushRefused, reserve_both};
 use crate::room::Room;
 use crate::slice::{JobOf, RunJob, RunThread, Slice};
-use crate::spares::Spares;
+use crate::spares::JobSpares;
 use crate::ties::Ties;
 use crate::unended::{Unended, look_at, look_in};
 use crate::waiting::{Ticket, WaitCell};
@@ -124,14 +124,14 @@ impl<'p> RunJob for Job<'p> {
 
     type Ticket = Ticket<'p>;
 
-    type Spares = Spares<'p>;
+    type Spares = JobSpares<'p>;
 
     ghost forks = { λ j child. IsForking j.thread child };
 
     fn slice(
         &mut self,
         left: &mut u32,
-        spares: &mut Spares<'p>,
+        spares: &mut JobSpares<'p>,
         room: &Room,
         openings: &mut Openings,
     ) -> Result<Slice<Thread<'p>>, JobFault> {
@@ -154,7 +154,7 @@ impl<'p> RunJob for Job<'p> {
         me: ThreadId,
         child: Thread<'p>,
         tag: u64,
-        spares: &mut Spares<'p>,
+        spares: &mut JobSpares<'p>,
     ) -> Result<Job<'p>, JobFault>
         requires { IsForking self.old.thread child }
         ensures tag { tag_of self.new.thread ≡ tag_of self.old.thread }
@@ -211,7 +211,7 @@ impl<'p> RunJob for Job<'p> {
         }
     }
 
-    fn of_ticket(alloc: Global, ticket: Ticket<'p>, spares: &mut Spares<'p>) -> Option<Job<'p>>
+    fn of_ticket(alloc: Global, ticket: Ticket<'p>, spares: &mut JobSpares<'p>) -> Option<Job<'p>>
         ensures parent { IfSome result (λ job. IsSome job.parent) }
         ensures whose { IfSome result (λ job. job.parent ≡ ticket.entry.key.parent.value) }
         ensures tag { IfSome result (λ job. tag_of job.thread ≡ ticket.entry.key.tag.value) }
@@ -237,7 +237,7 @@ impl<'p> RunJob for Job<'p> {
         })
     }
 
-    fn leave(self, spares: &mut Spares<'p>) -> Result<Option<ThreadId>, JobFault> {
+    fn leave(self, spares: &mut JobSpares<'p>) -> Result<Option<ThreadId>, JobFault> {
         let Job {
             thread,
             mut ties,
@@ -273,7 +273,7 @@ impl<'p> JobOf<'p> for Job<'p> {
     fn begin(
         alloc: Global,
         program: &'p Program,
-        spares: &mut Spares<'p>,
+        spares: &mut JobSpares<'p>,
     ) -> Result<(Job<'p>, OutcomeReceiver), AllocError> {
         let thread = Thread::start(alloc, program, 0)?;
         let (job, awaited) = Job::of(alloc, thread, None, spares)?;
@@ -287,7 +287,7 @@ impl<'p> Job<'p> {
         alloc: Global,
         thread: Thread<'p>,
         parent: Option<ThreadId>,
-        spares: &mut Spares<'p>,
+        spares: &mut JobSpares<'p>,
     ) -> Result<(Job<'p>, Awaited), AllocError>
         ensures thread { IfOk result (λ made. made.0 ≡ record { thread = thread.entry; parent = parent }) }
         ensures receiver { IfOk result (λ made. IsFor thread.entry made.1.receiver.opening.key) }
@@ -310,7 +310,7 @@ impl<'p> Job<'p> {
     fn advance(
         &mut self,
         left: &mut u32,
-        spares: &mut Spares<'p>,
+        spares: &mut JobSpares<'p>,
         room: &Room,
         openings: &mut Openings,
     ) -> Result<Slice<Thread<'p>>, JobFault>
@@ -321,7 +321,7 @@ impl<'p> Job<'p> {
         ensures left { IfOk result (λ slice. IsLeft (λ j child. IsForking j.thread child) (λ j. pause_of j.thread) slice self.new) }
         ensures steps { IfOk result (λ slice. UsesSteps slice left.old left.new) }
     {
-        let mut asked = Asked { room, openings };
+        let mut asked = ForkPlacing { room, openings };
         match self
             .thread
             .advance_within(left, &mut spares.threads, &mut asked)?
@@ -353,7 +353,7 @@ impl<'p> Job<'p> {
     }
 
     /// Awaits the outcome of a child at this end too.
-    fn expect(&mut self, awaited: Awaited) -> Result<(), Refusal>
+    fn expect(&mut self, awaited: Awaited) -> Result<(), PushRefused>
         requires { IsOf (program_of self.old.thread) awaited.receiver.opening.key }
         ensures { self.new ≡ self.old }
     {
@@ -361,7 +361,7 @@ impl<'p> Job<'p> {
     }
 
     /// Joins the child that it awaits, if that has ended, and runs it in place, if it waits still. Else it can't go on.
-    fn join(&mut self, spares: &mut Spares<'p>) -> Result<Option<Unended>, JobFault>
+    fn join(&mut self, spares: &mut JobSpares<'p>) -> Result<Option<Unended>, JobFault>
         requires { IsAwaiting self.old.thread }
         ensures tag { tag_of self.new.thread ≡ tag_of self.old.thread }
         ensures parent { self.new.parent ≡ self.old.parent }
@@ -382,7 +382,7 @@ impl<'p> Job<'p> {
     }
 
     /// What is in the cell of the child that it awaits. Where that is something, the cell is used up.
-    fn find(&mut self, spares: &mut Spares<'p>) -> Result<Found<'p>, JobFault>
+    fn find(&mut self, spares: &mut JobSpares<'p>) -> Result<Found<'p>, JobFault>
         ensures same { self.new ≡ self.old }
         ensures found { IfOk result (IsFoundOf (program_of self.old.thread)) }
     {

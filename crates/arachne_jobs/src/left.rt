@@ -14,14 +14,14 @@ pub struct Waiting<'p> {
 
 /// What lies in a cell.
 #[derive(Drop)]
-pub enum Left<'p> {
+pub enum LeftInCell<'p> {
     /// The child, which has not begun.
     Child(Waiting<'p>),
     /// Its outcome.
     Outcome(DetachedOutcome),
 }
 
-impl<'p> Fits<Wanted> for Left<'p> {
+impl<'p> Fits<Wanted> for LeftInCell<'p> {
     ghost use Rattle.arachne_jobs.specs.Cells.{IsLeftFor, MayWait};
 
     ghost fits = { IsLeftFor };

@@ -2,7 +2,7 @@
 ghost use Rattle.std.specs.Prelude.{◌≡◌};
 ghost use Rattle.arachne_jobs.specs.Cells.{IsWanted};
 
-use crate::left::Left;
+use crate::left::LeftInCell;
 use crate::waiting::WaitCell;
 use crate::wanted::{OutcomeSender, Wanted};
 use arachne_join::SendingEnd;
@@ -28,7 +28,7 @@ impl OutcomeLeft {
     #[inline(always)]
     pub(crate) fn within<'p>(
         cell: WaitCell<'p>,
-        end: SendingEnd<Left<'p>, Wanted>,
+        end: SendingEnd<LeftInCell<'p>, Wanted>,
         outcome: DetachedOutcome,
     ) -> OutcomeLeft
         requires end { end ≡ cell.table }

@@ -31,7 +31,7 @@ pub use queued::{
 };
 pub use room::Room;
 pub use slice::{JobOf, RunJob, RunSpares, RunThread, RunTicket, Slice};
-pub use spares::Spares;
+pub use spares::JobSpares;
 pub use tags::{BLOCK, Tags};
 pub use unended::Unended;
 pub use waiting::Ticket;

@@ -54,12 +54,12 @@ impl Openings {
 
 /// What a thread asks at its forks: whether its child may get a place or wait for one, and else a tag for it.
 #[derive(Drop)]
-pub(crate) struct Asked<'a> {
+pub(crate) struct ForkPlacing<'a> {
     pub(crate) room: &'a Room,
     pub(crate) openings: &'a mut Openings,
 }
 
-impl<'a> Asked<'a> {
+impl<'a> ForkPlacing<'a> {
     /// Whether a child with so many turns to make may get a place or wait for one. If not, a word of the chooser is owed.
     #[inline(always)]
     fn may_have_a_place(&mut self, class: Class, turns: u64) -> bool
@@ -76,7 +76,7 @@ impl<'a> Asked<'a> {
     }
 }
 
-impl<'a> Placing for Asked<'a> {
+impl<'a> Placing for ForkPlacing<'a> {
     ghost use Rattle.std.specs.Prelude.{false};
 
     ghost gives_all = { false };

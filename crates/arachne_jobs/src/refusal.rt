@@ -3,7 +3,7 @@ ghost use Rattle.std.specs.Prelude.{◌≡◌, ◌<◌, ◌++◌, ◌∷◌, [],
 
 /// Memory was refused. [`push`] alone gives it. It has no bytes.
 #[derive(Drop)]
-pub(crate) struct Refusal {
+pub(crate) struct PushRefused {
     seen: (),
 }
 
@@ -35,12 +35,12 @@ pub(crate) fn reserve_both<A: Drop, B: Drop>(
 
 /// Puts one at the end of a list.
 #[inline(always)]
-pub(crate) fn push<T: Drop>(list: &mut Vec<T>, item: T) -> Result<(), Refusal>
+pub(crate) fn push<T: Drop>(list: &mut Vec<T>, item: T) -> Result<(), PushRefused>
     ensures pushed { OnOk result (list.new.items ≡ list.old.items ++ item ∷ []) }
     ensures same { OnErr result (list.new.items ≡ list.old.items) }
 {
     match list.push(item) {
         Ok(()) => Ok(()),
-        Err(_) => Err(Refusal { seen: () }),
+        Err(_) => Err(PushRefused { seen: () }),
     }
 }

@@ -9,15 +9,15 @@ use std::alloc::Global;
 /// The memory of threads that have ended, what tied their jobs to others, and the join cells that nobody uses. Each
 /// worker has its own, so that most forks take memory for a long name alone.
 #[derive(Drop)]
-pub struct Spares<'p> {
+pub struct JobSpares<'p> {
     pub(crate) threads: SpareThreads<'p>,
     pub(crate) ties: SpareTies,
     pub(crate) cells: SpareCells<DetachedOutcome, Wanted>,
 }
 
-impl<'p> RunSpares for Spares<'p> {
-    fn none(alloc: Global) -> Spares<'p> {
-        Spares {
+impl<'p> RunSpares for JobSpares<'p> {
+    fn none(alloc: Global) -> JobSpares<'p> {
+        JobSpares {
             threads: SpareThreads::new(alloc),
             ties: SpareTies::new(alloc),
             cells: SpareCells::new(alloc),

@@ -8,7 +8,7 @@ ghost use Rattle.arachne_jobs.specs.Threads.{tag_of};
 
 use crate::awaited::{AwaitedIn, OwedIn};
 use crate::ends::WaitEnd;
-use crate::left::{Found, Left, Waiting};
+use crate::left::{Found, LeftInCell, Waiting};
 use crate::slice::RunTicket;
 use crate::ties::Ties;
 use crate::wanted::Wanted;
@@ -20,7 +20,7 @@ use std::alloc::{AllocError, Global};
 use std::marker::Model;
 use std::sync::Arc;
 
-type Cell<'p> = JoinCell<Left<'p>, Wanted>;
+type Cell<'p> = JoinCell<LeftInCell<'p>, Wanted>;
 
 /// A share of a cell. Contracts see the cell: what it is for, and its table.
 #[derive(Drop)]
@@ -96,7 +96,7 @@ impl<'p> WaitCell<'p> {
         };
         end.put_back(
             &cell,
-            Left::Child(Waiting {
+            LeftInCell::Child(Waiting {
                 thread: child,
                 parent,
             }),
@@ -113,8 +113,8 @@ impl<'p> WaitCell<'p> {
     {
         let missed = match self.cell.fetch() {
             Ok((left, _)) => match left {
-                Left::Outcome(outcome) => return Ok(Found::Outcome(outcome)),
-                Left::Child(_) => unreachable!(),
+                LeftInCell::Outcome(outcome) => return Ok(Found::Outcome(outcome)),
+                LeftInCell::Child(_) => unreachable!(),
             },
             Err(missed) => missed,
         };
@@ -123,8 +123,8 @@ impl<'p> WaitCell<'p> {
         }
         match self.cell.take_back() {
             Ok((left, _)) => match left {
-                Left::Child(waiting) => Ok(Found::Child(waiting.thread)),
-                Left::Outcome(_) => unreachable!(),
+                LeftInCell::Child(waiting) => Ok(Found::Child(waiting.thread)),
+                LeftInCell::Outcome(_) => unreachable!(),
             },
             Err(missed) => Err(missed),
         }
@@ -135,14 +135,14 @@ impl<'p> WaitCell<'p> {
     /// Leaves the child's outcome, with the sending end of this cell. What shows that it did.
     pub(crate) fn leave(
         self,
-        end: SendingEnd<Left<'p>, Wanted>,
+        end: SendingEnd<LeftInCell<'p>, Wanted>,
         outcome: DetachedOutcome,
     ) -> Receipt<Wanted>
         requires end { end ≡ self.table }
         requires outcome { IsWanted self.key outcome }
         ensures { result ≡ shown self.entry.table HasLeft }
     {
-        end.leave(&self.cell, Left::Outcome(outcome))
+        end.leave(&self.cell, LeftInCell::Outcome(outcome))
     }
 }
 
@@ -183,8 +183,8 @@ impl<'p> Ticket<'p> {
         let Ticket { cell, tag: _ } = self;
         match cell.take_back() {
             Ok((left, end)) => match left {
-                Left::Child(waiting) => Some((waiting, OwedIn::of(WaitCell { cell }, end))),
-                Left::Outcome(_) => unreachable!(),
+                LeftInCell::Child(waiting) => Some((waiting, OwedIn::of(WaitCell { cell }, end))),
+                LeftInCell::Outcome(_) => unreachable!(),
             },
             Err(_) => None,
         }
@@ -195,7 +195,14 @@ impl<'p> Ticket<'p> {
 fn shared_cell<'p>(
     alloc: Global,
     wanted: &Wanted,
-) -> Result<(Arc<Cell<'p>>, SendingEnd<Left<'p>, Wanted>, Arc<Cell<'p>>), AllocError>
+) -> Result<
+    (
+        Arc<Cell<'p>>,
+        SendingEnd<LeftInCell<'p>, Wanted>,
+        Arc<Cell<'p>>,
+    ),
+    AllocError,
+>
     ensures cell { IfOk result (λ made. (arc_value made.0).key ≡ wanted.now) }
     ensures end { IfOk result (λ made. made.1 ≡ (arc_value made.0).table) }
     ensures other { IfOk result (λ made. arc_value made.2 ≡ arc_value made.0) }

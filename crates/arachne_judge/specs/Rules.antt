@@ -33,3 +33,9 @@ first_broken (Some first) broken = Some first
 abbrev pub broken_if : Bool → Option Broken → Broken → Option Broken
 broken_if true before broken = first_broken before broken
 broken_if false before broken = before
+
+-- A thread that a worker has moved to its core breaks a rule at this entry where a fork is exclusive, and another one
+-- where it comes from that core.
+abbrev pub broken_by_pull : (has_exclusive from_here : Bool) → Option Broken → ℕ → Option Broken
+broken_by_pull has_exclusive from_here before at =
+    broken_if from_here (broken_if has_exclusive before (record { rule = Stays; at = at })) (record { rule = Pulls; at = at })

@@ -4,18 +4,18 @@
 //! first: that a thread was moved, that a core was closed or granted, or that a thread was woken. Core 0 is to tell what
 //! it did before its next slice, and each other core at once: until then such a thing is owed.
 ghost use Rattle.std.specs.Prelude.{◌≡◌, ◌≢◌, ◌<◌, ◌==◌, IsSome, not};
-ghost use Rattle.arachne_judge.specs.Rules.{broken_if, first_broken};
-ghost use Rattle.arachne_judge.specs.declared.rules.Rule.TheVariants.{CoreZero, Pulls, Quantum, Stays};
+ghost use Rattle.arachne_judge.specs.Rules.{broken_by_pull, broken_if, first_broken};
+ghost use Rattle.arachne_judge.specs.declared.rules.Rule.TheVariants.{CoreZero};
 
 use crate::breaks;
 use crate::cores::Core;
 use crate::log::{Entry, Log, What};
 use crate::rules::{Broken, Counts, Rule, Run, Verdict};
 use crate::scans::Scans;
-use crate::threads::Thread;
+use crate::threads::ThreadFacts;
 use arachne_core::ThreadId;
 use arachne_policy::OrderKind;
-use arachne_workers::{Event, SliceEnd};
+use arachne_workers::{SliceEnd, WorkerEvent};
 use std::alloc::{AllocError, Global};
 
 /// How many moves nobody may be told of: where a thread left its place just before a worker moved it from there, the one
@@ -34,7 +34,7 @@ struct Case<'r> {
     at: usize,
     cores: Vec<Core>,
     /// The threads that the contexts had last.
-    threads: Vec<Option<Thread>>,
+    threads: Vec<Option<ThreadFacts>>,
     root: Option<ThreadId>,
     /// Whether the root has ended.
     is_over: bool,
@@ -128,12 +128,12 @@ impl<'r> Case<'r> {
     }
 
     /// The thread of an id, if that had a turn.
-    fn thread(&self, id: ThreadId) -> Option<Thread> {
+    fn thread(&self, id: ThreadId) -> Option<ThreadFacts> {
         let thread = (*self.threads.get(id.context as usize)?)?;
         if thread.id == id { Some(thread) } else { None }
     }
 
-    fn set_thread(&mut self, thread: Thread)
+    fn set_thread(&mut self, thread: ThreadFacts)
         ensures { self.new.broken ≡ self.old.broken }
     {
         if let Some(place) = self.threads.get_mut(thread.id.context as usize) {
@@ -168,7 +168,7 @@ impl<'r> Case<'r> {
 
     fn look(&mut self, entry: Entry) {
         let core = entry.core;
-        if !matches!(entry.what, What::Told(Event::Sliced(_, _))) {
+        if !matches!(entry.what, What::Told(WorkerEvent::Sliced(_, _))) {
             let mut known = self.core(core);
             known.counted = known.ended;
             self.set_core(core, known);
@@ -184,20 +184,20 @@ impl<'r> Case<'r> {
         self.set_core(core, known);
     }
 
-    fn event(&mut self, core: u8, event: Event) {
+    fn event(&mut self, core: u8, event: WorkerEvent) {
         match event {
-            Event::Sliced(steps, end) => self.sliced(core, steps, end),
-            Event::Woken(id, _) => self.woken(id),
-            Event::Pulled(id, from) => self.pulled(core, id, from),
-            Event::Spilled => {
+            WorkerEvent::Sliced(steps, end) => self.sliced(core, steps, end),
+            WorkerEvent::Woken(id, _) => self.woken(id),
+            WorkerEvent::Pulled(id, from) => self.pulled(core, id, from),
+            WorkerEvent::Spilled => {
                 if self.scans.spilled() {
                     self.counts(Rule::Places);
                 }
             }
-            Event::Parks => self.parks(core),
-            Event::Unparked => self.unparked(core),
-            Event::Applied(orders) => return self.applied(core, orders),
-            Event::MovedAway(receivers) => return self.moved_away(core, receivers),
+            WorkerEvent::Parks => self.parks(core),
+            WorkerEvent::Unparked => self.unparked(core),
+            WorkerEvent::Applied(orders) => return self.applied(core, orders),
+            WorkerEvent::MovedAway(receivers) => return self.moved_away(core, receivers),
             // No rule speaks of the others.
             _ => {}
         }
@@ -293,7 +293,7 @@ impl<'r> Case<'r> {
             known.alone = Some(id);
         }
         known.turn = Some(id);
-        let mut thread = Thread::new(id, core, self.at);
+        let mut thread = ThreadFacts::new(id, core, self.at);
         let before = self.thread(id);
         if let Some(before) = before {
             thread.woken = self.waits(before);
@@ -305,7 +305,7 @@ impl<'r> Case<'r> {
     }
 
     /// A thread that had a turn before has one on a core: was it told to be there?
-    fn look_where(&mut self, known: &mut Core, core: u8, before: Thread) {
+    fn look_where(&mut self, known: &mut Core, core: u8, before: ThreadFacts) {
         if before.has_ended() || before.is_in_slice {
             self.breaks(Rule::InHand);
         }
@@ -326,7 +326,7 @@ impl<'r> Case<'r> {
     /// A thread that has a turn again goes on for one time that it was woken, if it has waited. How often it was woken
     /// besides. Another core may have woken it just now, and is to tell so at once. A wake may also be told just before
     /// the turn that it comes in.
-    fn waits(&mut self, before: Thread) -> u64 {
+    fn waits(&mut self, before: ThreadFacts) -> u64 {
         if !matches!(before.end, SliceEnd::AwaitsChild | SliceEnd::Awaits(_)) {
             return before.woken;
         }
@@ -411,7 +411,7 @@ impl<'r> Case<'r> {
 
     /// A thread was moved to a core from another one, by the core's worker.
     fn pulled(&mut self, core: u8, id: ThreadId, from: u8)
-        ensures { self.new.broken ≡ broken_if (from == core) (broken_if self.old.run.has_exclusive self.old.broken (record { rule = Stays; at = self.old.at })) (record { rule = Pulls; at = self.old.at }) }
+        ensures { self.new.broken ≡ broken_by_pull self.old.run.has_exclusive (from == core) self.old.broken self.old.at }
     {
         if self.run.has_exclusive {
             self.breaks(Rule::Stays);
@@ -497,7 +497,7 @@ impl<'r> Case<'r> {
 
 /// `InHand`: a thread begins a slice on a core and may not, since it was last on another one, is in a slice or has ended,
 /// or since the core is in one.
-fn is_out_of_hand(thread: &Thread, core: u8, is_second: bool) -> bool {
+fn is_out_of_hand(thread: &ThreadFacts, core: u8, is_second: bool) -> bool {
     breaks::is_not_in_hand(
         core,
         thread.core,

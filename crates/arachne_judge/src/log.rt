@@ -1,6 +1,6 @@
 //! What a gate was told, in one order for all cores.
 use arachne_core::ThreadId;
-use arachne_workers::{Cause, Event, SliceEnd};
+use arachne_workers::{Cause, SliceEnd, WorkerEvent};
 use std::alloc::{AllocError, Global};
 use std::sync::atomic::{AtomicU64, Ordering};
 
@@ -11,7 +11,7 @@ pub enum What {
     Slice(u64),
     /// It took this thread in hand. Whether that has its core alone.
     Turn(ThreadId, bool),
-    Told(Event),
+    Told(WorkerEvent),
 }
 
 #[derive(Clone, Copy, Debug, PartialEq, Eq)]
@@ -46,7 +46,7 @@ const MOVED_AWAY: u64 = 12;
 
 /// An entry in words: the core, what it is and a small number; and two numbers.
 #[derive(Drop)]
-struct Line {
+struct EntryWords {
     head: AtomicU64,
     first: AtomicU64,
     second: AtomicU64,
@@ -56,7 +56,7 @@ struct Line {
 /// counted alone.
 #[derive(Drop)]
 pub struct Log {
-    lines: Vec<Line>,
+    lines: Vec<EntryWords>,
     count: AtomicU64,
 }
 
@@ -65,7 +65,7 @@ impl Log {
     pub fn new(alloc: Global, room: usize) -> Result<Log, AllocError> {
         let mut lines = Vec::with_capacity(alloc, room)?;
         for _ in 0..room {
-            lines.push(Line {
+            lines.push(EntryWords {
                 head: AtomicU64::new(0),
                 first: AtomicU64::new(0),
                 second: AtomicU64::new(0),
@@ -109,9 +109,9 @@ impl Log {
         self.note_thread(core, TURN, u64::from(is_alone), id);
     }
 
-    pub fn told(&self, core: u8, event: Event) {
+    pub fn told(&self, core: u8, event: WorkerEvent) {
         match event {
-            Event::Sliced(steps, end) => {
+            WorkerEvent::Sliced(steps, end) => {
                 let (how, number) = match end {
                     SliceEnd::GoesOn => (0, 0),
                     SliceEnd::AwaitsChild => (1, 0),
@@ -120,17 +120,17 @@ impl Log {
                 };
                 self.note(core, SLICED, how, u64::from(steps), number);
             }
-            Event::Woken(id, cause) => {
+            WorkerEvent::Woken(id, cause) => {
                 self.note_thread(core, WOKEN, u64::from(cause == Cause::IsServed), id);
             }
-            Event::Pulled(id, from) => self.note_thread(core, PULLED, u64::from(from), id),
-            Event::Spilled => self.note(core, SPILLED, 0, 0, 0),
-            Event::Ticket(posted) => self.note(core, TICKET, u64::from(posted), 0, 0),
-            Event::Parks => self.note(core, PARKS, 0, 0, 0),
-            Event::Unparked => self.note(core, UNPARKED, 0, 0, 0),
-            Event::Overslept => self.note(core, OVERSLEPT, 0, 0, 0),
-            Event::Applied(orders) => self.note(core, APPLIED, 0, orders as u64, 0),
-            Event::MovedAway(receivers) => self.note(core, MOVED_AWAY, 0, receivers, 0),
+            WorkerEvent::Pulled(id, from) => self.note_thread(core, PULLED, u64::from(from), id),
+            WorkerEvent::Spilled => self.note(core, SPILLED, 0, 0, 0),
+            WorkerEvent::Ticket(posted) => self.note(core, TICKET, u64::from(posted), 0, 0),
+            WorkerEvent::Parks => self.note(core, PARKS, 0, 0, 0),
+            WorkerEvent::Unparked => self.note(core, UNPARKED, 0, 0, 0),
+            WorkerEvent::Overslept => self.note(core, OVERSLEPT, 0, 0, 0),
+            WorkerEvent::Applied(orders) => self.note(core, APPLIED, 0, orders as u64, 0),
+            WorkerEvent::MovedAway(receivers) => self.note(core, MOVED_AWAY, 0, receivers, 0),
         }
     }
 
@@ -157,17 +157,17 @@ fn what_of(kind: u64, small: u64, first: u64, second: u64) -> Option<What> {
     let event = match kind {
         SLICE => return Some(What::Slice(first)),
         TURN => return Some(What::Turn(id, small != 0)),
-        SLICED => Event::Sliced((first & 0xFFFF_FFFF) as u32, end_of(small, second)),
-        WOKEN if small == 0 => Event::Woken(id, Cause::ChildEnded),
-        WOKEN => Event::Woken(id, Cause::IsServed),
-        PULLED => Event::Pulled(id, (small & 0xFF) as u8),
-        SPILLED => Event::Spilled,
-        TICKET => Event::Ticket(small != 0),
-        PARKS => Event::Parks,
-        UNPARKED => Event::Unparked,
-        OVERSLEPT => Event::Overslept,
-        APPLIED => Event::Applied(first as usize),
-        MOVED_AWAY => Event::MovedAway(first),
+        SLICED => WorkerEvent::Sliced((first & 0xFFFF_FFFF) as u32, end_of(small, second)),
+        WOKEN if small == 0 => WorkerEvent::Woken(id, Cause::ChildEnded),
+        WOKEN => WorkerEvent::Woken(id, Cause::IsServed),
+        PULLED => WorkerEvent::Pulled(id, (small & 0xFF) as u8),
+        SPILLED => WorkerEvent::Spilled,
+        TICKET => WorkerEvent::Ticket(small != 0),
+        PARKS => WorkerEvent::Parks,
+        UNPARKED => WorkerEvent::Unparked,
+        OVERSLEPT => WorkerEvent::Overslept,
+        APPLIED => WorkerEvent::Applied(first as usize),
+        MOVED_AWAY => WorkerEvent::MovedAway(first),
         _ => return None,
     };
     Some(What::Told(event))

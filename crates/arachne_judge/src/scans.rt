@@ -27,7 +27,7 @@ pub(crate) struct Scans {
 
 /// What a turn shows.
 #[derive(Clone, Copy)]
-pub(crate) struct Found {
+pub(crate) struct TurnFindings {
     /// A scan has begun.
     pub(crate) is_judged: bool,
     /// The scan before it has left out a thread that was ready.
@@ -76,12 +76,12 @@ impl Scans {
     }
 
     /// The thread at an index has a turn, its first one or not. Whether the one that had a turn last is ready.
-    pub(crate) fn turn(&mut self, index: u32, goes_on: bool, is_first: bool) -> Found
+    pub(crate) fn turn(&mut self, index: u32, goes_on: bool, is_first: bool) -> TurnFindings
         ensures downward { IsTrue result.is_downward ↔ (result.is_judged ≡ true) × IsSome self.old.due }
         ensures free { IsTrue result.was_free ↔ (result.is_judged ≡ true) × (0 < self.old.unseen) × (1 < min (self.old.scans + 1) u32.MAX) }
         ensures judged { IsTrue result.is_judged ↔ (self.old.is_judged ≡ true) × IsSome self.old.last × IfSome self.old.last (λ last. index ≤ last) }
     {
-        let mut found = Found {
+        let mut found = TurnFindings {
             is_judged: false,
             is_downward: false,
             was_free: false,

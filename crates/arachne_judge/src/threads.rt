@@ -6,7 +6,7 @@ use arachne_workers::SliceEnd;
 
 /// What is known of the thread that a context had last.
 #[derive(Clone, Copy)]
-pub(crate) struct Thread {
+pub(crate) struct ThreadFacts {
     pub(crate) id: ThreadId,
     /// The core of its last turn.
     pub(crate) core: u8,
@@ -24,10 +24,10 @@ pub(crate) struct Thread {
     pub(crate) left: usize,
 }
 
-impl Thread {
+impl ThreadFacts {
     /// A thread that has its first turn.
-    pub(crate) fn new(id: ThreadId, core: u8, at: usize) -> Thread {
-        Thread {
+    pub(crate) fn new(id: ThreadId, core: u8, at: usize) -> ThreadFacts {
+        ThreadFacts {
             id,
             core,
             turned: at,

@@ -9,16 +9,16 @@ use Rattle.std.proofs.Math.Nat.{mod-add-mod}
 use Rattle.std.proofs.lemmas.Bool.{true≢false, false≢true}
 use Rattle.std.proofs.lemmas.List.{append-nil}
 use Rattle.std.proofs.lemmas.Option.{same_Some, none-some}
-use Rattle.arachne_lock.specs.declared.answer.Asked.{Asked}
-use Rattle.arachne_lock.specs.declared.answer.Asked.TheVariants.{Granted, Queued}
-use Rattle.arachne_lock.specs.declared.answer.AskFault.{AskFault}
-use Rattle.arachne_lock.specs.declared.answer.Freed.{Freed}
-use Rattle.arachne_lock.specs.declared.answer.NotHolder.{NotHolder}
+use Rattle.arachne_lock.specs.declared.answer.Admitted.{Admitted}
+use Rattle.arachne_lock.specs.declared.answer.Admitted.TheVariants.{Granted, Queued}
+use Rattle.arachne_lock.specs.declared.answer.AskRefusal.{AskRefusal}
+use Rattle.arachne_lock.specs.declared.answer.Released.{Released}
+use Rattle.arachne_lock.specs.declared.answer.NotOwner.{NotOwner}
 use Rattle.arachne_lock.specs.declared.answer.Withdrawn.{Withdrawn}
 use Rattle.arachne_lock.specs.declared.answer.Withdrawn.TheVariants.{Left, Holds, Outside}
-use Rattle.arachne_lock.specs.declared.lock_state.Holder.{Holder}
-use Rattle.arachne_lock.specs.declared.event.LockEvent.{LockEvent}
-use Rattle.arachne_lock.specs.declared.event.LockEvent.TheVariants.{Ask, Grant, Free, Leave}
+use Rattle.arachne_lock.specs.declared.lock_entry.Holder.{Holder}
+use Rattle.arachne_lock.specs.declared.event.QueueEvent.{QueueEvent}
+use Rattle.arachne_lock.specs.declared.event.QueueEvent.TheVariants.{Ask, Grant, Free, Leave}
 use Rattle.arachne_lock.specs.Law.{Holding, IsIn, IsNeverIdle, after, without}
 use Rattle.arachne_lock.specs.History.{replay, IsLawful, IsSound, HoldsSince}
 use Rattle.arachne_lock.specs.State.{Lock, unused, holder_of, IsLeftBy, later, handed, IsAsked, IsFreed, IsWithdrawn, IsChecked}
@@ -26,7 +26,7 @@ use Rattle.arachne_lock.specs.Deeds.{asked_events, handed_events, freed_events, 
 use Rattle.arachne_lock.proofs.Histories.{replay-push, IsLawful-push, HoldsSince-quiet, HoldsSince-grant}
 
 -- sound events, and the state that they leave
-abbrev pub Leaves : List LockEvent → Lock → Type 0
+abbrev pub Leaves : List QueueEvent → Lock → Type 0
 Leaves events lock = IsSound events × IsLeftBy events lock
 
 pub nothing-yet : Leaves [] unused
@@ -35,31 +35,31 @@ nothing-yet = (
   record { replays = refl; counted = refl; since = λ holder is. absurd (none-some _ is) },
 )
 
-nothing-more : (h : List LockEvent) (before now : Lock) → Leaves h before → now ≡ before → Leaves (h ++ []) now
+nothing-more : (h : List QueueEvent) (before now : Lock) → Leaves h before → now ≡ before → Leaves (h ++ []) now
 nothing-more h before now leaves same =
-    subst (λ (x : List LockEvent × Lock). Leaves x.0 x.1) (λ i. (sym (append-nil h) i, sym same i)) leaves
+    subst (λ (x : List QueueEvent × Lock). Leaves x.0 x.1) (λ i. (sym (append-nil h) i, sym same i)) leaves
 
 abbrev holding : Option ℕ → List ℕ → Holding
 holding owner queue = record { owner = owner; queue = queue }
 
 -- the count goes on with the history
-count-more : (h events : List LockEvent) (count n : ℕ) → count ≡ length h % 2 ^ 64 → length events ≡ n → later count n ≡ length (h ++ events) % 2 ^ 64
+count-more : (h events : List QueueEvent) (count n : ℕ) → count ≡ length h % 2 ^ 64 → length events ≡ n → later count n ≡ length (h ++ events) % 2 ^ 64
 count-more h events count n counted long =
     ap (λ (c : ℕ). (c + n) % 2 ^ 64) counted
     ∙ mod-add-mod (length h) (2 ^ 64) n
     ∙ ap (λ (k : ℕ). k % 2 ^ 64) (ap (λ (k : ℕ). length h + k) (sym long) ∙ sym (length-append h events))
 
 -- a lock that somebody owns isn't idle
-owned-busy : (events : List LockEvent) (who : ℕ) (queue : List ℕ) → replay events ≡ holding (Some who) queue → IsNeverIdle (replay events)
+owned-busy : (events : List QueueEvent) (who : ℕ) (queue : List ℕ) → replay events ≡ holding (Some who) queue → IsNeverIdle (replay events)
 owned-busy events who queue is = λ idle. absurd (none-some who (sym idle ∙ ap (λ (x : Holding). x.owner) is))
 
 -- a grant to the front of a lock that nobody owns
-record IsGranted (events : List LockEvent) (next : ℕ) (queue : List ℕ) : Type 0 where
+record IsGranted (events : List QueueEvent) (next : ℕ) (queue : List ℕ) : Type 0 where
   pub sound : IsSound (events ++ Grant next ∷ [])
   pub replays : replay (events ++ Grant next ∷ []) ≡ holding (Some next) queue
   pub since : HoldsSince (events ++ Grant next ∷ []) next (length events)
 
-granted : (events : List LockEvent) (next : ℕ) (queue : List ℕ) → IsLawful events → replay events ≡ holding None (next ∷ queue) → IsGranted events next queue
+granted : (events : List QueueEvent) (next : ℕ) (queue : List ℕ) → IsLawful events → replay events ≡ holding None (next ∷ queue) → IsGranted events next queue
 granted events next queue lawful is =
     let replays : replay (events ++ Grant next ∷ []) ≡ holding (Some next) queue = replay-push events (Grant next) ∙ ap (λ (x : Holding). after x (Grant next)) is in record {
       sound = record {
@@ -71,7 +71,7 @@ granted events next queue lawful is =
     }
 
 -- a state in which the last of two events is a grant
-granted-leaves : (h : List LockEvent) (first : LockEvent) (next : ℕ) (queue : List ℕ) (count : ℕ) → IsLawful (h ++ first ∷ []) → replay (h ++ first ∷ []) ≡ holding None (next ∷ queue) → count ≡ length h % 2 ^ 64
+granted-leaves : (h : List QueueEvent) (first : QueueEvent) (next : ℕ) (queue : List ℕ) (count : ℕ) → IsLawful (h ++ first ∷ []) → replay (h ++ first ∷ []) ≡ holding None (next ∷ queue) → count ≡ length h % 2 ^ 64
     → Leaves (h ++ first ∷ Grant next ∷ []) (record { owner = Some (record { who = next; at = later count 1 }); queue = queue; count = later count 2 })
 granted-leaves h first next queue count lawful is counted =
     let g = granted (h ++ first ∷ []) next queue lawful is in
@@ -83,12 +83,12 @@ granted-leaves h first next queue count lawful is counted =
         counted = count-more h (first ∷ Grant next ∷ []) count 2 counted refl;
         since = λ holder held.
             subst (λ (x : Holder). (place : ℕ) × (x.at ≡ place % 2 ^ 64) × HoldsSince (h ++ first ∷ Grant next ∷ []) x.who place) (same_Some _ _ held)
-            (length (h ++ first ∷ []), one, subst (λ (x : List LockEvent). HoldsSince x next (length (h ++ first ∷ []))) whole g.since);
+            (length (h ++ first ∷ []), one, subst (λ (x : List QueueEvent). HoldsSince x next (length (h ++ first ∷ []))) whole g.since);
       },
     )
 
 -- where nobody owns the lock nobody waits
-none-waits : (h : List LockEvent) (owner : Option Holder) (queue : List ℕ) → IsSound h → replay h ≡ holding (holder_of owner) queue → owner ≡ None → queue ≡ []
+none-waits : (h : List QueueEvent) (owner : Option Holder) (queue : List ℕ) → IsSound h → replay h ≡ holding (holder_of owner) queue → owner ≡ None → queue ≡ []
 none-waits h owner queue sound is free =
     sym (ap (λ (x : Holding). x.queue) is) ∙ sound.never_idle (ap (λ (x : Holding). x.owner) is ∙ ap holder_of free)
 
@@ -102,7 +102,7 @@ owner-kept (Some holder) queue some = λ idle. absurd (none-some _ (sym idle))
 
 -- ---- an ask
 
-pub ask-goes-on : (h : List LockEvent) (before now : Lock) (who : ℕ) (r : Result Asked AskFault) → Leaves h before → IsAsked before now who r → Leaves (h ++ asked_events who r) now
+pub ask-goes-on : (h : List QueueEvent) (before now : Lock) (who : ℕ) (r : Result Admitted AskRefusal) → Leaves h before → IsAsked before now who r → Leaves (h ++ asked_events who r) now
 ask-goes-on h before now who (Ok (Granted at)) (sound, left) a =
     let out : ¬ IsIn (replay h) who = λ inside. ok-err _ _ (a.already.1 (subst (λ (x : Holding). IsIn x who) left.replays inside)) in
     let empty : before.queue ≡ [] = none-waits h before.owner before.queue sound left.replays a.ok.0 in
@@ -131,7 +131,7 @@ ask-goes-on h before now who (Err fault) leaves a = nothing-more h before now le
 -- ---- a free
 
 -- a free while nobody waits, and one that hands the lock on
-free-leaves : (h : List LockEvent) (owner : Option Holder) (queue : List ℕ) (count who : ℕ) → Leaves h (record { owner = owner; queue = queue; count = count }) → holder_of owner ≡ Some who
+free-leaves : (h : List QueueEvent) (owner : Option Holder) (queue : List ℕ) (count who : ℕ) → Leaves h (record { owner = owner; queue = queue; count = count }) → holder_of owner ≡ Some who
     → Leaves (h ++ handed_events who (slice_get queue 0)) (handed (record { owner = owner; queue = queue; count = count }) (slice_get queue 0))
 free-leaves h owner [] count who (sound, left) owns =
     let is : replay (h ++ Free who ∷ []) ≡ holding None [] = replay-push h (Free who) ∙ ap (λ (x : Holding). after x (Free who)) left.replays in (
@@ -150,7 +150,7 @@ free-leaves h owner (next ∷ queue) count who (sound, left) owns =
     (IsLawful-push h (Free who) sound.lawful (ap (λ (x : Holding). x.owner) left.replays ∙ owns))
     (replay-push h (Free who) ∙ ap (λ (x : Holding). after x (Free who)) left.replays) left.counted
 
-pub free-goes-on : (h : List LockEvent) (before now : Lock) (who : ℕ) (r : Result Freed NotHolder) → Leaves h before → IsFreed before now who r → Leaves (h ++ freed_events who r) now
+pub free-goes-on : (h : List QueueEvent) (before now : Lock) (who : ℕ) (r : Result Released NotOwner) → Leaves h before → IsFreed before now who r → Leaves (h ++ freed_events who r) now
 free-goes-on h before now who (Ok freed) leaves a =
     subst (λ (x : Option ℕ × Lock). Leaves (h ++ handed_events who x.0) x.1) (λ i. (sym a.ok.next i, sym (a.ok.state ∙ ap (handed before) a.ok.next) i))
     (free-leaves h before.owner before.queue before.count who leaves (a.holder.0 refl))
@@ -158,7 +158,7 @@ free-goes-on h before now who (Err fault) leaves a = nothing-more h before now l
 
 -- ---- a withdrawal, and a check
 
-pub withdraw-goes-on : (h : List LockEvent) (before now : Lock) (who : ℕ) (r : Withdrawn) → Leaves h before → IsWithdrawn before now who r → Leaves (h ++ withdrawn_events who r) now
+pub withdraw-goes-on : (h : List QueueEvent) (before now : Lock) (who : ℕ) (r : Withdrawn) → Leaves h before → IsWithdrawn before now who r → Leaves (h ++ withdrawn_events who r) now
 withdraw-goes-on h before now who (Left at) (sound, left) a =
     let is : replay (h ++ Leave who ∷ []) ≡ holding (holder_of before.owner) (without who before.queue) =
     replay-push h (Leave who) ∙ ap (λ (x : Holding). after x (Leave who)) left.replays in
@@ -176,6 +176,6 @@ withdraw-goes-on h before now who (Left at) (sound, left) a =
 withdraw-goes-on h before now who (Holds at) leaves a = nothing-more h before now leaves a.1
 withdraw-goes-on h before now who Outside leaves a = nothing-more h before now leaves a.1
 
-pub check-goes-on : (h : List LockEvent) (before now : Lock) (who : ℕ) (r : Option ℕ) → Leaves h before → IsChecked before now who r → Leaves (h ++ []) now
+pub check-goes-on : (h : List QueueEvent) (before now : Lock) (who : ℕ) (r : Option ℕ) → Leaves h before → IsChecked before now who r → Leaves (h ++ []) now
 check-goes-on h before now who None leaves a = nothing-more h before now leaves a.1
 check-goes-on h before now who (Some at) leaves a = nothing-more h before now leaves a.1

@@ -13,10 +13,10 @@ use prog.Atomic.{either}
 use Rattle.atomic_table.specs.Table.{step, keeps, takes, gives, opening, Act, Valid, stepped, carried_after, Allows, Splits, Joins}
 use Rattle.atomic_table.proofs.Lists.{at_set, at_snoc, set_here, set_else, exchanged}
 use Rattle.arachne_weights.proofs.Totals.{total-set, total-snoc, at-le-total, two-le-total}
-use Rattle.arachne_lock.specs.declared.event.LockEvent.{LockEvent}
-use Rattle.arachne_lock.specs.declared.view.Known.{Known}
-use Rattle.arachne_lock.specs.declared.view.PlacedEvent.{PlacedEvent}
-use Rattle.arachne_lock.specs.declared.view.SeatLog.{SeatLog}
+use Rattle.arachne_lock.specs.declared.event.QueueEvent.{QueueEvent}
+use Rattle.arachne_lock.specs.declared.view.KnownLocks.{KnownLocks}
+use Rattle.arachne_lock.specs.declared.view.LoggedEvent.{LoggedEvent}
+use Rattle.arachne_lock.specs.declared.view.EventLog.{EventLog}
 use Rattle.arachne_lock.specs.declared.view.Sight.{Sight}
 use Rattle.arachne_lock.specs.History.{IsSound}
 use Rattle.arachne_lock.specs.State.{IsLeftBy}
@@ -28,10 +28,10 @@ use Rattle.arachne_lock.specs.Steps.{Mine, idle, with_guard, HasTaken, Takes, Gi
 use Rattle.arachne_lock.proofs.Growing.{begins-refl, GoOn, seen-more, made-more, stands-placed, times-placed, times-elsewhere, times-append}
 
 -- whether a seat has the lock's guard, and how many events it made at a place
-abbrev guard_of : ℕ → Known → ℕ
+abbrev guard_of : ℕ → KnownLocks → ℕ
 guard_of lock v = is_of lock v.out
 
-abbrev made_of : ℕ → ℕ → Known → ℕ
+abbrev made_of : ℕ → ℕ → KnownLocks → ℕ
 made_of lock at v = times_at lock at v.log.made
 
 if-one : (lock : ℕ) → ◌≡◌ {A = ℕ} (if lock == lock then 1 else 0) 1
@@ -40,11 +40,11 @@ if-one lock = rw (eq-eqb lock lock refl) refl
 if-none : (lock other : ℕ) → lock ≢ other → ◌≡◌ {A = ℕ} (if lock == other then 1 else 0) 0
 if-none lock other apart = rw (ne_eqb lock other apart) refl
 
-has-guard : (v : Known) (s : Sight) → v.out ≡ Some s → guard_of s.lock v ≡ 1
+has-guard : (v : KnownLocks) (s : Sight) → v.out ≡ Some s → guard_of s.lock v ≡ 1
 has-guard v s e = ap (is_of s.lock) e ∙ if-one s.lock
 
 -- a seat fits the histories as they go on, where that of the lock whose guard it has stays
-fits-more : (before now : Histories) → GoOn before now → (v : Known) → ((s : Sight) → v.out ≡ Some s → before s.lock ≡ now s.lock) → Fits before v → Fits now v
+fits-more : (before now : Histories) → GoOn before now → (v : KnownLocks) → ((s : Sight) → v.out ≡ Some s → before s.lock ≡ now s.lock) → Fits before v → Fits now v
 fits-more before now more v still f = record {
   seen = seen-more before now more v.log.seen f.seen;
   made = made-more before now more v.log.made f.made;
@@ -52,8 +52,8 @@ fits-more before now more v still f = record {
 }
 
 -- One seat made a step on a lock's guard word: its view is another, and that lock's history may have gone on
-module _ (locks : ℕ) (s : Board) (kept : IsKept locks s) (lock : ℕ) (inside : lock < locks) (id : ℕ) (k k' : Known) (mine : get_elem? s.views id ≡ some k) where
-  abbrev after_views : List Known
+module _ (locks : ℕ) (s : Board) (kept : IsKept locks s) (lock : ℕ) (inside : lock < locks) (id : ℕ) (k k' : KnownLocks) (mine : get_elem? s.views id ≡ some k) where
+  abbrev after_views : List KnownLocks
   after_views = set s.views id k'
 
   abbrev after_step : ℕ → List (maybe.Option Guarded) → Board
@@ -63,7 +63,7 @@ module _ (locks : ℕ) (s : Board) (kept : IsKept locks s) (lock : ℕ) (inside 
   guards-after j = total-set (guard_of j) s.views id k k' mine
 
   -- where this seat has a lock's guard no other has
-  no-other : (mine_out : Sight) → k.out ≡ Some mine_out → mine_out.lock < locks → (i : ℕ) (v : Known) → i ≢ id → get_elem? s.views i ≡ some v → (theirs : Sight) → v.out ≡ Some theirs → theirs.lock ≡ mine_out.lock → ⊥
+  no-other : (mine_out : Sight) → k.out ≡ Some mine_out → mine_out.lock < locks → (i : ℕ) (v : KnownLocks) → i ≢ id → get_elem? s.views i ≡ some v → (theirs : Sight) → v.out ≡ Some theirs → theirs.lock ≡ mine_out.lock → ⊥
   no-other mine_out e below i v apart there theirs e' same =
       let two = two-le-total (guard_of mine_out.lock) s.views id i k v mine apart there in
       let one = has-guard k mine_out e in
@@ -80,7 +80,7 @@ module _ (locks : ℕ) (s : Board) (kept : IsKept locks s) (lock : ℕ) (inside 
   word-else n j apart = get_or-set_other s.words (word_of lock) (word_of j) n 0 (λ e. apart (omega (arith, e)))
 
   one-seat-stepped : (now : Histories) → GoOn kept.histories now → ((j : ℕ) → j ≢ lock → now j ≡ kept.histories j) → ((j : ℕ) → IsSound (now j))
-      → ((i : ℕ) (v : Known) → i ≢ id → get_elem? s.views i ≡ some v → (o : Sight) → v.out ≡ Some o → kept.histories o.lock ≡ now o.lock)
+      → ((i : ℕ) (v : KnownLocks) → i ≢ id → get_elem? s.views i ≡ some v → (o : Sight) → v.out ≡ Some o → kept.histories o.lock ≡ now o.lock)
       → Fits now k'
       → ((j at : ℕ) → times_at j at k'.log.made + once_below at (length (kept.histories j)) ≡ times_at j at k.log.made + once_below at (length (now j)))
       → (n : ℕ) (homes : List (maybe.Option Guarded)) → n + guard_of lock k ≡ guards lock s.views + guard_of lock k' → ((j : ℕ) → j ≢ lock → guard_of j k ≡ guard_of j k') → n ≤ 1
@@ -107,7 +107,7 @@ module _ (locks : ℕ) (s : Board) (kept : IsKept locks s) (lock : ℕ) (inside 
     home = λ j below e. dite (ℕ_discrete j lock)
         (λ same. subst (λ (x : ℕ). IsHome x (now x) homes) (sym same) (home (sym (word-here n) ∙ ap (λ (x : ℕ). get_or (set s.words (word_of lock) n) (word_of x) 0) (sym same) ∙ e)))
         (λ apart. let it = kept.home j below (sym (word-else n j apart) ∙ e) in
-        (it.0, same_homes j apart ∙ it.1, subst (λ (h : List LockEvent). IsLeftBy h it.0.lock) (sym (others j apart)) it.2));
+        (it.0, same_homes j apart ∙ it.1, subst (λ (h : List QueueEvent). IsLeftBy h it.0.lock) (sym (others j apart)) it.2));
   }
 
 -- ---- the start
@@ -142,14 +142,14 @@ opens locks words slots sized clear first = record {
 
 -- ---- a guard is tried
 
-pub takes-allowed : (locks slots id lock : ℕ) (l : SeatLog) → lock < locks
+pub takes-allowed : (locks slots id lock : ℕ) (l : EventLog) → lock < locks
     → Allows (IsKept locks) slots id (idle l) (word_of lock) (λ n. either (eqb n 0) 1 n) (Takes (step slots (word_of lock) 0 1 none) (idle l))
 takes-allowed locks slots id lock l inside s kept long at wide =
     let n = get_or s.words (word_of lock) 0 in
     let h = kept.histories lock in
     let f = kept.fits id (idle_known l) at in
     exchanged n 0 1
-    (λ (m : ℕ). (w : Known) × (a : Act Guarded) × Valid s.homes [] a × IsKept locks (stepped s (word_of lock) m id [] w a) × Takes (step slots (word_of lock) 0 1 none) (idle l) n (w, carried_after [] a))
+    (λ (m : ℕ). (w : KnownLocks) × (a : Act Guarded) × Valid s.homes [] a × IsKept locks (stepped s (word_of lock) m id [] w a) × Takes (step slots (word_of lock) 0 1 none) (idle l) n (w, carried_after [] a))
     (λ home.
     let it = kept.home lock inside home in
     let g : Guarded = it.0 in
@@ -195,16 +195,16 @@ takes-allowed locks slots id lock l inside s kept long at wide =
 -- ---- a guard is given back
 
 -- the histories, of which that of one lock is another
-abbrev with_history : Histories → ℕ → List LockEvent → Histories
+abbrev with_history : Histories → ℕ → List QueueEvent → Histories
 with_history histories lock h j = if j == lock then h else histories j
 
-history-here : (histories : Histories) (lock : ℕ) (h : List LockEvent) → with_history histories lock h lock ≡ h
+history-here : (histories : Histories) (lock : ℕ) (h : List QueueEvent) → with_history histories lock h lock ≡ h
 history-here histories lock h = rw (eq-eqb lock lock refl) refl
 
-history-else : (histories : Histories) (lock : ℕ) (h : List LockEvent) (j : ℕ) → j ≢ lock → with_history histories lock h j ≡ histories j
+history-else : (histories : Histories) (lock : ℕ) (h : List QueueEvent) (j : ℕ) → j ≢ lock → with_history histories lock h j ≡ histories j
 history-else histories lock h j apart = rw (ne_eqb j lock apart) refl
 
-module _ (histories : Histories) (lock : ℕ) (h events : List LockEvent) (is : h ≡ histories lock) where
+module _ (histories : Histories) (lock : ℕ) (h events : List QueueEvent) (is : h ≡ histories lock) where
   abbrev now : Histories
   now = with_history histories lock (h ++ events)
 
@@ -213,40 +213,40 @@ module _ (histories : Histories) (lock : ℕ) (h events : List LockEvent) (is : 
 
   goes-on : GoOn histories now
   goes-on j = dite (ℕ_discrete j lock)
-      (λ same. subst (λ (x : ℕ). BeginsWith (now x) (histories x)) (sym same) (events, here ∙ ap (λ (x : List LockEvent). x ++ events) is))
-      (λ apart. subst (λ (x : List LockEvent). BeginsWith x (histories j)) (sym (history-else histories lock (h ++ events) j apart)) (begins-refl (histories j)))
+      (λ same. subst (λ (x : ℕ). BeginsWith (now x) (histories x)) (sym same) (events, here ∙ ap (λ (x : List QueueEvent). x ++ events) is))
+      (λ apart. subst (λ (x : List QueueEvent). BeginsWith x (histories j)) (sym (history-else histories lock (h ++ events) j apart)) (begins-refl (histories j)))
 
   all-sound : ((j : ℕ) → IsSound (histories j)) → IsSound (h ++ events) → (j : ℕ) → IsSound (now j)
   all-sound old sound j = dite (ℕ_discrete j lock)
       (λ same. subst (λ (x : ℕ). IsSound (now x)) (sym same) (subst IsSound (sym here) sound))
       (λ apart. subst IsSound (sym (history-else histories lock (h ++ events) j apart)) (old j))
 
-  each-once : (made : List PlacedEvent) (j at : ℕ)
+  each-once : (made : List LoggedEvent) (j at : ℕ)
       → times_at j at (made ++ placed lock (length h) events) + once_below at (length (histories j)) ≡ times_at j at made + once_below at (length (now j))
   each-once made j at = dite (ℕ_discrete j lock)
       (λ same. subst (λ (x : ℕ). times_at x at (made ++ placed lock (length h) events) + once_below at (length (histories x)) ≡ times_at x at made + once_below at (length (now x))) (sym same)
       (let parts = times-append lock at made (placed lock (length h) events) in
       let more = times-placed lock at (length h) events in
-      let old = ap (λ (x : List LockEvent). once_below at (length x)) is in
-      let new : once_below at (length h + length events) ≡ once_below at (length (now lock)) = ap (once_below at) (sym (ap (λ (x : List LockEvent). length x) here ∙ length-append h events)) in
+      let old = ap (λ (x : List QueueEvent). once_below at (length x)) is in
+      let new : once_below at (length h + length events) ≡ once_below at (length (now lock)) = ap (once_below at) (sym (ap (λ (x : List QueueEvent). length x) here ∙ length-append h events)) in
       omega (arith, parts, more, old, new)))
       (λ apart.
       let parts = times-append j at made (placed lock (length h) events) in
       let nothing = times-elsewhere j lock at (length h) events (λ e. apart (sym e)) in
-      let same = ap (λ (x : List LockEvent). once_below at (length x)) (history-else histories lock (h ++ events) j apart) in
+      let same = ap (λ (x : List QueueEvent). once_below at (length x)) (history-else histories lock (h ++ events) j apart) in
       omega (arith, parts, nothing, same))
 
-pub gives-allowed : (locks slots id lock : ℕ) (h : List LockEvent) (l : SeatLog) (g : Guarded) → lock < locks → slots ≡ locks → IsSound (h ++ g.events) → IsLeftBy (h ++ g.events) g.lock
+pub gives-allowed : (locks slots id lock : ℕ) (h : List QueueEvent) (l : EventLog) (g : Guarded) → lock < locks → slots ≡ locks → IsSound (h ++ g.events) → IsLeftBy (h ++ g.events) g.lock
     → Allows (IsKept locks) slots id (with_guard lock h l g) (word_of lock) (λ _. 0) (λ _ w. GivesBack (step slots (word_of lock) 0 0 none) (with_guard lock h l g) w)
 gives-allowed locks slots id lock h l g inside one sound left s kept long at wide =
-    let v : Known = taken_known (sight lock h) l in
+    let v : KnownLocks = taken_known (sight lock h) l in
     let f = kept.fits id v at in
     let is : h ≡ kept.histories lock = f.at_guard (sight lock h) refl in
     let later : Histories = now kept.histories lock h g.events is in
     let at_it : later lock ≡ h ++ g.events = here kept.histories lock h g.events is in
     let more : GoOn kept.histories later = goes-on kept.histories lock h g.events is in
     let else_same = λ (j : ℕ) (apart : j ≢ lock). history-else kept.histories lock (h ++ g.events) j apart in
-    let log : SeatLog = given_back_log l lock h g.events in
+    let log : EventLog = given_back_log l lock h g.events in
     let in_it : guard_of lock v ≤ guards lock s.views = at-le-total (guard_of lock) s.views id v at in (
       idle_known log,
       gives,
@@ -256,13 +256,13 @@ gives-allowed locks slots id lock h l g inside one sound left s kept long at wid
           (λ same. absurd (no-other locks s kept lock inside id v (idle_known log) at (sight lock h) refl inside i u apart there o e same))
           (λ ne. sym (else_same o.lock ne)))
           (record {
-            seen = All-cons (IsSeenIn later) (sight lock (h ++ g.events)) l.seen (subst (λ (x : List LockEvent). BeginsWith x (h ++ g.events)) (sym at_it) (begins-refl (h ++ g.events))) (seen-more kept.histories later more l.seen f.seen);
+            seen = All-cons (IsSeenIn later) (sight lock (h ++ g.events)) l.seen (subst (λ (x : List QueueEvent). BeginsWith x (h ++ g.events)) (sym at_it) (begins-refl (h ++ g.events))) (seen-more kept.histories later more l.seen f.seen);
             made = All-append (StandsIn later) l.made (placed lock (length h) g.events) (made-more kept.histories later more l.made f.made) (stands-placed later lock h g.events (length h) at_it refl);
             at_guard = λ o e. absurd (none-some _ e);
           })
           (each-once kept.histories lock h g.events is l.made)
           0 (set s.homes lock (some g)) (omega (arith, in_it, kept.one_guard lock inside, if-one lock)) (λ j apart. if-none lock j (λ e. apart (sym e))) (omega arith)
-          (λ _. (g, set_here s.homes lock (some g) (omega (arith, long, one, inside)), subst (λ (x : List LockEvent). IsLeftBy x g.lock) (sym at_it) left))
+          (λ _. (g, set_here s.homes lock (some g) (omega (arith, long, one, inside)), subst (λ (x : List QueueEvent). IsLeftBy x g.lock) (sym at_it) left))
           (λ j apart. set_else s.homes lock j (some g) apart),
       λ lock' h' g' e.
           let out : sight lock h ≡ sight lock' h' = same_Some _ _ (ap (λ (m : Mine). m.0.out) e) in
@@ -272,10 +272,10 @@ gives-allowed locks slots id lock h l g inside one sound left s kept long at wid
 
 -- ---- a split and a join
 
-pub splits-allowed : (locks id : ℕ) (l : SeatLog) → Splits (IsKept locks) id (idle_known l) (idle_known l) (second_view (idle_known l))
+pub splits-allowed : (locks id : ℕ) (l : EventLog) → Splits (IsKept locks) id (idle_known l) (idle_known l) (second_view (idle_known l))
 splits-allowed locks id l s kept at =
-    let v : Known = idle_known l in
-    let right : Known = second_view v in
+    let v : KnownLocks = idle_known l in
+    let right : KnownLocks = second_view v in
     let f = kept.fits id v at in
     let views = set s.views id v in record {
       histories = kept.histories;
@@ -298,11 +298,11 @@ splits-allowed locks id l s kept at =
       home = kept.home;
     }
 
-pub joins-allowed : (locks id : ℕ) (l : SeatLog) (other : ℕ) (o : SeatLog) → Joins (IsKept locks) id (idle_known l) other (idle_known o) (joined_view (idle_known l) (idle_known o)) blank
+pub joins-allowed : (locks id : ℕ) (l : EventLog) (other : ℕ) (o : EventLog) → Joins (IsKept locks) id (idle_known l) other (idle_known o) (joined_view (idle_known l) (idle_known o)) blank
 joins-allowed locks id l other o s kept at apart from =
-    let v : Known = idle_known l in
-    let u : Known = idle_known o in
-    let both : Known = joined_view v u in
+    let v : KnownLocks = idle_known l in
+    let u : KnownLocks = idle_known o in
+    let both : KnownLocks = joined_view v u in
     let views = set s.views id both in
     let there : get_elem? s.views other ≡ some u = sym (set_else s.views id other both apart) ∙ from in
     let f = kept.fits id v at in

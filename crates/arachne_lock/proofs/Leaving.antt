@@ -6,8 +6,8 @@ use Rattle.std.proofs.lemmas.Bool.{true≢false, cases_Bool}
 use Rattle.std.proofs.lemmas.Cmp.{nat_eq_equiv}
 use Rattle.std.proofs.lemmas.List.Folds.{list_any-append}
 use Rattle.std.proofs.lemmas.Option.{same_Some, none-some}
-use Rattle.arachne_lock.specs.declared.event.LockEvent.{LockEvent}
-use Rattle.arachne_lock.specs.declared.event.LockEvent.TheVariants.{Ask, Grant, Free, Leave}
+use Rattle.arachne_lock.specs.declared.event.QueueEvent.{QueueEvent}
+use Rattle.arachne_lock.specs.declared.event.QueueEvent.TheVariants.{Ask, Grant, Free, Leave}
 use Rattle.arachne_lock.specs.Law.{Holding, opening, Allows, after, without}
 use Rattle.arachne_lock.specs.History.{IsLawfulFrom, IsLawful}
 use Rattle.arachne_lock.specs.Promises.{GrantsNoneThatLeft}
@@ -53,12 +53,12 @@ not-front (x ∷ queue) who out front =
     true≢false (sym (nat_eq_equiv.refl who) ∙ ap (nat_eq who) (sym (same_Some _ _ front)) ∙ or-false-first (nat_eq who x) (list_any (nat_eq who) queue) out)
 
 -- the same place, one event later
-one-later : (event : LockEvent) (events : List LockEvent) (who j : ℕ) → (k : ℕ) × (k < j) × (slice_get events k ≡ Some (Ask who))
+one-later : (event : QueueEvent) (events : List QueueEvent) (who j : ℕ) → (k : ℕ) × (k < j) × (slice_get events k ≡ Some (Ask who))
     → (k : ℕ) × (k < suc j) × (slice_get (event ∷ events) k ≡ Some (Ask who))
 one-later event events who j later = (suc later.0, omega (arith, later.1), later.2)
 
 -- one that isn't in the queue asks before it is granted the lock
-grant-needs-ask : (h : Holding) (who : ℕ) (events : List LockEvent) → IsOut h.queue who → IsLawfulFrom h events
+grant-needs-ask : (h : Holding) (who : ℕ) (events : List QueueEvent) → IsOut h.queue who → IsLawfulFrom h events
     → (j : ℕ) → slice_get events j ≡ Some (Grant who)
     → (k : ℕ) × (k < j) × (slice_get events k ≡ Some (Ask who))
 grant-needs-ask h who [] out lawful j there = absurd (none-some _ there)
@@ -73,19 +73,19 @@ grant-needs-ask h who (Grant other ∷ events) out lawful (suc j) there = one-la
 grant-needs-ask h who (Free other ∷ events) out lawful (suc j) there = one-later (Free other) events who j (grant-needs-ask (after h (Free other)) who events out lawful.1 j there)
 grant-needs-ask h who (Leave other ∷ events) out lawful (suc j) there = one-later (Leave other) events who j (grant-needs-ask (after h (Leave other)) who events (out-without h.queue who other out) lawful.1 j there)
 
-grants-none : (h : Holding) (events : List LockEvent) → IsLawfulFrom h events
+grants-none : (h : Holding) (events : List QueueEvent) → IsLawfulFrom h events
     → (i j who : ℕ) → i < j → slice_get events i ≡ Some (Leave who) → slice_get events j ≡ Some (Grant who)
     → (k : ℕ) × (i < k) × (k < j) × (slice_get events k ≡ Some (Ask who))
 grants-none h [] lawful i j who before left granted = absurd (none-some _ left)
 grants-none h (event ∷ events) lawful i zero who before left granted = absurd (omega (arith, before))
 grants-none h (event ∷ events) lawful zero (suc j) who before left granted =
     let leaves : event ≡ Leave who = same_Some _ _ left in
-    let out : IsOut (after h event).queue who = subst (λ (e : LockEvent). IsOut (after h e).queue who) (sym leaves) (left-none who h.queue) in
+    let out : IsOut (after h event).queue who = subst (λ (e : QueueEvent). IsOut (after h e).queue who) (sym leaves) (left-none who h.queue) in
     let later = grant-needs-ask (after h event) who events out lawful.1 j granted in
     (suc later.0, omega arith, omega (arith, later.1), later.2)
 grants-none h (event ∷ events) lawful (suc i) (suc j) who before left granted =
     let later = grants-none (after h event) events lawful.1 i j who (omega (arith, before)) left granted in
     (suc later.0, omega (arith, later.1), omega (arith, later.2), later.3)
 
-pub grants_none : (events : List LockEvent) → IsLawful events → GrantsNoneThatLeft events
+pub grants_none : (events : List QueueEvent) → IsLawful events → GrantsNoneThatLeft events
 grants_none events lawful = grants-none opening events lawful

@@ -2,14 +2,14 @@
 use Rattle.std.proofs.Common.{◌≡◌, ℕ, zero, suc, ◌<◌, List, [], ◌∷◌, ◌⊎◌, inl, inr, ap, subst, arith, Some}
 use Rattle.std.specs.Prelude.{slice_get}
 use Rattle.std.proofs.lemmas.Option.{same_Some, none-some}
-use Rattle.arachne_lock.specs.declared.event.LockEvent.{LockEvent}
-use Rattle.arachne_lock.specs.declared.event.LockEvent.TheVariants.{Ask, Grant, Free, Leave}
+use Rattle.arachne_lock.specs.declared.event.QueueEvent.{QueueEvent}
+use Rattle.arachne_lock.specs.declared.event.QueueEvent.TheVariants.{Ask, Grant, Free, Leave}
 use Rattle.arachne_lock.specs.Law.{Holding, opening, Allows, after}
 use Rattle.arachne_lock.specs.History.{IsLawfulFrom, IsLawful, IsQuiet}
 use Rattle.arachne_lock.specs.Promises.{HasOneHolderAtATime}
 
 -- While `first` owns the lock, a grant comes only after `first` has freed it.
-freed_before_grant : (h : Holding) (first : ℕ) (events : List LockEvent) → h.owner ≡ Some first → IsLawfulFrom h events
+freed_before_grant : (h : Holding) (first : ℕ) (events : List QueueEvent) → h.owner ≡ Some first → IsLawfulFrom h events
     → (j : ℕ) (second : ℕ) → slice_get events j ≡ Some (Grant second)
     → (k : ℕ) × (k < j) × (slice_get events k ≡ Some (Free first))
 freed_before_grant h first [] owned lawful j second there = absurd (none-some _ there)
@@ -28,7 +28,7 @@ freed_before_grant h first (Free who ∷ events) owned lawful (suc j) second the
     (zero, omega arith, cc)
 
 -- Between two grants the first's thread frees.
-freed_between : (h : Holding) (events : List LockEvent) → IsLawfulFrom h events
+freed_between : (h : Holding) (events : List QueueEvent) → IsLawfulFrom h events
     → (i j : ℕ) (first second : ℕ) → i < j → slice_get events i ≡ Some (Grant first) → slice_get events j ≡ Some (Grant second)
     → (k : ℕ) × (i < k) × (k < j) × (slice_get events k ≡ Some (Free first))
 freed_between h [] lawful i j first second before one two = absurd (none-some _ one)
@@ -43,30 +43,30 @@ freed_between h (event ∷ events) lawful (suc i) (suc j) first second before on
     (suc later.0, omega (arith, later.1), omega (arith, later.2), later.3)
 
 -- the events from i up to j are asks and leaves
-abbrev QuietBetween : List LockEvent → ℕ → ℕ → Type 0
-QuietBetween events i j = (k : ℕ) (event : LockEvent) → i < k → k < j → slice_get events k ≡ Some event → IsQuiet event
+abbrev QuietBetween : List QueueEvent → ℕ → ℕ → Type 0
+QuietBetween events i j = (k : ℕ) (event : QueueEvent) → i < k → k < j → slice_get events k ≡ Some event → IsQuiet event
 
 -- the same, one place later
-quiet_later : (event : LockEvent) (events : List LockEvent) (i j : ℕ) → QuietBetween events i j → QuietBetween (event ∷ events) (suc i) (suc j)
+quiet_later : (event : QueueEvent) (events : List QueueEvent) (i j : ℕ) → QuietBetween events i j → QuietBetween (event ∷ events) (suc i) (suc j)
 quiet_later event events i j asks zero other after_i before_j there = absurd (omega (arith, after_i))
 quiet_later event events i j asks (suc k) other after_i before_j there = asks k other (omega (arith, after_i)) (omega (arith, before_j)) there
 
 -- the events up to j are asks and leaves
-abbrev QuietUpTo : List LockEvent → ℕ → Type 0
-QuietUpTo events j = (k : ℕ) (event : LockEvent) → k < j → slice_get events k ≡ Some event → IsQuiet event
+abbrev QuietUpTo : List QueueEvent → ℕ → Type 0
+QuietUpTo events j = (k : ℕ) (event : QueueEvent) → k < j → slice_get events k ≡ Some event → IsQuiet event
 
 -- one of them, and then others
-quiet_from : (events : List LockEvent) (j : ℕ) (first : LockEvent) → IsQuiet first → QuietUpTo events j → QuietUpTo (first ∷ events) (suc j)
+quiet_from : (events : List QueueEvent) (j : ℕ) (first : QueueEvent) → IsQuiet first → QuietUpTo events j → QuietUpTo (first ∷ events) (suc j)
 quiet_from events j first quiet asks zero event before there = subst IsQuiet (same_Some _ _ there) quiet
 quiet_from events j first quiet asks (suc k) event before there = asks k event (omega (arith, before)) there
 
 -- asks and leaves behind a grant
-quiet_after : (events : List LockEvent) (j : ℕ) (other : ℕ) → QuietUpTo events j → QuietBetween (Grant other ∷ events) zero (suc j)
+quiet_after : (events : List QueueEvent) (j : ℕ) (other : ℕ) → QuietUpTo events j → QuietBetween (Grant other ∷ events) zero (suc j)
 quiet_after events j other asks zero event above before there = absurd (omega (arith, above))
 quiet_after events j other asks (suc k) event above before there = asks k event (omega (arith, before)) there
 
 -- Where a thread owns the lock after an event, the event was its grant, or an ask or a leave of another while it owned the lock.
-owned_or_granted : (h : Holding) (event : LockEvent) (events : List LockEvent) (j : ℕ) (who : ℕ) → Allows h event
+owned_or_granted : (h : Holding) (event : QueueEvent) (events : List QueueEvent) (j : ℕ) (who : ℕ) → Allows h event
     → (after h event).owner ≡ Some who → QuietUpTo events j
     → ((i : ℕ) × (i < suc j) × (slice_get (event ∷ events) i ≡ Some (Grant who)) × QuietBetween (event ∷ events) i (suc j))
     ⊎ ((h.owner ≡ Some who) × QuietUpTo (event ∷ events) (suc j))
@@ -78,7 +78,7 @@ owned_or_granted h (Free other) events j who allowed owned asks = absurd (none-s
 
 -- Where a thread frees, either its grant stands before, or it owned the lock from the start, with nothing but asks
 -- and leaves since.
-granted_or_owned : (h : Holding) (events : List LockEvent) → IsLawfulFrom h events
+granted_or_owned : (h : Holding) (events : List QueueEvent) → IsLawfulFrom h events
     → (j : ℕ) (who : ℕ) → slice_get events j ≡ Some (Free who)
     → ((i : ℕ) × (i < j) × (slice_get events i ≡ Some (Grant who)) × QuietBetween events i j)
     ⊎ ((h.owner ≡ Some who) × QuietUpTo events j)
@@ -92,7 +92,7 @@ granted_or_owned h (event ∷ events) lawful (suc j) who there =
       | inr owned ↦ owned_or_granted h event events j who lawful.0 owned.0 owned.1
     ]
 
-pub one_holder : (events : List LockEvent) → IsLawful events → HasOneHolderAtATime events
+pub one_holder : (events : List QueueEvent) → IsLawful events → HasOneHolderAtATime events
 one_holder events lawful = record {
   freed_between = freed_between opening events lawful;
   granted_before = λ j who there.

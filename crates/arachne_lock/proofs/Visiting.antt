@@ -1,8 +1,8 @@
 -- A call on a lock's state while a seat has it.
 use Rattle.std.proofs.Common.{◌≡◌, ℕ, List, [], ◌∷◌, ◌++◌, get_or, refl, sym, ap, ◌∙◌, subst}
 use Rattle.atomic_table.specs.Seated.{TableId}
-use Rattle.arachne_lock.specs.declared.event.LockEvent.{LockEvent}
-use Rattle.arachne_lock.specs.declared.view.SeatLog.{SeatLog}
+use Rattle.arachne_lock.specs.declared.event.QueueEvent.{QueueEvent}
+use Rattle.arachne_lock.specs.declared.view.EventLog.{EventLog}
 use Rattle.arachne_lock.specs.History.{IsSound}
 use Rattle.arachne_lock.specs.State.{Lock, IsLeftBy}
 use Rattle.arachne_lock.specs.Logs.{taken_log, given_back_log, answered_log}
@@ -15,9 +15,9 @@ guarded-in : (lock : ℕ) (a b : Guarded) → ◌≡◌ {A = List (ℕ × Guarde
 guarded-in lock a b e = ap (λ (x : List (ℕ × Guarded)). (get_or x 0 (0, a)).1) e
 
 -- the guard was taken, the state that came was changed, by a call that adds these events, and the guard was given back
-module _ (lock : ℕ) (l : SeatLog) {from to : TableId} (taken visited : Mine) (old new : Guarded) (events : List LockEvent) (come : HasTaken lock l taken) (visits : Visits lock from to taken visited old new) (added : new.events ≡ events)
-    (goes : (h : List LockEvent) → Leaves h old.lock → Leaves (h ++ events) new.lock) where
-  abbrev pub history : List LockEvent
+module _ (lock : ℕ) (l : EventLog) {from to : TableId} (taken visited : Mine) (old new : Guarded) (events : List QueueEvent) (come : HasTaken lock l taken) (visits : Visits lock from to taken visited old new) (added : new.events ≡ events)
+    (goes : (h : List QueueEvent) → Leaves h old.lock → Leaves (h ++ events) new.lock) where
+  abbrev pub history : List QueueEvent
   history = come.0
 
   same-guarded : come.1 ≡ old
@@ -38,17 +38,17 @@ module _ (lock : ℕ) (l : SeatLog) {from to : TableId} (taken visited : Mine) (
   pub returnable : IsReturnable lock history visited new
   returnable = subst (λ (m : Mine). IsReturnable lock history m new) (sym visited-is) (record {
     mine = refl;
-    sound = subst (λ (e : List LockEvent). IsSound (history ++ e)) (sym added) after.0;
-    left = subst (λ (e : List LockEvent). IsLeftBy (history ++ e) new.lock) (sym added) after.1;
+    sound = subst (λ (e : List QueueEvent). IsSound (history ++ e)) (sym added) after.0;
+    left = subst (λ (e : List QueueEvent). IsLeftBy (history ++ e) new.lock) (sym added) after.1;
   })
 
-  module _ (back : Mine) (told : (h : List LockEvent) (g : Guarded) → IsReturnable lock h visited g → back ≡ idle (given_back_log visited.0.log lock h g.events)) where
+  module _ (back : Mine) (told : (h : List QueueEvent) (g : Guarded) → IsReturnable lock h visited g → back ≡ idle (given_back_log visited.0.log lock h g.events)) where
     -- the seat after the call
     pub back-is : back ≡ idle (answered_log l lock history events)
     back-is =
         told history new returnable
         ∙ ap (λ (m : Mine). idle (given_back_log m.0.log lock history new.events)) visited-is
-        ∙ ap (λ (e : List LockEvent). idle (answered_log l lock history e)) added
+        ∙ ap (λ (e : List QueueEvent). idle (answered_log l lock history e)) added
 
     pub idle-again : back ≡ idle back.0.log
     idle-again = subst (λ (m : Mine). m ≡ idle m.0.log) (sym back-is) refl

@@ -9,7 +9,7 @@ use Rattle.std.proofs.lemmas.List.Folds.{list_any_none, list_any-append}
 use Rattle.std.proofs.lemmas.Map.Keys.{IsDistinct-push, IsDistinct-cons, IsDistinct-head, IsDistinct-tail}
 use Rattle.std.proofs.lemmas.Map.Views.{Contains-from_any, list_any-from_Contains}
 use Rattle.arachne_lock.specs.Law.{without}
-use Rattle.arachne_lock.specs.WaitQueue.{Indexes}
+use Rattle.arachne_lock.specs.WaiterQueue.{Indexes}
 
 -- what the set answers is whether one stands in the queue
 pub found : (keys order : List ℕ) (who : ℕ) (result : Bool) → Indexes keys order → result ≡ list_any (nat_eq who) keys

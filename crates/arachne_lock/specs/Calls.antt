@@ -1,14 +1,14 @@
 -- What each call answers, and what the seat's log is then.
 use Rattle.std.specs.Prelude.{◌≡◌, ℕ, List, Option, [], ◌++◌}
 use Rattle.std.specs.declared.result.Result.{Result}
-use Rattle.arachne_lock.specs.declared.answer.Asked.{Asked}
-use Rattle.arachne_lock.specs.declared.answer.AskFault.{AskFault}
-use Rattle.arachne_lock.specs.declared.answer.Freed.{Freed}
-use Rattle.arachne_lock.specs.declared.answer.NotHolder.{NotHolder}
+use Rattle.arachne_lock.specs.declared.answer.Admitted.{Admitted}
+use Rattle.arachne_lock.specs.declared.answer.AskRefusal.{AskRefusal}
+use Rattle.arachne_lock.specs.declared.answer.Released.{Released}
+use Rattle.arachne_lock.specs.declared.answer.NotOwner.{NotOwner}
 use Rattle.arachne_lock.specs.declared.answer.Withdrawn.{Withdrawn}
-use Rattle.arachne_lock.specs.declared.answer.Tried.{Tried}
-use Rattle.arachne_lock.specs.declared.answer.Tried.TheVariants.{Answered, Contended}
-use Rattle.arachne_lock.specs.declared.event.LockEvent.{LockEvent}
+use Rattle.arachne_lock.specs.declared.answer.Attempt.{Attempt}
+use Rattle.arachne_lock.specs.declared.answer.Attempt.TheVariants.{Answered, Contended}
+use Rattle.arachne_lock.specs.declared.event.QueueEvent.{QueueEvent}
 use Rattle.arachne_lock.specs.History.{IsSound}
 use Rattle.arachne_lock.specs.State.{Lock, IsLeftBy, IsAsked, IsFreed, IsWithdrawn, IsChecked}
 use Rattle.arachne_lock.specs.Deeds.{asked_events, freed_events, withdrawn_events}
@@ -18,7 +18,7 @@ use Rattle.arachne_lock.specs.Steps.{GoesOnFrom}
 
 -- A call on a lock whose history, state and answer these are: both histories are sound, the one before begins with all
 -- that the seat had seen of the lock, the states are what they leave, and the seat's log tells what the call added.
-pub record IsCallOn (lock : ℕ) (old new : SeatView) (history events : List LockEvent) (before after : Lock) : Type 0 where
+pub record IsCallOn (lock : ℕ) (old new : SeatView) (history events : List QueueEvent) (before after : Lock) : Type 0 where
   pub sound : IsSound history
   pub begins : GoesOnFrom lock history old.log
   pub left : IsLeftBy history before
@@ -27,25 +27,25 @@ pub record IsCallOn (lock : ℕ) (old new : SeatView) (history events : List Loc
   pub told : new ≡ with_log old (answered_log old.log lock history events)
 
 -- a call that adds these events, and of whose states this holds
-abbrev pub HasCalled : ℕ → SeatView → SeatView → List LockEvent → (Lock → Lock → Type 0) → Type 0
-HasCalled lock old new events answers = (history : List LockEvent) × (before : Lock) × (after : Lock) × IsCallOn lock old new history events before after × answers before after
+abbrev pub HasCalled : ℕ → SeatView → SeatView → List QueueEvent → (Lock → Lock → Type 0) → Type 0
+HasCalled lock old new events answers = (history : List QueueEvent) × (before : Lock) × (after : Lock) × IsCallOn lock old new history events before after × answers before after
 
 -- the one try found the guard taken, and changed nothing
 abbrev pub IsContended : ℕ → SeatView → SeatView → Type 0
 IsContended lock old new = new ≡ with_log old (contended_log old.log lock)
 
-abbrev pub AskAnswer : ℕ → ℕ → SeatView → Tried (Result Asked AskFault) → SeatView → Type 0
+abbrev pub AskAnswer : ℕ → ℕ → SeatView → Attempt (Result Admitted AskRefusal) → SeatView → Type 0
 AskAnswer lock who old (Answered answer) new = HasCalled lock old new (asked_events who answer) (λ before after. IsAsked before after who answer)
 AskAnswer lock who old Contended new = IsContended lock old new
 
-abbrev pub FreeAnswer : ℕ → ℕ → SeatView → Tried (Result Freed NotHolder) → SeatView → Type 0
+abbrev pub FreeAnswer : ℕ → ℕ → SeatView → Attempt (Result Released NotOwner) → SeatView → Type 0
 FreeAnswer lock who old (Answered answer) new = HasCalled lock old new (freed_events who answer) (λ before after. IsFreed before after who answer)
 FreeAnswer lock who old Contended new = IsContended lock old new
 
-abbrev pub WithdrawAnswer : ℕ → ℕ → SeatView → Tried Withdrawn → SeatView → Type 0
+abbrev pub WithdrawAnswer : ℕ → ℕ → SeatView → Attempt Withdrawn → SeatView → Type 0
 WithdrawAnswer lock who old (Answered answer) new = HasCalled lock old new (withdrawn_events who answer) (λ before after. IsWithdrawn before after who answer)
 WithdrawAnswer lock who old Contended new = IsContended lock old new
 
-abbrev pub CheckAnswer : ℕ → ℕ → SeatView → Tried (Option ℕ) → SeatView → Type 0
+abbrev pub CheckAnswer : ℕ → ℕ → SeatView → Attempt (Option ℕ) → SeatView → Type 0
 CheckAnswer lock who old (Answered answer) new = HasCalled lock old new [] (λ before after. IsChecked before after who answer)
 CheckAnswer lock who old Contended new = IsContended lock old new

@@ -2,7 +2,7 @@ pub mod Law
 pub mod History
 pub mod Promises
 pub mod State
-pub mod WaitQueue
+pub mod WaiterQueue
 pub mod Deeds
 pub mod Placed
 pub mod Logs

@@ -1,28 +1,28 @@
 -- Histories that go on, and events with their lock and place.
 use Rattle.std.specs.Prelude.{◌≡◌, ℕ, ◌+◌, List, [], ◌∷◌, ◌++◌, slice_get, count_by, ◌==◌, ◌&&◌, nat_lt, if◌then◌else◌}
 use Rattle.std.specs.declared.option.Option.TheVariants.{Some}
-use Rattle.arachne_lock.specs.declared.event.LockEvent.{LockEvent}
-use Rattle.arachne_lock.specs.declared.view.PlacedEvent.{PlacedEvent}
+use Rattle.arachne_lock.specs.declared.event.QueueEvent.{QueueEvent}
+use Rattle.arachne_lock.specs.declared.view.LoggedEvent.{LoggedEvent}
 
 -- the history begins with this one
-abbrev pub BeginsWith : List LockEvent → List LockEvent → Type 0
-BeginsWith history seen = (rest : List LockEvent) × (history ≡ seen ++ rest)
+abbrev pub BeginsWith : List QueueEvent → List QueueEvent → Type 0
+BeginsWith history seen = (rest : List QueueEvent) × (history ≡ seen ++ rest)
 
 -- these events of the lock, from this place on
-abbrev pub placed : ℕ → ℕ → List LockEvent → List PlacedEvent
+abbrev pub placed : ℕ → ℕ → List QueueEvent → List LoggedEvent
 placed lock at [] = []
 placed lock at (event ∷ events) = record { lock = lock; at = at; event = event } ∷ placed lock (at + 1) events
 
 -- the event stands in its lock's history at its place
-abbrev pub StandsIn : (ℕ → List LockEvent) → PlacedEvent → Type 0
+abbrev pub StandsIn : (ℕ → List QueueEvent) → LoggedEvent → Type 0
 StandsIn histories m = slice_get (histories m.lock) m.at ≡ Some m.event
 
-abbrev pub is_at : ℕ → ℕ → PlacedEvent → ℕ
+abbrev pub is_at : ℕ → ℕ → LoggedEvent → ℕ
 is_at lock at m = if (m.lock == lock) && (m.at == at) then 1 else 0
 
 -- how many of these events are at the lock's place
-abbrev pub times_at : ℕ → ℕ → List PlacedEvent → ℕ
-times_at lock at made = count_by (λ (m : PlacedEvent). (m.lock == lock) && (m.at == at)) made
+abbrev pub times_at : ℕ → ℕ → List LoggedEvent → ℕ
+times_at lock at made = count_by (λ (m : LoggedEvent). (m.lock == lock) && (m.at == at)) made
 
 -- 1 below n, and else 0
 abbrev pub once_below : ℕ → ℕ → ℕ

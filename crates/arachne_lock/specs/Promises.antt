@@ -1,12 +1,12 @@
 -- What a lawful history promises, said of the places in it alone.
 use Rattle.std.specs.Prelude.{◌≡◌, ℕ, ◌<◌, List, slice_get}
 use Rattle.std.specs.declared.option.Option.TheVariants.{Some}
-use Rattle.arachne_lock.specs.declared.event.LockEvent.{LockEvent}
-use Rattle.arachne_lock.specs.declared.event.LockEvent.TheVariants.{Ask, Grant, Free, Leave}
+use Rattle.arachne_lock.specs.declared.event.QueueEvent.{QueueEvent}
+use Rattle.arachne_lock.specs.declared.event.QueueEvent.TheVariants.{Ask, Grant, Free, Leave}
 use Rattle.arachne_lock.specs.History.{IsQuiet}
 
 -- at most one holds the lock at a time
-pub record HasOneHolderAtATime (events : List LockEvent) : Type 0 where
+pub record HasOneHolderAtATime (events : List QueueEvent) : Type 0 where
   -- between a grant and a later one the first frees
   pub freed_between : (i j first second : ℕ) → i < j
       → slice_get events i ≡ Some (Grant first) → slice_get events j ≡ Some (Grant second)
@@ -14,9 +14,13 @@ pub record HasOneHolderAtATime (events : List LockEvent) : Type 0 where
   -- before a free stands a grant to the same, and neither a grant nor a free between the two
   pub granted_before : (j who : ℕ) → slice_get events j ≡ Some (Free who)
       → (i : ℕ) × (i < j) × (slice_get events i ≡ Some (Grant who))
-      × ((k : ℕ) (event : LockEvent) → i < k → k < j → slice_get events k ≡ Some event → IsQuiet event)
+      × ((k : ℕ) (event : QueueEvent) → i < k → k < j → slice_get events k ≡ Some event → IsQuiet event)
 
 -- one that has left is granted the lock only after it has asked again
-abbrev pub GrantsNoneThatLeft : List LockEvent → Type 0
+abbrev pub GrantsNoneThatLeft : List QueueEvent → Type 0
 GrantsNoneThatLeft events = (i j who : ℕ) → i < j → slice_get events i ≡ Some (Leave who) → slice_get events j ≡ Some (Grant who)
     → (k : ℕ) × (i < k) × (k < j) × (slice_get events k ≡ Some (Ask who))
+
+-- both: the lock has one holder at a time, and goes to none that has left
+abbrev pub IsHeldWell : List QueueEvent → Type 0
+IsHeldWell events = HasOneHolderAtATime events × GrantsNoneThatLeft events

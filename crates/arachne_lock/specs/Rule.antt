@@ -7,9 +7,9 @@ use mathlib.Core.Option.{some}
 use mathlib.Core.Option as maybe
 use lib.ListN.{get_elem?}
 use Rattle.atomic_table.specs.Table.{State}
-use Rattle.arachne_lock.specs.declared.event.LockEvent.{LockEvent}
-use Rattle.arachne_lock.specs.declared.view.Known.{Known}
-use Rattle.arachne_lock.specs.declared.view.SeatLog.{SeatLog}
+use Rattle.arachne_lock.specs.declared.event.QueueEvent.{QueueEvent}
+use Rattle.arachne_lock.specs.declared.view.KnownLocks.{KnownLocks}
+use Rattle.arachne_lock.specs.declared.view.EventLog.{EventLog}
 use Rattle.arachne_lock.specs.declared.view.Sight.{Sight}
 use Rattle.arachne_lock.specs.History.{IsSound}
 use Rattle.arachne_lock.specs.State.{IsLeftBy}
@@ -18,16 +18,16 @@ use Rattle.arachne_lock.specs.Logs.{blank_log, cut_log, joined_log}
 use Rattle.arachne_lock.specs.Views.{Guarded, word_of}
 
 abbrev pub Board : Type 0
-Board = State Guarded Known
+Board = State Guarded KnownLocks
 
 -- the histories of all locks, by their numbers
 abbrev pub Histories : Type 0
-Histories = ℕ → List LockEvent
+Histories = ℕ → List QueueEvent
 
-abbrev pub idle_known : SeatLog → Known
+abbrev pub idle_known : EventLog → KnownLocks
 idle_known log = record { out = None; log = log }
 
-abbrev pub taken_known : Sight → SeatLog → Known
+abbrev pub taken_known : Sight → EventLog → KnownLocks
 taken_known out log = record { out = Some out; log = log }
 
 -- 1 where that is of the lock
@@ -36,25 +36,25 @@ is_of lock None = 0
 is_of lock (Some s) = if s.lock == lock then 1 else 0
 
 -- how many seats have the lock's guard
-abbrev pub guards : ℕ → List Known → ℕ
-guards lock views = sum_by (λ (v : Known). is_of lock v.out) views
+abbrev pub guards : ℕ → List KnownLocks → ℕ
+guards lock views = sum_by (λ (v : KnownLocks). is_of lock v.out) views
 
 -- how many events the seats have made at the lock's place
-abbrev pub made_at : ℕ → ℕ → List Known → ℕ
-made_at lock at views = sum_by (λ (v : Known). times_at lock at v.log.made) views
+abbrev pub made_at : ℕ → ℕ → List KnownLocks → ℕ
+made_at lock at views = sum_by (λ (v : KnownLocks). times_at lock at v.log.made) views
 
 -- the lock's history begins with what was seen of it
 abbrev pub IsSeenIn : Histories → Sight → Type 0
 IsSeenIn histories s = BeginsWith (histories s.lock) s.history
 
 -- what one seat has done and seen fits the histories; where it has a guard it has seen all of that lock's
-pub record Fits (histories : Histories) (v : Known) : Type 0 where
+pub record Fits (histories : Histories) (v : KnownLocks) : Type 0 where
   pub seen : All (IsSeenIn histories) v.log.seen
   pub made : All (StandsIn histories) v.log.made
   pub at_guard : (s : Sight) → v.out ≡ Some s → s.history ≡ histories s.lock
 
 -- the lock's slot is at home, with the state that this history leaves
-abbrev pub IsHome : ℕ → List LockEvent → List (maybe.Option Guarded) → Type 0
+abbrev pub IsHome : ℕ → List QueueEvent → List (maybe.Option Guarded) → Type 0
 IsHome lock history homes = (guarded : Guarded) × (get_elem? homes lock ≡ some (some guarded)) × IsLeftBy history guarded.lock
 
 -- each lock has one history
@@ -62,7 +62,7 @@ pub record IsKept (locks : ℕ) (board : Board) : Type 0 where
   pub histories : Histories
   pub counted : length board.words ≡ word_of locks
   pub sound : (lock : ℕ) → IsSound (histories lock)
-  pub fits : (i : ℕ) (v : Known) → get_elem? board.views i ≡ some v → Fits histories v
+  pub fits : (i : ℕ) (v : KnownLocks) → get_elem? board.views i ≡ some v → Fits histories v
   -- the events of a history are those that the seats made, each once
   pub once : (lock at : ℕ) → made_at lock at board.views ≡ once_below at (length (histories lock))
   -- a guard word is 1 where one seat has the guard, and else 0 with the lock's state at home
@@ -72,16 +72,16 @@ pub record IsKept (locks : ℕ) (board : Board) : Type 0 where
 
 -- ---- the first seat, a split and a join
 
-abbrev pub blank : Known
+abbrev pub blank : KnownLocks
 blank = idle_known blank_log
 
-abbrev pub first_view : ℕ → Known
+abbrev pub first_view : ℕ → KnownLocks
 first_view locks = blank
 
-abbrev pub second_view : Known → Known
+abbrev pub second_view : KnownLocks → KnownLocks
 second_view v = idle_known (cut_log v.log)
 
-abbrev pub joined_view : Known → Known → Known
+abbrev pub joined_view : KnownLocks → KnownLocks → KnownLocks
 joined_view v u = idle_known (joined_log v.log u.log)
 
 -- the slots of new locks

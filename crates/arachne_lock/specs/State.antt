@@ -4,16 +4,16 @@ use Rattle.std.specs.declared.option.Option.{Option}
 use Rattle.std.specs.declared.option.Option.TheVariants.{None, Some}
 use Rattle.std.specs.declared.result.Result.{Result}
 use Rattle.std.specs.declared.result.Result.TheVariants.{Err}
-use Rattle.arachne_lock.specs.declared.answer.Asked.{Asked}
-use Rattle.arachne_lock.specs.declared.answer.Asked.TheVariants.{Granted, Queued}
-use Rattle.arachne_lock.specs.declared.answer.AskFault.{AskFault}
-use Rattle.arachne_lock.specs.declared.answer.AskFault.TheVariants.{AlreadyIn, Memory}
-use Rattle.arachne_lock.specs.declared.answer.Freed.{Freed}
-use Rattle.arachne_lock.specs.declared.answer.NotHolder.{NotHolder}
+use Rattle.arachne_lock.specs.declared.answer.Admitted.{Admitted}
+use Rattle.arachne_lock.specs.declared.answer.Admitted.TheVariants.{Granted, Queued}
+use Rattle.arachne_lock.specs.declared.answer.AskRefusal.{AskRefusal}
+use Rattle.arachne_lock.specs.declared.answer.AskRefusal.TheVariants.{AlreadyIn, Memory}
+use Rattle.arachne_lock.specs.declared.answer.Released.{Released}
+use Rattle.arachne_lock.specs.declared.answer.NotOwner.{NotOwner}
 use Rattle.arachne_lock.specs.declared.answer.Withdrawn.{Withdrawn}
 use Rattle.arachne_lock.specs.declared.answer.Withdrawn.TheVariants.{Left, Holds, Outside}
-use Rattle.arachne_lock.specs.declared.lock_state.Holder.{Holder}
-use Rattle.arachne_lock.specs.declared.event.LockEvent.{LockEvent}
+use Rattle.arachne_lock.specs.declared.lock_entry.Holder.{Holder}
+use Rattle.arachne_lock.specs.declared.event.QueueEvent.{QueueEvent}
 use Rattle.arachne_lock.specs.Law.{Holding, IsIn, without}
 use Rattle.arachne_lock.specs.History.{replay, HoldsSince}
 
@@ -34,7 +34,7 @@ abbrev pub holding_of : Lock → Holding
 holding_of lock = record { owner = holder_of lock.owner; queue = lock.queue }
 
 -- the state is what these events leave
-pub record IsLeftBy (events : List LockEvent) (lock : Lock) : Type 0 where
+pub record IsLeftBy (events : List QueueEvent) (lock : Lock) : Type 0 where
   pub replays : replay events ≡ holding_of lock
   pub counted : lock.count ≡ length events % 2 ^ 64
   pub since : (holder : Holder) → lock.owner ≡ Some holder → (place : ℕ) × (holder.at ≡ place % 2 ^ 64) × HoldsSince events holder.who place
@@ -45,7 +45,7 @@ later count more = (count + more) % 2 ^ 64
 
 -- ---- an ask: granted at once where nobody owns the lock, and else at the end of the queue
 
-abbrev pub AnswersAsk : Lock → Lock → ℕ → Asked → Type 0
+abbrev pub AnswersAsk : Lock → Lock → ℕ → Admitted → Type 0
 AnswersAsk before after who (Granted at) =
     (before.owner ≡ None)
     × (at ≡ later before.count 1)
@@ -55,7 +55,7 @@ AnswersAsk before after who (Queued at) =
     × (at ≡ before.count)
     × (after ≡ record { owner = before.owner; queue = before.queue ++ who ∷ []; count = later before.count 1 })
 
-pub record IsAsked (before after : Lock) (who : ℕ) (answer : Result Asked AskFault) : Type 0 where
+pub record IsAsked (before after : Lock) (who : ℕ) (answer : Result Admitted AskRefusal) : Type 0 where
   pub already : (answer ≡ Err AlreadyIn) ↔ IsIn (holding_of before) who
   -- memory is wanted only where it has to wait
   pub memory : answer ≡ Err Memory → IsSome before.owner
@@ -72,12 +72,12 @@ handed before (Some next) = record {
   count = later before.count 2;
 }
 
-pub record AnswersFree (before after : Lock) (freed : Freed) : Type 0 where
+pub record AnswersFree (before after : Lock) (freed : Released) : Type 0 where
   pub next : freed.next ≡ slice_get before.queue 0
   pub at : freed.at ≡ before.count
   pub state : after ≡ handed before freed.next
 
-pub record IsFreed (before after : Lock) (who : ℕ) (answer : Result Freed NotHolder) : Type 0 where
+pub record IsFreed (before after : Lock) (who : ℕ) (answer : Result Released NotOwner) : Type 0 where
   pub holder : IsOk answer ↔ (holder_of before.owner ≡ Some who)
   pub ok : IfOk answer (AnswersFree before after)
   pub err : OnErr answer (after ≡ before)

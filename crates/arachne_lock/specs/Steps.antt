@@ -2,9 +2,9 @@
 use Rattle.std.specs.Prelude.{◌≡◌, ◌≢◌, ℕ, All, [], ◌∷◌, ◌++◌, List}
 use Rattle.atomic_table.specs.Table.{Me, Step}
 use Rattle.atomic_table.specs.Seated.{TableId}
-use Rattle.arachne_lock.specs.declared.event.LockEvent.{LockEvent}
-use Rattle.arachne_lock.specs.declared.view.Known.{Known}
-use Rattle.arachne_lock.specs.declared.view.SeatLog.{SeatLog}
+use Rattle.arachne_lock.specs.declared.event.QueueEvent.{QueueEvent}
+use Rattle.arachne_lock.specs.declared.view.KnownLocks.{KnownLocks}
+use Rattle.arachne_lock.specs.declared.view.EventLog.{EventLog}
 use Rattle.arachne_lock.specs.declared.view.Sight.{Sight}
 use Rattle.arachne_lock.specs.History.{IsSound}
 use Rattle.arachne_lock.specs.State.{Lock, IsLeftBy}
@@ -15,29 +15,29 @@ use Rattle.arachne_lock.specs.Rule.{idle_known, taken_known}
 
 -- a seat's view, and the slots that it has
 abbrev pub Mine : Type 0
-Mine = Me Guarded Known
+Mine = Me Guarded KnownLocks
 
 -- a seat between calls
-abbrev pub idle : SeatLog → Mine
+abbrev pub idle : EventLog → Mine
 idle log = (idle_known log, [])
 
 -- a seat that has the lock's guard at this history, and the slot with this in it
-abbrev pub with_guard : ℕ → List LockEvent → SeatLog → Guarded → Mine
+abbrev pub with_guard : ℕ → List QueueEvent → EventLog → Guarded → Mine
 with_guard lock history log guarded = (taken_known (sight lock history) log, (lock, guarded) ∷ [])
 
 -- the history begins with all that was seen of the lock
-abbrev pub GoesOnFrom : ℕ → List LockEvent → SeatLog → Type 0
+abbrev pub GoesOnFrom : ℕ → List QueueEvent → EventLog → Type 0
 GoesOnFrom lock history log = All (λ (s : Sight). s.lock ≡ lock → BeginsWith history s.history) log.seen
 
 -- the lock's state as it came to a seat with this log
-pub record Comes (lock : ℕ) (log : SeatLog) (history : List LockEvent) (guarded : Guarded) : Type 0 where
+pub record Comes (lock : ℕ) (log : EventLog) (history : List QueueEvent) (guarded : Guarded) : Type 0 where
   pub sound : IsSound history
   pub left : IsLeftBy history guarded.lock
   pub begins : GoesOnFrom lock history log
 
 -- the guard was at home, and the seat has it with the state
-abbrev pub HasTaken : ℕ → SeatLog → Mine → Type 0
-HasTaken lock log me = (history : List LockEvent) × (guarded : Guarded) × (me ≡ with_guard lock history (taken_log log lock history) guarded) × Comes lock log history guarded
+abbrev pub HasTaken : ℕ → EventLog → Mine → Type 0
+HasTaken lock log me = (history : List QueueEvent) × (guarded : Guarded) × (me ≡ with_guard lock history (taken_log log lock history) guarded) × Comes lock log history guarded
 
 -- Where the guard was at home the state came to the seat. Else the guard was found taken.
 abbrev pub Takes : Step Guarded → Mine → ℕ → Mine → Type 0
@@ -46,14 +46,19 @@ Takes step before found after = (lock : ℕ) → step.word ≡ word_of lock
 
 -- the state goes home as it is in the seat's slot, with the events that were added
 abbrev pub GivesBack : Step Guarded → Mine → Mine → Type 0
-GivesBack step before after = (lock : ℕ) (history : List LockEvent) (guarded : Guarded) → before ≡ with_guard lock history before.0.log guarded
+GivesBack step before after = (lock : ℕ) (history : List QueueEvent) (guarded : Guarded) → before ≡ with_guard lock history before.0.log guarded
     → after ≡ idle (given_back_log before.0.log lock history guarded.events)
 
 -- the state may go home
-pub record IsReturnable (lock : ℕ) (history : List LockEvent) (me : Mine) (guarded : Guarded) : Type 0 where
+pub record IsReturnable (lock : ℕ) (history : List QueueEvent) (me : Mine) (guarded : Guarded) : Type 0 where
   pub mine : me ≡ with_guard lock history me.0.log guarded
   pub sound : IsSound (history ++ guarded.events)
   pub left : IsLeftBy (history ++ guarded.events) guarded.lock
+
+-- the state, which may go home, has gone, and the seat's log tells so
+abbrev pub IsReturned : ℕ → Mine → Mine → Type 0
+IsReturned lock before after = (history : List QueueEvent) (guarded : Guarded) → IsReturnable lock history before guarded
+    → after ≡ idle (given_back_log before.0.log lock history guarded.events)
 
 -- within a call: the seat is of these locks, and has the lock's slot
 abbrev pub HasSlot : LocksView → TableId → Mine → ℕ → Type 0
@@ -67,5 +72,5 @@ pub record Visits (lock : ℕ) (home away : TableId) (before after : Mine) (old 
   pub is : after.1 ≡ (lock, new) ∷ []
 
 -- the state in the slot was changed by a call that answers so and adds these events
-abbrev pub HasVisited : ℕ → TableId → TableId → Mine → Mine → (Lock → Lock → Type 0) → List LockEvent → Type 0
+abbrev pub HasVisited : ℕ → TableId → TableId → Mine → Mine → (Lock → Lock → Type 0) → List QueueEvent → Type 0
 HasVisited lock home away before after answers events = (old new : Guarded) × Visits lock home away before after old new × answers old.lock new.lock × (new.events ≡ events)

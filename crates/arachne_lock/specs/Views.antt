@@ -1,15 +1,15 @@
 -- What contracts see of a set of locks and of its seats.
 use Rattle.std.specs.Prelude.{◌≡◌, ℕ, ◌+◌, ◌*◌, ◌^◌, ◌<◌, List}
 use Rattle.atomic_table.specs.Seated.{TableId}
-use Rattle.arachne_lock.specs.declared.event.LockEvent.{LockEvent}
-use Rattle.arachne_lock.specs.declared.view.SeatLog.{SeatLog}
+use Rattle.arachne_lock.specs.declared.event.QueueEvent.{QueueEvent}
+use Rattle.arachne_lock.specs.declared.view.EventLog.{EventLog}
 use Rattle.arachne_lock.specs.State.{Lock}
 use Rattle.arachne_lock.specs.Logs.{blank_log, cut_log, joined_log}
 
 -- what lies in a lock's slot: its state, and the events that the last call added
 pub record Guarded : Type 0 where
   pub lock : Lock
-  pub events : List LockEvent
+  pub events : List QueueEvent
 
 -- the table, and how many locks it has
 pub record LocksView : Type 0 where
@@ -19,7 +19,7 @@ pub record LocksView : Type 0 where
 -- the table that it came from, and what it has done and seen
 pub record SeatView : Type 0 where
   pub table : TableId
-  pub log : SeatLog
+  pub log : EventLog
 
 -- it came from these locks
 abbrev pub IsSeatOf : LocksView → SeatView → Type 0
@@ -30,7 +30,7 @@ abbrev pub IsLockAt : LocksView → TableId → ℕ → Type 0
 IsLockAt locks table lock = (table ≡ locks.table) × (lock < locks.count)
 
 -- the same seat with another log
-abbrev pub with_log : SeatView → SeatLog → SeatView
+abbrev pub with_log : SeatView → EventLog → SeatView
 with_log seat log = record { table = seat.table; log = log }
 
 -- Guard words lie sixteen words apart, and sixteen words follow the place of the last, so that no two share a cache

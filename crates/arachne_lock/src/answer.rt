@@ -4,7 +4,7 @@ use thiserror::Error;
 
 /// The answer to an ask that is let in. Numbers of events count from 0, modulo 2^64, for each lock by itself.
 #[derive(Clone, Copy, Debug, PartialEq, Eq)]
-pub enum Asked {
+pub enum Admitted {
     /// Nobody owned the lock: it is held now.
     Granted {
         /// The number of the grant. Later grants of this lock have greater ones.
@@ -19,7 +19,7 @@ pub enum Asked {
 
 /// What came of one try at a lock.
 #[derive(Clone, Copy, Debug, PartialEq, Eq)]
-pub enum Tried<A> {
+pub enum Attempt<A> {
     /// The lock's answer.
     Answered(A),
     /// Another kernel thread was at the lock. Nothing has changed, and the call may be made again.
@@ -28,27 +28,27 @@ pub enum Tried<A> {
 
 /// Why an ask is refused.
 #[derive(Clone, Copy, Debug, PartialEq, Eq, Error)]
-pub enum AskFault {
+pub enum AskRefusal {
     #[error("it owns the lock or waits for it already")]
     AlreadyIn,
     #[error("out of memory")]
     Memory,
 }
 
-impl From<AllocError> for AskFault {
+impl From<AllocError> for AskRefusal {
     ghost use Rattle.std.specs.Prelude.{◌≡◌};
-    ghost use Rattle.arachne_lock.specs.declared.answer.AskFault.TheVariants.{Memory};
+    ghost use Rattle.arachne_lock.specs.declared.answer.AskRefusal.TheVariants.{Memory};
 
     ghost from_gives = { λ _ e. e ≡ Memory };
 
     fn from(_: AllocError) -> Self {
-        AskFault::Memory
+        AskRefusal::Memory
     }
 }
 
 /// The answer to the owner that frees the lock.
 #[derive(Clone, Copy, Debug, PartialEq, Eq)]
-pub struct Freed {
+pub struct Released {
     /// Who holds the lock now, and has to be woken: the one that had waited longest, if any waited.
     pub next: Option<u64>,
     /// The number of the free. The grant to `next` has the next one.
@@ -58,7 +58,7 @@ pub struct Freed {
 /// It frees a lock that it doesn't own.
 #[derive(Clone, Copy, Debug, PartialEq, Eq, Error)]
 #[error("it does not hold the lock")]
-pub struct NotHolder;
+pub struct NotOwner;
 
 /// The answer to one that withdraws.
 #[derive(Clone, Copy, Debug, PartialEq, Eq)]

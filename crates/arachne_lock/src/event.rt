@@ -1,7 +1,7 @@
 //! What can happen to a lock.
 
 /// An event of a lock. No value of it is made: histories are for proofs alone.
-pub enum LockEvent {
+pub enum QueueEvent {
     /// One joins the end of the queue.
     Ask(u64),
     /// The front of the queue becomes the owner.
@@ -14,7 +14,7 @@ pub enum LockEvent {
 
 /// What a call has done to a lock.
 #[derive(Clone, Copy)]
-pub enum Deed {
+pub enum LockDeed {
     Nothing,
     /// It asked, and waits.
     Queued(u64),

@@ -1,19 +1,19 @@
 //! A set of locks that kernel threads share, and in whose calls none of them waits.
 ghost use Rattle.std.specs.Prelude.{◌≡◌, ◌<◌, ℕ, List, MatchBool, IfOk, Option, [], ◌∷◌, ◌^◌, vec_len, slice_index};
-ghost use Rattle.arachne_lock.specs.declared.event.LockEvent.{LockEvent};
+ghost use Rattle.arachne_lock.specs.declared.event.QueueEvent.{QueueEvent};
 ghost use Rattle.arachne_lock.specs.State.{IsAsked, IsFreed, IsWithdrawn, IsChecked};
 ghost use Rattle.arachne_lock.specs.Deeds.{asked_events, freed_events, withdrawn_events};
-ghost use Rattle.arachne_lock.specs.Logs.{contended_log, given_back_log};
+ghost use Rattle.arachne_lock.specs.Logs.{contended_log};
 ghost use Rattle.arachne_lock.specs.Views.{Guarded, IsSeatOf, IsLockAt, first_seat, second_half, joined_with, word_of};
 ghost use Rattle.arachne_lock.specs.Rule.{AreFirstSlots};
-ghost use Rattle.arachne_lock.specs.Steps.{idle, HasTaken, HasSlot, HasVisited, IsReturnable};
+ghost use Rattle.arachne_lock.specs.Steps.{idle, HasTaken, HasSlot, HasVisited, IsReturnable, IsReturned};
 ghost use Rattle.arachne_lock.specs.Calls.{AskAnswer, FreeAnswer, WithdrawAnswer, CheckAnswer};
 
-use crate::answer::{AskFault, Asked, Freed, NotHolder, Tried, Withdrawn};
-use crate::guarded_state::GuardedState;
-use crate::lock_seat::LockSeat;
-use crate::steps::{Deal, GiveBack, LockRule, Take};
-use crate::view::Known;
+use crate::answer::{Admitted, AskRefusal, Attempt, NotOwner, Released, Withdrawn};
+use crate::guarded_lock::GuardedLock;
+use crate::lock_set_seat::LockSetSeat;
+use crate::steps::{Divide, LockRule, ReturnGuard, TakeGuard};
+use crate::view::KnownLocks;
 use atomic_table::{Seat, Table};
 use std::alloc::{AllocError, Global};
 use std::marker::Model;
@@ -35,7 +35,7 @@ const TAKEN: u64 = 1;
 /// return `Contended`, and nothing has changed; else they give the answer of the lock's state.
 #[derive(Drop)]
 pub struct Locks {
-    table: Table<GuardedState, Known, usize, LockRule, Global>,
+    table: Table<GuardedLock, KnownLocks, usize, LockRule, Global>,
     count: usize,
 }
 
@@ -72,19 +72,19 @@ fn first_words(alloc: Global, count: usize) -> Result<Vec<u64>, AllocError>
 }
 
 /// The slots of so many locks.
-fn first_slots(alloc: Global, count: usize) -> Result<Vec<GuardedState>, AllocError>
+fn first_slots(alloc: Global, count: usize) -> Result<Vec<GuardedLock>, AllocError>
     ensures { IfOk result (λ slots. AreFirstSlots count slots.items) }
 {
     let mut slots = Vec::with_capacity(alloc, count)?;
     for _ in 0..count {
-        slots.push(GuardedState::new(alloc))?;
+        slots.push(GuardedLock::new(alloc))?;
     }
     Ok(slots)
 }
 
 impl Locks {
     /// So many locks, of which there may be none, each of which nobody has asked for yet, and the first seat.
-    pub fn new(alloc: Global, count: usize) -> Result<(Locks, LockSeat), AllocError>
+    pub fn new(alloc: Global, count: usize) -> Result<(Locks, LockSetSeat), AllocError>
         ensures count { IfOk result (λ made. made.0.count ≡ count) }
         ensures seat { IfOk result (λ made. made.1 ≡ first_seat made.0) }
     {
@@ -93,7 +93,7 @@ impl Locks {
         let Ok((table, seat)) = Table::new(alloc, words.as_slice(), slots, &count) else {
             return Err(AllocError);
         };
-        Ok((Locks { table, count }, LockSeat { seat }))
+        Ok((Locks { table, count }, LockSetSeat { seat }))
     }
 
     /// The number of locks.
@@ -107,89 +107,94 @@ impl Locks {
     ///
     /// One that is in already is told so. Memory is taken only where it has to wait; where it is refused nothing
     /// changes.
-    pub fn ask(&self, seat: &mut LockSeat, lock: usize, who: u64) -> Tried<Result<Asked, AskFault>>
+    pub fn ask(
+        &self,
+        seat: &mut LockSetSeat,
+        lock: usize,
+        who: u64,
+    ) -> Attempt<Result<Admitted, AskRefusal>>
         requires { IsLockAt self.now seat.old.table lock }
         ensures own { IsSeatOf self.now seat.new }
         ensures answer { AskAnswer lock who seat.old result seat.new }
     {
         if !self.take(&mut seat.seat, lock) {
-            return Tried::Contended;
+            return Attempt::Contended;
         }
         let answer = self.ask_guarded(&mut seat.seat, lock, who);
         self.give_back(&mut seat.seat, lock);
-        Tried::Answered(answer)
+        Attempt::Answered(answer)
     }
 
     /// Frees a lock, which goes to the one that has waited longest, if any waits. One that doesn't own it is told so.
     pub fn free(
         &self,
-        seat: &mut LockSeat,
+        seat: &mut LockSetSeat,
         lock: usize,
         who: u64,
-    ) -> Tried<Result<Freed, NotHolder>>
+    ) -> Attempt<Result<Released, NotOwner>>
         requires { IsLockAt self.now seat.old.table lock }
         ensures own { IsSeatOf self.now seat.new }
         ensures answer { FreeAnswer lock who seat.old result seat.new }
     {
         if !self.take(&mut seat.seat, lock) {
-            return Tried::Contended;
+            return Attempt::Contended;
         }
         let answer = self.free_guarded(&mut seat.seat, lock, who);
         self.give_back(&mut seat.seat, lock);
-        Tried::Answered(answer)
+        Attempt::Answered(answer)
     }
 
     /// Leaves the queue of a lock, as where a future is dropped that waits. One that was granted the lock meanwhile is
     /// told so, and has to free it.
-    pub fn withdraw(&self, seat: &mut LockSeat, lock: usize, who: u64) -> Tried<Withdrawn>
+    pub fn withdraw(&self, seat: &mut LockSetSeat, lock: usize, who: u64) -> Attempt<Withdrawn>
         requires { IsLockAt self.now seat.old.table lock }
         ensures own { IsSeatOf self.now seat.new }
         ensures answer { WithdrawAnswer lock who seat.old result seat.new }
     {
         if !self.take(&mut seat.seat, lock) {
-            return Tried::Contended;
+            return Attempt::Contended;
         }
         let answer = self.withdraw_guarded(&mut seat.seat, lock, who);
         self.give_back(&mut seat.seat, lock);
-        Tried::Answered(answer)
+        Attempt::Answered(answer)
     }
 
     /// The number of the grant by which it holds a lock, and `None` where it doesn't.
-    pub fn check(&self, seat: &mut LockSeat, lock: usize, who: u64) -> Tried<Option<u64>>
+    pub fn check(&self, seat: &mut LockSetSeat, lock: usize, who: u64) -> Attempt<Option<u64>>
         requires { IsLockAt self.now seat.old.table lock }
         ensures own { IsSeatOf self.now seat.new }
         ensures answer { CheckAnswer lock who seat.old result seat.new }
     {
         if !self.take(&mut seat.seat, lock) {
-            return Tried::Contended;
+            return Attempt::Contended;
         }
         let answer = self.check_guarded(&mut seat.seat, lock, who);
         self.give_back(&mut seat.seat, lock);
-        Tried::Answered(answer)
+        Attempt::Answered(answer)
     }
 
     /// A seat for another kernel thread, which has seen what this one has and done nothing.
-    pub fn split(&self, seat: &mut LockSeat) -> LockSeat
+    pub fn split(&self, seat: &mut LockSetSeat) -> LockSetSeat
         requires { IsSeatOf self.now seat.old }
         ensures first { seat.new ≡ seat.old }
         ensures second { result ≡ second_half seat.old }
     {
-        let other = self.table.shared.split_seat::<Deal>(&mut seat.seat);
-        LockSeat { seat: other }
+        let other = self.table.shared.split_seat::<Divide>(&mut seat.seat);
+        LockSetSeat { seat: other }
     }
 
     /// Takes in another seat, with what it has done and seen.
-    pub fn join(&self, seat: &mut LockSeat, other: LockSeat)
+    pub fn join(&self, seat: &mut LockSetSeat, other: LockSetSeat)
         requires seat { IsSeatOf self.now seat.old }
         requires other { IsSeatOf self.now other }
         ensures { seat.new ≡ joined_with seat.old other }
     {
-        let LockSeat { seat: spent } = other;
-        self.table.shared.join_seat::<Deal>(&mut seat.seat, spent);
+        let LockSetSeat { seat: spent } = other;
+        self.table.shared.join_seat::<Divide>(&mut seat.seat, spent);
     }
 
     /// Tries a guard once. Won, the lock's state has come to the seat.
-    fn take(&self, seat: &mut Seat<GuardedState, Known>, lock: usize) -> bool
+    fn take(&self, seat: &mut Seat<GuardedLock, KnownLocks>, lock: usize) -> bool
         requires at { IsLockAt self.now seat.old.table_id lock }
         requires idle { seat.old.me ≡ idle seat.old.me.0.log }
         ensures own { seat.new.table_id ≡ seat.old.table_id }
@@ -198,27 +203,26 @@ impl Locks {
             (seat.new.me ≡ idle (contended_log seat.old.me.0.log lock)) }
     {
         let shared = &self.table.shared;
-        shared.compare_exchange::<Take>(seat, guard_word(lock), HOME, TAKEN) == HOME
+        shared.compare_exchange::<TakeGuard>(seat, guard_word(lock), HOME, TAKEN) == HOME
     }
 
     /// Gives a guard back, and with it the lock's state.
-    fn give_back(&self, seat: &mut Seat<GuardedState, Known>, lock: usize)
+    fn give_back(&self, seat: &mut Seat<GuardedLock, KnownLocks>, lock: usize)
         requires at { IsLockAt self.now seat.old.table_id lock }
-        requires guarded { (history : List LockEvent) × (guarded : Guarded) × IsReturnable lock history seat.old.me guarded }
+        requires guarded { (history : List QueueEvent) × (guarded : Guarded) × IsReturnable lock history seat.old.me guarded }
         ensures own { seat.new.table_id ≡ seat.old.table_id }
-        ensures told { (history : List LockEvent) (guarded : Guarded) → IsReturnable lock history seat.old.me guarded
-            → seat.new.me ≡ idle (given_back_log seat.old.me.0.log lock history guarded.events) }
+        ensures told { IsReturned lock seat.old.me seat.new.me }
     {
         let shared = &self.table.shared;
-        shared.store::<GiveBack>(seat, guard_word(lock), HOME);
+        shared.store::<ReturnGuard>(seat, guard_word(lock), HOME);
     }
 
     fn ask_guarded(
         &self,
-        seat: &mut Seat<GuardedState, Known>,
+        seat: &mut Seat<GuardedLock, KnownLocks>,
         lock: usize,
         who: u64,
-    ) -> Result<Asked, AskFault>
+    ) -> Result<Admitted, AskRefusal>
         requires { HasSlot self.now seat.old.table_id seat.old.me lock }
         ensures asked { HasVisited lock seat.old.table_id seat.new.table_id seat.old.me seat.new.me (λ old new. IsAsked old new who result) (asked_events who result) }
     {
@@ -227,10 +231,10 @@ impl Locks {
 
     fn free_guarded(
         &self,
-        seat: &mut Seat<GuardedState, Known>,
+        seat: &mut Seat<GuardedLock, KnownLocks>,
         lock: usize,
         who: u64,
-    ) -> Result<Freed, NotHolder>
+    ) -> Result<Released, NotOwner>
         requires { HasSlot self.now seat.old.table_id seat.old.me lock }
         ensures freed { HasVisited lock seat.old.table_id seat.new.table_id seat.old.me seat.new.me (λ old new. IsFreed old new who result) (freed_events who result) }
     {
@@ -239,7 +243,7 @@ impl Locks {
 
     fn withdraw_guarded(
         &self,
-        seat: &mut Seat<GuardedState, Known>,
+        seat: &mut Seat<GuardedLock, KnownLocks>,
         lock: usize,
         who: u64,
     ) -> Withdrawn
@@ -251,7 +255,7 @@ impl Locks {
 
     fn check_guarded(
         &self,
-        seat: &mut Seat<GuardedState, Known>,
+        seat: &mut Seat<GuardedLock, KnownLocks>,
         lock: usize,
         who: u64,
     ) -> Option<u64>

@@ -1,12 +1,12 @@
 //! The rule of the table, and the kinds of step on it. These types are for proofs alone.
-use crate::guarded_state::GuardedState;
-use crate::view::Known;
+use crate::guarded_lock::GuardedLock;
+use crate::view::KnownLocks;
 use atomic_table::{Join, Play, Split, TableRule};
 
 /// Each lock has one history. The table is told how many locks there are.
 pub struct LockRule;
 
-impl TableRule<GuardedState, Known, usize> for LockRule {
+impl TableRule<GuardedLock, KnownLocks, usize> for LockRule {
     ghost use Rattle.arachne_lock.specs.Rule.{IsKept, first_view};
 
     ghost holds = { IsKept };
@@ -15,26 +15,26 @@ impl TableRule<GuardedState, Known, usize> for LockRule {
 }
 
 /// One try to take a lock's guard.
-pub(crate) struct Take;
+pub(crate) struct TakeGuard;
 
-impl Play<GuardedState, Known> for Take {
+impl Play<GuardedLock, KnownLocks> for TakeGuard {
     ghost use Rattle.arachne_lock.specs.Steps.{Takes};
 
     ghost then = { Takes };
 }
 
 /// A lock's guard is given back.
-pub(crate) struct GiveBack;
+pub(crate) struct ReturnGuard;
 
-impl Play<GuardedState, Known> for GiveBack {
+impl Play<GuardedLock, KnownLocks> for ReturnGuard {
     ghost use Rattle.arachne_lock.specs.Steps.{GivesBack};
 
     ghost then = { λ step before found after. GivesBack step before after };
 }
 
-pub(crate) struct Deal;
+pub(crate) struct Divide;
 
-impl Split<Known> for Deal {
+impl Split<KnownLocks> for Divide {
     ghost use Rattle.arachne_lock.specs.Rule.{second_view};
 
     ghost left = { λ v. v };
@@ -42,7 +42,7 @@ impl Split<Known> for Deal {
     ghost right = { second_view };
 }
 
-impl Join<Known> for Deal {
+impl Join<KnownLocks> for Divide {
     ghost use Rattle.arachne_lock.specs.Rule.{blank, joined_view};
 
     ghost both = { joined_view };

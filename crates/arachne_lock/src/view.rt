@@ -1,18 +1,18 @@
 //! What a seat knows of a set of locks. These types are for proofs alone: no value of them is made.
-use crate::LockEvent;
+use crate::QueueEvent;
 use std::collections::LinkedList;
 
 /// An event that a seat made, with its lock and its place in that lock's history.
-pub struct PlacedEvent {
+pub struct LoggedEvent {
     pub lock: usize,
     pub at: usize,
-    pub event: LockEvent,
+    pub event: QueueEvent,
 }
 
 /// A lock's history, as a seat saw it.
 pub struct Sight {
     pub lock: usize,
-    pub history: LinkedList<LockEvent>,
+    pub history: LinkedList<QueueEvent>,
 }
 
 /// One try to take a lock's guard, and what stood in its word.
@@ -22,9 +22,9 @@ pub struct Try {
 }
 
 /// What a seat has done and seen.
-pub struct SeatLog {
+pub struct EventLog {
     /// The events that it made, oldest first.
-    pub made: LinkedList<PlacedEvent>,
+    pub made: LinkedList<LoggedEvent>,
     /// The histories that it saw, the newest first.
     pub seen: LinkedList<Sight>,
     /// The tries that it made, the newest first.
@@ -32,7 +32,7 @@ pub struct SeatLog {
 }
 
 /// A seat's log, and the lock whose state is out with it, if one is.
-pub struct Known {
+pub struct KnownLocks {
     pub out: Option<Sight>,
-    pub log: SeatLog,
+    pub log: EventLog,
 }

@@ -2,7 +2,7 @@
 ghost use Rattle.std.specs.Prelude.{◌<◌};
 ghost use Rattle.arachne_lock.specs.Views.{IsSeatOf, IsLockAt};
 
-use arachne_lock::{AskFault, LockSeat, Locks, Tried};
+use arachne_lock::{AskRefusal, Attempt, LockSetSeat, Locks};
 use std::alloc::{AllocError, Global};
 use std::thread;
 use std::thread::Threads;
@@ -23,7 +23,7 @@ fn poll(polls_left: &mut u64) -> Option<()> {
 /// Asks for a lock, and looks until it is held. The number of the grant.
 fn enter(
     locks: &Locks,
-    seat: &mut LockSeat,
+    seat: &mut LockSetSeat,
     lock: usize,
     who: u64,
     polls_left: &mut u64,
@@ -33,13 +33,13 @@ fn enter(
 {
     for _ in 0..MOST_POLLS {
         match locks.ask(seat, lock, who) {
-            Tried::Answered(Ok(_)) => break,
-            Tried::Answered(Err(AskFault::AlreadyIn)) => return None,
-            Tried::Answered(Err(AskFault::Memory)) | Tried::Contended => poll(polls_left)?,
+            Attempt::Answered(Ok(_)) => break,
+            Attempt::Answered(Err(AskRefusal::AlreadyIn)) => return None,
+            Attempt::Answered(Err(AskRefusal::Memory)) | Attempt::Contended => poll(polls_left)?,
         }
     }
     for _ in 0..MOST_POLLS {
-        if let Tried::Answered(Some(at)) = locks.check(seat, lock, who) {
+        if let Attempt::Answered(Some(at)) = locks.check(seat, lock, who) {
             return Some(at);
         }
         poll(polls_left)?;
@@ -50,7 +50,7 @@ fn enter(
 /// Frees a lock. None where it wasn't held.
 fn leave(
     locks: &Locks,
-    seat: &mut LockSeat,
+    seat: &mut LockSetSeat,
     lock: usize,
     who: u64,
     polls_left: &mut u64,
@@ -59,7 +59,7 @@ fn leave(
     ensures { IsSeatOf locks.now seat.new }
 {
     for _ in 0..MOST_POLLS {
-        if let Tried::Answered(freed) = locks.free(seat, lock, who) {
+        if let Attempt::Answered(freed) = locks.free(seat, lock, who) {
             return freed.ok().map(|_| ());
         }
         poll(polls_left)?;
@@ -69,7 +69,7 @@ fn leave(
 
 /// Holds each of two locks in turn, so many times as there are rounds. How often it held one, by grants whose numbers
 /// rise.
-fn hold_each(locks: &Locks, seat: &mut LockSeat, who: u64) -> Option<u64>
+fn hold_each(locks: &Locks, seat: &mut LockSetSeat, who: u64) -> Option<u64>
     requires own { IsSeatOf locks.now seat.old }
     ensures { IsSeatOf locks.now seat.new }
 {
@@ -91,7 +91,7 @@ fn hold_each(locks: &Locks, seat: &mut LockSeat, who: u64) -> Option<u64>
     Some(held)
 }
 
-fn work(locks: &Locks, mut seat: LockSeat, who: u64) -> (LockSeat, Option<u64>)
+fn work(locks: &Locks, mut seat: LockSetSeat, who: u64) -> (LockSetSeat, Option<u64>)
     requires own { IsSeatOf locks.now seat }
     ensures { IsSeatOf locks.now result.0 }
 {

@@ -2,7 +2,9 @@
 ghost use Rattle.std.specs.Prelude.{◌<◌};
 ghost use Rattle.arachne_lock.specs.Views.{IsSeatOf, IsLockAt};
 
-use arachne_lock::{AskFault, Asked, Freed, LockSeat, Locks, NotHolder, Tried, Withdrawn};
+use arachne_lock::{
+    Admitted, AskRefusal, Attempt, LockSetSeat, Locks, NotOwner, Released, Withdrawn,
+};
 use std::alloc::AllocError;
 
 /// What is called.
@@ -42,19 +44,19 @@ const ROWS: &[Row] = &[
     (Call::Free, 1, 8, ("freed", 2, None)),
 ];
 
-fn told_ask(asked: Result<Asked, AskFault>) -> Answer {
+fn told_ask(asked: Result<Admitted, AskRefusal>) -> Answer {
     match asked {
-        Ok(Asked::Granted { at }) => ("granted", at, None),
-        Ok(Asked::Queued { at }) => ("queued", at, None),
-        Err(AskFault::AlreadyIn) => ("already in", 0, None),
-        Err(AskFault::Memory) => ("no memory", 0, None),
+        Ok(Admitted::Granted { at }) => ("granted", at, None),
+        Ok(Admitted::Queued { at }) => ("queued", at, None),
+        Err(AskRefusal::AlreadyIn) => ("already in", 0, None),
+        Err(AskRefusal::Memory) => ("no memory", 0, None),
     }
 }
 
-fn told_free(freed: Result<Freed, NotHolder>) -> Answer {
+fn told_free(freed: Result<Released, NotOwner>) -> Answer {
     match freed {
-        Ok(Freed { next, at }) => ("freed", at, next),
-        Err(NotHolder) => ("not its holder", 0, None),
+        Ok(Released { next, at }) => ("freed", at, next),
+        Err(NotOwner) => ("not its holder", 0, None),
     }
 }
 
@@ -76,7 +78,7 @@ fn told_check(checked: Option<u64>) -> Answer {
 /// The answer to a call. None where the lock was found taken.
 fn answer_to(
     locks: &Locks,
-    seat: &mut LockSeat,
+    seat: &mut LockSetSeat,
     call: Call,
     lock: usize,
     who: u64,
@@ -86,26 +88,26 @@ fn answer_to(
 {
     match call {
         Call::Ask => match locks.ask(seat, lock, who) {
-            Tried::Answered(asked) => Some(told_ask(asked)),
-            Tried::Contended => None,
+            Attempt::Answered(asked) => Some(told_ask(asked)),
+            Attempt::Contended => None,
         },
         Call::Check => match locks.check(seat, lock, who) {
-            Tried::Answered(checked) => Some(told_check(checked)),
-            Tried::Contended => None,
+            Attempt::Answered(checked) => Some(told_check(checked)),
+            Attempt::Contended => None,
         },
         Call::Free => match locks.free(seat, lock, who) {
-            Tried::Answered(freed) => Some(told_free(freed)),
-            Tried::Contended => None,
+            Attempt::Answered(freed) => Some(told_free(freed)),
+            Attempt::Contended => None,
         },
         Call::Withdraw => match locks.withdraw(seat, lock, who) {
-            Tried::Answered(withdrawn) => Some(told_withdraw(withdrawn)),
-            Tried::Contended => None,
+            Attempt::Answered(withdrawn) => Some(told_withdraw(withdrawn)),
+            Attempt::Contended => None,
         },
     }
 }
 
 /// The first row that is answered otherwise, if one is.
-fn first_wrong(locks: &Locks, seat: &mut LockSeat) -> Option<usize>
+fn first_wrong(locks: &Locks, seat: &mut LockSetSeat) -> Option<usize>
     requires own { IsSeatOf locks.now seat.old }
     ensures { IsSeatOf locks.now seat.new }
 {

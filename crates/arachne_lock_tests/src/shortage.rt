@@ -3,7 +3,7 @@
 ghost use Rattle.std.specs.Prelude.{◌≡◌, ◌<◌, IfOk};
 ghost use Rattle.arachne_lock.specs.Views.{IsSeatOf, IsLockAt};
 
-use arachne_lock::{AskFault, Asked, Freed, LockSeat, Locks, Tried, Withdrawn};
+use arachne_lock::{Admitted, AskRefusal, Attempt, LockSetSeat, Locks, Released, Withdrawn};
 use arachne_shortage::Hoard;
 use std::alloc::{AllocError, Global};
 
@@ -18,22 +18,22 @@ const TRIES: u64 = 100_000;
 const CROWD: u64 = 900;
 
 /// Holds a lock that is free, and frees it.
-fn is_held_and_freed(locks: &Locks, seat: &mut LockSeat, lock: usize) -> bool
+fn is_held_and_freed(locks: &Locks, seat: &mut LockSetSeat, lock: usize) -> bool
     requires { IsLockAt locks.now seat.old.table lock }
     ensures { IsSeatOf locks.now seat.new }
 {
-    let Tried::Answered(Ok(Asked::Granted { at: _ })) = locks.ask(seat, lock, 7) else {
+    let Attempt::Answered(Ok(Admitted::Granted { at: _ })) = locks.ask(seat, lock, 7) else {
         return false;
     };
     matches!(
         locks.free(seat, lock, 7),
-        Tried::Answered(Ok(Freed { next: None, at: _ }))
+        Attempt::Answered(Ok(Released { next: None, at: _ }))
     )
 }
 
 /// The crowd asks for a lock, each until there is memory for it. How often there was none, if the lock was as before
 /// each time.
-fn all_ask(locks: &Locks, seat: &mut LockSeat, lock: usize, hoard: &mut Hoard) -> Option<u64>
+fn all_ask(locks: &Locks, seat: &mut LockSetSeat, lock: usize, hoard: &mut Hoard) -> Option<u64>
     requires { IsLockAt locks.now seat.old.table lock }
     ensures { IsSeatOf locks.now seat.new }
 {
@@ -43,12 +43,12 @@ fn all_ask(locks: &Locks, seat: &mut LockSeat, lock: usize, hoard: &mut Hoard) -
             return Some(refused);
         }
         match locks.ask(seat, lock, who) {
-            Tried::Answered(Ok(_)) => {
+            Attempt::Answered(Ok(_)) => {
                 who = who.wrapping_add(1);
                 hoard.take_again().ok()?;
             }
-            Tried::Answered(Err(AskFault::Memory)) => {
-                let Tried::Answered(Withdrawn::Outside) = locks.withdraw(seat, lock, who) else {
+            Attempt::Answered(Err(AskRefusal::Memory)) => {
+                let Attempt::Answered(Withdrawn::Outside) = locks.withdraw(seat, lock, who) else {
                     return None;
                 };
                 refused = refused.wrapping_add(1);
@@ -61,13 +61,13 @@ fn all_ask(locks: &Locks, seat: &mut LockSeat, lock: usize, hoard: &mut Hoard) -
 }
 
 /// The crowd frees the lock in turn, for which no memory is wanted. How many did.
-fn all_free(locks: &Locks, seat: &mut LockSeat, lock: usize) -> u64
+fn all_free(locks: &Locks, seat: &mut LockSetSeat, lock: usize) -> u64
     requires { IsLockAt locks.now seat.old.table lock }
     ensures { IsSeatOf locks.now seat.new }
 {
     let mut freed = 0u64;
     for who in 0..CROWD {
-        if let Tried::Answered(Ok(_)) = locks.free(seat, lock, who) {
+        if let Attempt::Answered(Ok(_)) = locks.free(seat, lock, who) {
             freed = freed.wrapping_add(1);
         }
     }
@@ -75,7 +75,7 @@ fn all_free(locks: &Locks, seat: &mut LockSeat, lock: usize) -> u64
 }
 
 // Under `rt try --test --fail-alloc N` the Nth allocation is refused. A call that answers so is made once more.
-fn make(alloc: Global) -> Result<(Locks, LockSeat), AllocError>
+fn make(alloc: Global) -> Result<(Locks, LockSetSeat), AllocError>
     ensures { IfOk result (λ made. IsSeatOf made.0 made.1 × (made.0.count ≡ 1)) }
 {
     match Locks::new(alloc, 1) {

@@ -5,7 +5,7 @@ use denote.Struct.Struct.{Struct}
 use denote.Param.Send.{IsSend, AllSend, sendable, recorded_send, struct_send}
 use Rattle.std.proofs.Crossing as std
 use Rattle.rand_xoshiro.proofs.xoshiro256.Xoshiro256PlusPlus.TheSendSync as chooser
-use Rattle.arachne_pool.proofs.orders.Orders.TheSendSync as orders
+use Rattle.arachne_pool.proofs.orders.PoolOrders.TheSendSync as orders
 use Rattle.arachne_contexts.specs.declared.tagged.Tagged as tagged
 use Rattle.arachne_join.proofs.Crossing.{sender_send, receiver_send, unused_send}
 use Rattle.arachne_join.specs.declared.fits.Fits as fits
@@ -14,17 +14,17 @@ use Rattle.std.specs.contracts.alloc.Global as heap
 use Rattle.std.specs.contracts.impls.GlobalAllocator.TheImpl as heap_impl
 use Rattle.std.specs.contracts.vec.Vec as Vec
 use Rattle.arachne_pool.specs.declared.job.PoolJob as pool_job
-use Rattle.arachne_pool.specs.contracts.outcome.Outcome as outcome
-use Rattle.arachne_pool.specs.contracts.outcome.Wanted as wanted
-use Rattle.arachne_pool.proofs.outcome.Outcome.TheSendSync as outcome_own
-use Rattle.arachne_pool.specs.contracts.outcome.OutcomeFitsWanted.TheImpl as fits_impl
+use Rattle.arachne_pool.specs.contracts.outcome.JobOutcome as outcome
+use Rattle.arachne_pool.specs.contracts.outcome.WantedResult as wanted
+use Rattle.arachne_pool.proofs.outcome.JobOutcome.TheSendSync as outcome_own
+use Rattle.arachne_pool.specs.contracts.outcome.JobOutcomeFitsWantedResult.TheImpl as fits_impl
 use Rattle.arachne_pool.specs.contracts.links.Links as links
 use Rattle.arachne_pool.specs.contracts.links.Links.TheInside as links_inside
 use Rattle.arachne_pool.specs.contracts.spawned.Spawned as spawned
 use Rattle.arachne_pool.specs.contracts.spawned.Spawned.TheInside as spawned_inside
 use Rattle.arachne_pool.specs.contracts.bench.Bench as bench
-use Rattle.arachne_pool.specs.contracts.stack.Frame as frame
-use Rattle.arachne_pool.specs.contracts.stack.Frame.TheInside as frame_inside
+use Rattle.arachne_pool.specs.contracts.stack.JobFrame as frame
+use Rattle.arachne_pool.specs.contracts.stack.JobFrame.TheInside as frame_inside
 use Rattle.arachne_pool.specs.contracts.stack.Stack as stack
 use Rattle.arachne_pool.specs.contracts.stack.Stack.TheInside as stack_inside
 use Rattle.arachne_arbiter.proofs.pace.Pace.TheSendSync as pace

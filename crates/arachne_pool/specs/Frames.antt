@@ -1,8 +1,8 @@
 -- A job and those that run in its place.
 use Rattle.std.specs.Prelude.{◌≡◌, ℕ, ◌+◌, ◌-◌, ◌^◌, ◌<◌, ◌≤◌, Bool, false, List, [], ◌∷◌, Option, None, Some, IfSome, drop, take}
 use Rattle.arachne_pool.specs.Jobs.{KeepsResults, children_of}
-use Rattle.arachne_pool.specs.declared.stop.Stop.{Stop}
-use Rattle.arachne_pool.specs.declared.stop.Stop.TheVariants.{Goes}
+use Rattle.arachne_pool.specs.declared.stop.JobStop.{JobStop}
+use Rattle.arachne_pool.specs.declared.stop.JobStop.TheVariants.{Goes}
 use Rattle.arachne_pool.specs.declared.tally.Tally.{Tally}
 
 -- one of these: as it was forked, as it is now, and how many children it has forked and not joined, beside one that runs
@@ -28,7 +28,7 @@ abbrev pub KeepsMany : {Job Output : Type 0} → Stacked Job Output → Stacked 
 KeepsMany old new = (new.asked ≡ old.asked) × (new.many ≡ old.many)
 
 -- where it goes on it has got what it has asked for, and is to get nothing more
-abbrev pub IsServed : {Job Output : Type 0} → Stop → Stacked Job Output → Type 0
+abbrev pub IsServed : {Job Output : Type 0} → JobStop → Stacked Job Output → Type 0
 IsServed stop new = stop ≡ Goes → new.waits ≡ false
 
 -- the job, unless it has ended

@@ -4,13 +4,13 @@ use Rattle.arachne_contexts.specs.declared.answers.Rested.{Rested}
 use Rattle.arachne_contexts.specs.declared.answers.Rested.TheVariants as rested
 use Rattle.arachne_core.specs.declared.state.Rest.{Rest}
 use Rattle.arachne_core.specs.declared.state.Rest.TheVariants as rest
-use Rattle.arachne_pool.specs.declared.stop.Stop as job
-use Rattle.arachne_pool.specs.declared.stop.Stop.TheVariants.{Goes, Waits, Sleeps, Forks, LetsGo, Ends, Short}
-use Rattle.arachne_workers.specs.declared.desk.Stop as loop
-use Rattle.arachne_workers.specs.declared.desk.Stop.TheVariants as loop_stop
+use Rattle.arachne_pool.specs.declared.stop.JobStop as job
+use Rattle.arachne_pool.specs.declared.stop.JobStop.TheVariants.{Goes, Waits, Sleeps, Forks, LetsGo, Ends, Short}
+use Rattle.arachne_workers.specs.declared.desk.ThreadStop as loop
+use Rattle.arachne_workers.specs.declared.desk.ThreadStop.TheVariants as loop_stop
 
 -- it is put back as blocked where it waits or sleeps, and else as ready
-abbrev pub blocks_after : job.Stop → Bool
+abbrev pub blocks_after : job.JobStop → Bool
 blocks_after Goes = false
 blocks_after Waits = true
 blocks_after Sleeps = true
@@ -25,7 +25,7 @@ rests_as rested.AsAsked asked = asked
 rests_as rested.WokenMeanwhile asked = rest.Ready
 
 -- what the worker's loop learns. Nothing yet where a child that waits beside it may get a place first
-abbrev pub learned_after : job.Stop → Option loop.Stop
+abbrev pub learned_after : job.JobStop → Option loop.ThreadStop
 learned_after Goes = None
 learned_after Waits = Some loop_stop.Blocks
 learned_after Sleeps = Some loop_stop.Blocks

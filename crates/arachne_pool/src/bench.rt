@@ -6,8 +6,8 @@ ghost use Rattle.arachne_pool.specs.Jobs.{one};
 
 use crate::idle::WasShort;
 use crate::job::PoolJob;
-use crate::orders::Orders;
-use crate::outcome::{Cells, ResultReceiver, Wanted};
+use crate::orders::PoolOrders;
+use crate::outcome::{Cells, ResultReceiver, WantedResult};
 use crate::spawned::Spawned;
 use crate::statistics::Statistics;
 use crate::tally::{News, Tally};
@@ -31,7 +31,7 @@ pub(crate) struct Bench<J: PoolJob> {
     pub(crate) told: Tally,
     /// What it has done since it told of that.
     pub(crate) done: Statistics,
-    pub(crate) orders: Orders,
+    pub(crate) orders: PoolOrders,
     /// Memory was refused, and nobody was told yet.
     pub(crate) is_short: bool,
     /// A job has ended since this was looked at last.
@@ -55,7 +55,7 @@ impl<J: PoolJob> Bench<J> {
             tally: Tally::new(),
             told: Tally::new(),
             done: Statistics::new(),
-            orders: Orders::none(),
+            orders: PoolOrders::none(),
             is_short: false,
             has_ended: false,
         }
@@ -174,7 +174,7 @@ fn open<J: PoolJob>(
     ensures job { IfOk result (λ begun. begun.1 ≡ one (J.tag_of job) job None) }
     ensures handed_back { IfErr result (λ back. back ≡ job) }
 {
-    let wanted = Wanted {
+    let wanted = WantedResult {
         job: Snapshot::of(&job),
     };
     match cells.open(alloc, &wanted) {

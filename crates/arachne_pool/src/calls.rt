@@ -13,7 +13,7 @@ use crate::spawned::Spawned;
 use crate::spawning::{Refusal, Refused};
 use crate::worker::{PoolFault, Worker};
 use arachne_contexts::{Contexts, Seats};
-use arachne_workers::Worker as Loop;
+use arachne_workers::CoreWorker;
 use std::mem::replace;
 use std::sync::Wait;
 use std::time::Clock;
@@ -79,7 +79,8 @@ impl<C: Seats> Pool<C> {
     }
 
     /// One round on a core: orders that are due are applied, each job that is ready there has a slice, and a job of the
-    /// worker that waits for a place gets one. Whether there was any.
+    /// worker that waits for a place gets one. Where there is none it takes over a job that is ready on another core, for
+    /// which a kernel thread has come to `work`, and to which that one has not come. Whether there was any.
     pub fn turn<'a, H: Wait + Clock, J: PoolJob>(
         &'a self,
         rt: &'a H,
@@ -117,6 +118,7 @@ impl<C: Seats> Pool<C> {
         ensures seat { HasSeatAfter worker.new.seat result }
         ensures same { WorksFor core worker.new }
     {
+        self.live.works_for(core);
         match self.operate(rt, worker, core, Call::Work, None) {
             Came::Ran(Ok(_)) => {
                 self.tell_if_over();
@@ -210,7 +212,7 @@ impl<C: Seats> Pool<C> {
         let core = worker.core;
         let mut kernel = self.open(rt, worker, seat, call);
         let came = go_on(&mut kernel, handle);
-        let Loop {
+        let CoreWorker {
             agenda,
             pace,
             desk,
@@ -248,7 +250,7 @@ impl<C: Seats> Pool<C> {
         worker: &mut Worker<C::Seat, J>,
         seat: C::Seat,
         call: Call,
-    ) -> Loop<'a, H, Seat<'a, H, J, C>>
+    ) -> CoreWorker<'a, H, Seat<'a, H, J, C>>
     where
         C: Contexts<Spawned<J>>,
         requires seat { IsIdleAt C.sits C.idle self.now.table seat }
@@ -264,7 +266,7 @@ impl<C: Seats> Pool<C> {
             pace,
             ..
         } = replace(worker, empty);
-        Loop {
+        CoreWorker {
             rt,
             shared: &self.shared,
             core,

@@ -8,7 +8,7 @@ ghost use Rattle.arachne_pool.specs.Leftover.{IsWhole, count_placed};
 
 use crate::bench::Bench;
 use crate::job::PoolJob;
-use crate::orders::Orders;
+use crate::orders::PoolOrders;
 use crate::pool::Pool;
 use crate::spawned::Spawned;
 use crate::tally::Tally;
@@ -65,7 +65,7 @@ impl<C: Seats + Drop> Pool<C> {
         ensures orders { IfOk result (λ made. made.1.arbiter ≡ Some (record { list = orders.items; cores = cores; applied = 0 })) }
         ensures core { IfOk result (λ made. HasNoCore made.0.cores made.1) }
     {
-        let orders = Orders::new(alloc, orders, cores)?;
+        let orders = PoolOrders::new(alloc, orders, cores)?;
         let (pool, seat) = Pool::<C>::with_seat(alloc, cores, slots)?;
         let mut worker = Worker::new(alloc, Some(seat), 0);
         worker.bench.orders = orders;
@@ -104,7 +104,7 @@ impl<C: Seats> Pool<C> {
                 orders.insert(0, closes_at_once(core))?;
             }
         }
-        worker.bench.orders = Orders::new(worker.bench.alloc, orders, self.cores)?;
+        worker.bench.orders = PoolOrders::new(worker.bench.alloc, orders, self.cores)?;
         Ok(())
     }
 

@@ -1,20 +1,20 @@
 //! How many jobs were spawned and have ended, as it is told, and the two looks by which those that live are counted.
-use crate::live::Told;
+use crate::live::CoreCounts;
 use crate::tally::Tally;
 use crossbeam_utils::CachePadded;
 use std::sync::atomic::{AtomicU64, Ordering};
 
 /// How many were spawned and have ended, as the workers of one core have told.
 #[derive(Drop)]
-pub(crate) struct Counts {
+pub(crate) struct JobCounts {
     spawned: AtomicU64,
     ended: AtomicU64,
 }
 
-impl Counts {
+impl JobCounts {
     /// None was spawned.
-    pub(crate) fn new() -> Counts {
-        Counts {
+    pub(crate) fn new() -> JobCounts {
+        JobCounts {
             spawned: AtomicU64::new(0),
             ended: AtomicU64::new(0),
         }
@@ -45,7 +45,7 @@ impl Counts {
     }
 }
 
-/// Those that were spawned were added. `Counts::add_spawned` alone gives one.
+/// Those that were spawned were added. `JobCounts::add_spawned` alone gives one.
 #[derive(Drop)]
 struct SpawnsAdded {
     done: (),
@@ -59,7 +59,7 @@ pub(crate) struct EndsSeen {
 
 impl EndsSeen {
     /// Looks at how many have ended.
-    pub(crate) fn look(told: &[CachePadded<Told>]) -> EndsSeen {
+    pub(crate) fn look(told: &[CachePadded<CoreCounts>]) -> EndsSeen {
         let ended = told.iter().fold(
             0u64,
             |sum, told| sum.wrapping_add(told.counts.ended.load(Ordering::SeqCst)),
@@ -68,7 +68,7 @@ impl EndsSeen {
     }
 
     /// Looks at how many were spawned. How many of these had not ended before.
-    pub(crate) fn still_live(self, told: &[CachePadded<Told>]) -> u64 {
+    pub(crate) fn still_live(self, told: &[CachePadded<CoreCounts>]) -> u64 {
         let EndsSeen { ended } = self;
         let spawned = told.iter().fold(
             0u64,

@@ -39,7 +39,7 @@ pub use answer::WakeAnswer;
 pub use closing::{Left, NotClosed};
 pub use handle::Handle;
 pub use job::{PoolJob, Step};
-pub use outcome::{Outcome, Wanted};
+pub use outcome::{JobOutcome, WantedResult};
 pub use pool::Pool;
 pub use seen::NoPlaces;
 pub use spawned::Spawned;

@@ -4,7 +4,7 @@ ghost use Rattle.std.specs.VecDeque.{deque_len};
 ghost use Rattle.arachne_pool.specs.Children.{LosesAside, LosesBegun, with_aside};
 
 use crate::job::PoolJob;
-use crate::outcome::{Cells, ResultReceiver, ResultSender, Wanted};
+use crate::outcome::{Cells, ResultReceiver, ResultSender, WantedResult};
 use std::alloc::Global;
 use std::collections::VecDeque;
 use std::marker::Model;
@@ -102,7 +102,7 @@ impl<J: PoolJob> Links<J> {
     {
         self.begun.try_reserve(1).ok()?;
         let child = self.aside.pop_front()?;
-        let wanted = Wanted {
+        let wanted = WantedResult {
             job: Snapshot::of(&child),
         };
         let Ok((receiver, sender)) = cells.open(alloc, &wanted) else {

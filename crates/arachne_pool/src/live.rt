@@ -1,5 +1,5 @@
 //! How many jobs of a pool were spawned and have ended, and what its workers have done, as they tell it.
-use crate::counting::{Counts, EndsSeen};
+use crate::counting::{EndsSeen, JobCounts};
 use crate::statistics::Statistics;
 use crate::tally::News;
 use crossbeam_utils::CachePadded;
@@ -8,25 +8,28 @@ use std::sync::atomic::{AtomicU64, Ordering};
 
 /// What the workers of one core have told.
 #[derive(Drop)]
-pub(crate) struct Told {
-    pub(crate) counts: Counts,
+pub(crate) struct CoreCounts {
+    pub(crate) counts: JobCounts,
     slices: AtomicU64,
     steps: AtomicU64,
     wakes: AtomicU64,
     rests: AtomicU64,
     overslept: AtomicU64,
+    /// 1 once a kernel thread has come to `work` for the core.
+    worked: AtomicU64,
 }
 
-impl Told {
+impl CoreCounts {
     /// Nothing was told.
-    fn new() -> Told {
-        Told {
-            counts: Counts::new(),
+    fn new() -> CoreCounts {
+        CoreCounts {
+            counts: JobCounts::new(),
             slices: AtomicU64::new(0),
             steps: AtomicU64::new(0),
             wakes: AtomicU64::new(0),
             rests: AtomicU64::new(0),
             overslept: AtomicU64::new(0),
+            worked: AtomicU64::new(0),
         }
     }
 }
@@ -41,7 +44,7 @@ pub(crate) struct AllTold {
 /// What workers have told, for each core on a cache line of its own, and behind these for those that work on none.
 #[derive(Drop)]
 pub(crate) struct Live {
-    told: Vec<CachePadded<Told>>,
+    told: Vec<CachePadded<CoreCounts>>,
 }
 
 impl Live {
@@ -49,7 +52,7 @@ impl Live {
     pub(crate) fn new(alloc: Global, cores: u8) -> Result<Live, AllocError> {
         let mut told = Vec::new(alloc);
         for _ in 0..=cores {
-            told.push(CachePadded::new(Told::new()))?;
+            told.push(CachePadded::new(CoreCounts::new()))?;
         }
         Ok(Live { told })
     }
@@ -62,6 +65,21 @@ impl Live {
             told.counts.add(news);
         }
         AllTold { done: () }
+    }
+
+    /// A kernel thread comes to `work` for this core.
+    pub(crate) fn works_for(&self, core: u8) {
+        if let Some(told) = self.told.get(usize::from(core)) {
+            told.worked.store(1, Ordering::SeqCst);
+        }
+    }
+
+    /// Whether a kernel thread has come to `work` for this core.
+    pub(crate) fn is_worked(&self, core: u8) -> bool {
+        match self.told.get(usize::from(core)) {
+            Some(told) => told.worked.load(Ordering::SeqCst) != 0,
+            None => false,
+        }
     }
 
     /// So much more was done by a worker of this core.

@@ -3,20 +3,21 @@ use std::sync::atomic::{AtomicU64, Ordering};
 
 /// Whether jobs may come though none lives.
 #[derive(Drop)]
-pub(crate) struct Open {
+pub(crate) struct OpenFlag {
     /// 1 while they may.
     word: AtomicU64,
 }
 
-/// No more jobs come. `Open::finish` alone gives one, which has stored that. It can't be dropped, so that it is heeded.
+/// No more jobs come. `OpenFlag::finish` alone gives one, which has stored that. It can't be dropped, so that it is
+/// heeded.
 pub(crate) struct Finished {
     stored: (),
 }
 
-impl Open {
+impl OpenFlag {
     /// None come.
-    pub(crate) fn new() -> Open {
-        Open {
+    pub(crate) fn new() -> OpenFlag {
+        OpenFlag {
             word: AtomicU64::new(0),
         }
     }
@@ -42,8 +43,8 @@ impl Open {
     }
 }
 
-/// No more jobs came as that was looked at. `Open::none_come` alone gives one, and the look at those that live uses it
-/// up: so that comes later, and one that came before is seen.
+/// No more jobs came as that was looked at. `OpenFlag::none_come` alone gives one, and the look at those that live uses
+/// it up: so that comes later, and one that came before is seen.
 #[derive(Drop)]
 pub(crate) struct NoneCome {
     seen: (),

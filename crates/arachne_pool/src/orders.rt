@@ -9,20 +9,20 @@ ghost use Rattle.arachne_pool.specs.Workers.{IsArbiterFor, IsOneLeft, count_orde
 use arachne_arbiter::{Arbiter, Cores};
 use arachne_contexts::{Contexts, Tagged};
 use arachne_policy::CoreOrder;
-use arachne_workers::Shared;
+use arachne_workers::SharedWords;
 use std::alloc::{AllocError, Global};
 use std::marker::Model;
 use std::sync::Wait;
 
 /// The orders of a pool, where a worker has them. Contracts see how far they are applied.
 #[derive(Drop)]
-pub(crate) struct Orders {
+pub(crate) struct PoolOrders {
     arbiter: Option<Arbiter>,
     /// How many there are, applied or not.
     count: usize,
 }
 
-impl Model for Orders {
+impl Model for PoolOrders {
     ghost use Rattle.std.specs.Prelude.{◌≡◌, Option};
     ghost use Rattle.arachne_arbiter.specs.Orders.{Progress};
     ghost use Rattle.arachne_pool.specs.Workers.{count_orders};
@@ -34,12 +34,12 @@ impl Model for Orders {
     ghost invariant = { λ o. o.count ≡ count_orders o.arbiter };
 }
 
-impl Orders {
+impl PoolOrders {
     /// None: another worker has them.
-    pub(crate) fn none() -> Orders
+    pub(crate) fn none() -> PoolOrders
         ensures { result ≡ None }
     {
-        Orders {
+        PoolOrders {
             arbiter: None,
             count: 0,
         }
@@ -50,27 +50,27 @@ impl Orders {
         alloc: Global,
         orders: Vec<CoreOrder>,
         cores: u8,
-    ) -> Result<Orders, AllocError>
+    ) -> Result<PoolOrders, AllocError>
         requires orders { AreInOrder cores orders.items }
         requires cores { cores ≤ CORES }
         ensures { IfOk result (λ made. made ≡ Some (record { list = orders.items; cores = cores; applied = 0 })) }
     {
         let count = orders.len();
         let arbiter = Arbiter::new(alloc, orders, cores)?;
-        Ok(Orders {
+        Ok(PoolOrders {
             arbiter: Some(arbiter),
             count,
         })
     }
 
     /// These, or else the other worker's.
-    pub(crate) fn or(self, other: Orders) -> Orders
+    pub(crate) fn or(self, other: PoolOrders) -> PoolOrders
         ensures kept { result ≡ option_or self other }
         ensures cores { (cores : ℕ) → IsArbiterFor cores self → IsArbiterFor cores other → IsArbiterFor cores result }
     {
-        let Orders { arbiter, count } = self;
+        let PoolOrders { arbiter, count } = self;
         match arbiter {
-            Some(arbiter) => Orders {
+            Some(arbiter) => PoolOrders {
                 arbiter: Some(arbiter),
                 count,
             },
@@ -102,7 +102,7 @@ impl Orders {
         &mut self,
         cores: &Cores<'_, H, T, C>,
         seat: &mut C::Seat,
-        shared: &Shared,
+        shared: &SharedWords,
     ) -> (Option<usize>, u64)
         requires seat { C.sits cores.now.table.now seat.old }
         requires cores { IsArbiterFor cores.now.count self.old }

@@ -8,28 +8,28 @@ use std::snapshot::Snapshot;
 
 /// What a job has ended with.
 #[derive(Drop)]
-pub struct Outcome<J: PoolJob> {
+pub struct JobOutcome<J: PoolJob> {
     pub output: J::Output,
 }
 
 /// What a cell is for: a result of this job, as it was spawned. It has no bytes.
 #[derive(Drop)]
-pub struct Wanted<J> {
+pub struct WantedResult<J> {
     pub job: Snapshot<J>,
 }
 
-impl<J: PoolJob> Fits<Wanted<J>> for Outcome<J> {
+impl<J: PoolJob> Fits<WantedResult<J>> for JobOutcome<J> {
     ghost fits = { λ wanted outcome. J.is_result wanted.job.value outcome.output };
 }
 
 /// The end of a cell at which a job leaves its result.
-pub(crate) type ResultSender<J> = Sender<Outcome<J>, Wanted<J>>;
+pub(crate) type ResultSender<J> = Sender<JobOutcome<J>, WantedResult<J>>;
 
 /// The end to which it comes.
-pub(crate) type ResultReceiver<J> = Receiver<Outcome<J>, Wanted<J>>;
+pub(crate) type ResultReceiver<J> = Receiver<JobOutcome<J>, WantedResult<J>>;
 
 /// Cells that a worker keeps for the next jobs.
-pub(crate) type Cells<J> = SpareCells<Outcome<J>, Wanted<J>>;
+pub(crate) type Cells<J> = SpareCells<JobOutcome<J>, WantedResult<J>>;
 
 /// That a result was left at its end, or dropped where nobody wants it. Only `leave_at` makes one.
 ///
@@ -57,7 +57,7 @@ pub(crate) fn leave_at<J: PoolJob>(
 {
     let left = Snapshot::of(&output);
     if let Some(sender) = sender {
-        sender.leave(Outcome { output });
+        sender.leave(JobOutcome { output });
     }
     ResultLeft { output: left }
 }

@@ -17,8 +17,8 @@ use arachne_contexts::{Contexts, Held};
 use rand_xoshiro::Xoshiro256PlusPlus;
 use std::sync::Wait;
 
-/// A place for a job: on the core with fewer jobs of two that are drawn, else on another one that has a place; for an
-/// exclusive one an empty core, if there is one. None too where memory is refused.
+/// A place for a job: on the core that `claim_normal` of `arachne_arbiter` chooses; for an exclusive one an empty core,
+/// if there is one. None too where memory is refused.
 pub(crate) fn claim<H: Wait, J: PoolJob, C: Contexts<Spawned<J>>>(
     rt: &H,
     pool: &Pool<C>,

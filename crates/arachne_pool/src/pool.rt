@@ -4,12 +4,12 @@ ghost use Rattle.arachne_core.specs.declared.layout.TheConstants.{CORES, SLOTS, 
 ghost use Rattle.arachne_weights.specs.Weight.{whole};
 
 use crate::live::Live;
-use crate::open::{Finished, NoneCome, Open};
+use crate::open::{Finished, NoneCome, OpenFlag};
 use crate::statistics::Statistics;
 use arachne_arbiter::Cores;
 use arachne_contexts::Seats;
 use arachne_core::{CORES, Place, SLOTS};
-use arachne_workers::Shared;
+use arachne_workers::SharedWords;
 use crossbeam_utils::CachePadded;
 use std::alloc::{AllocError, Global};
 use std::marker::PhantomData;
@@ -24,13 +24,13 @@ pub struct Pool<C: Seats> {
     pub cores: u8,
     /// How many jobs each core has places for, 1 to 56.
     pub slots: u8,
-    pub(crate) shared: Shared,
+    pub(crate) shared: SharedWords,
     pub(crate) live: Live,
     /// 1 while a place may be free.
     room: CachePadded<AtomicU64>,
     /// 1 once a job was to have a core for itself.
     exclusive: AtomicU64,
-    open: Open,
+    open: OpenFlag,
     ghost counted: { C.core_count table ≡ cores },
     ghost few: { cores ≤ CORES },
     ghost placed: { C.slot_count table ≡ slots },
@@ -56,7 +56,7 @@ impl<C: Seats + Drop> Pool<C> {
         ensures weight { IfOk result (λ made. C.weight made.1 ≡ whole) }
     {
         let live = Live::new(alloc, cores)?;
-        let shared = Shared::new(alloc, cores)?;
+        let shared = SharedWords::new(alloc, cores)?;
         let (table, seat) = C::new(alloc, cores, slots, 0)?;
         let pool = Pool {
             table,
@@ -66,7 +66,7 @@ impl<C: Seats + Drop> Pool<C> {
             live,
             room: CachePadded::new(AtomicU64::new(1)),
             exclusive: AtomicU64::new(0),
-            open: Open::new(),
+            open: OpenFlag::new(),
         };
         Ok((pool, seat))
     }

@@ -10,7 +10,7 @@ use crate::live::AllTold;
 use crate::pool::Pool;
 use crate::spawned::Spawned;
 use arachne_contexts::{Contexts, Placed};
-use arachne_workers::{Post, Shared};
+use arachne_workers::{PostedThread, SharedWords};
 use std::marker::Model;
 use std::snapshot::Snapshot;
 use std::sync::Wait;
@@ -24,7 +24,7 @@ pub(crate) struct Disowned;
 ///
 /// Contracts see the job.
 pub(crate) struct Posted<J: PoolJob> {
-    at: Post,
+    at: PostedThread,
     /// It has no bytes.
     job: Snapshot<Spawned<J>>,
 }
@@ -39,14 +39,14 @@ impl<J: PoolJob> Model for Posted<J> {
 
 impl<J: PoolJob> Posted<J> {
     /// The kernel thread of its core is told at once: who has posted it may not come to a round of its own.
-    pub(crate) fn tell(self, shared: &Shared) {
+    pub(crate) fn tell(self, shared: &SharedWords) {
         let Posted { at, job: _ } = self;
         shared.hint(at.place);
     }
 
     /// The same, but where it is on this core, whose worker has posted it: that is told its id and its place.
     #[inline(always)]
-    pub(crate) fn tell_unless_on(self, core: u8, shared: &Shared) -> Option<Post>
+    pub(crate) fn tell_unless_on(self, core: u8, shared: &SharedWords) -> Option<PostedThread>
         ensures { IfSome result (λ post. post.place.core ≡ core) }
     {
         let Posted { at, job: _ } = self;
@@ -79,7 +79,7 @@ pub(crate) fn post<H: Wait, J: PoolJob, C: Contexts<Spawned<J>>>(
     let posted = Snapshot::of(&job);
     match pool.table.post(rt, seat, claim, job) {
         Ok(id) => Ok(Posted {
-            at: Post { id, place },
+            at: PostedThread { id, place },
             job: posted,
         }),
         Err(_) => Err(Disowned),

@@ -10,7 +10,7 @@ use crate::idle::{Idle, WasDrained, WasShort};
 use crate::job::PoolJob;
 use crate::seat::Call;
 use crate::worker::PoolFault;
-use arachne_workers::{Desk, Event, Worker};
+use arachne_workers::{CoreWorker, Desk, WorkerEvent};
 use std::sync::Wait;
 use std::time::Clock;
 
@@ -47,7 +47,7 @@ pub(crate) trait PoolDesk: Desk {
 /// told then.
 #[inline(always)]
 pub(crate) fn go_on<H: Wait + Clock, D: PoolDesk, J: PoolJob>(
-    kernel: &mut Worker<'_, H, D>,
+    kernel: &mut CoreWorker<'_, H, D>,
     handle: Option<Handle<J>>,
 ) -> Came<J>
     ensures desk { kernel.new.desk ≡ kernel.old.desk }
@@ -61,7 +61,7 @@ pub(crate) fn go_on<H: Wait + Clock, D: PoolDesk, J: PoolJob>(
 /// The same, after which what was done since it was told last isn't told yet.
 #[inline(always)]
 fn answer<H: Wait + Clock, D: PoolDesk, J: PoolJob>(
-    kernel: &mut Worker<'_, H, D>,
+    kernel: &mut CoreWorker<'_, H, D>,
     handle: Option<Handle<J>>,
 ) -> Came<J>
     ensures desk { kernel.new.desk ≡ kernel.old.desk }
@@ -75,7 +75,7 @@ fn answer<H: Wait + Clock, D: PoolDesk, J: PoolJob>(
 
 /// A round, or rounds until all jobs have ended. Whether the last one found anything.
 fn run_as_asked<H: Wait + Clock, D: PoolDesk>(
-    kernel: &mut Worker<'_, H, D>,
+    kernel: &mut CoreWorker<'_, H, D>,
 ) -> Result<bool, PoolFault>
     ensures { kernel.new.desk ≡ kernel.old.desk }
 {
@@ -86,12 +86,21 @@ fn run_as_asked<H: Wait + Clock, D: PoolDesk>(
     }
 }
 
-/// One round, before which orders that are due are applied. Whether it found anything.
-fn run_once<H: Wait + Clock, D: PoolDesk>(kernel: &mut Worker<'_, H, D>) -> Result<bool, PoolFault>
+/// One round, before which orders that are due are applied, and another one where a job was taken over in it, or got a
+/// place, and none had a slice. Whether it found anything.
+fn run_once<H: Wait + Clock, D: PoolDesk>(
+    kernel: &mut CoreWorker<'_, H, D>,
+) -> Result<bool, PoolFault>
     ensures { kernel.new.desk ≡ kernel.old.desk }
 {
     kernel.tend();
-    let found = kernel.round(0);
+    let mut found = kernel.round(0);
+    if kernel.slices == 0
+        && let Ok(true) = found
+        && let Err(halt) = kernel.round(0)
+    {
+        found = Err(halt);
+    }
     let was = kernel.desk.take_short();
     kernel.desk.tell_of_ends();
     was.told()?;
@@ -99,7 +108,7 @@ fn run_once<H: Wait + Clock, D: PoolDesk>(kernel: &mut Worker<'_, H, D>) -> Resu
 }
 
 /// Rounds until no job lives and none is to come, or the workers are to stop. Whether the last one found anything.
-fn run<H: Wait + Clock, D: PoolDesk>(kernel: &mut Worker<'_, H, D>) -> Result<bool, PoolFault>
+fn run<H: Wait + Clock, D: PoolDesk>(kernel: &mut CoreWorker<'_, H, D>) -> Result<bool, PoolFault>
     ensures { kernel.new.desk ≡ kernel.old.desk }
 {
     let mut idle = Idle::before();
@@ -116,15 +125,15 @@ fn run<H: Wait + Clock, D: PoolDesk>(kernel: &mut Worker<'_, H, D>) -> Result<bo
 
 /// Where the worker has slept its time out after so many rounds in turn that found nothing, and nobody has told it that
 /// all is over, that is told.
-fn tell_if_overslept<H: Wait + Clock, D: PoolDesk>(kernel: &Worker<'_, H, D>, idle: u32) {
+fn tell_if_overslept<H: Wait + Clock, D: PoolDesk>(kernel: &CoreWorker<'_, H, D>, idle: u32) {
     if idle > 0 && kernel.shared.hints().is_asleep(kernel.core) {
-        kernel.desk.told(Event::Overslept);
+        kernel.desk.told(WorkerEvent::Overslept);
     }
 }
 
 /// Rounds until the job of a handle has ended. Its result.
 fn run_until<H: Wait + Clock, D: PoolDesk, J: PoolJob>(
-    kernel: &mut Worker<'_, H, D>,
+    kernel: &mut CoreWorker<'_, H, D>,
     handle: Handle<J>,
 ) -> Result<J::Output, (PoolFault, Handle<J>)>
     ensures desk { kernel.new.desk ≡ kernel.old.desk }
@@ -152,7 +161,7 @@ fn run_until<H: Wait + Clock, D: PoolDesk, J: PoolJob>(
 
 /// A round, and a wait where it found nothing, after so many in turn.
 fn round<H: Wait + Clock, D: PoolDesk>(
-    kernel: &mut Worker<'_, H, D>,
+    kernel: &mut CoreWorker<'_, H, D>,
     idle: u32,
 ) -> Result<bool, PoolFault>
     ensures { kernel.new.desk ≡ kernel.old.desk }
@@ -169,7 +178,7 @@ fn round<H: Wait + Clock, D: PoolDesk>(
 }
 
 /// What was done is told, if it is much.
-fn tell_if_much<H: Wait + Clock, D: PoolDesk>(kernel: &mut Worker<'_, H, D>)
+fn tell_if_much<H: Wait + Clock, D: PoolDesk>(kernel: &mut CoreWorker<'_, H, D>)
     ensures { kernel.new.desk ≡ kernel.old.desk }
 {
     if kernel.slices >= MOST_UNTOLD {
@@ -178,7 +187,7 @@ fn tell_if_much<H: Wait + Clock, D: PoolDesk>(kernel: &mut Worker<'_, H, D>)
 }
 
 /// What was done on the core is told, with so many rounds that found nothing, and nothing is told again.
-fn tell_done<H: Wait + Clock, D: PoolDesk>(kernel: &mut Worker<'_, H, D>, rests: u64)
+fn tell_done<H: Wait + Clock, D: PoolDesk>(kernel: &mut CoreWorker<'_, H, D>, rests: u64)
     ensures desk { kernel.new.desk ≡ kernel.old.desk }
     ensures told { kernel.new.slices ≡ 0 }
 {

@@ -3,7 +3,7 @@
 ghost use Rattle.std.specs.Prelude.{◌≡◌, ◌≢◌, ◌≤◌, IfSome, false};
 ghost use Rattle.arachne_pool.specs.Grounds.{in_hand};
 ghost use Rattle.arachne_pool.specs.Workers.{IsIdleAt};
-ghost use Rattle.arachne_pool.specs.declared.stop.Stop.TheVariants as stopped;
+ghost use Rattle.arachne_pool.specs.declared.stop.JobStop.TheVariants as stopped;
 
 use crate::bench::Bench;
 use crate::ending::end;
@@ -15,12 +15,12 @@ use crate::pool::Pool;
 use crate::posting::{Disowned, Posted};
 use crate::rounds::PoolDesk;
 use crate::spawned::{Ended, Spawned};
-use crate::stop::{Stop as JobStop, rest_of, rests_so};
+use crate::stop::{JobStop, rest_of, rests_so};
 use crate::worker::PoolFault;
 use arachne_arbiter::Pace;
 use arachne_contexts::{Contexts, Held, Moved, Taken, Woken};
 use arachne_core::{MarkWord, OccWord, Place, Rest, ThreadId};
-use arachne_workers::{Desk, Drained, Event, Grip, Halt, Stop, Ticket};
+use arachne_workers::{Desk, Drained, Grip, Halt, ThreadStop, TicketResult, WorkerEvent};
 use std::marker::Model;
 use std::mem::replace;
 use std::sync::Wait;
@@ -96,7 +96,7 @@ impl<'a, H: Wait, J: PoolJob, C: Contexts<Spawned<J>>> Desk for Seat<'a, H, J, C
     }
 
     #[inline(always)]
-    fn advance(&mut self, _pace: &mut Pace, left: &mut u32) -> Result<Stop, Halt> {
+    fn advance(&mut self, _pace: &mut Pace, left: &mut u32) -> Result<ThreadStop, Halt> {
         let before = *left;
         let mut stop = self.go_on(left);
         if stop == JobStop::LetsGo && self.let_go() {
@@ -116,7 +116,7 @@ impl<'a, H: Wait, J: PoolJob, C: Contexts<Spawned<J>>> Desk for Seat<'a, H, J, C
         }
         let told = match stop {
             // The pool is told once the result is left and the place is free (`end`).
-            JobStop::Ends => return Ok(Stop::Ends),
+            JobStop::Ends => return Ok(ThreadStop::Ends),
             stop => self.stops(stop),
         };
         match stop.learned(told) {
@@ -229,7 +229,7 @@ impl<'a, H: Wait, J: PoolJob, C: Contexts<Spawned<J>>> Desk for Seat<'a, H, J, C
         self.held.is_none() && !replace(&mut self.has_taken, false) && self.is_any_waiting()
     }
 
-    fn take_ticket(&mut self) -> Result<Ticket, Halt> {
+    fn take_ticket(&mut self) -> Result<TicketResult, Halt> {
         if self.is_broken {
             return Err(Halt::from(PoolFault::Token));
         }
@@ -240,14 +240,14 @@ impl<'a, H: Wait, J: PoolJob, C: Contexts<Spawned<J>>> Desk for Seat<'a, H, J, C
         self.is_broken = false;
         let Some(posted) = posted else {
             return Ok(if self.fetch() {
-                Ticket::Gone
+                TicketResult::Gone
             } else {
-                Ticket::None
+                TicketResult::None
             });
         };
         Ok(match posted.tell_unless_on(self.core, &self.pool.shared) {
-            Some(post) => Ticket::Posted(post),
-            None => Ticket::Gone,
+            Some(post) => TicketResult::Posted(post),
+            None => TicketResult::Gone,
         })
     }
 
@@ -278,8 +278,8 @@ impl<'a, H: Wait, J: PoolJob, C: Contexts<Spawned<J>>> Desk for Seat<'a, H, J, C
     fn begins(&self, _nth: u64) {}
 
     #[inline(always)]
-    fn told(&self, event: Event) {
-        if matches!(event, Event::Overslept) {
+    fn told(&self, event: WorkerEvent) {
+        if matches!(event, WorkerEvent::Overslept) {
             self.pool.live.add_overslept(self.core);
         }
     }
@@ -357,7 +357,7 @@ impl<'a, H: Wait, J: PoolJob, C: Contexts<Spawned<J>>> Seat<'a, H, J, C> {
 
     /// The oldest child that waits with the job in hand gets a place, if there is one and memory is not refused.
     #[inline(always)]
-    fn post_oldest(&mut self, told: AllTold) -> Result<Stop, Halt>
+    fn post_oldest(&mut self, told: AllTold) -> Result<ThreadStop, Halt>
         ensures { self.new ≡ self.old }
     {
         if self.is_broken {
@@ -376,13 +376,13 @@ impl<'a, H: Wait, J: PoolJob, C: Contexts<Spawned<J>>> Seat<'a, H, J, C> {
     /// What it is to this worker that a child was posted there: on its own core that is what it does next. One on
     /// another core is for others to take, so they are told at once.
     #[inline(always)]
-    fn stop_after(&self, posted: Option<Posted<J>>) -> Stop {
+    fn stop_after(&self, posted: Option<Posted<J>>) -> ThreadStop {
         let Some(posted) = posted else {
-            return Stop::Goes;
+            return ThreadStop::Goes;
         };
         match posted.tell_unless_on(self.core, &self.pool.shared) {
-            Some(post) => Stop::Posted(post),
-            None => Stop::Goes,
+            Some(post) => ThreadStop::Posted(post),
+            None => ThreadStop::Goes,
         }
     }
 
@@ -459,9 +459,11 @@ impl<'a, H: Wait, J: PoolJob, C: Contexts<Spawned<J>>> Seat<'a, H, J, C> {
         )
     }
 
-    /// Where a job may be ready on another core, whose worker is awake and has not come to it.
+    /// Where a job may be ready on another core, whose worker is awake and has not come to it. In a turn that is a core
+    /// for which a kernel thread has come to `work`: the others may be turned by this one, which would move jobs to
+    /// and fro.
     fn waiting_on(&self, core: u8) -> Option<Place> {
-        if core == self.core || self.call == Call::Turn {
+        if core == self.core || self.call == Call::Turn && !self.pool.live.is_worked(core) {
             return None;
         }
         let word = self.pool.shared.hints().word(core)?;

@@ -6,7 +6,7 @@ use crate::job::PoolJob;
 use crate::live::AllTold;
 use crate::outcome::{Cells, ResultLeft, ResultSender, leave_at};
 use crate::stack::{Jobs, Stack};
-use crate::stop::Stop;
+use crate::stop::JobStop;
 use crate::tally::Tally;
 use arachne_contexts::Tagged;
 use arachne_core::ThreadId;
@@ -108,7 +108,7 @@ impl<J: PoolJob> Spawned<J> {
         tally: &mut Tally,
         left: &mut u32,
         may_post: bool,
-    ) -> Stop
+    ) -> JobStop
         ensures same { self.new ≡ record self.old { many = self.new.many; jobs = self.new.jobs } }
         ensures left { left.new ≤ left.old }
         ensures counts { CountsEach tally.old tally.new self.old.many self.new.many }

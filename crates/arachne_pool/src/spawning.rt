@@ -51,9 +51,9 @@ impl<J: PoolJob> Refused<J> {
 impl<C: Seats> Pool<C> {
     ghost use Rattle.arachne_pool.specs.Workers.{IsWorkerOf};
 
-    /// Spawns a job where a core has a place for it: the core with fewer jobs of two that are drawn, else the first
-    /// that has one. Its handle gives its result. Else the job comes back, and all is as before. So there are at most
-    /// as many jobs as places, and those that run or wait in these.
+    /// Spawns a job where a core has a place for it: on the one that `claim_normal` of `arachne_arbiter` chooses. Its
+    /// handle gives its result. Else the job comes back, and all is as before. So there are at most as many jobs as
+    /// places, and those that run or wait in these.
     pub fn try_spawn<H: Wait, J: PoolJob>(
         &self,
         rt: &H,

@@ -6,7 +6,7 @@ ghost use Rattle.arachne_pool.specs.Jobs.{children_of};
 use crate::job::{PoolJob, Step};
 use crate::links::Links;
 use crate::outcome::{Cells, ResultSender};
-use crate::stop::Stop;
+use crate::stop::JobStop;
 use crate::tally::Tally;
 use arachne_core::ThreadId;
 use std::alloc::Global;
@@ -18,14 +18,14 @@ use std::snapshot::Snapshot;
 /// A job in a place: as it was forked, as it is now, and how many children it has forked and not joined, beside one
 /// that runs in its place.
 #[derive(Drop)]
-struct Frame<J: PoolJob> {
+struct JobFrame<J: PoolJob> {
     /// It has no bytes.
     asked: Snapshot<J>,
     job: J,
     awaited: usize,
 }
 
-impl<J: PoolJob> Model for Frame<J> {
+impl<J: PoolJob> Model for JobFrame<J> {
     ghost use Rattle.arachne_pool.specs.Frames.{Framed};
 
     ghost Value = { Framed J };
@@ -33,12 +33,12 @@ impl<J: PoolJob> Model for Frame<J> {
     ghost view = { λ f. record { asked = f.asked.value; job = f.job; awaited = f.awaited } };
 }
 
-impl<J: PoolJob> Frame<J> {
+impl<J: PoolJob> JobFrame<J> {
     /// A job that begins here.
-    fn begin(job: J) -> Frame<J>
+    fn begin(job: J) -> JobFrame<J>
         ensures { result ≡ record { asked = job; job = job; awaited = 0 } }
     {
-        Frame {
+        JobFrame {
             asked: Snapshot::of(&job),
             job,
             awaited: 0,
@@ -56,9 +56,9 @@ impl<J: PoolJob> Frame<J> {
 pub(crate) struct Stack<J: PoolJob> {
     /// The first job as it was spawned. It has no bytes.
     asked: Snapshot<J>,
-    top: Frame<J>,
+    top: JobFrame<J>,
     /// Those below it, the first job first.
-    below: Vec<Frame<J>>,
+    below: Vec<JobFrame<J>>,
     /// The children of all of them, but for those that run here.
     links: Links<J>,
     /// A child that the topmost has forked, and that is to wait here.
@@ -97,7 +97,7 @@ impl<J: PoolJob> Stack<J> {
     {
         Stack {
             asked: Snapshot::of(&job),
-            top: Frame::begin(job),
+            top: JobFrame::begin(job),
             below: Vec::new(alloc),
             links: Links::new(alloc),
             child: None,
@@ -151,7 +151,7 @@ impl<J: PoolJob> Stack<J> {
         tally: &mut Tally,
         left: &mut u32,
         may_post: bool,
-    ) -> Stop
+    ) -> JobStop
         ensures asked { self.new.asked ≡ self.old.asked }
         ensures left { left.new ≤ left.old }
         ensures counts { CountsEach tally.old tally.new self.old.many self.new.many }
@@ -162,11 +162,11 @@ impl<J: PoolJob> Stack<J> {
                 break;
             }
             match self.go_on(cells, tally, left, may_post) {
-                Stop::Goes => {}
+                JobStop::Goes => {}
                 stop => return stop,
             }
         }
-        Stop::Goes
+        JobStop::Goes
     }
 
     /// Goes on by a step, or by what is to be done before the next one.
@@ -176,7 +176,7 @@ impl<J: PoolJob> Stack<J> {
         tally: &mut Tally,
         left: &mut u32,
         may_post: bool,
-    ) -> Stop
+    ) -> JobStop
         ensures asked { self.new.asked ≡ self.old.asked }
         ensures left { left.new ≤ left.old }
         ensures counts { CountsEach tally.old tally.new self.old.many self.new.many }
@@ -195,17 +195,17 @@ impl<J: PoolJob> Stack<J> {
     }
 
     /// A step of the topmost.
-    fn step(&mut self, tally: &mut Tally, may_post: bool) -> Stop
+    fn step(&mut self, tally: &mut Tally, may_post: bool) -> JobStop
         requires running { (self.old.ended ≡ None) × (self.old.child ≡ None) × (self.old.waits ≡ false) }
         ensures asked { self.new.asked ≡ self.old.asked }
         ensures counts { CountsEach tally.old tally.new self.old.many self.new.many }
     {
         match self.top.job.step() {
-            Step::Again => Stop::Goes,
-            Step::Sleeps => Stop::Sleeps,
+            Step::Again => JobStop::Goes,
+            Step::Sleeps => JobStop::Sleeps,
             Step::Waits => {
                 self.waits = true;
-                Stop::Goes
+                JobStop::Goes
             }
             Step::Forks(child) => {
                 tally.count_spawned();
@@ -221,38 +221,42 @@ impl<J: PoolJob> Stack<J> {
     }
 
     /// The child that was forked just now waits here to begin.
-    fn put_aside(&mut self, may_post: bool) -> Stop
+    fn put_aside(&mut self, may_post: bool) -> JobStop
         requires { self.old.ended ≡ None }
         ensures { KeepsMany self.old self.new }
     {
         let Some(awaited) = self.top.awaited.checked_add(1) else {
-            return Stop::Short;
+            return JobStop::Short;
         };
         let Some(child) = self.child.take() else {
-            return Stop::Goes;
+            return JobStop::Goes;
         };
         match self.links.put_aside(child) {
             Ok(()) => {
                 self.top.awaited = awaited;
-                if may_post { Stop::Forks } else { Stop::Goes }
+                if may_post {
+                    JobStop::Forks
+                } else {
+                    JobStop::Goes
+                }
             }
             Err(child) => {
                 self.child = Some(child);
-                Stop::Short
+                JobStop::Short
             }
         }
     }
 
     /// The topmost gets the result of its newest child, if it has one and that has ended. One that has not begun begins
     /// here.
-    fn receive(&mut self, cells: &mut Cells<J>) -> Stop
+    fn receive(&mut self, cells: &mut Cells<J>) -> JobStop
         requires running { (self.old.ended ≡ None) × (self.old.child ≡ None) × (self.old.waits ≡ true) }
         ensures same { KeepsMany self.old self.new }
         ensures served { IsServed result self.new }
     {
         let Some(awaited) = self.top.awaited.checked_sub(1) else {
             self.waits = false;
-            return Stop::Goes;
+            return JobStop::Goes;
         };
         if self.links.aside() > 0 {
             return self.enter();
@@ -262,54 +266,54 @@ impl<J: PoolJob> Stack<J> {
                 self.top.awaited = awaited;
                 self.top.job.joined(output);
                 self.waits = false;
-                Stop::Goes
+                JobStop::Goes
             }
-            None => Stop::Waits,
+            None => JobStop::Waits,
         }
     }
 
     /// The newest child, which has not begun, begins here, above the one that awaits it.
-    fn enter(&mut self) -> Stop
+    fn enter(&mut self) -> JobStop
         requires running { (self.old.ended ≡ None) × (self.old.child ≡ None) × (self.old.waits ≡ true) }
         ensures same { KeepsMany self.old self.new }
         ensures served { IsServed result self.new }
     {
         if self.below.try_reserve(1).is_err() {
-            return Stop::Short;
+            return JobStop::Short;
         }
         self.waits = false;
         let Some(awaited) = self.top.awaited.checked_sub(1) else {
-            return Stop::Goes;
+            return JobStop::Goes;
         };
         let Some(child) = self.links.take_newest() else {
-            return Stop::Goes;
+            return JobStop::Goes;
         };
         self.top.awaited = awaited;
-        let frame = replace(&mut self.top, Frame::begin(child));
+        let frame = replace(&mut self.top, JobFrame::begin(child));
         self.below.push_reserved(frame);
-        Stop::Goes
+        JobStop::Goes
     }
 
     /// What the topmost has ended with goes to the one below it, which goes on. The first one keeps it.
-    fn pass_on(&mut self) -> Stop
+    fn pass_on(&mut self) -> JobStop
         requires { IsSome self.old.ended }
         ensures same { KeepsMany self.old self.new }
         ensures served { IsServed result self.new }
     {
         if self.top.awaited > 0 {
-            return Stop::LetsGo;
+            return JobStop::LetsGo;
         }
         let Some(output) = self.ended.take() else {
-            return Stop::Goes;
+            return JobStop::Goes;
         };
         let Some(frame) = self.below.pop() else {
             self.ended = Some(output);
-            return Stop::Ends;
+            return JobStop::Ends;
         };
         self.top = frame;
         self.top.job.joined(output);
         self.waits = false;
-        Stop::Goes
+        JobStop::Goes
     }
 
     /// How many children one that has ended has not joined.
@@ -405,7 +409,7 @@ pub struct Jobs<J: PoolJob> {
     child: Option<J>,
     aside: VecDeque<J>,
     top: Option<J>,
-    below: Vec<Frame<J>>,
+    below: Vec<JobFrame<J>>,
 }
 
 impl<J: PoolJob> Model for Jobs<J> {

@@ -5,11 +5,11 @@ ghost use Rattle.arachne_pool.specs.Stops.{blocks_after, learned_after, rests_as
 use crate::live::AllTold;
 use arachne_contexts::Rested;
 use arachne_core::Rest;
-use arachne_workers::Stop as LoopStop;
+use arachne_workers::ThreadStop;
 
 /// Where a slice of a job stops.
 #[derive(Clone, Copy, Debug, PartialEq, Eq)]
-pub(crate) enum Stop {
+pub(crate) enum JobStop {
     /// It goes on.
     Goes,
     /// It awaits a child that has begun elsewhere and has not ended.
@@ -26,30 +26,31 @@ pub(crate) enum Stop {
     Short,
 }
 
-impl Stop {
+impl JobStop {
     /// Whether the job is put back as blocked: where it waits or sleeps.
     #[inline(always)]
     pub(crate) fn blocks(self) -> bool
         ensures { result ≡ blocks_after self }
     {
         match self {
-            Stop::Waits | Stop::Sleeps => true,
-            Stop::Goes | Stop::Forks | Stop::LetsGo | Stop::Ends | Stop::Short => false,
+            JobStop::Waits | JobStop::Sleeps => true,
+            JobStop::Goes | JobStop::Forks | JobStop::LetsGo | JobStop::Ends | JobStop::Short =>
+                false,
         }
     }
 
     /// What the worker's loop learns of it, once the pool is told of the slice. Nothing yet where the oldest child that
     /// waits with the job may get a place first.
     #[inline(always)]
-    pub(crate) fn learned(self, told: AllTold) -> Result<LoopStop, AllTold>
+    pub(crate) fn learned(self, told: AllTold) -> Result<ThreadStop, AllTold>
         ensures learned { IfOk result (λ stop. learned_after self ≡ Some stop) }
         ensures places { OnErr result (learned_after self ≡ None) }
     {
         match self {
-            Stop::Goes | Stop::Forks => Err(told),
-            Stop::Waits | Stop::Sleeps => Ok(LoopStop::Blocks),
-            Stop::LetsGo | Stop::Short => Ok(LoopStop::Goes),
-            Stop::Ends => Ok(LoopStop::Ends),
+            JobStop::Goes | JobStop::Forks => Err(told),
+            JobStop::Waits | JobStop::Sleeps => Ok(ThreadStop::Blocks),
+            JobStop::LetsGo | JobStop::Short => Ok(ThreadStop::Goes),
+            JobStop::Ends => Ok(ThreadStop::Ends),
         }
     }
 }

@@ -5,7 +5,7 @@ ghost use Rattle.arachne_pool.specs.Workers.{HasNoCore};
 
 use crate::bench::Bench;
 use crate::job::PoolJob;
-use crate::orders::Orders;
+use crate::orders::PoolOrders;
 use crate::pool::Pool;
 use crate::tally::Tally;
 use arachne_arbiter::Pace;
@@ -182,8 +182,8 @@ impl<C: Seats> Pool<C> {
             return Err((worker, other));
         }
         worker.bench.count_too(other.bench.tally);
-        let own = replace(&mut worker.bench.orders, Orders::none());
-        let theirs = replace(&mut other.bench.orders, Orders::none());
+        let own = replace(&mut worker.bench.orders, PoolOrders::none());
+        let theirs = replace(&mut other.bench.orders, PoolOrders::none());
         worker.bench.orders = own.or(theirs);
         worker.seat = self.join_seats(rt, worker.seat.take(), other.seat.take());
         Ok(worker)

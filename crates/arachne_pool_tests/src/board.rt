@@ -3,9 +3,13 @@ use arachne_core::ThreadId;
 use std::alloc::Global;
 use std::sync::atomic::{AtomicU64, Ordering};
 use std::sync::{Arc, Wait};
+use std::thread::yield_now;
 
 /// How often a kernel thread looks at a word before a job rests: for some microseconds.
 const MOMENT: u32 = 2_000;
+
+/// How often one looks for an answer at most: for some tenths of a second where nothing else wants the processors.
+const MOST_LOOKS: u32 = 1_000_000;
 
 /// What the jobs of a row have told, and how many answers have come.
 #[derive(Drop)]
@@ -87,6 +91,17 @@ impl Board {
     /// An answer has come.
     pub(crate) fn answer(&self) {
         self.answers.fetch_add(1, Ordering::SeqCst);
+    }
+
+    /// Waits until one has come. Where none does that is told as many.
+    pub(crate) fn await_answer(&self) {
+        for _ in 0..MOST_LOOKS {
+            if self.answers() > 0 {
+                return;
+            }
+            yield_now();
+        }
+        self.answers.fetch_add(1_000, Ordering::SeqCst);
     }
 
     /// How many have come.

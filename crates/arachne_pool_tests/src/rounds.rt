@@ -57,6 +57,8 @@ pub(crate) enum Act {
     Did(u8, u64, u64, u64, u64),
     /// Kernel threads have slept their time out, though something was there for them, so many times at most.
     Overslept(u64),
+    /// So many times at least.
+    OversleptAtLeast(u64),
     /// Jobs are spawned in each way until each place has one, and each of them is, but for want of a place.
     Fills,
     /// The worker works on a core until no job is left, or it is to stop.
@@ -119,9 +121,9 @@ pub(crate) enum Is {
     Alone,
 }
 
-/// A row: a pool, what its worker does, what two kernel threads do then, for core 0 and core 1, how many of them end a job
-/// at least, what one does after that, how many jobs are left with a place and without, and how many these are with those
-/// that run or wait in their places.
+/// A row: a pool, what its worker does, what two kernel threads do then, for core 0 and core 1, how many of them end a
+/// job at least, what one does after that, how many jobs are left with a place and without, and how many these are with
+/// those that run or wait in their places.
 #[derive(Clone, Copy)]
 pub(crate) struct Row {
     pub(crate) shows: &'static str,
@@ -332,6 +334,7 @@ fn is_so<C: Contexts<Spawned<Task>>, R: Wait>(
                 && (done.wakes, done.rests) == (wakes, rests)
         }
         Act::Overslept(most) => overslept(pool) <= most,
+        Act::OversleptAtLeast(least) => overslept(pool) >= least,
         Act::Answers => {
             board.answer();
             true

@@ -24,6 +24,19 @@ const LONG_AT_ONCE: Sort = Sort {
     ..LONG
 };
 
+/// One that goes on for far longer in one slice.
+const LONGEST: Sort = Sort {
+    steps: 2_000_000,
+    bound: 2_000_000,
+    ..LEAF
+};
+
+/// One that is in its first step until an answer has come.
+const HELD: Sort = Sort {
+    is_held: true,
+    ..LEAF
+};
+
 /// One that takes some microseconds to be dropped.
 const LADEN: Sort = Sort {
     luggage: 500,
@@ -33,8 +46,8 @@ const LADEN: Sort = Sort {
 /// How often a kernel thread is woken.
 const OFTEN: u32 = 100;
 
-/// How often kernel threads may sleep their time out in a row, though something was there for them. Where each signal is
-/// lost of one kind, they do so nearly as often as one is sent.
+/// How often kernel threads may sleep their time out in a row, though something was there for them. Where each signal
+/// is lost of one kind, they do so nearly as often as one is sent.
 const FEW: u64 = OFTEN as u64 / 4;
 
 const ROWS: &[Row] = &[
@@ -411,6 +424,63 @@ const ROWS: &[Row] = &[
             Spell::ToTheStop,
         ),
         then: &[Act::Answered(5 * OFTEN as u64)],
+        ..NOTHING
+    },
+    Row {
+        shows: "a round takes over a job to which the kernel thread that works for another core has not come",
+        cores: 2,
+        slots: 2,
+        acts: &[Act::Tries(On::Core(1), HELD, Comes::Begins)],
+        spells: (Spell::Fetches(0), Spell::ToTheEnd),
+        then: &[Act::Answered(1), Act::Lives(0)],
+        ..NOTHING
+    },
+    Row {
+        shows: "a round takes over a job of a core before its own",
+        cores: 3,
+        slots: 2,
+        acts: &[Act::Tries(On::Core(1), HELD, Comes::Begins)],
+        spells: (Spell::Fetches(2), Spell::ToTheEnd),
+        then: &[Act::Answered(1), Act::Lives(0)],
+        ..NOTHING
+    },
+    Row {
+        shows: "a sleep that ends by its time is counted, where a job gets a place that came free untold",
+        cores: 2,
+        slots: 1,
+        acts: &[
+            Act::Turns(0, false),
+            Act::Tries(On::Core(0), SLEEPER, Comes::Begins),
+            Act::Turns(0, true),
+            Act::Tries(On::Core(1), LONGEST, Comes::Begins),
+            Act::Spawns(LEAF),
+        ],
+        spells: (Spell::ToTheEnd, Spell::WakesLast),
+        then: &[Act::OversleptAtLeast(1), Act::Lives(0)],
+        ..NOTHING
+    },
+    Row {
+        shows: "a join on a core that is closed and empty returns, with the result of a job of another core",
+        cores: 2,
+        slots: 2,
+        orders: &[(0, RELEASE, 1)],
+        acts: &[Act::Turns(0, false), Act::KeepsOpen],
+        spells: (Spell::ToTheEnd, Spell::JoinsThere(3, LONG)),
+        then: &[Act::Answered(3), Act::Lives(0)],
+        ..NOTHING
+    },
+    Row {
+        shows: "a round takes over no job of a core for which no kernel thread works",
+        cores: 2,
+        slots: 1,
+        acts: &[
+            Act::Turns(0, false),
+            Act::Tries(On::Core(0), ELEVEN, Comes::Begins),
+            Act::Turns(1, false),
+            Act::Has(0, 1, Is::Open),
+            Act::Works(0),
+        ],
+        then: &[Act::Lives(0)],
         ..NOTHING
     },
     Row {

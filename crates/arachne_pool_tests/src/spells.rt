@@ -28,8 +28,8 @@ pub(crate) enum Spell {
     Rounds(u32),
     /// It works rounds until no job lives, and does not work then.
     TurnsOut,
-    /// Once a job has begun elsewhere it works on its core while memory is used up, until it is refused some. Where that is
-    /// not told, or has not stopped the pool, an answer comes, and it stops it.
+    /// Once a job has begun elsewhere it works on its core while memory is used up, until it is refused some. Where
+    /// that is not told, or has not stopped the pool, an answer comes, and it stops it.
     InNeed,
     /// It spawns so many leaves, which no worker may keep, and works for no core.
     Spawns(u32),
@@ -39,12 +39,20 @@ pub(crate) enum Spell {
     /// So many times a pool without a job is kept open, the turn is passed, and once core 1's kernel thread sleeps no
     /// more come, until that comes back from its work. At last it stops the pool.
     Finishes(u32),
-    /// So many times an answer comes, once the job that wants it sleeps, which is woken then; the kernel thread of core 1
-    /// sleeps too, or that isn't waited for.
+    /// So many times an answer comes, once the job that wants it sleeps, which is woken then; the kernel thread of core
+    /// 1 sleeps too, or that isn't waited for.
     Wakes(u32, bool),
     /// So many times it spawns a job on core 1, passes the turn, and once that job has begun there works to the end, or
     /// looks until no job lives. Then it takes the result, if it is there, as an answer. At last it stops the pool.
     Polls(u32, Sort, Until),
+    /// Once a job has begun it spawns a leaf on core 1, and comes to rounds of this core until that has begun, or an
+    /// answer has come. One more comes where a round has found something, and the leaf has not begun. Then an answer
+    /// comes, and it works to the end.
+    Fetches(u8),
+    /// So many times it spawns a job on core 0 and joins it on its own core, as an answer. Then no more come.
+    JoinsThere(u32, Sort),
+    /// It comes to rounds of its core until one job alone lives, which sleeps, and wakes it with an answer.
+    WakesLast,
 }
 
 /// How a kernel thread waits until no job lives.
@@ -93,6 +101,16 @@ pub(crate) fn work<C: Contexts<Spawned<Task>>, R: Wait + Clock>(
         }
         Spell::Polls(times, sort, until) if pool.cores > 1 => {
             polls::<C, R>(rt, pool, board, &mut worker, times, sort, until);
+        }
+        Spell::Fetches(own) if pool.cores > 1 && own < pool.cores => {
+            fetches::<C, R>(rt, pool, board, &mut worker, own);
+        }
+        Spell::WakesLast if core < pool.cores => {
+            until_one::<C, R>(rt, pool, &mut worker, core);
+            return wakes::<C, R>(rt, pool, board, worker, 1, false);
+        }
+        Spell::JoinsThere(times, sort) if core < pool.cores => {
+            joins_there::<C, R>(rt, pool, board, &mut worker, core, times, sort);
         }
         _ => pool.stop(),
     }
@@ -288,6 +306,83 @@ fn polls<C: Contexts<Spawned<Task>>, R: Wait + Clock>(
     }
     pool.stop();
     board.pass_turn();
+}
+
+/// `Spell::Fetches`.
+fn fetches<C: Contexts<Spawned<Task>>, R: Wait + Clock>(
+    rt: &R,
+    pool: &Pool<C>,
+    board: &Arc<Board>,
+    worker: &mut Worker<C::Seat, Task>,
+    core: u8,
+)
+    requires worker { IsWorkerOf C.sits C.idle pool.now.table pool.now.cores worker.old }
+    requires core { 1 < pool.now.cores }
+    requires own { core < pool.now.cores }
+    ensures worker { IsWorkerOf C.sits C.idle pool.now.table pool.now.cores worker.new }
+{
+    await_more(rt, pool, &board.begun, 0);
+    if let Some(task) = Task::new(LEAF, board) {
+        let _ = pool.try_spawn_on(rt, worker, 1, task);
+    }
+    for _ in rt.forever() {
+        if board.begun.load(Ordering::SeqCst) > 1 || board.answers() > 0 {
+            break;
+        }
+        let found = matches!(pool.turn(rt, worker, core), Ok(true));
+        if found && board.begun.load(Ordering::SeqCst) <= 1 {
+            board.answer();
+        }
+    }
+    board.answer();
+    let _ = pool.work(rt, worker, core);
+}
+
+/// Rounds until one job lives at most, or the pool is stopped.
+fn until_one<C: Contexts<Spawned<Task>>, R: Wait + Clock>(
+    rt: &R,
+    pool: &Pool<C>,
+    worker: &mut Worker<C::Seat, Task>,
+    core: u8,
+)
+    requires worker { IsWorkerOf C.sits C.idle pool.now.table pool.now.cores worker.old }
+    requires core { core < pool.now.cores }
+    ensures worker { IsWorkerOf C.sits C.idle pool.now.table pool.now.cores worker.new }
+{
+    for _ in rt.forever() {
+        if pool.live() <= 1 || pool.is_stopped() {
+            return;
+        }
+        let _ = pool.turn(rt, worker, core);
+    }
+}
+
+/// `Spell::JoinsThere`.
+fn joins_there<C: Contexts<Spawned<Task>>, R: Wait + Clock>(
+    rt: &R,
+    pool: &Pool<C>,
+    board: &Arc<Board>,
+    worker: &mut Worker<C::Seat, Task>,
+    core: u8,
+    times: u32,
+    sort: Sort,
+)
+    requires worker { IsWorkerOf C.sits C.idle pool.now.table pool.now.cores worker.old }
+    requires core { core < pool.now.cores }
+    ensures worker { IsWorkerOf C.sits C.idle pool.now.table pool.now.cores worker.new }
+{
+    for _ in 0..times {
+        let Some(task) = Task::new(sort, board) else {
+            break;
+        };
+        let Ok((handle, _)) = pool.try_spawn_on(rt, worker, 0, task) else {
+            break;
+        };
+        if pool.join(rt, worker, core, handle).is_ok() {
+            board.answer();
+        }
+    }
+    pool.finish();
 }
 
 /// Waits until a count of the board is over this, or the pool is stopped.

@@ -26,6 +26,8 @@ pub(crate) struct Sort {
     pub(crate) is_exclusive: bool,
     /// Its first child is exclusive, whatever it is itself.
     pub(crate) is_first_exclusive: bool,
+    /// Its first step lasts until an answer has come, so that its kernel thread comes to no other job meanwhile.
+    pub(crate) is_held: bool,
 }
 
 /// Which children a job joins, and when.
@@ -52,6 +54,7 @@ pub(crate) const LEAF: Sort = Sort {
     joins: Joins::AtLast,
     is_exclusive: false,
     is_first_exclusive: false,
+    is_held: false,
 };
 
 /// One that forks a leaf and joins it.
@@ -148,6 +151,9 @@ impl PoolJob for Task {
         if !self.has_begun {
             self.has_begun = true;
             self.board.begins();
+            if self.sort.is_held {
+                self.board.await_answer();
+            }
         }
         if self.is_to_join() {
             return Step::Waits;

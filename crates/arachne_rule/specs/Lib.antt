@@ -6,3 +6,5 @@ pub mod History
 pub mod Table
 pub mod Plays
 pub mod Ending
+pub mod Left
+pub mod Laws

@@ -1,7 +1,7 @@
 -- Whether a thread has a lock once it was served.
 use Rattle.std.proofs.Common.{◌≡◌, Bool, true, false, ap, sym}
 use Rattle.arachne_sleep.specs.declared.who.Who.{Who}
-use Rattle.arachne_workers.specs.declared.desk.Stop.{Stop}
+use Rattle.arachne_workers.specs.declared.desk.ThreadStop.{ThreadStop}
 use Rattle.arachne_run.specs.Serving.{IsServed, has_lock_after, has_lock_by, is_wait}
 use Rattle.arachne_run.specs.declared.access.Want.{Want}
 use Rattle.arachne_run.specs.declared.access.Want.TheVariants.{Asks, Awaits, Frees, Tallies}
@@ -15,7 +15,7 @@ waits_so (Freed release) = false
 waits_so (Added addition) = false
 
 -- what is said by what it asked for is what is said by what came of it
-pub lock-by : (want : Want) (who : Who) (served : Served) (stop : Stop) (had : Bool) → IsServed want who served
+pub lock-by : (want : Want) (who : Who) (served : Served) (stop : ThreadStop) (had : Bool) → IsServed want who served
     → is_wait stop ≡ waits_so served → has_lock_by served had ≡ has_lock_after want (is_wait stop) had
 lock-by (Asks lock) who (Waits awaited unserved) stop had s e = ap (λ w. has_lock_after (Asks lock) w had) (sym e)
 lock-by (Asks lock) who (Holds granted) stop had s e = ap (λ w. has_lock_after (Asks lock) w had) (sym e)

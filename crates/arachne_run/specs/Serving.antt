@@ -1,19 +1,25 @@
 -- What a thread asks for, what may come of it, and where it stops.
-use Rattle.std.specs.Prelude.{◌≡◌, ℕ, Bool, false, true, if◌then◌else◌, Option, None, Some}
+use Rattle.std.specs.Prelude.{◌≡◌, ℕ, Bool, false, true, if◌then◌else◌, List, Option, None, Some, Result}
 use Rattle.arachne_core.specs.declared.thread_id.ThreadId.{ThreadId}
 use Rattle.arachne_machine.specs.declared.pause.Pending.{Pending}
 use Rattle.arachne_machine.specs.declared.pause.Pending.TheVariants as pause
-use Rattle.arachne_workers.specs.declared.desk.Stop.{Stop}
-use Rattle.arachne_workers.specs.declared.desk.Stop.TheVariants as stop
+use Rattle.arachne_workers.specs.declared.desk.ThreadStop.{ThreadStop}
+use Rattle.arachne_workers.specs.declared.desk.ThreadStop.TheVariants as stop
+use Rattle.arachne_sleep.specs.Calls.{AskAnswer, CheckAnswer}
+use Rattle.arachne_sleep.specs.SleepLocks.{ChangesAt}
+use Rattle.arachne_sleep.specs.Views.{SeatView}
+use Rattle.arachne_sleep.specs.declared.answer.AskFault.{AskFault}
+use Rattle.arachne_sleep.specs.declared.answer.Asked.{Asked}
 use Rattle.arachne_sleep.specs.declared.answer.Pass.{Pass}
+use Rattle.arachne_sleep.specs.declared.answer.Tried.TheVariants.{Answered}
 use Rattle.arachne_sleep.specs.declared.who.Who.{Who}
 use Rattle.arachne_run.specs.declared.access.Addition.{Addition}
 use Rattle.arachne_run.specs.declared.access.Want.{Want}
 use Rattle.arachne_run.specs.declared.access.Want.TheVariants.{Asks, Awaits, Frees, Tallies}
 use Rattle.arachne_run.specs.declared.access.Served.{Served}
 use Rattle.arachne_run.specs.declared.access.Served.TheVariants.{Waits, Holds, Freed, Added}
-use Rattle.arachne_run.specs.declared.granted.Call.{Call}
-use Rattle.arachne_run.specs.declared.granted.Call.TheVariants.{Ask, Check}
+use Rattle.arachne_run.specs.declared.granted.LockCall.{LockCall}
+use Rattle.arachne_run.specs.declared.granted.LockCall.TheVariants.{Ask, Check}
 use Rattle.arachne_run.specs.declared.granted.Granted.{Granted}
 
 -- the pass is of this lock, for this thread
@@ -21,8 +27,16 @@ abbrev pub IsPassFor : ℕ → Who → Pass → Type 0
 IsPassFor lock who pass = (pass.lock ≡ lock) × (pass.who ≡ who)
 
 -- this call gave a pass of this lock to this thread
-abbrev pub IsGrantBy : Call → ℕ → Who → Granted → Type 0
+abbrev pub IsGrantBy : LockCall → ℕ → Who → Granted → Type 0
 IsGrantBy call lock who granted = IsPassFor lock who granted.pass.value × (granted.call.value ≡ call)
+
+-- one try to ask for this lock, for this thread, was answered so
+abbrev pub HasAsked : ℕ → Who → Result Asked AskFault → List SeatView → List SeatView → Type 0
+HasAsked lock who answer before after = ChangesAt lock before after (λ old new. AskAnswer lock who old (Answered answer) new)
+
+-- one try to look whether this thread holds this lock was answered so
+abbrev pub HasChecked : ℕ → Who → Option Pass → List SeatView → List SeatView → Type 0
+HasChecked lock who answer before after = ChangesAt lock before after (λ old new. CheckAnswer lock who old (Answered answer) new)
 
 -- this amount was added to this ledger
 abbrev pub IsAddition : ℕ → ℕ → Addition → Type 0
@@ -57,7 +71,7 @@ IsWantOf (Tallies ledger amount) pending = pending ≡ Some (pause.Tallies ledge
 
 -- A thread with this pause stops so: it waits for the lock that it asks for, awaits a child or has ended, and else it
 -- goes on.
-abbrev pub StopsAt : Stop → Option Pending → Type 0
+abbrev pub StopsAt : ThreadStop → Option Pending → Type 0
 StopsAt (stop.Waits lock) pending = pending ≡ Some (pause.Asks lock)
 StopsAt stop.Blocks pending = pending ≡ Some pause.Joins
 StopsAt stop.Ends pending = pending ≡ Some pause.Ended
@@ -67,7 +81,7 @@ StopsAt (stop.Posted post) pending = pending ≡ None
 StopsAt (stop.Wakes next) pending = pending ≡ None
 
 -- it waits for a lock
-abbrev pub is_wait : Stop → Bool
+abbrev pub is_wait : ThreadStop → Bool
 is_wait (stop.Waits lock) = true
 is_wait stop.Blocks = false
 is_wait stop.Ends = false

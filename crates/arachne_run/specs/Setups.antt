@@ -2,9 +2,10 @@
 use Rattle.std.specs.Prelude.{◌≡◌, ◌⊎◌, true, false, ℕ, ◌==◌, Bool, ◌&&◌, nat_le, if◌then◌else◌, List, Option, None, Some}
 use Rattle.arachne_core.specs.declared.layout.TheConstants.{CORES, SLOTS}
 use Rattle.arachne_run.specs.declared.fault.RunFault.{RunFault}
-use Rattle.arachne_run.specs.declared.fault.RunFault.TheVariants.{Cores, Quantum, Slots, Choosers, Orders, Memory, Foreign, Threads, Ledgers, Token, KernelThread}
+use Rattle.arachne_run.specs.declared.fault.RunFault.TheVariants.{Cores, Quantum, Slots, Choosers, Orders, Worker}
 use Rattle.arachne_run.specs.declared.fault.WorkerFault.{WorkerFault}
 use Rattle.arachne_run.specs.declared.fault.WorkerFault.TheVariants as worker
+use Rattle.arachne_run.specs.declared.setup.Setup.{Setup}
 use Rattle.arachne_jobs.specs.declared.fault.JobFault.{JobFault}
 use Rattle.arachne_jobs.specs.declared.fault.JobFault.TheVariants as job
 use Rattle.arachne_sleep.specs.declared.answer.AskFault.{AskFault}
@@ -27,6 +28,10 @@ refusal_of cores quantum slots choosers =
     (if is_within 1 10000 quantum then (if is_within 1 SLOTS slots then (if choosers == cores then None else Some Choosers) else Some Slots) else Some Quantum)
     else Some Cores
 
+-- what is wrong with the numbers of a setup where there are so many choosers
+abbrev pub refusal_in : Setup → ℕ → Option RunFault
+refusal_in setup choosers = refusal_of setup.cores setup.quantum setup.slots choosers
+
 -- it is the first fault of these orders on so many cores
 abbrev pub IsFirstOrderFault : ℕ → List CoreOrder → RunFault → Type 0
 IsFirstOrderFault cores orders fault = (first : OrderFault) × IsFirstFault cores orders first × (fault ≡ Orders first)
@@ -44,21 +49,7 @@ is_of_setup Quantum = true
 is_of_setup Slots = true
 is_of_setup Choosers = true
 is_of_setup (Orders first) = true
-is_of_setup Memory = false
-is_of_setup Foreign = false
-is_of_setup Threads = false
-is_of_setup Ledgers = false
-is_of_setup Token = false
-is_of_setup KernelThread = false
-
--- what a run answers where its workers stopped for this
-abbrev pub as_run_fault : WorkerFault → RunFault
-as_run_fault worker.Memory = Memory
-as_run_fault worker.Foreign = Foreign
-as_run_fault worker.Threads = Threads
-as_run_fault worker.Ledgers = Ledgers
-as_run_fault worker.Token = Token
-as_run_fault worker.KernelThread = KernelThread
+is_of_setup (Worker fault) = false
 
 -- the number of a fault, by which the loop of a worker knows it, and the fault of a number
 abbrev pub number_of : WorkerFault → ℕ

@@ -1,5 +1,8 @@
 -- Whose tokens they are, and what is out with them.
-use Rattle.std.specs.Prelude.{◌≡◌, ◌≤◌, ◌<◌, ℕ, Bool, List, [], ◌∷◌, Option, None, Some, IfSome, All, length, map}
+use Rattle.std.specs.Prelude.{◌≡◌, ◌≤◌, ◌<◌, ℕ, Bool, List, [], ◌∷◌, Option, None, Some, IfSome, MatchOption, All, length, map, not}
+use Rattle.arachne_lang.specs.Program.{tree_of}
+use Rattle.arachne_lang.specs.declared.program.Program.{Program}
+use Rattle.arachne_jobs.specs.Classes.{forks_exclusive}
 use Rattle.arachne_contexts.specs.Out.{Out, Claim, Thread}
 use Rattle.arachne_contexts.specs.declared.held.Held.{Held}
 use Rattle.arachne_weights.specs.Weight.{whole}
@@ -65,6 +68,18 @@ in_hand tag (Some thread) = thread_in tag thread.held ∷ []
 -- it is out no more, and what else was out is out
 abbrev pub IsSpent : {Seat C H : Type 0} → (Seat → List (Out C H) → Type 0) → Out C H → Seat → Seat → Type 0
 IsSpent {Seat} {C} {H} has out old new = (outs : List (Out C H)) → has old (out ∷ outs) → has new outs
+
+-- what is kept is out, and so is the place that was found, if one was
+abbrev pub IsOutWith : {C H : Type 0} → (List (Out C H) → Type 0) → List C → Option C → Type 0
+IsOutWith has kept place = MatchOption place (has (map Claim kept)) (λ claim. has (Claim claim ∷ map Claim kept))
+
+-- a machine of so many cores and places, this quantum and so many orders, with the locks and ledgers of the program;
+-- its workers may move threads unless the program has a fork for a whole core
+abbrev pub IsMachineFor : {Table Ticket : Type 0} → (cores slots quantum orders : ℕ) → Program → Machine Table Ticket → Type 0
+IsMachineFor cores slots quantum orders program machine =
+    (machine.orders ≡ orders) × (length machine.resources.locks ≡ program.locks)
+    × (machine.may_pull ≡ not (forks_exclusive (tree_of program.root))) × (machine.resources.ledgers.count ≡ program.ledgers)
+    × (machine.cores ≡ cores) × (machine.slots ≡ slots) × (machine.quantum ≡ quantum)
 
 -- its table has its cores, of which there are one to 64, as many as the shared words are for, each with its places, one
 -- to 56, and a slice has a step at least

@@ -6,11 +6,11 @@ ghost use Rattle.arachne_sleep.specs.Calls.{FreeAnswer};
 ghost use Rattle.arachne_sleep.specs.SleepLocks.{AreSeatsOf, ChangesAt};
 ghost use Rattle.arachne_run.specs.Serving.{IsAddition, IsGrantBy, IsServed, IsWantOf, StopsAt, has_lock_after, has_lock_by, id_of, is_wait};
 ghost use Rattle.arachne_run.specs.Tokens.{AreHoldingsOf};
-ghost use Rattle.arachne_workers.specs.declared.desk.Stop.TheVariants as stopped;
+ghost use Rattle.arachne_workers.specs.declared.desk.ThreadStop.TheVariants as stopped;
 ghost use Rattle.arachne_run.specs.declared.access.Want.TheVariants.{Asks, Awaits};
 ghost use Rattle.arachne_run.specs.declared.fault.WorkerFault.TheVariants.{Foreign};
 ghost use Rattle.arachne_run.specs.declared.granted.Got.TheVariants as got;
-ghost use Rattle.arachne_run.specs.declared.granted.Call.TheVariants as calls;
+ghost use Rattle.arachne_run.specs.declared.granted.LockCall.TheVariants as calls;
 ghost use Rattle.arachne_run.specs.declared.granted.Granted.{Granted};
 ghost use Rattle.arachne_run.specs.declared.granted.Unserved.{Unserved};
 
@@ -22,7 +22,7 @@ use arachne_core::ThreadId;
 use arachne_jobs::RunThread;
 use arachne_ledger::{Ledgers, Share};
 use arachne_sleep::{Freed, LockSeats, NotHolder, SleepLocks, Tried, Who};
-use arachne_workers::{Stop, stand_by};
+use arachne_workers::{ThreadStop, stand_by};
 use std::marker::Model;
 use std::snapshot::Snapshot;
 use std::sync::Wait;
@@ -70,39 +70,39 @@ pub(crate) enum Served {
     /// It holds the lock that it asked for.
     Holds(Granted),
     /// The lock that it had is free, or another thread holds it now.
-    Freed(Release),
+    Freed(LockFreed),
     /// The amount was added.
     Added(Addition),
 }
 
 /// A lock was freed. It can't be dropped, so that who holds it next goes on.
-pub(crate) struct Release {
+pub(crate) struct LockFreed {
     next: Option<ThreadId>,
 }
 
-impl Release {
+impl LockFreed {
     /// What the lock said as it was freed.
     #[inline(always)]
-    fn by(freed: Freed) -> Release
+    fn by(freed: Freed) -> LockFreed
         ensures { result.next ≡ id_of freed.next }
     {
         let next = match freed.next {
             Some(next) => Some(next.id),
             None => None,
         };
-        Release { next }
+        LockFreed { next }
     }
 
     /// Where the thread that freed it stops.
     #[inline(always)]
-    fn stop(self) -> Stop
+    fn stop(self) -> ThreadStop
         ensures next { MatchOption self.next (result ≡ stopped.Goes) (λ next. result ≡ stopped.Wakes next) }
         ensures goes_on { StopsAt result None × (is_wait result ≡ false) }
     {
-        let Release { next } = self;
+        let LockFreed { next } = self;
         match next {
-            Some(next) => Stop::Wakes(next),
-            None => Stop::Goes,
+            Some(next) => ThreadStop::Wakes(next),
+            None => ThreadStop::Goes,
         }
     }
 }
@@ -174,7 +174,7 @@ impl<'a> Access<'a> {
         id: ThreadId,
         thread: &mut T,
         has_lock: &mut bool,
-    ) -> Result<Stop, WorkerFault>
+    ) -> Result<ThreadStop, WorkerFault>
         requires { IsWantOf want (T.pause_of thread.old) }
         ensures same { (self.new ≡ self.old) × (T.tag_of thread.new ≡ T.tag_of thread.old) }
         ensures stops { IfOk result (λ stop. StopsAt stop (T.pause_of thread.new)) }
@@ -184,9 +184,9 @@ impl<'a> Access<'a> {
         let served = self.do_for(rt, pace, want, Who { tag, id })?;
         *has_lock = served.has_lock(*has_lock);
         let stop = match served {
-            Served::Waits(lock, _) => return Ok(Stop::Waits(lock)),
+            Served::Waits(lock, _) => return Ok(ThreadStop::Waits(lock)),
             Served::Freed(release) => release.stop(),
-            Served::Holds(_) | Served::Added(_) => Stop::Goes,
+            Served::Holds(_) | Served::Added(_) => ThreadStop::Goes,
         };
         match thread.answer() {
             Ok(()) => Ok(stop),
@@ -281,13 +281,13 @@ impl<'a> Access<'a> {
         pace: &mut Pace,
         lock: u64,
         who: Who,
-    ) -> Result<Release, WorkerFault>
+    ) -> Result<LockFreed, WorkerFault>
         ensures { self.new ≡ self.old }
     {
         let mut tries: u32 = 0;
         for _ in rt.forever() {
             match self.try_free(lock, who)? {
-                Tried::Answered(Ok(freed)) => return Ok(Release::by(freed)),
+                Tried::Answered(Ok(freed)) => return Ok(LockFreed::by(freed)),
                 Tried::Answered(Err(fault)) => return Err(WorkerFault::from(fault)),
                 Tried::Contended => {}
             }

@@ -25,6 +25,14 @@ pub enum RunFault {
     /// The first core order at fault.
     #[error("{0}")]
     Orders(OrderFault),
+    /// What a worker met on its way, or what was wrong with what the workers left.
+    #[error("{0}")]
+    Worker(WorkerFault),
+}
+
+/// Why workers stop all, or nothing comes of what they have left: each fault of a run but those of its setup.
+#[derive(Clone, Copy, Debug, PartialEq, Eq, Error)]
+pub enum WorkerFault {
     /// A growth was refused.
     #[error("out of memory")]
     Memory,
@@ -43,46 +51,19 @@ pub enum RunFault {
     /// whole.
     #[error("the table knows no such token, or not all of a table came back")]
     Token,
-    /// A kernel thread was refused.
-    #[error("a kernel thread was refused")]
-    KernelThread,
-}
-
-/// Why workers stop all, or nothing comes of what they have left: each fault of a run but those of its setup.
-#[derive(Clone, Copy, Debug, PartialEq, Eq)]
-pub enum WorkerFault {
-    /// A growth was refused.
-    Memory,
-    /// A thread got the outcome of another one than the child that it awaits, or one that its program can't have; or it
-    /// named a ledger or a lock that isn't there.
-    Foreign,
-    /// Two threads have one tag, a thread asked for a lock that it had or freed one that it had not, or a lock's grants
-    /// are not the threads' holds.
-    Threads,
-    /// The word of a ledger is not the root's sum.
-    Ledgers,
-    /// The table didn't know a place or a thread that a worker had of it, or in the end a seat or a share was not
-    /// whole.
-    Token,
     /// A kernel thread was refused, or there was nothing for it to choose cores by.
+    #[error("a kernel thread was refused")]
     KernelThread,
 }
 
 impl From<WorkerFault> for RunFault {
     ghost use Rattle.std.specs.Prelude.{◌≡◌};
-    ghost use Rattle.arachne_run.specs.Setups.{as_run_fault};
+    ghost use Rattle.arachne_run.specs.declared.fault.RunFault.TheVariants.{Worker};
 
-    ghost from_gives = { λ fault e. e ≡ as_run_fault fault };
+    ghost from_gives = { λ fault e. e ≡ Worker fault };
 
     fn from(fault: WorkerFault) -> RunFault {
-        match fault {
-            WorkerFault::Memory => RunFault::Memory,
-            WorkerFault::Foreign => RunFault::Foreign,
-            WorkerFault::Threads => RunFault::Threads,
-            WorkerFault::Ledgers => RunFault::Ledgers,
-            WorkerFault::Token => RunFault::Token,
-            WorkerFault::KernelThread => RunFault::KernelThread,
-        }
+        RunFault::Worker(fault)
     }
 }
 
@@ -191,11 +172,12 @@ impl From<AllocError> for WorkerFault {
 
 impl From<AllocError> for RunFault {
     ghost use Rattle.std.specs.Prelude.{◌≡◌};
-    ghost use Rattle.arachne_run.specs.declared.fault.RunFault.TheVariants.{Memory};
+    ghost use Rattle.arachne_run.specs.declared.fault.RunFault.TheVariants.{Worker};
+    ghost use Rattle.arachne_run.specs.declared.fault.WorkerFault.TheVariants.{Memory};
 
-    ghost from_gives = { λ _ e. e ≡ Memory };
+    ghost from_gives = { λ _ e. e ≡ Worker Memory };
 
     fn from(_: AllocError) -> RunFault {
-        RunFault::Memory
+        RunFault::Worker(WorkerFault::Memory)
     }
 }

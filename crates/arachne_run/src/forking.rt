@@ -1,13 +1,13 @@
 //! How threads get their places: the child of a fork is posted at one, waits for one, or runs in its parent's.
 //!
 //! It may touch the table through the seat that it is given, and the queue of those that wait.
-ghost use Rattle.std.specs.Prelude.{◌≡◌, ◌↔◌, ◌<◌, ◌≤◌, [], ◌∷◌, false, IfOk, IfSome, IsOk, IsSome, IsTrue, MatchOption, OnOk, map};
+ghost use Rattle.std.specs.Prelude.{◌≡◌, ◌↔◌, ◌<◌, ◌≤◌, [], ◌∷◌, false, IfOk, IfSome, IsOk, IsSome, IsTrue, OnOk, map};
 ghost use Rattle.rand_core.specs.Stream.{next_u64};
 ghost use Rattle.arachne_arbiter.specs.Placed.{GetsPlace, IsAtStartOfSome};
 ghost use Rattle.arachne_contexts.specs.Out.{Claim as a_claim, HasOut};
 ghost use Rattle.arachne_spill.specs.Views.{IsPassOf};
 ghost use Rattle.arachne_run.specs.Serving.{StopsAt};
-ghost use Rattle.arachne_run.specs.Tokens.{IsSetUp, IsSpent, thread_in};
+ghost use Rattle.arachne_run.specs.Tokens.{IsOutWith, IsSetUp, IsSpent, thread_in};
 
 use crate::access::{Access, Want};
 use crate::claims::{Claims, Uncounted};
@@ -20,7 +20,7 @@ use arachne_jobs::{
 };
 use arachne_lang::Class;
 use arachne_spill::SpillPass;
-use arachne_workers::{Post, Stop};
+use arachne_workers::{PostedThread, ThreadStop};
 use rand_core::Rng;
 use std::alloc::{AllocError, Global};
 use std::sync::Wait;
@@ -28,7 +28,7 @@ use std::time::Clock;
 
 /// What a worker has for the forks of threads.
 #[derive(Drop)]
-pub(crate) struct Forks<R, P> {
+pub(crate) struct ForkSupplies<R, P> {
     /// The core's chooser.
     pub(crate) chooser: R,
     pub(crate) openings: Openings,
@@ -47,18 +47,18 @@ pub(crate) fn go_on<H: Wait + Clock, T: RunJob, C: Contexts<T>, R: Rng>(
     pass: &mut SpillPass<T::Ticket>,
     held: &mut Held<T, C::Hold>,
     has_lock: &mut bool,
-    forks: &mut Forks<R, T::Spares>,
+    forks: &mut ForkSupplies<R, T::Spares>,
     access: &mut Access<'_>,
     pace: &mut Pace,
     left: &mut u32,
-) -> Result<Stop, WorkerFault>
+) -> Result<ThreadStop, WorkerFault>
     requires seat { C.sits machine.now.table seat.old }
     requires out { C.has machine.now.table seat.old (thread_in T.tag_of held.old ∷ []) }
     requires pass { IsPassOf machine.now.tickets pass.old }
     requires set_up { IsSetUp C.core_count C.slot_count machine.now }
     requires some { 1 ≤ left.old }
-    ensures kept { C.sits machine.now.table seat.new × IsPassOf machine.now.tickets pass.new × (access.new ≡ access.old)
-        × OnOk result (C.has machine.now.table seat.new (thread_in T.tag_of held.new ∷ []) × (left.new ≤ left.old)) }
+    ensures kept { C.sits machine.now.table seat.new × IsPassOf machine.now.tickets pass.new × (access.new ≡ access.old) }
+    ensures hand { OnOk result (C.has machine.now.table seat.new (thread_in T.tag_of held.new ∷ []) × (left.new ≤ left.old)) }
     ensures stops { IfOk result (λ stop. StopsAt stop (T.pause_of held.new.value)) }
     ensures drawn { IsOk result → forks.new.openings.draws ≡ 0 }
 {
@@ -69,14 +69,14 @@ pub(crate) fn go_on<H: Wait + Clock, T: RunJob, C: Contexts<T>, R: Rng>(
     draw(&mut forks.chooser, forks.openings.draws);
     forks.openings.draws = 0;
     let want = match slice {
-        Slice::Goes => return Ok(Stop::Goes),
+        Slice::Goes => return Ok(ThreadStop::Goes),
         Slice::Forks(class, child) => {
             return answer_fork::<H, T, C, R>(
                 rt, alloc, machine, seat, pass, held, class, child, forks,
             );
         }
-        Slice::Blocks(_) => return Ok(Stop::Blocks),
-        Slice::Ends => return Ok(Stop::Ends),
+        Slice::Blocks(_) => return Ok(ThreadStop::Blocks),
+        Slice::Ends => return Ok(ThreadStop::Ends),
         Slice::Asks(lock) => Want::asks(lock, had, *left),
         Slice::Awaits(lock) => Want::awaits(lock, had, *left),
         Slice::Frees(lock) => Want::Frees(lock),
@@ -93,9 +93,9 @@ fn draw<R: Rng>(chooser: &mut R, words: u64) {
     }
 }
 
-/// Answers a fork of the thread in hand: a normal child gets a place on the core with fewer threads of two that are
-/// drawn, else on another core that has one; an exclusive one on an empty core. Else a normal one waits, if there is
-/// room in the queue, and another one runs in place.
+/// Answers a fork of the thread in hand: a normal child gets a place on the core that `claim_normal` of
+/// `arachne_arbiter` chooses, an exclusive one on an empty core. Else a normal one waits, if there is room in the
+/// queue, and another one runs in place.
 fn answer_fork<H: Wait, T: RunJob, C: Contexts<T>, R: Rng>(
     rt: &H,
     alloc: Global,
@@ -105,8 +105,8 @@ fn answer_fork<H: Wait, T: RunJob, C: Contexts<T>, R: Rng>(
     held: &mut Held<T, C::Hold>,
     class: Class,
     child: T::Child,
-    forks: &mut Forks<R, T::Spares>,
-) -> Result<Stop, WorkerFault>
+    forks: &mut ForkSupplies<R, T::Spares>,
+) -> Result<ThreadStop, WorkerFault>
     requires seat { C.sits machine.now.table seat.old }
     requires out { C.has machine.now.table seat.old (thread_in T.tag_of held.old ∷ []) }
     requires pass { IsPassOf machine.now.tickets pass.old }
@@ -127,7 +127,7 @@ fn answer_fork<H: Wait, T: RunJob, C: Contexts<T>, R: Rng>(
             .value
             .fork_off(alloc, me, child, tag, &mut forks.spares)?;
         let post = post_at::<H, T, C>(rt, machine, seat, claim, job)?;
-        return Ok(Stop::Posted(post));
+        return Ok(ThreadStop::Posted(post));
     }
     let wants_room = is_worth_room(class, forks.openings.is_large);
     let made = make_room(rt, &machine.tickets, room, pass, wants_room);
@@ -136,10 +136,10 @@ fn answer_fork<H: Wait, T: RunJob, C: Contexts<T>, R: Rng>(
         // Where the queue was filled meanwhile, the child waits without a ticket, for its parent.
         if let Ok(put) = put_ticket(rt, &machine.tickets, pass, ticket) {
             room.child_waits(put);
-            return Ok(Stop::Spilled);
+            return Ok(ThreadStop::Spilled);
         }
     }
-    Ok(Stop::Goes)
+    Ok(ThreadStop::Goes)
 }
 
 /// Claims a place for a child of this class: a normal one shares a core that is chosen by a word that is drawn, and an
@@ -210,7 +210,7 @@ pub(crate) fn free_place<H: Wait, T: RunJob, C: Contexts<T>>(
     requires set_up { IsSetUp C.core_count C.slot_count machine.now }
     requires core { core < machine.now.cores }
     ensures seat { C.sits machine.now.table spare.new }
-    ensures out { IfOk result (λ place. MatchOption place (C.has machine.now.table spare.new (map a_claim kept.new)) (λ claim. C.has machine.now.table spare.new (a_claim claim ∷ map a_claim kept.new))) }
+    ensures out { IfOk result (IsOutWith (C.has machine.now.table spare.new) kept.new) }
 {
     if let Some(claim) = kept.take() {
         return Ok(Some(claim));
@@ -230,7 +230,7 @@ fn post_at<H: Wait, T: RunJob, C: Contexts<T>>(
     seat: &mut C::Seat,
     claim: C::Claim,
     job: T,
-) -> Result<Post, WorkerFault>
+) -> Result<PostedThread, WorkerFault>
     requires seat { C.sits machine.now.table seat.old }
     requires out { HasOut (C.has machine.now.table) (a_claim claim) seat.old }
     ensures seat { C.sits machine.now.table seat.new }
@@ -239,7 +239,7 @@ fn post_at<H: Wait, T: RunJob, C: Contexts<T>>(
 {
     let place = claim.place();
     match machine.table.post(rt, seat, claim, job) {
-        Ok(id) => Ok(Post { id, place }),
+        Ok(id) => Ok(PostedThread { id, place }),
         Err(_) => Err(WorkerFault::Token),
     }
 }
@@ -252,7 +252,7 @@ pub(crate) fn post_waiting<H: Wait, T: RunJob, C: Contexts<T>>(
     spare: &mut C::Seat,
     claim: C::Claim,
     job: Option<T>,
-) -> Result<Option<Post>, WorkerFault>
+) -> Result<Option<PostedThread>, WorkerFault>
     requires seat { C.sits machine.now.table spare.old }
     requires out { HasOut (C.has machine.now.table) (a_claim claim) spare.old }
     ensures seat { C.sits machine.now.table spare.new }

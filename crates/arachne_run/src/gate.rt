@@ -1,7 +1,7 @@
 //! What a caller may do before each slice, and be told of a run.
 use arachne_core::ThreadId;
 use arachne_lang::Name;
-use arachne_workers::Event;
+use arachne_workers::WorkerEvent;
 
 /// Called before each slice, as by a test that watches or holds up the cores of a run, and told of what its cores do.
 /// Each call is by the kernel thread of the core.
@@ -14,7 +14,7 @@ pub trait Gate {
 
     /// What the core has done just now, or is about to do. What a thread awaits by a number is the lock of that number;
     /// one that is served holds its lock.
-    fn told(&self, _core: u8, _event: Event) {}
+    fn told(&self, _core: u8, _event: WorkerEvent) {}
 }
 
 /// The gate that does nothing.

@@ -1,12 +1,10 @@
 //! Tries to get a lock, and what shows that a thread holds one.
 ghost use Rattle.std.specs.Prelude.{◌≡◌, ◌<◌, ℕ, Err, None, Ok, Some, length};
-ghost use Rattle.arachne_sleep.specs.Calls.{AskAnswer, CheckAnswer};
-ghost use Rattle.arachne_sleep.specs.SleepLocks.{AreSeatsOf, ChangesAt};
+ghost use Rattle.arachne_sleep.specs.SleepLocks.{AreSeatsOf};
 ghost use Rattle.arachne_sleep.specs.declared.answer.AskFault.{AskFault};
 ghost use Rattle.arachne_sleep.specs.declared.answer.Asked.TheVariants as asked;
-ghost use Rattle.arachne_sleep.specs.declared.answer.Tried.TheVariants.{Answered};
-ghost use Rattle.arachne_run.specs.Serving.{IsGrantBy};
-ghost use Rattle.arachne_run.specs.declared.granted.Call.TheVariants as calls;
+ghost use Rattle.arachne_run.specs.Serving.{HasAsked, HasChecked, IsGrantBy};
+ghost use Rattle.arachne_run.specs.declared.granted.LockCall.TheVariants as calls;
 ghost use Rattle.arachne_run.specs.declared.granted.Got.TheVariants as got;
 ghost use Rattle.arachne_run.specs.declared.granted.Granted.{Granted};
 ghost use Rattle.arachne_run.specs.declared.granted.Unserved.{Unserved};
@@ -16,7 +14,7 @@ use std::snapshot::Snapshot;
 
 /// By which call a lock was tried.
 #[derive(Clone, Copy)]
-pub(crate) enum Call {
+pub(crate) enum LockCall {
     /// The thread asked for it.
     Ask,
     /// It had asked before.
@@ -28,12 +26,12 @@ pub(crate) enum Call {
 #[derive(Drop)]
 pub(crate) struct Granted {
     pass: Snapshot<Pass>,
-    call: Snapshot<Call>,
+    call: Snapshot<LockCall>,
 }
 
 impl Granted {
     #[inline(always)]
-    fn by(call: Call, pass: Pass) -> Granted
+    fn by(call: LockCall, pass: Pass) -> Granted
         ensures pass { result.pass.value ≡ pass }
         ensures call { result.call.value ≡ call }
     {
@@ -48,12 +46,12 @@ impl Granted {
 /// waits for a lock without. It has no bytes.
 #[derive(Drop)]
 pub(crate) struct Unserved {
-    call: Snapshot<Call>,
+    call: Snapshot<LockCall>,
 }
 
 impl Unserved {
     #[inline(always)]
-    fn by(call: Call) -> Unserved
+    fn by(call: LockCall) -> Unserved
         ensures { result.call.value ≡ call }
     {
         Unserved {
@@ -81,16 +79,16 @@ pub(crate) fn ask(locks: &SleepLocks, seats: &mut LockSeats, lock: u8, who: Who)
     ensures own { AreSeatsOf locks.now seats.new }
     ensures pass { (granted : Granted) → result ≡ got.Granted granted → IsGrantBy calls.Ask lock who granted }
     ensures listed { (granted : Granted) → result ≡ got.Granted granted
-        → ChangesAt lock seats.old seats.new (λ old new. AskAnswer lock who old (Answered (Ok (asked.Granted granted.pass.value))) new) }
+        → HasAsked lock who (Ok (asked.Granted granted.pass.value)) seats.old seats.new }
     ensures waits { (unserved : Unserved) → result ≡ got.Waits unserved
-        → (at : ℕ) × ChangesAt lock seats.old seats.new (λ old new. AskAnswer lock who old (Answered (Ok (asked.Queued at))) new) }
+        → (at : ℕ) × HasAsked lock who (Ok (asked.Queued at)) seats.old seats.new }
     ensures asked { (unserved : Unserved) → result ≡ got.Waits unserved → unserved.call.value ≡ calls.Ask }
     ensures refused { (fault : AskFault) → result ≡ got.Refused fault
-        → ChangesAt lock seats.old seats.new (λ old new. AskAnswer lock who old (Answered (Err fault)) new) }
+        → HasAsked lock who (Err fault) seats.old seats.new }
 {
     match locks.ask(seats, lock, who) {
-        Tried::Answered(Ok(Asked::Granted(pass))) => Got::Granted(Granted::by(Call::Ask, pass)),
-        Tried::Answered(Ok(Asked::Queued { at: _ })) => Got::Waits(Unserved::by(Call::Ask)),
+        Tried::Answered(Ok(Asked::Granted(pass))) => Got::Granted(Granted::by(LockCall::Ask, pass)),
+        Tried::Answered(Ok(Asked::Queued { at: _ })) => Got::Waits(Unserved::by(LockCall::Ask)),
         Tried::Answered(Err(fault)) => Got::Refused(fault),
         Tried::Contended => Got::Contended,
     }
@@ -104,14 +102,14 @@ pub(crate) fn check(locks: &SleepLocks, seats: &mut LockSeats, lock: u8, who: Wh
     ensures own { AreSeatsOf locks.now seats.new }
     ensures pass { (granted : Granted) → result ≡ got.Granted granted → IsGrantBy calls.Check lock who granted }
     ensures listed { (granted : Granted) → result ≡ got.Granted granted
-        → ChangesAt lock seats.old seats.new (λ old new. CheckAnswer lock who old (Answered (Some granted.pass.value)) new) }
+        → HasChecked lock who (Some granted.pass.value) seats.old seats.new }
     ensures waits { (unserved : Unserved) → result ≡ got.Waits unserved
-        → ChangesAt lock seats.old seats.new (λ old new. CheckAnswer lock who old (Answered None) new) }
+        → HasChecked lock who None seats.old seats.new }
     ensures checked { (unserved : Unserved) → result ≡ got.Waits unserved → unserved.call.value ≡ calls.Check }
 {
     match locks.check(seats, lock, who) {
-        Tried::Answered(Some(pass)) => Got::Granted(Granted::by(Call::Check, pass)),
-        Tried::Answered(None) => Got::Waits(Unserved::by(Call::Check)),
+        Tried::Answered(Some(pass)) => Got::Granted(Granted::by(LockCall::Check, pass)),
+        Tried::Answered(None) => Got::Waits(Unserved::by(LockCall::Check)),
         Tried::Contended => Got::Contended,
     }
 }

@@ -16,7 +16,7 @@ pub(crate) struct InHand<T, H> {
 }
 
 impl<T, H> InHand<T, H> {
-    /// One that was taken just now. [`Seat::take`](crate::seat::Seat) alone makes it.
+    /// One that was taken just now. [`RunSeat::take`](crate::seat::RunSeat) alone makes it.
     #[inline(always)]
     pub(crate) fn taken(held: Held<T, H>) -> InHand<T, H>
         ensures { result ≡ record { held = held; has_lock = false } }
@@ -41,19 +41,19 @@ pub(crate) fn has_lock<T, H>(in_hand: &Option<InHand<T, H>>) -> bool
 
 /// A thread was put back, to rest so. [`put_back`] alone gives one, which can't be dropped, so that how it rests then
 /// is told.
-pub(crate) struct PutBack {
+pub(crate) struct PutToRest {
     rested: Rested,
     asked: Rest,
 }
 
-impl PutBack {
+impl PutToRest {
     /// How it rests.
     #[inline(always)]
     pub(crate) fn rests(self) -> Rest
         ensures as_asked { self.rested ≡ Rested.AsAsked → result ≡ self.asked }
         ensures woken { self.rested ≡ Rested.WokenMeanwhile → result ≡ Rest.Ready }
     {
-        let PutBack { rested, asked } = self;
+        let PutToRest { rested, asked } = self;
         rests_so(rested, asked)
     }
 }
@@ -66,7 +66,7 @@ pub(crate) fn put_back<R: Wait, T: Tagged, C: Contexts<T>>(
     seat: &mut C::Seat,
     held: Held<T, C::Hold>,
     rest: Rest,
-) -> Result<PutBack, Held<T, C::Hold>>
+) -> Result<PutToRest, Held<T, C::Hold>>
     requires seat { C.sits table.now seat.old }
     requires out { HasOut (C.has table.now) (a_thread held.hold (T.tag_of held.value)) seat.old }
     ensures seat { C.sits table.now seat.new }
@@ -75,7 +75,7 @@ pub(crate) fn put_back<R: Wait, T: Tagged, C: Contexts<T>>(
     ensures handed_back { IfErr result (λ back. back ≡ held) }
 {
     match table.put_back(rt, seat, held, rest) {
-        Ok(rested) => Ok(PutBack {
+        Ok(rested) => Ok(PutToRest {
             rested,
             asked: rest,
         }),

@@ -23,7 +23,7 @@ mod workers;
 
 pub use arachne_jobs::{Job, RunJob, Ticket};
 pub use arachne_spill::{SpillPass, SpillQueue};
-pub use arachne_workers::{Cause, Event, SliceEnd};
+pub use arachne_workers::{Cause, SliceEnd, WorkerEvent};
 pub use fault::{RunFault, WorkerFault};
 pub use gate::{Gate, OpenGate};
 pub use report::Report;

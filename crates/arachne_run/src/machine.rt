@@ -1,5 +1,5 @@
 //! What the workers of a run share.
-ghost use Rattle.std.specs.Prelude.{◌≡◌, ◌≢◌, ◌≤◌, ◌⊎◌, ◌↔◌, ◌%◌, ◌^◌, [], All, Err, IfErr, IfOk, IfSome, IsOk, IsSome, IsTrue, None, OnOk, length, map, not};
+ghost use Rattle.std.specs.Prelude.{◌≡◌, ◌≢◌, ◌≤◌, ◌⊎◌, ◌↔◌, ◌%◌, ◌^◌, [], All, Err, IfErr, IfOk, IfSome, IsOk, IsSome, IsTrue, None, OnOk, length, map};
 ghost use Rattle.arachne_lang.specs.Program.{tree_of};
 ghost use Rattle.arachne_jobs.specs.Classes.{forks_exclusive};
 ghost use Rattle.arachne_policy.specs.Orders.{AreInOrder};
@@ -11,12 +11,13 @@ ghost use Rattle.arachne_sleep.specs.Views.{IsWhole as IsWholeSeat};
 ghost use Rattle.arachne_spill.specs.Views.{IsPassOf, IsWhole as IsWholePass};
 ghost use Rattle.arachne_weights.specs.Weight.{whole};
 ghost use Rattle.arachne_run.specs.declared.fault.WorkerFault.TheVariants.{Memory, Token};
-ghost use Rattle.arachne_run.specs.Tokens.{AreAllBack, AreHoldingsOf, AreIdle, IsAnyLeft, IsSetUp};
+ghost use Rattle.arachne_run.specs.Histories.{AreOfLocks};
+ghost use Rattle.arachne_run.specs.Tokens.{AreAllBack, AreHoldingsOf, AreIdle, IsAnyLeft, IsMachineFor, IsSetUp};
 
 use crate::both::{both, first_of};
 use crate::fault::WorkerFault;
 use crate::resources::{Holdings, Remains, Resources};
-use crate::shared::Shared;
+use crate::shared::SharedState;
 use crate::tokens::Tokens;
 use arachne_arbiter::{Arbiter, Cores};
 use arachne_contexts::{Contexts, Seats, Tagged};
@@ -33,7 +34,7 @@ use std::sync::Wait;
 /// The table of contexts, the ledgers, the locks, and the words that all workers look at.
 #[derive(Drop)]
 pub(crate) struct Machine<C, K: Tagged + Drop> {
-    pub(crate) shared: Shared,
+    pub(crate) shared: SharedState,
     pub(crate) resources: Resources,
     /// Children that wait for a place.
     pub(crate) tickets: SpillQueue<K>,
@@ -85,10 +86,7 @@ impl<C: Seats + Drop, K: Tagged + Drop> Machine<C, K> {
         requires some_steps { 1 ≤ quantum }
         requires orders { AreInOrder cores orders.items }
         ensures made { IfOk result (λ made. AreIdle C.sits C.idle made.0 made.1 × IsSetUp C.core_count C.slot_count made.0
-            × (made.0.orders ≡ length orders.items) × (length made.0.resources.locks ≡ program.now.locks)
-            × (made.0.may_pull ≡ not (forks_exclusive (tree_of program.now.root)))
-            × (made.0.resources.ledgers.count ≡ program.now.ledgers)
-            × (made.0.cores ≡ cores) × (made.0.slots ≡ slots) × (made.0.quantum ≡ quantum)) }
+            × IsMachineFor cores slots quantum (length orders.items) program.now made.0) }
         ensures keeps { IfOk result (λ made. IsTrue made.0.may_keep ↔ MayKeepPlaces (forks_exclusive (tree_of program.now.root)) (length orders.items) program.now.locks cores) }
     {
         let count = orders.len();
@@ -98,7 +96,7 @@ impl<C: Seats + Drop, K: Tagged + Drop> Machine<C, K> {
         let (tickets, pass) = SpillQueue::new(alloc)?;
         let (table, seat) = C::new(alloc, cores, slots, 0)?;
         let machine = Machine {
-            shared: Shared::new(alloc, cores, slots)?,
+            shared: SharedState::new(alloc, cores, slots)?,
             resources,
             tickets,
             table,
@@ -130,8 +128,7 @@ impl<C: Seats + Drop, K: Tagged + Drop> Machine<C, K> {
         T: Tagged + Drop,
         C: Contexts<T>,
         requires { IfSome tokens (AreIdle C.sits C.idle self) }
-        ensures sound { IfOk result (λ closed. (closed.1 ≤ self.orders) × (length closed.0.histories.items ≡ length self.resources.locks)
-            × All (λ history. IsSound history.items) closed.0.histories.items × All (λ history. HasOneHolderAtATime history.items) closed.0.histories.items) }
+        ensures sound { IfOk result (λ closed. (closed.1 ≤ self.orders) × AreOfLocks (length self.resources.locks) closed.0.histories.items) }
         ensures applied { IfOk result (λ closed. IfSome tokens (λ tokens. IfSome tokens.arbiter (λ progress. closed.1 ≡ progress.applied))) }
         ensures words { IfOk result (λ closed. IfSome tokens (λ tokens. closed.0.words.items ≡ map (λ sum. sum % 2 ^ 64) tokens.holdings.share.sums)) }
         ensures back { IsOk result → IsSome tokens × IfSome tokens (AreAllBack C.weight) }

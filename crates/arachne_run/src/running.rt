@@ -4,11 +4,11 @@ ghost use Rattle.arachne_lang.specs.Program.{source_of};
 ghost use Rattle.arachne_lang.specs.Checked.{IsChecked};
 ghost use Rattle.arachne_policy.specs.Orders.{AreInOrder};
 ghost use Rattle.arachne_run.specs.Reports.{IsReportOf};
-ghost use Rattle.arachne_run.specs.Setups.{IsFirstOrderFault, IsSetupFault, is_of_setup, refusal_of};
+ghost use Rattle.arachne_run.specs.Setups.{IsFirstOrderFault, IsSetupFault, is_of_setup, refusal_in};
 ghost use Rattle.arachne_run.specs.declared.fault.RunFault.{RunFault};
 
 use crate::choosers::Choosers;
-use crate::fault::RunFault;
+use crate::fault::{RunFault, WorkerFault};
 use crate::gate::Gate;
 use crate::machine::Machine;
 use crate::report::Report;
@@ -52,10 +52,10 @@ where
     C::Seat: Send,
     requires { IsChecked (source_of program.now) }
     ensures report { IfOk result (IsReportOf program.now (length setup.orders.items)) }
-    ensures refused { (fault : RunFault) → refusal_of setup.cores setup.quantum setup.slots (vec_len choosers) ≡ Some fault → result ≡ Err fault }
+    ensures refused { (fault : RunFault) → refusal_in setup (vec_len choosers) ≡ Some fault → result ≡ Err fault }
     ensures of_setup { IfErr result (λ fault. is_of_setup fault ≡ true → IsSetupFault setup.cores setup.quantum setup.slots (vec_len choosers) setup.orders.items fault) }
     ensures in_order { IsOk result → AreInOrder setup.cores setup.orders.items }
-    ensures order_refused { refusal_of setup.cores setup.quantum setup.slots (vec_len choosers) ≡ None → (AreInOrder setup.cores setup.orders.items → ⊥) → IfErr result (IsFirstOrderFault setup.cores setup.orders.items) }
+    ensures order_refused { refusal_in setup (vec_len choosers) ≡ None → (AreInOrder setup.cores setup.orders.items → ⊥) → IfErr result (IsFirstOrderFault setup.cores setup.orders.items) }
 {
     setup.check(choosers.len())?;
     let choosers = Choosers::of(choosers);
@@ -71,7 +71,7 @@ where
     let tokens = work_all::<H, T, C, R, G>(rt, alloc, &machine, gate, root, choosers, tokens);
     let (remains, applied) = machine.close::<H, T>(rt, alloc, tokens)?;
     let Ok((outcome, _)) = receiver.fetch() else {
-        return Err(RunFault::Foreign);
+        return Err(RunFault::Worker(WorkerFault::Foreign));
     };
     let report = Report::of(alloc, outcome, remains, applied)?;
     Ok(report)

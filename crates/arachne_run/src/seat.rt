@@ -12,7 +12,7 @@ ghost use Rattle.arachne_run.specs.Tokens.{AreIdle, IsSetUp, ground_of};
 use crate::access::Access;
 use crate::claims::{Claims, MayKeep};
 use crate::fault::WorkerFault;
-use crate::forking::{Forks, free_place, give_place_back, go_on, post_waiting};
+use crate::forking::{ForkSupplies, free_place, give_place_back, go_on, post_waiting};
 use crate::gate::Gate;
 use crate::in_hand::{InHand, has_lock, put_back};
 use crate::machine::Machine;
@@ -24,7 +24,9 @@ use arachne_jobs::{
     Openings, PlaceLeft, RunJob, RunSpares, RunThread, RunTicket, claim_again, finish, next_ticket,
 };
 use arachne_spill::SpillPass;
-use arachne_workers::{Desk, Drained, Event, Grip, Halt, Post, Stop, Ticket, may_take_ticket};
+use arachne_workers::{
+    Desk, Drained, Grip, Halt, PostedThread, ThreadStop, TicketResult, WorkerEvent, may_take_ticket,
+};
 use rand_core::Rng;
 use std::alloc::Global;
 use std::marker::Model;
@@ -33,7 +35,7 @@ use std::time::Clock;
 
 /// What a worker has at the table. Contracts see what it is a seat at: its invariant says what is out with it.
 #[derive(Drop)]
-pub(crate) struct Seat<'a, H, T: RunJob, C: Contexts<T>, R, G> {
+pub(crate) struct RunSeat<'a, H, T: RunJob, C: Contexts<T>, R, G> {
     pub(crate) rt: &'a H,
     pub(crate) gate: &'a G,
     pub(crate) alloc: Global,
@@ -49,11 +51,11 @@ pub(crate) struct Seat<'a, H, T: RunJob, C: Contexts<T>, R, G> {
     pub(crate) kept: Claims<C::Claim>,
     pub(crate) pass: SpillPass<T::Ticket>,
     pub(crate) arbiter: Option<Arbiter>,
-    pub(crate) forks: Forks<R, T::Spares>,
+    pub(crate) forks: ForkSupplies<R, T::Spares>,
     pub(crate) access: Access<'a>,
 }
 
-impl<'a, H, T: RunJob, C: Contexts<T>, R, G> Model for Seat<'a, H, T, C, R, G> {
+impl<'a, H, T: RunJob, C: Contexts<T>, R, G> Model for RunSeat<'a, H, T, C, R, G> {
     ghost use Rattle.std.specs.Prelude.{◌≡◌, ◌<◌, false, map};
     ghost use Rattle.arachne_contexts.specs.Out.{Claim as a_claim};
     ghost use Rattle.arachne_spill.specs.Views.{IsPassOf};
@@ -70,7 +72,7 @@ impl<'a, H, T: RunJob, C: Contexts<T>, R, G> Model for Seat<'a, H, T, C, R, G> {
         × IsPassOf s.machine.now.tickets s.pass × IsArbiterOf s.machine.now s.arbiter × (s.access ≡ s.machine.now.resources) };
 }
 
-impl<'a, H: Wait, T: RunJob, C: Contexts<T>, R: Rng + Drop, G: Gate> Seat<'a, H, T, C, R, G> {
+impl<'a, H: Wait, T: RunJob, C: Contexts<T>, R: Rng + Drop, G: Gate> RunSeat<'a, H, T, C, R, G> {
     /// A worker's two seats, with which nothing is out, and what else it has of the machine.
     pub(crate) fn open(
         rt: &'a H,
@@ -80,7 +82,7 @@ impl<'a, H: Wait, T: RunJob, C: Contexts<T>, R: Rng + Drop, G: Gate> Seat<'a, H,
         core: u8,
         chooser: R,
         tokens: Tokens<C::Seat, T::Ticket>,
-    ) -> Seat<'a, H, T, C, R, G>
+    ) -> RunSeat<'a, H, T, C, R, G>
         requires set_up { IsSetUp C.core_count C.slot_count machine.now }
         requires core { core < machine.now.cores }
         requires tokens { AreIdle C.sits C.idle machine.now tokens }
@@ -93,7 +95,7 @@ impl<'a, H: Wait, T: RunJob, C: Contexts<T>, R: Rng + Drop, G: Gate> Seat<'a, H,
             arbiter,
         } = tokens;
         let (seat, spare) = machine.table.split(rt, seat);
-        Seat {
+        RunSeat {
             rt,
             gate,
             alloc,
@@ -106,7 +108,7 @@ impl<'a, H: Wait, T: RunJob, C: Contexts<T>, R: Rng + Drop, G: Gate> Seat<'a, H,
             kept: Claims::new(alloc),
             pass,
             arbiter,
-            forks: Forks {
+            forks: ForkSupplies {
                 chooser,
                 openings: Openings::new(),
                 spares: T::Spares::none(alloc),
@@ -166,7 +168,7 @@ impl<'a, H: Wait, T: RunJob, C: Contexts<T>, R: Rng + Drop, G: Gate> Seat<'a, H,
 }
 
 impl<'a, H: Wait + Clock, T: RunJob, C: Contexts<T>, R: Rng + Drop, G: Gate> Desk
-    for Seat<'a, H, T, C, R, G> {
+    for RunSeat<'a, H, T, C, R, G> {
     #[inline(always)]
     fn take(&mut self, index: u8) -> Grip {
         if index >= self.machine.slots || self.held.is_some() || self.is_broken {
@@ -191,7 +193,7 @@ impl<'a, H: Wait + Clock, T: RunJob, C: Contexts<T>, R: Rng + Drop, G: Gate> Des
     }
 
     #[inline(always)]
-    fn advance(&mut self, pace: &mut Pace, left: &mut u32) -> Result<Stop, Halt> {
+    fn advance(&mut self, pace: &mut Pace, left: &mut u32) -> Result<ThreadStop, Halt> {
         if self.is_broken {
             return Err(Halt::from(WorkerFault::Token));
         }
@@ -346,17 +348,17 @@ impl<'a, H: Wait + Clock, T: RunJob, C: Contexts<T>, R: Rng + Drop, G: Gate> Des
         may_take_ticket(self.look(), kept, self.machine.slots)
     }
 
-    fn take_ticket(&mut self) -> Result<Ticket, Halt> {
+    fn take_ticket(&mut self) -> Result<TicketResult, Halt> {
         if self.is_broken {
             return Err(Halt::from(WorkerFault::Token));
         }
         let Some((ticket, taken)) = next_ticket(self.rt, &self.machine.tickets, &mut self.pass)
         else {
-            return Ok(Ticket::None);
+            return Ok(TicketResult::None);
         };
         self.machine.shared.room().ticket_was_taken(taken);
         if !ticket.still_waits() {
-            return Ok(Ticket::Gone);
+            return Ok(TicketResult::Gone);
         }
         self.is_broken = true;
         let posted = post_child::<H, T, C>(
@@ -404,7 +406,7 @@ impl<'a, H: Wait + Clock, T: RunJob, C: Contexts<T>, R: Rng + Drop, G: Gate> Des
     }
 
     #[inline(always)]
-    fn told(&self, event: Event) {
+    fn told(&self, event: WorkerEvent) {
         self.gate.told(self.core, event);
     }
 }
@@ -459,7 +461,7 @@ fn post_child<H: Wait, T: RunJob, C: Contexts<T>>(
     core: u8,
     ticket: T::Ticket,
     spares: &mut T::Spares,
-) -> Result<Ticket, WorkerFault>
+) -> Result<TicketResult, WorkerFault>
     requires seat { C.sits machine.now.table spare.old }
     requires out { C.has machine.now.table spare.old (map a_claim kept.old) }
     requires set_up { IsSetUp C.core_count C.slot_count machine.now }
@@ -468,7 +470,7 @@ fn post_child<H: Wait, T: RunJob, C: Contexts<T>>(
     ensures out { OnOk result (C.has machine.now.table spare.new (map a_claim kept.new)) }
 {
     let Some(claim) = free_place::<H, T, C>(rt, machine, spare, kept, core)? else {
-        return Ok(Ticket::Gone);
+        return Ok(TicketResult::Gone);
     };
     let job = T::of_ticket(alloc, ticket, spares);
     let posted = post_waiting::<H, T, C>(rt, machine, spare, claim, job)?;
@@ -477,11 +479,11 @@ fn post_child<H: Wait, T: RunJob, C: Contexts<T>>(
 
 /// What came of a ticket whose child was posted, or was gone.
 #[inline(always)]
-fn of_ticket(posted: Option<Post>) -> Ticket
-    ensures { MatchOption posted (result ≡ Ticket.Gone) (λ post. result ≡ Ticket.Posted post) }
+fn of_ticket(posted: Option<PostedThread>) -> TicketResult
+    ensures { MatchOption posted (result ≡ TicketResult.Gone) (λ post. result ≡ TicketResult.Posted post) }
 {
     match posted {
-        Some(post) => Ticket::Posted(post),
-        None => Ticket::Gone,
+        Some(post) => TicketResult::Posted(post),
+        None => TicketResult::Gone,
     }
 }

@@ -5,7 +5,7 @@ ghost use Rattle.arachne_run.specs.Setups.{numbered};
 use crate::fault::WorkerFault;
 use arachne_jobs::Room;
 use arachne_spill::CAPACITY;
-use arachne_workers::{Halted, Shared as Workers};
+use arachne_workers::{Halted, SharedWords};
 use std::alloc::{AllocError, Global};
 use std::marker::Model;
 use std::snapshot::Snapshot;
@@ -13,24 +13,24 @@ use std::sync::{Mutex, Wait};
 
 /// What kernel threads tell one another, what is looked at before each fork, and the first fault.
 #[derive(Drop)]
-pub(crate) struct Shared {
+pub(crate) struct SharedState {
     room: Room,
     first_fault: Mutex<Option<WorkerFault>>,
-    workers: Workers,
+    workers: SharedWords,
 }
 
-/// All workers are stopped. [`Shared::stop`] alone gives one.
+/// All workers are stopped. [`SharedState::stop`] alone gives one.
 #[derive(Drop)]
-pub(crate) struct Stopped {
+pub(crate) struct AllStopped {
     all: (),
 }
 
-/// This fault was recorded, if it was the first, and all workers are stopped. [`Shared::fail`] alone gives one, and no
-/// worker ends without its tokens but with one.
+/// This fault was recorded, if it was the first, and all workers are stopped. [`SharedState::fail`] alone gives one,
+/// and no worker ends without its tokens but with one.
 #[derive(Drop)]
 pub(crate) struct Failed {
     recorded: Recorded,
-    stopped: Stopped,
+    stopped: AllStopped,
 }
 
 /// This fault was recorded, if it was the first. [`keep_first`] alone gives one. It has no bytes.
@@ -40,7 +40,7 @@ struct Recorded {
 }
 
 // Contracts see for how many cores it is.
-impl Model for Shared {
+impl Model for SharedState {
     ghost use Rattle.std.specs.Prelude.{ℕ};
 
     ghost Value = { ℕ };
@@ -48,13 +48,13 @@ impl Model for Shared {
     ghost view = { λ s. s.workers };
 }
 
-impl Shared {
+impl SharedState {
     /// For so many cores, of which each has so many places.
-    pub(crate) fn new(alloc: Global, cores: u8, slots: u8) -> Result<Shared, AllocError>
+    pub(crate) fn new(alloc: Global, cores: u8, slots: u8) -> Result<SharedState, AllocError>
         ensures { IfOk result (λ shared. shared ≡ cores) }
     {
-        let workers = Workers::new(alloc, cores)?;
-        Ok(Shared {
+        let workers = SharedWords::new(alloc, cores)?;
+        Ok(SharedState {
             room: Room::new(cores, slots, CAPACITY as u64),
             first_fault: Mutex::new(None),
             workers,
@@ -62,16 +62,16 @@ impl Shared {
     }
 
     /// What kernel threads tell one another.
-    pub(crate) fn workers(&self) -> &Workers
+    pub(crate) fn workers(&self) -> &SharedWords
         ensures { result.now ≡ self.now }
     {
         &self.workers
     }
 
     /// Stops all workers, those that sleep or are parked too.
-    pub(crate) fn stop(&self) -> Stopped {
+    pub(crate) fn stop(&self) -> AllStopped {
         self.workers.stop();
-        Stopped { all: () }
+        AllStopped { all: () }
     }
 
     /// What is looked at before each fork.

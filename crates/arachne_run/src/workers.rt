@@ -1,5 +1,6 @@
 //! The kernel threads of a run, one for each core.
-ghost use Rattle.std.specs.Prelude.{◌≡◌, ◌<◌, [], ◌∷◌, None, IfErr, IfOk, IfSome, IsErr, IsNone, MatchOption};
+ghost use Rattle.std.specs.Prelude.{◌≡◌, ◌<◌, None, IfErr, IfOk, IfSome, IsErr, IsNone};
+ghost use Rattle.arachne_run.specs.Choosers.{IsFirstOf};
 ghost use Rattle.arachne_run.specs.Tokens.{AreIdle, IsSetUp, ground_of};
 ghost use Rattle.arachne_run.specs.declared.fault.WorkerFault.TheVariants.{KernelThread, Token};
 
@@ -7,14 +8,14 @@ use crate::choosers::Choosers;
 use crate::fault::WorkerFault;
 use crate::gate::Gate;
 use crate::machine::Machine;
-use crate::seat::Seat;
+use crate::seat::RunSeat;
 use crate::shared::Failed;
 use crate::tokens::Tokens;
 use arachne_arbiter::Pace;
 use arachne_contexts::{Contexts, Tagged};
 use arachne_jobs::RunJob;
 use arachne_team::{Team, TeamFault, work_together};
-use arachne_workers::{Agenda, Worker};
+use arachne_workers::{Agenda, CoreWorker};
 use rand_core::Rng;
 use std::alloc::Global;
 use std::sync::Wait;
@@ -31,7 +32,7 @@ struct Workers<'a, C, K: Tagged + Drop, G> {
 
 /// What one of them begins with, and gives back.
 #[derive(Drop)]
-struct Share<S, T: RunJob, R> {
+struct WorkerShare<S, T: RunJob, R> {
     tokens: Tokens<S, T::Ticket>,
     /// The thread that begins here.
     root: Option<T>,
@@ -40,7 +41,7 @@ struct Share<S, T: RunJob, R> {
     choosers: Choosers<R>,
 }
 
-impl<'a, T: RunJob, C: Contexts<T>, R: Rng + Drop, G: Gate> Team<Share<C::Seat, T, R>>
+impl<'a, T: RunJob, C: Contexts<T>, R: Rng + Drop, G: Gate> Team<WorkerShare<C::Seat, T, R>>
     for Workers<'a, C, T::Ticket, G> {
     ghost has = { λ workers share. AreIdle C.sits C.idle workers.machine.now share.tokens × IsSetUp C.core_count C.slot_count workers.machine.now };
 
@@ -53,17 +54,19 @@ impl<'a, T: RunJob, C: Contexts<T>, R: Rng + Drop, G: Gate> Team<Share<C::Seat, 
     fn part_off<H: Wait>(
         &self,
         rt: &H,
-        share: Share<C::Seat, T, R>,
-    ) -> (Share<C::Seat, T, R>, Option<Share<C::Seat, T, R>>)
+        share: WorkerShare<C::Seat, T, R>,
+    ) -> (
+        WorkerShare<C::Seat, T, R>,
+        Option<WorkerShare<C::Seat, T, R>>,
+    )
         requires { AreIdle C.sits C.idle self.now.machine.now share.tokens × IsSetUp C.core_count C.slot_count self.now.machine.now }
         ensures own { AreIdle C.sits C.idle self.now.machine.now result.0.tokens × IsSetUp C.core_count C.slot_count self.now.machine.now }
         ensures other { IfSome result.1 (λ theirs. AreIdle C.sits C.idle self.now.machine.now theirs.tokens × IsSetUp C.core_count C.slot_count self.now.machine.now) }
         ensures orders { (result.0.tokens.arbiter ≡ share.tokens.arbiter) × IfSome result.1 (λ theirs. theirs.tokens.arbiter ≡ None) }
         ensures root { (result.0.root ≡ share.root) × IfSome result.1 (λ theirs. theirs.root ≡ None) }
-        ensures choosers { (result.0.chooser ≡ share.chooser) × IfSome result.1 (λ theirs.
-            MatchOption theirs.chooser (share.choosers ≡ []) (λ first. share.choosers ≡ first ∷ result.0.choosers)) }
+        ensures choosers { (result.0.chooser ≡ share.chooser) × IfSome result.1 (λ theirs. IsFirstOf theirs.chooser share.choosers result.0.choosers) }
     {
-        let Share {
+        let WorkerShare {
             tokens,
             root,
             chooser,
@@ -74,7 +77,7 @@ impl<'a, T: RunJob, C: Contexts<T>, R: Rng + Drop, G: Gate> Team<Share<C::Seat, 
             Err(own) => (own, None),
         };
         let theirs = match others {
-            Some(tokens) => Some(Share {
+            Some(tokens) => Some(WorkerShare {
                 tokens,
                 root: None,
                 chooser: choosers.next(),
@@ -82,7 +85,7 @@ impl<'a, T: RunJob, C: Contexts<T>, R: Rng + Drop, G: Gate> Team<Share<C::Seat, 
             }),
             None => None,
         };
-        let own = Share {
+        let own = WorkerShare {
             tokens,
             root,
             chooser,
@@ -95,9 +98,9 @@ impl<'a, T: RunJob, C: Contexts<T>, R: Rng + Drop, G: Gate> Team<Share<C::Seat, 
         &self,
         rt: &H,
         number: u8,
-        share: Share<C::Seat, T, R>,
-    ) -> Option<Share<C::Seat, T, R>> {
-        let Share {
+        share: WorkerShare<C::Seat, T, R>,
+    ) -> Option<WorkerShare<C::Seat, T, R>> {
+        let WorkerShare {
             tokens,
             root,
             chooser,
@@ -107,7 +110,7 @@ impl<'a, T: RunJob, C: Contexts<T>, R: Rng + Drop, G: Gate> Team<Share<C::Seat, 
         let tokens = work_on::<H, T, C, R, G>(
             rt, alloc, machine, gate, number, chooser, tokens, root,
         ).ok()?;
-        Some(Share {
+        Some(WorkerShare {
             tokens,
             root: None,
             chooser: None,
@@ -118,16 +121,16 @@ impl<'a, T: RunJob, C: Contexts<T>, R: Rng + Drop, G: Gate> Team<Share<C::Seat, 
     fn join<H: Wait>(
         &self,
         rt: &H,
-        share: Share<C::Seat, T, R>,
-        other: Share<C::Seat, T, R>,
-    ) -> Option<Share<C::Seat, T, R>>
+        share: WorkerShare<C::Seat, T, R>,
+        other: WorkerShare<C::Seat, T, R>,
+    ) -> Option<WorkerShare<C::Seat, T, R>>
         requires own { AreIdle C.sits C.idle self.now.machine.now share.tokens × IsSetUp C.core_count C.slot_count self.now.machine.now }
         requires other { AreIdle C.sits C.idle self.now.machine.now other.tokens × IsSetUp C.core_count C.slot_count self.now.machine.now }
         ensures idle { IfSome result (λ both. AreIdle C.sits C.idle self.now.machine.now both.tokens × IsSetUp C.core_count C.slot_count self.now.machine.now) }
         ensures orders { IfSome result (λ both. both.tokens.arbiter ≡ share.tokens.arbiter) }
     {
-        let Share { tokens, .. } = share;
-        Some(Share {
+        let WorkerShare { tokens, .. } = share;
+        Some(WorkerShare {
             tokens: tokens.join::<H, C>(rt, self.machine, other.tokens),
             root: None,
             chooser: None,
@@ -168,7 +171,7 @@ where
     ensures { IfSome result (AreIdle C.sits C.idle machine.now) }
 {
     let mut choosers = choosers;
-    let share = Share {
+    let share = WorkerShare {
         tokens,
         root: Some(root),
         chooser: choosers.next(),
@@ -179,7 +182,7 @@ where
         machine,
         gate,
     };
-    let Share { tokens, .. } = work_together(rt, alloc, &workers, share)?;
+    let WorkerShare { tokens, .. } = work_together(rt, alloc, &workers, share)?;
     Some(tokens)
 }
 
@@ -204,7 +207,7 @@ fn work_on<H: Wait + Clock, T: RunJob, C: Contexts<T>, R: Rng + Drop, G: Gate>(
     let Some(chooser) = chooser else {
         return Err(machine.shared.fail(rt, WorkerFault::KernelThread));
     };
-    let mut desk = Seat::open(rt, alloc, machine, gate, core, chooser, tokens);
+    let mut desk = RunSeat::open(rt, alloc, machine, gate, core, chooser, tokens);
     let root = match desk.post_root(root) {
         Ok(root) => root,
         Err(fault) => return Err(machine.shared.fail(rt, fault)),
@@ -213,7 +216,7 @@ fn work_on<H: Wait + Clock, T: RunJob, C: Contexts<T>, R: Rng + Drop, G: Gate>(
     if let Err(halted) = worker.work() {
         return Err(machine.shared.halt(rt, halted));
     }
-    let Worker { desk, .. } = worker;
+    let CoreWorker { desk, .. } = worker;
     into_tokens(machine, desk)
 }
 
@@ -225,11 +228,11 @@ fn worker_on<'a, H, D, C, K: Tagged + Drop>(
     core: u8,
     agenda: Agenda,
     desk: D,
-) -> Worker<'a, H, D>
+) -> CoreWorker<'a, H, D>
     ensures core { (result.core ≡ core) × (result.slots ≡ machine.now.slots) × (result.slices ≡ 0) }
     ensures with { (result.desk ≡ desk) × (result.agenda ≡ agenda) }
 {
-    Worker {
+    CoreWorker {
         rt,
         shared: machine.shared.workers(),
         core,
@@ -244,13 +247,13 @@ fn worker_on<'a, H, D, C, K: Tagged + Drop>(
 /// The tokens of a worker that has ended, unless something is out with them, which is a fault.
 fn into_tokens<'a, H: Wait, T: RunJob, C: Contexts<T>, R: Rng + Drop, G: Gate>(
     machine: &Machine<C, T::Ticket>,
-    desk: Seat<'a, H, T, C, R, G>,
+    desk: RunSeat<'a, H, T, C, R, G>,
 ) -> Result<Tokens<C::Seat, T::Ticket>, Failed>
     requires desk { desk ≡ ground_of machine.now }
     ensures idle { IfOk result (AreIdle C.sits C.idle machine.now) }
     ensures fault { IfErr result (λ failed. failed.recorded.fault.value ≡ Token) }
 {
-    let Seat {
+    let RunSeat {
         rt,
         is_broken,
         seat,

@@ -2,7 +2,7 @@
 use arachne_core::{CORES, ThreadId};
 use arachne_judge::Log;
 use arachne_lang::Name;
-use arachne_run::{Cause, Event, Gate, SliceEnd};
+use arachne_run::{Cause, Gate, SliceEnd, WorkerEvent};
 use std::hint::spin_loop;
 use std::sync::atomic::{AtomicU64, Ordering};
 use std::thread::yield_now;
@@ -281,19 +281,19 @@ impl Gate for Watch {
         }
     }
 
-    fn told(&self, core: u8, event: Event) {
+    fn told(&self, core: u8, event: WorkerEvent) {
         if let Some(log) = &self.log {
             log.told(core, event);
         }
         match event {
-            Event::Sliced(_, end) => self.slice_ended(core, end),
-            Event::Spilled => self.spilled(),
-            Event::Woken(_, cause) => self.woken(cause),
-            Event::MovedAway(receivers) => self.moved_away(receivers),
-            Event::Parks => self.parks(core),
-            Event::Unparked => self.unparked(core),
-            Event::Overslept => self.overslept(),
-            Event::Applied(orders) => self.applied(orders),
+            WorkerEvent::Sliced(_, end) => self.slice_ended(core, end),
+            WorkerEvent::Spilled => self.spilled(),
+            WorkerEvent::Woken(_, cause) => self.woken(cause),
+            WorkerEvent::MovedAway(receivers) => self.moved_away(receivers),
+            WorkerEvent::Parks => self.parks(core),
+            WorkerEvent::Unparked => self.unparked(core),
+            WorkerEvent::Overslept => self.overslept(),
+            WorkerEvent::Applied(orders) => self.applied(orders),
             _ => {}
         }
     }

@@ -5,8 +5,8 @@ ghost use Rattle.arachne_machine.specs.declared.pause.Pending.TheVariants as pau
 use arachne_contexts::Tagged;
 use arachne_core::{Rest, ThreadId};
 use arachne_jobs::{
-    Job, JobFault, JobOf, Openings, OutcomeReceiver, Room, RunJob, RunSpares, RunThread, RunTicket,
-    Slice, Spares,
+    Job, JobFault, JobOf, JobSpares, Openings, OutcomeReceiver, Room, RunJob, RunSpares, RunThread,
+    RunTicket, Slice,
 };
 use arachne_lang::{Class, Name, Program};
 use arachne_machine::Pending;
@@ -160,7 +160,7 @@ impl<'p> JobOf<'p> for Hasty {
         program: &'p Program,
         _spares: &mut Nothing,
     ) -> Result<(Hasty, OutcomeReceiver), AllocError> {
-        let (_, receiver) = Job::begin(alloc, program, &mut Spares::none(alloc))?;
+        let (_, receiver) = Job::begin(alloc, program, &mut JobSpares::none(alloc))?;
         let hasty = Hasty {
             name: Name::root(alloc),
             tag: 0,

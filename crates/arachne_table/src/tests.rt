@@ -12,9 +12,9 @@ use std::test::Fail;
 
 /// A thread that is nothing but its tag.
 #[derive(Debug, Drop)]
-struct Job(u64);
+struct TagOnly(u64);
 
-impl Tagged for Job {
+impl Tagged for TagOnly {
     ghost tag_of = { λ job. job.0 };
 
     fn tag(&self) -> u64 {
@@ -24,34 +24,34 @@ impl Tagged for Job {
 
 #[test]
 fn a_table_behind_a_lock_gives_each_row(rt: HostRuntime) -> Result<(), Fail> {
-    let runs = rows::give::<LockedContexts<Job>, HostRuntime>(&rt, rt.alloc())?;
+    let runs = rows::give::<LockedContexts<TagOnly>, HostRuntime>(&rt, rt.alloc())?;
     assert!(rt; runs == 12);
     Ok(())
 }
 
 #[test]
 fn a_table_of_words_gives_each_row(rt: HostRuntime) -> Result<(), Fail> {
-    let runs = rows::give::<WordContexts<Job>, HostRuntime>(&rt, rt.alloc())?;
+    let runs = rows::give::<WordContexts<TagOnly>, HostRuntime>(&rt, rt.alloc())?;
     assert!(rt; runs == 12);
     Ok(())
 }
 
 #[test]
 fn tables_behind_a_lock_are_filled(rt: HostRuntime) -> Result<(), Fail> {
-    sizes::fill_tables::<LockedContexts<Job>, HostRuntime>(&rt, rt.alloc())?;
-    let made = sizes::make_tables::<LockedContexts<Job>>(rt.alloc())?;
+    sizes::fill_tables::<LockedContexts<TagOnly>, HostRuntime>(&rt, rt.alloc())?;
+    let made = sizes::make_tables::<LockedContexts<TagOnly>>(rt.alloc())?;
     assert!(rt; made == 64 * 56);
-    let spent = sizes::spend_core::<LockedContexts<Job>, HostRuntime>(&rt, rt.alloc())?;
+    let spent = sizes::spend_core::<LockedContexts<TagOnly>, HostRuntime>(&rt, rt.alloc())?;
     assert!(rt; spent == (0x38ffffffffffffff, 0x78ffffffffffffff, false));
     Ok(())
 }
 
 #[test]
 fn tables_of_words_are_filled(rt: HostRuntime) -> Result<(), Fail> {
-    sizes::fill_tables::<WordContexts<Job>, HostRuntime>(&rt, rt.alloc())?;
-    let made = sizes::make_tables::<WordContexts<Job>>(rt.alloc())?;
+    sizes::fill_tables::<WordContexts<TagOnly>, HostRuntime>(&rt, rt.alloc())?;
+    let made = sizes::make_tables::<WordContexts<TagOnly>>(rt.alloc())?;
     assert!(rt; made == 64 * 56);
-    let spent = sizes::spend_core::<WordContexts<Job>, HostRuntime>(&rt, rt.alloc())?;
+    let spent = sizes::spend_core::<WordContexts<TagOnly>, HostRuntime>(&rt, rt.alloc())?;
     assert!(rt; spent == (0x38ffffffffffffff, 0x78ffffffffffffff, false));
     Ok(())
 }

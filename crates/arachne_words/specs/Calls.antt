@@ -14,7 +14,7 @@ use Rattle.arachne_contexts.specs.declared.answers.Rested.{Rested}
 use Rattle.arachne_contexts.specs.declared.answers.Rested.TheVariants as rested
 use Rattle.arachne_contexts.specs.declared.answers.Woken.{Woken}
 use Rattle.arachne_contexts.specs.declared.answers.Woken.TheVariants as woken
-use Rattle.arachne_rule.specs.Plays.{IsGone}
+use Rattle.arachne_rule.specs.Plays.{Carries, IsGone}
 use Rattle.arachne_contexts.specs.declared.answers.Taken.{Taken}
 use Rattle.arachne_contexts.specs.declared.answers.Taken.TheVariants as taken
 use Rattle.arachne_contexts.specs.declared.answers.Claimed.{Claimed}
@@ -72,6 +72,10 @@ sum_of alone index = if alone then 2 ^ 63 + index_sum index else index_sum index
 
 -- ---- claims
 
+-- it holds of each context as which the claim may be out with the seat, with its generation
+abbrev pub EachContextOf : Contexts → Known → ClaimView → (ℕ → ℕ → Type 0) → Type 0
+EachContextOf c k claim Q = (x g : ℕ) → x < c.table.slots → Carries k (claimed_by claim x g) → Q x g
+
 -- A place of the core was claimed: the lowest free one of the word that was exchanged, which is the word seen before
 pub record HasClaimed (c : Contexts) (core : ℕ) (k : Known) (claim : ClaimView) (after : Known) : Type 0 where
   pub word : ℕ
@@ -107,6 +111,13 @@ ClaimAloneAnswer c core k (claimed.Full word) after = ((occupancy_of word).close
 ClaimAloneAnswer c core k (claimed.Closed word) after = ((occupancy_of word).closed ≡ true) × (after ≡ looked (occ_index c.table.slots core) word k)
 ClaimAloneAnswer c core k (claimed.Lost word) after = (word ≢ 0) × (after ≡ noted kind.Alone (occ_index c.table.slots core) word word (looked (occ_index c.table.slots core) 0 k))
 
+-- the claim of a context was given up, in the word of its core that was found
+abbrev pub given_back : Contexts → ClaimView → ℕ → ℕ → ℕ → Known → Known
+given_back c claim x g found k = released (occ_index c.table.slots claim.place.core) found (release_sum (claimed_by claim x g)) (claimed_by claim x g) k
+
+abbrev pub GiveBackAnswer : Contexts → ClaimView → Known → Known → Type 0
+GiveBackAnswer c claim k after = EachContextOf c k claim (λ x g. (found : ℕ) × (after ≡ given_back c claim x g found k))
+
 -- ---- posts
 
 -- a thread with this tag is ready in the context of a claim, in its generation
@@ -115,6 +126,10 @@ pub record HasPosted (c : Contexts) (k : Known) (claim : ClaimView) (tag : ℕ) 
   pub before : ℕ
   pub steps : after ≡ noted kind.Post id.context before (mark_word CORE_BITS (marked_as mark.Ready (claimed_by claim id.context id.generation)))
       (looked id.context seen (learned (name_index c.table.slots claim.place) id.context (posted k (claimed_by claim id.context id.generation) tag)))
+
+-- the id is that of the claim's context, where the thread was posted
+abbrev pub PostAnswer : Contexts → Known → ClaimView → ℕ → ThreadId → Known → Type 0
+PostAnswer c k claim tag id after = EachContextOf c k claim (λ x g. (id ≡ record { context = x; generation = g }) × HasPosted c k claim tag id after)
 
 -- ---- takes
 

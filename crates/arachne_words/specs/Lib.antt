@@ -4,5 +4,6 @@ pub mod Steps
 pub mod Calls
 pub mod FirstWords
 pub mod Moves
+pub mod AfterSteps
 pub mod Out
 pub mod Swapped

@@ -1,13 +1,11 @@
 //! Claims of places, and their end.
-ghost use Rattle.std.specs.Prelude.{◌≡◌, ◌≢◌, ℕ, ◌<◌, true, false, slice_index_or, [], IfSome, IfNone, IfOk, IfErr};
+ghost use Rattle.std.specs.Prelude.{◌≡◌, ◌<◌, true, false, slice_index_or, IfSome, IfNone, IfOk, IfErr};
 ghost use Rattle.arachne_core.specs.Occupancy.{occupancy_word};
-ghost use Rattle.arachne_rule.specs.Changes.{release_sum};
 ghost use Rattle.arachne_rule.specs.Layout.{occ_index};
-ghost use Rattle.arachne_rule.specs.Plays.{Carries};
 ghost use Rattle.arachne_rule.specs.declared.view.Kind.TheVariants as kind;
-ghost use Rattle.arachne_rule.specs.Views.{noted, with_context, carried_at};
-ghost use Rattle.arachne_words.specs.Seats.{claimed_by, HasClaim};
-ghost use Rattle.arachne_words.specs.Calls.{HasNoPlace, IsLowestFree, sum_of, lost_claim, won_claim, released, ClaimAnswer, ClaimAloneAnswer};
+ghost use Rattle.arachne_words.specs.Seats.{HasClaim};
+ghost use Rattle.arachne_words.specs.Calls.{HasNoPlace, IsLowestFree, sum_of, ClaimAnswer, ClaimAloneAnswer, GiveBackAnswer};
+ghost use Rattle.arachne_words.specs.AfterSteps.{Frees, LosesTo, WinsClaim, WinsCore};
 
 use crate::call_seat::CallSeat;
 use crate::seat::{WordClaim, WordSeat};
@@ -52,10 +50,8 @@ impl<T: Tagged + Drop> WordContexts<T> {
         requires core { place.core < self.now.shape.cores }
         requires index { IsLowestFree self.now.shape.places_per_core seen place.index }
         requires opened { seen.closed ≡ false }
-        ensures won { IfOk result (λ _. (x g : ℕ) × (x < self.now.table.slots) × (carried_at x seat.old.known.carried ≡ [])
-            × (seat.new ≡ record seat.old { known = won_claim (occ_index self.now.table.slots place.core) (occupancy_word seen) (claimed_by (record { place = place; alone = false }) x g) seat.old.known })) }
-        ensures lost { IfErr result (λ found. (found ≢ occupancy_word seen)
-            × (seat.new ≡ record seat.old { known = lost_claim (occ_index self.now.table.slots place.core) found seat.old.known })) }
+        ensures won { IfOk result (λ _. WinsClaim self.now seen place seat.old seat.new) }
+        ensures lost { IfErr result (λ found. LosesTo kind.Claim (occ_index self.now.table.slots place.core) (occupancy_word seen) found seat.old seat.new) }
     {
         let shared = &self.table.shared;
         let old = seen.word();
@@ -100,9 +96,8 @@ impl<T: Tagged + Drop> WordContexts<T> {
     fn try_claim_alone(&self, seat: &mut CallSeat<T>, core: u8) -> Result<(), u64>
         requires own { seat.old.table ≡ self.now.table }
         requires core { core < self.now.shape.cores }
-        ensures won { IfOk result (λ _. (x g : ℕ) × (x < self.now.table.slots) × (carried_at x seat.old.known.carried ≡ [])
-            × (seat.new ≡ record seat.old { known = noted kind.Alone (occ_index self.now.table.slots core) 0 (sum_of true 0) (with_context seat.old.known (claimed_by (record { place = record { core = core; index = 0 }; alone = true }) x g)) })) }
-        ensures lost { IfErr result (λ found. (found ≢ 0) × (seat.new ≡ record seat.old { known = noted kind.Alone (occ_index self.now.table.slots core) found found seat.old.known })) }
+        ensures won { IfOk result (λ _. WinsCore self.now core seat.old seat.new) }
+        ensures lost { IfErr result (λ found. LosesTo kind.Alone (occ_index self.now.table.slots core) 0 found seat.old seat.new) }
     {
         let shared = &self.table.shared;
         let word = self.core_word(core);
@@ -144,8 +139,7 @@ impl<T: Tagged + Drop> WordContexts<T> {
     pub(crate) fn release(&self, seat: &mut CallSeat<T>, place: Place, alone: bool)
         requires own { seat.old.table ≡ self.now.table }
         requires claim { HasClaim self.now seat.old.known (record { place = place; alone = alone }) }
-        ensures { (x g : ℕ) → x < self.now.table.slots → Carries seat.old.known (claimed_by (record { place = place; alone = alone }) x g)
-            → (found : ℕ) × (seat.new ≡ record seat.old { known = released (occ_index self.now.table.slots place.core) found (release_sum (claimed_by (record { place = place; alone = alone }) x g)) (claimed_by (record { place = place; alone = alone }) x g) seat.old.known }) }
+        ensures { Frees self.now (record { place = place; alone = alone }) seat.old seat.new }
     {
         let _ = &self.places_per_core;
         let less = claim_sum(place.index, alone);
@@ -159,8 +153,7 @@ impl<T: Tagged + Drop> WordContexts<T> {
         requires own { seat.old.table ≡ self.now.table }
         requires claim { HasClaim self.now seat.old.known claim }
         ensures seat { (seat.new.table ≡ seat.old.table) × (seat.new.weight ≡ seat.old.weight) }
-        ensures steps { (x g : ℕ) → x < self.now.table.slots → Carries seat.old.known (claimed_by claim x g)
-            → (found : ℕ) × (seat.new.known ≡ released (occ_index self.now.table.slots claim.place.core) found (release_sum (claimed_by claim x g)) (claimed_by claim x g) seat.old.known) }
+        ensures steps { GiveBackAnswer self.now claim seat.old.known seat.new.known }
     {
         let WordClaim { place, alone } = claim;
         self.release(&mut seat.at, place, alone);

@@ -1,6 +1,6 @@
 //! The table on words as a form of context table: each call of the trait is the call of the same name, which takes no
 //! memory and doesn't wait. It says what that call says, beside what the trait asks.
-ghost use Rattle.std.specs.Prelude.{◌≡◌, ◌≢◌, ◌*◌, ◌-◌, ◌<◌, ◌≤◌, ◌↔◌, ◌^◌, ℕ, IfOk, IfErr, IsOk, IsTrue, bit_and, bit_or, length};
+ghost use Rattle.std.specs.Prelude.{◌≡◌, ◌≢◌, ◌*◌, ◌-◌, ◌<◌, ◌≤◌, ◌↔◌, ◌^◌, IfOk, IfErr, IsOk, IsTrue, bit_and, bit_or, length};
 ghost use Rattle.arachne_core.specs.declared.layout.TheConstants.{CORE_BITS, CORES, LAST_GENERATION, SLOTS};
 ghost use Rattle.arachne_core.specs.Occupancy.{IsOccupancyWord};
 ghost use Rattle.arachne_core.specs.Marked.{IsMarkWord};
@@ -10,14 +10,13 @@ ghost use Rattle.arachne_contexts.specs.Answers.{ClaimsOn, ClaimsWhole, TakesAt,
 ghost use Rattle.arachne_contexts.specs.Out.{Claim as a_claim, Thread as a_thread, HasOut, KeepsOut, GetsClaim, GetsThread, Spends};
 ghost use Rattle.arachne_contexts.specs.declared.answers.Woken.TheVariants as woken;
 ghost use Rattle.arachne_rule.specs.declared.view.Kind.TheVariants as kind;
-ghost use Rattle.arachne_rule.specs.Changes.{release_sum};
 ghost use Rattle.arachne_rule.specs.Layout.{occ_index};
-ghost use Rattle.arachne_rule.specs.Plays.{Carries, HasEnded};
+ghost use Rattle.arachne_rule.specs.Plays.{HasEnded};
 ghost use Rattle.arachne_rule.specs.Views.{blank, joined_known, noted};
-ghost use Rattle.arachne_words.specs.Calls.{looked, released, ClaimAnswer, ClaimAloneAnswer, HasPosted, TakeAnswer, RestAnswer, HasFinished, WakeAnswer, DrainAnswer};
+ghost use Rattle.arachne_words.specs.Calls.{looked, ClaimAnswer, ClaimAloneAnswer, TakeAnswer, RestAnswer, HasFinished, WakeAnswer, DrainAnswer, GiveBackAnswer, PostAnswer};
 ghost use Rattle.arachne_words.specs.Moves.{MoveAnswer};
 ghost use Rattle.arachne_words.specs.Out.{AreAllLeft, IsOutWith};
-ghost use Rattle.arachne_words.specs.Seats.{claimed_by, HasNothingOut};
+ghost use Rattle.arachne_words.specs.Seats.{HasNothingOut};
 ghost use Rattle.arachne_words.specs.Swapped.{swapped-out};
 
 use crate::seat::{WordClaim, WordHold, WordSeat};
@@ -184,8 +183,7 @@ impl<T: Tagged + Drop + Send> Contexts<T> for WordContexts<T> {
         ensures weight { seat.new.weight ≡ seat.old.weight }
         ensures out { Spends (IsOutWith self.now) (a_claim claim) seat.old seat.new result }
         ensures ok { IsOk result }
-        ensures steps { (x g : ℕ) → x < self.now.table.slots → Carries seat.old.known (claimed_by claim x g)
-            → (found : ℕ) × (seat.new.known ≡ released (occ_index self.now.table.slots claim.place.core) found (release_sum (claimed_by claim x g)) (claimed_by claim x g) seat.old.known) }
+        ensures steps { GiveBackAnswer self.now claim seat.old.known seat.new.known }
     {
         let _ = rt;
         WordContexts::give_back(self, seat, claim);
@@ -205,8 +203,7 @@ impl<T: Tagged + Drop + Send> Contexts<T> for WordContexts<T> {
         ensures weight { seat.new.weight ≡ seat.old.weight }
         ensures out { Spends (IsOutWith self.now) (a_claim claim) seat.old seat.new result }
         ensures ok { IsOk result }
-        ensures posted { IfOk result (λ id. (x g : ℕ) → x < self.now.table.slots → Carries seat.old.known (claimed_by claim x g)
-            → (id ≡ record { context = x; generation = g }) × HasPosted self.now seat.old.known claim (T.tag_of value) id seat.new.known) }
+        ensures posted { IfOk result (λ id. PostAnswer self.now seat.old.known claim (T.tag_of value) id seat.new.known) }
     {
         let _ = rt;
         Ok(WordContexts::post(self, seat, claim, value))

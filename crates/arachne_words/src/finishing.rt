@@ -1,12 +1,9 @@
 //! Ends of threads.
 ghost use Rattle.std.specs.Prelude.{◌≡◌, ℕ, ◌<◌};
-ghost use Rattle.arachne_core.specs.declared.layout.TheConstants.{CORE_BITS};
-ghost use Rattle.arachne_core.specs.Marked.{mark_word};
-ghost use Rattle.arachne_rule.specs.declared.view.Kind.TheVariants as kind;
-ghost use Rattle.arachne_rule.specs.Changes.{claimed_again, marked_free, marked_spent, retired, spent_known};
-ghost use Rattle.arachne_rule.specs.Views.{noted, without};
-ghost use Rattle.arachne_words.specs.Seats.{HasThread, held_by};
+ghost use Rattle.arachne_rule.specs.Views.{without};
+ghost use Rattle.arachne_words.specs.Seats.{HasThread};
 ghost use Rattle.arachne_words.specs.Calls.{HasFinished};
+ghost use Rattle.arachne_words.specs.AfterSteps.{WritesFree, WritesSpent};
 
 use crate::call_seat::CallSeat;
 use crate::seat::{WordHold, WordSeat};
@@ -21,9 +18,7 @@ impl<T: Tagged + Drop> WordContexts<T> {
         requires own { seat.old.table ≡ self.now.table }
         requires thread { (tag : ℕ) × HasThread self.now seat.old.known hold.now tag }
         requires more { hold.now.id.generation < self.now.shape.last }
-        ensures { (tag : ℕ) → HasThread self.now seat.old.known hold.now tag → (before : ℕ) × (seat.new ≡ record seat.old {
-          known = noted kind.Retire hold.now.id.context before (mark_word CORE_BITS (marked_free (claimed_again (held_by hold.now tag)))) (retired seat.old.known (held_by hold.now tag));
-        }) }
+        ensures { (tag : ℕ) → HasThread self.now seat.old.known hold.now tag → WritesFree hold.now tag seat.old seat.new }
     {
         let _ = &self.last;
         let free = MarkWord::new(Mark::Free, false, hold.place, hold.id.generation + 1);
@@ -36,9 +31,7 @@ impl<T: Tagged + Drop> WordContexts<T> {
         requires own { seat.old.table ≡ self.now.table }
         requires thread { (tag : ℕ) × HasThread self.now seat.old.known hold.now tag }
         requires last { hold.now.id.generation ≡ self.now.shape.last }
-        ensures { (tag : ℕ) → HasThread self.now seat.old.known hold.now tag → (before : ℕ) × (seat.new ≡ record seat.old {
-          known = noted kind.Retire hold.now.id.context before (mark_word CORE_BITS (marked_spent (held_by hold.now tag))) (spent_known seat.old.known (held_by hold.now tag));
-        }) }
+        ensures { (tag : ℕ) → HasThread self.now seat.old.known hold.now tag → WritesSpent hold.now tag seat.old seat.new }
     {
         let _ = &self.last;
         let spent = MarkWord::new(Mark::Spent, false, hold.place, hold.id.generation);

@@ -7,11 +7,12 @@ ghost use Rattle.arachne_rule.specs.declared.view.Kind.TheVariants as kind;
 ghost use Rattle.arachne_rule.specs.Changes.{left_context, marked_free};
 ghost use Rattle.arachne_rule.specs.Layout.{name_index};
 ghost use Rattle.arachne_rule.specs.Plays.{Carries, IsRestMark};
-ghost use Rattle.arachne_rule.specs.Views.{noted, with_context, without_context};
+ghost use Rattle.arachne_rule.specs.Views.{noted};
 ghost use Rattle.arachne_words.specs.Sizes.{IsPlaceIn};
-ghost use Rattle.arachne_words.specs.Moves.{IsObstacle, MoveAnswer, SeenAnswer, ToAnswer, free_at, moved_off, shared_claim};
+ghost use Rattle.arachne_words.specs.Moves.{IsObstacle, MoveAnswer, SeenAnswer, ToAnswer, free_at, shared_claim};
 ghost use Rattle.arachne_words.specs.Seats.{HasClaim, claimed_by};
 ghost use Rattle.arachne_words.specs.Steps.{IsClaimed};
+ghost use Rattle.arachne_words.specs.AfterSteps.{LosesTo, MovesOff, WinsMove, WritesPlace, WritesSource};
 
 use crate::call_seat::CallSeat;
 use crate::seat::WordSeat;
@@ -55,10 +56,8 @@ impl<T: Tagged + Drop> WordContexts<T> {
         requires place { IsPlaceIn self.now.shape target }
         requires rests { IsRestMark seen.mark × (seen.alone ≡ false) × (seen.place.core ≢ target.core) }
         requires claimed { (c : Carried) × IsClaimed self.now seat.old.known c × (c.place ≡ target) × (c.named ≡ true) × (c.alone ≡ false) }
-        ensures won { IfOk result (λ _. (c : Carried) → IsClaimed self.now seat.old.known c → c.place ≡ target → seat.new ≡ record seat.old {
-          known = noted kind.Move context (mark_word CORE_BITS seen) (mark_word CORE_BITS (record seen { place = target })) (with_context seat.old.known (left_context c seen.place));
-        }) }
-        ensures lost { IfErr result (λ found. (found ≢ mark_word CORE_BITS seen) × (seat.new ≡ record seat.old { known = noted kind.Move context found found seat.old.known })) }
+        ensures won { IfOk result (λ _. (c : Carried) → IsClaimed self.now seat.old.known c → c.place ≡ target → WinsMove context seen target c seat.old seat.new) }
+        ensures lost { IfErr result (λ found. LosesTo kind.Move context (mark_word CORE_BITS seen) found seat.old seat.new) }
     {
         let _ = &self.places_per_core;
         let shared = &self.table.shared;
@@ -94,9 +93,7 @@ impl<T: Tagged + Drop> WordContexts<T> {
     fn replace(&self, seat: &mut CallSeat<T>, context: usize, free: MarkWord)
         requires own { seat.old.table ≡ self.now.table }
         requires claimed { (c : Carried) × IsClaimed self.now seat.old.known c × (context ≡ c.context) × (free ≡ marked_free c) }
-        ensures { (c : Carried) → IsClaimed self.now seat.old.known c → context ≡ c.context → (before : ℕ) × (seat.new ≡ record seat.old {
-          known = noted kind.Replace context before (mark_word CORE_BITS free) (with_context seat.old.known (record c { shown = c.place }));
-        }) }
+        ensures { (c : Carried) → IsClaimed self.now seat.old.known c → context ≡ c.context → WritesPlace context free c seat.old seat.new }
     {
         let shared = &self.table.shared;
         shared.store::<Replace>(&mut seat.seat, context, free.word());
@@ -107,9 +104,7 @@ impl<T: Tagged + Drop> WordContexts<T> {
         requires own { seat.old.table ≡ self.now.table }
         requires place { IsPlaceIn self.now.shape source }
         requires claimed { (c : Carried) × IsClaimed self.now seat.old.known c × (context ≡ c.context) × (c.place ≡ source) × (c.shown ≡ c.place) }
-        ensures { (c : Carried) → IsClaimed self.now seat.old.known c → context ≡ c.context → (before : ℕ) × (seat.new ≡ record seat.old {
-          known = noted kind.NameSource (name_index self.now.table.slots source) before context (with_context seat.old.known (record c { named = true }));
-        }) }
+        ensures { (c : Carried) → IsClaimed self.now seat.old.known c → context ≡ c.context → WritesSource self.now source context c seat.old seat.new }
     {
         let shared = &self.table.shared;
         let word = self.name_word(source);
@@ -131,9 +126,7 @@ impl<T: Tagged + Drop> WordContexts<T> {
         requires contexts { (moving < self.now.table.slots) × (replaced < self.now.table.slots) }
         requires free { free ≡ free_at source free.generation }
         requires left { Carries seat.old.known (left_context (claimed_by (shared_claim target) replaced free.generation) source) }
-        ensures { (named before named_before found : ℕ) × (seat.new ≡ record seat.old {
-          known = moved_off self.now.table.slots moving replaced free.generation source target named before named_before found (without_context seat.old.known (claimed_by (shared_claim source) replaced free.generation));
-        }) }
+        ensures { MovesOff self.now moving replaced free.generation source target seat.old seat.new }
     {
         self.name_target(seat, target, replaced, moving);
         self.replace(seat, replaced, free);

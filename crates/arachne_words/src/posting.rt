@@ -1,18 +1,13 @@
 //! Posts of threads at claimed places.
-ghost use Rattle.std.specs.Prelude.{◌≡◌, ℕ, ◌<◌, ◌∷◌, true, Some, None};
+ghost use Rattle.std.specs.Prelude.{◌≡◌, ◌<◌, ◌∷◌, Some, None};
 ghost use Rattle.atomic_table.specs.Table.{rest};
-ghost use Rattle.arachne_core.specs.declared.layout.TheConstants.{CORE_BITS};
-ghost use Rattle.arachne_core.specs.Marked.{mark_word};
 ghost use Rattle.arachne_rule.specs.declared.view.Carried.{Carried};
-ghost use Rattle.arachne_rule.specs.declared.view.Kind.TheVariants as kind;
 ghost use Rattle.arachne_rule.specs.Changes.{posted};
-ghost use Rattle.arachne_rule.specs.Layout.{name_index};
-ghost use Rattle.arachne_rule.specs.Plays.{Carries};
-ghost use Rattle.arachne_rule.specs.Views.{noted, with_context};
 ghost use Rattle.arachne_words.specs.Sizes.{IsPlaceIn};
-ghost use Rattle.arachne_words.specs.Seats.{claimed_by, HasClaim};
+ghost use Rattle.arachne_words.specs.Seats.{HasClaim};
 ghost use Rattle.arachne_words.specs.Steps.{IsAtHome, IsPostable};
-ghost use Rattle.arachne_words.specs.Calls.{learned, HasPosted};
+ghost use Rattle.arachne_words.specs.Calls.{PostAnswer};
+ghost use Rattle.arachne_words.specs.AfterSteps.{LoadsSlot, WritesPost};
 
 use crate::call_seat::CallSeat;
 use crate::seat::{WordClaim, WordSeat};
@@ -27,11 +22,7 @@ impl<T: Tagged + Drop> WordContexts<T> {
         requires own { seat.old.table ≡ self.now.table }
         requires place { IsPlaceIn self.now.shape place }
         requires carried { (c : Carried) × IsAtHome self.now place seat.old.known c }
-        ensures { (c : Carried) → IsAtHome self.now place seat.old.known c
-            → (result ≡ c.context) × (seat.new ≡ record seat.old {
-              known = learned (name_index self.now.table.slots place) result (with_context seat.old.known (record c { away = true }));
-              slots = (result, None) ∷ seat.old.slots;
-            }) }
+        ensures { (c : Carried) → IsAtHome self.now place seat.old.known c → LoadsSlot self.now place result c seat.old seat.new }
     {
         let shared = &self.table.shared;
         shared.load::<TakeSlot>(&mut seat.seat, self.name_word(place)) as usize
@@ -56,11 +47,7 @@ impl<T: Tagged + Drop> WordContexts<T> {
     fn store_posted(&self, seat: &mut CallSeat<T>, context: usize, ready: MarkWord)
         requires own { seat.old.table ≡ self.now.table }
         requires postable { (c : Carried) × (value : T) × IsPostable self.now seat.old context ready c value }
-        ensures { (c : Carried) (value : T) → IsPostable self.now seat.old context ready c value
-            → (before : ℕ) × (seat.new ≡ record seat.old {
-              known = noted kind.Post context before (mark_word CORE_BITS ready) (posted seat.old.known c (T.tag_of value));
-              slots = rest seat.old.slots;
-            }) }
+        ensures { (c : Carried) (value : T) → IsPostable self.now seat.old context ready c value → WritesPost context ready c (T.tag_of value) seat.old seat.new }
     {
         let shared = &self.table.shared;
         shared.store::<Post>(&mut seat.seat, context, ready.word());
@@ -71,8 +58,7 @@ impl<T: Tagged + Drop> WordContexts<T> {
         requires own { seat.old.table ≡ self.now.table }
         requires claim { HasClaim self.now seat.old.known claim }
         ensures seat { (seat.new.table ≡ seat.old.table) × (seat.new.weight ≡ seat.old.weight) }
-        ensures posted { (x g : ℕ) → x < self.now.table.slots → Carries seat.old.known (claimed_by claim x g)
-            → (result ≡ record { context = x; generation = g }) × HasPosted self.now seat.old.known claim (T.tag_of value) result seat.new.known }
+        ensures posted { PostAnswer self.now seat.old.known claim (T.tag_of value) result seat.new.known }
     {
         let _ = &self.places_per_core;
         let WordClaim { place, alone } = claim;

@@ -1,16 +1,14 @@
 //! Threads that are put back.
-ghost use Rattle.std.specs.Prelude.{◌≡◌, ℕ, ◌<◌, IfOk, IfErr};
+ghost use Rattle.std.specs.Prelude.{◌≡◌, ◌<◌, IfOk, IfErr};
 ghost use Rattle.atomic_table.specs.Table.{rest};
 ghost use Rattle.arachne_core.specs.declared.mark.Mark.TheVariants as Mark;
-ghost use Rattle.arachne_core.specs.declared.layout.TheConstants.{CORE_BITS};
-ghost use Rattle.arachne_core.specs.Marked.{mark_word};
 ghost use Rattle.arachne_rule.specs.declared.view.Carried.{Carried};
-ghost use Rattle.arachne_rule.specs.declared.view.Kind.TheVariants as kind;
 ghost use Rattle.arachne_rule.specs.Changes.{marked_as};
-ghost use Rattle.arachne_rule.specs.Views.{noted, without, without_context};
+ghost use Rattle.arachne_rule.specs.Views.{without};
 ghost use Rattle.arachne_words.specs.Seats.{HasThread, marked_by};
 ghost use Rattle.arachne_words.specs.Steps.{IsRestable};
 ghost use Rattle.arachne_words.specs.Calls.{RestAnswer};
+ghost use Rattle.arachne_words.specs.AfterSteps.{FindsWoken, WinsRest, WritesRest};
 
 use crate::call_seat::CallSeat;
 use crate::seat::{WordHold, WordSeat};
@@ -23,10 +21,7 @@ impl<T: Tagged + Drop> WordContexts<T> {
     fn rest_ready(&self, seat: &mut CallSeat<T>, context: usize, ready: MarkWord)
         requires own { seat.old.table ≡ self.now.table }
         requires restable { (c : Carried) × (value : T) × IsRestable T.tag_of self.now seat.old context c value × (ready ≡ marked_as Mark.Ready c) }
-        ensures { (c : Carried) (value : T) → IsRestable T.tag_of self.now seat.old context c value → (before : ℕ) × (seat.new ≡ record seat.old {
-          known = noted kind.RestReady context before (mark_word CORE_BITS ready) (without_context seat.old.known c);
-          slots = rest seat.old.slots;
-        }) }
+        ensures { (c : Carried) (value : T) → IsRestable T.tag_of self.now seat.old context c value → WritesRest context ready c seat.old seat.new }
     {
         let shared = &self.table.shared;
         shared.store::<RestReady>(&mut seat.seat, context, ready.word());
@@ -41,11 +36,8 @@ impl<T: Tagged + Drop> WordContexts<T> {
     ) -> Result<(), u64>
         requires own { seat.old.table ≡ self.now.table }
         requires restable { (c : Carried) × (value : T) × IsRestable T.tag_of self.now seat.old context c value × (held ≡ marked_as Mark.Held c) }
-        ensures won { IfOk result (λ _. (c : Carried) (value : T) → IsRestable T.tag_of self.now seat.old context c value → seat.new ≡ record seat.old {
-          known = noted kind.RestBlocked context (mark_word CORE_BITS held) (mark_word CORE_BITS (record held { mark = Mark.Blocked })) (without_context seat.old.known c);
-          slots = rest seat.old.slots;
-        }) }
-        ensures lost { IfErr result (λ found. (found ≡ mark_word CORE_BITS (record held { mark = Mark.Woken })) × (seat.new ≡ record seat.old { known = noted kind.RestBlocked context found found seat.old.known })) }
+        ensures won { IfOk result (λ _. (c : Carried) (value : T) → IsRestable T.tag_of self.now seat.old context c value → WinsRest context held c seat.old seat.new) }
+        ensures lost { IfErr result (λ found. FindsWoken context held found seat.old seat.new) }
     {
         let shared = &self.table.shared;
         let old = held.word();

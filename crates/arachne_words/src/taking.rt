@@ -1,17 +1,15 @@
 //! Takes of threads that are ready.
-ghost use Rattle.std.specs.Prelude.{◌≡◌, ◌≢◌, ◌↔◌, IsTrue, ℕ, ◌<◌, [], ◌∷◌, true, false, Some, None, IfOk, IfErr};
+ghost use Rattle.std.specs.Prelude.{◌≡◌, ◌↔◌, IsTrue, ◌<◌, ◌∷◌, Some, None, IfOk, IfErr};
 ghost use Rattle.atomic_table.specs.Table.{rest};
 ghost use Rattle.arachne_core.specs.declared.mark.Mark.TheVariants as Mark;
 ghost use Rattle.arachne_core.specs.declared.layout.TheConstants.{CORE_BITS};
 ghost use Rattle.arachne_core.specs.Marked.{mark_word};
 ghost use Rattle.arachne_rule.specs.declared.view.Carried.{Carried};
 ghost use Rattle.arachne_rule.specs.declared.view.Kind.TheVariants as kind;
-ghost use Rattle.arachne_rule.specs.Changes.{taken_context};
-ghost use Rattle.arachne_rule.specs.Layout.{name_index};
-ghost use Rattle.arachne_rule.specs.Views.{noted, with_context, carried_at};
 ghost use Rattle.arachne_words.specs.Sizes.{IsPlaceIn};
 ghost use Rattle.arachne_words.specs.Steps.{HasLast, IsTaken};
 ghost use Rattle.arachne_words.specs.Calls.{TakeAnswer};
+ghost use Rattle.arachne_words.specs.AfterSteps.{LosesTo, WinsTake, WritesName};
 
 use crate::call_seat::CallSeat;
 use crate::seat::{WordHold, WordSeat};
@@ -33,11 +31,8 @@ impl<T: Tagged + Drop> WordContexts<T> {
         requires own { seat.old.table ≡ self.now.table }
         requires context { context < self.now.table.slots }
         requires ready { seen.mark ≡ Mark.Ready }
-        ensures won { IfOk result (λ _. (value : T) × (carried_at context seat.old.known.carried ≡ []) × (seat.new ≡ record seat.old {
-          known = noted kind.Take context (mark_word CORE_BITS seen) (mark_word CORE_BITS (record seen { mark = Mark.Held })) (with_context seat.old.known (taken_context context seen (T.tag_of value)));
-          slots = (context, Some value) ∷ seat.old.slots;
-        })) }
-        ensures lost { IfErr result (λ found. (found ≢ mark_word CORE_BITS seen) × (seat.new ≡ record seat.old { known = noted kind.Take context found found seat.old.known })) }
+        ensures won { IfOk result (λ _. WinsTake T.tag_of context seen seat.old seat.new) }
+        ensures lost { IfErr result (λ found. LosesTo kind.Take context (mark_word CORE_BITS seen) found seat.old seat.new) }
     {
         let shared = &self.table.shared;
         let old = seen.word();
@@ -67,10 +62,7 @@ impl<T: Tagged + Drop> WordContexts<T> {
         requires own { seat.old.table ≡ self.now.table }
         requires place { IsPlaceIn self.now.shape place }
         requires taken { (c : Carried) × IsTaken self.now seat.old context place c }
-        ensures { (c : Carried) → IsTaken self.now seat.old context place c → (before : ℕ) × (seat.new ≡ record seat.old {
-          known = noted kind.KeepName (name_index self.now.table.slots place) before context (with_context seat.old.known (record c { named = true; away = false }));
-          slots = rest seat.old.slots;
-        }) }
+        ensures { (c : Carried) → IsTaken self.now seat.old context place c → WritesName self.now place context c seat.old seat.new }
     {
         let shared = &self.table.shared;
         let word = self.name_word(place);

@@ -1,5 +1,5 @@
 //! Wakes of threads.
-ghost use Rattle.std.specs.Prelude.{◌≡◌, ◌≢◌, ◌<◌, IfOk, IfErr};
+ghost use Rattle.std.specs.Prelude.{◌≡◌, ◌<◌, IfOk, IfErr};
 ghost use Rattle.arachne_core.specs.declared.mark.Mark.TheVariants as Mark;
 ghost use Rattle.arachne_core.specs.declared.layout.TheConstants.{CORE_BITS};
 ghost use Rattle.arachne_core.specs.Marked.{mark_word};
@@ -7,8 +7,8 @@ ghost use Rattle.arachne_core.specs.World.{Thread};
 ghost use Rattle.arachne_contexts.specs.declared.answers.Woken.TheVariants as woken;
 ghost use Rattle.arachne_rule.specs.declared.view.Kind.TheVariants as kind;
 ghost use Rattle.arachne_rule.specs.Plays.{HasEnded};
-ghost use Rattle.arachne_rule.specs.Views.{noted};
 ghost use Rattle.arachne_words.specs.Calls.{WakeAnswer};
+ghost use Rattle.arachne_words.specs.AfterSteps.{LosesTo, WinsMark};
 
 use crate::call_seat::CallSeat;
 use crate::seat::WordSeat;
@@ -23,8 +23,8 @@ impl<T: Tagged + Drop> WordContexts<T> {
         requires own { seat.old.table ≡ self.now.table }
         requires context { context < self.now.table.slots }
         requires blocked { seen.mark ≡ Mark.Blocked }
-        ensures won { IfOk result (λ _. seat.new ≡ record seat.old { known = noted kind.Wake context (mark_word CORE_BITS seen) (mark_word CORE_BITS (record seen { mark = Mark.Ready })) seat.old.known }) }
-        ensures lost { IfErr result (λ found. (found ≢ mark_word CORE_BITS seen) × (seat.new ≡ record seat.old { known = noted kind.Wake context found found seat.old.known })) }
+        ensures won { IfOk result (λ _. WinsMark kind.Wake context seen Mark.Ready seat.old seat.new) }
+        ensures lost { IfErr result (λ found. LosesTo kind.Wake context (mark_word CORE_BITS seen) found seat.old seat.new) }
     {
         let shared = &self.table.shared;
         let old = seen.word();
@@ -46,8 +46,8 @@ impl<T: Tagged + Drop> WordContexts<T> {
         requires own { seat.old.table ≡ self.now.table }
         requires context { context < self.now.table.slots }
         requires held { seen.mark ≡ Mark.Held }
-        ensures won { IfOk result (λ _. seat.new ≡ record seat.old { known = noted kind.MarkWoken context (mark_word CORE_BITS seen) (mark_word CORE_BITS (record seen { mark = Mark.Woken })) seat.old.known }) }
-        ensures lost { IfErr result (λ found. (found ≢ mark_word CORE_BITS seen) × (seat.new ≡ record seat.old { known = noted kind.MarkWoken context found found seat.old.known })) }
+        ensures won { IfOk result (λ _. WinsMark kind.MarkWoken context seen Mark.Woken seat.old seat.new) }
+        ensures lost { IfErr result (λ found. LosesTo kind.MarkWoken context (mark_word CORE_BITS seen) found seat.old seat.new) }
     {
         let shared = &self.table.shared;
         let old = seen.word();

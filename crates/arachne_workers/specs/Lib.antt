@@ -1,4 +1,5 @@
 pub mod Lowest
 pub mod Posts
+pub mod Agendas
 pub mod Keeping
 pub mod Due

@@ -4,11 +4,11 @@ use Rattle.arachne_workers.specs.declared.policy.TheConstants.{MOST_KEPT_BACK, T
 use Rattle.arachne_workers.specs.declared.due.Untold.{Untold}
 use Rattle.arachne_workers.specs.declared.queue.Keeping.{Keeping}
 use Rattle.arachne_workers.specs.declared.queue.Keeping.TheVariants.{AtOnce, KeptBack, ForOldest, Refused}
-use Rattle.arachne_workers.specs.declared.queue.Post.{Post}
+use Rattle.arachne_workers.specs.declared.queue.PostedThread.{PostedThread}
 
 -- Of a worker that has posted so many before, the first are told of at once. A later one is kept behind those that are
 -- kept back; where these are as many as may be, or memory was refused, the oldest of all is told of, and none forgotten.
-abbrev pub IsKeptBack : ℕ → List Post → Post → Keeping → List Post → Type 0
+abbrev pub IsKeptBack : ℕ → List PostedThread → PostedThread → Keeping → List PostedThread → Type 0
 IsKeptBack posted before post (AtOnce told) after = (posted < TOLD_AT_ONCE) × (told ≡ post) × (after ≡ before)
 IsKeptBack posted before post KeptBack after = (TOLD_AT_ONCE ≤ posted) × (after ≡ before ++ post ∷ [])
 IsKeptBack posted before post (ForOldest told) after =

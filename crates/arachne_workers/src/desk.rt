@@ -5,7 +5,7 @@ ghost use Rattle.std.specs.Prelude.{◌≡◌, ◌≤◌, OnOk};
 
 use crate::drained::Drained;
 use crate::policy;
-use crate::queue::Post;
+use crate::queue::PostedThread;
 use arachne_arbiter::Pace;
 use arachne_contexts::Woken;
 use arachne_core::{MarkWord, OccWord, Place, Rest, SLOTS, ThreadId};
@@ -62,7 +62,7 @@ pub trait Desk {
 
     /// The thread in hand goes on for at most as many steps as are left, and what it asks for is done. Where another
     /// kernel thread is at what that needs, it waits by this pace (`stand_by`).
-    fn advance(&mut self, pace: &mut Pace, left: &mut u32) -> Result<Stop, Halt>
+    fn advance(&mut self, pace: &mut Pace, left: &mut u32) -> Result<ThreadStop, Halt>
         requires { 1 ≤ left.old }
         ensures desk { self.new ≡ self.old }
         ensures left { OnOk result (left.new ≤ left.old) };
@@ -110,7 +110,7 @@ pub trait Desk {
         ensures { self.new ≡ self.old };
 
     /// Takes a thread that waits for a place, and posts it if it waits still and there is a place.
-    fn take_ticket(&mut self) -> Result<Ticket, Halt>
+    fn take_ticket(&mut self) -> Result<TicketResult, Halt>
         ensures { self.new ≡ self.old };
 
     /// Applies the orders that are due, and moves threads away from a closed core, if this worker is to. How many are
@@ -133,16 +133,16 @@ pub trait Desk {
     fn begins(&self, nth: u64);
 
     /// What the worker has done just now, or is about to do.
-    fn told(&self, event: Event);
+    fn told(&self, event: WorkerEvent);
 }
 
 /// Where the thread in hand stops.
 #[derive(Clone, Copy)]
-pub enum Stop {
+pub enum ThreadStop {
     /// It goes on.
     Goes,
     /// It goes on, and has forked a child that was posted.
-    Posted(Post),
+    Posted(PostedThread),
     /// It goes on, and has forked a child that waits with a ticket.
     Spilled,
     /// It goes on, and the thread of this id, which has waited for what it has given back, is to go on before others.
@@ -167,17 +167,17 @@ pub enum Grip {
 
 /// What came of a try to take a thread that waits for a place.
 #[derive(Clone, Copy)]
-pub enum Ticket {
+pub enum TicketResult {
     /// There was none.
     None,
     /// It waits no longer, or there was no place.
     Gone,
-    Posted(Post),
+    Posted(PostedThread),
 }
 
 /// What a worker tells of.
 #[derive(Clone, Copy, Debug, PartialEq, Eq)]
-pub enum Event {
+pub enum WorkerEvent {
     /// A slice has ended so, after so many steps. Of one that meets a fault nothing is told.
     Sliced(u32, SliceEnd),
     /// A blocked thread was woken.

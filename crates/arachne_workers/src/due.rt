@@ -3,9 +3,9 @@ ghost use Rattle.std.specs.Prelude.{◌≡◌, None, Some, IfSome, MatchOption};
 ghost use Rattle.arachne_workers.specs.Due.{due_for, ended_at, event_for};
 
 use crate::candidate::Candidate;
-use crate::desk::{Cause, Desk, Event, Halt, SliceEnd, Stop, Ticket};
+use crate::desk::{Cause, Desk, Halt, SliceEnd, ThreadStop, TicketResult, WorkerEvent};
 use crate::places::{GoneOn, NoContext};
-use crate::queue::Post;
+use crate::queue::PostedThread;
 use crate::sleep::Hinted;
 use crate::wake::Told;
 use arachne_core::{Place, ThreadId};
@@ -13,13 +13,13 @@ use std::sync::Wait;
 
 /// A thread that was posted, of which its core's worker is to learn.
 pub(crate) struct Untold {
-    post: Post,
+    post: PostedThread,
 }
 
 impl Untold {
     /// One that is told of no longer than it was kept back.
     #[inline(always)]
-    pub(crate) fn kept(post: Post) -> Untold
+    pub(crate) fn kept(post: PostedThread) -> Untold
         ensures { result.post ≡ post }
     {
         Untold { post }
@@ -42,7 +42,7 @@ impl Untold {
 
     /// It is being kept back.
     #[inline(always)]
-    pub(crate) fn kept_back(self) -> Post
+    pub(crate) fn kept_back(self) -> PostedThread
         ensures { result ≡ self.post }
     {
         let Untold { post } = self;
@@ -152,10 +152,10 @@ impl Awoken {
 
     /// What is told of it.
     #[inline(always)]
-    fn event(&self) -> Event
-        ensures { result ≡ Event.Woken self.now.id self.now.cause }
+    fn event(&self) -> WorkerEvent
+        ensures { result ≡ WorkerEvent.Woken self.now.id self.now.cause }
     {
-        Event::Woken(self.id, self.cause)
+        WorkerEvent::Woken(self.id, self.cause)
     }
 
     /// Tells the desk of it.
@@ -199,33 +199,33 @@ pub(crate) struct WakeTold {
 
 /// The thread in hand has freed what another one has now, so that few steps of its slice may be left. It can't be
 /// dropped.
-pub(crate) struct Freed {
+pub(crate) struct HandedOn {
     past: (),
 }
 
-impl Freed {
+impl HandedOn {
     /// It is known how many are left.
     #[inline(always)]
     pub(crate) fn counted(self) {
-        let Freed { past: () } = self;
+        let HandedOn { past: () } = self;
     }
 }
 
 /// Where the thread in hand has stopped. It can't be dropped, so that what is due then is done.
 pub(crate) struct Stopped {
-    stop: Stop,
+    stop: ThreadStop,
 }
 
 impl Stopped {
     #[inline(always)]
-    pub(crate) fn new(stop: Stop) -> Stopped
+    pub(crate) fn new(stop: ThreadStop) -> Stopped
         ensures { result.stop ≡ stop }
     {
         Stopped { stop }
     }
 
     #[inline(always)]
-    pub(crate) fn stop(&self) -> Stop
+    pub(crate) fn stop(&self) -> ThreadStop
         ensures { result ≡ self.now.stop }
     {
         self.stop
@@ -234,7 +234,7 @@ impl Stopped {
     /// It goes on, and nothing is due.
     #[inline(always)]
     pub(crate) fn goes(self)
-        requires { self.stop ≡ Stop.Goes }
+        requires { self.stop ≡ ThreadStop.Goes }
     {
         let Stopped { stop: _ } = self;
     }
@@ -242,16 +242,16 @@ impl Stopped {
     /// It goes on, and a child of it waits with a ticket, which is told.
     #[inline(always)]
     pub(crate) fn tell_of_ticket<D: Desk>(self, desk: &D)
-        requires { self.stop ≡ Stop.Spilled }
+        requires { self.stop ≡ ThreadStop.Spilled }
     {
         let Stopped { stop: _ } = self;
-        desk.told(Event::Spilled);
+        desk.told(WorkerEvent::Spilled);
     }
 
     /// It goes on, and this child of it was posted.
     #[inline(always)]
-    pub(crate) fn untold(self, post: Post) -> Untold
-        requires { self.stop ≡ Stop.Posted post }
+    pub(crate) fn untold(self, post: PostedThread) -> Untold
+        requires { self.stop ≡ ThreadStop.Posted post }
         ensures { result.post ≡ post }
     {
         let Stopped { stop: _ } = self;
@@ -260,8 +260,8 @@ impl Stopped {
 
     /// It goes on, and the thread of this id is served by what it has freed.
     #[inline(always)]
-    pub(crate) fn unwoken(self, id: ThreadId) -> (Unwoken, Freed)
-        requires { self.stop ≡ Stop.Wakes id }
+    pub(crate) fn unwoken(self, id: ThreadId) -> (Unwoken, HandedOn)
+        requires { self.stop ≡ ThreadStop.Wakes id }
         ensures { result.0 ≡ record { id = id; cause = Cause.IsServed } }
     {
         let Stopped { stop: _ } = self;
@@ -269,7 +269,7 @@ impl Stopped {
             id,
             cause: Cause::IsServed,
         };
-        (unwoken, Freed { past: () })
+        (unwoken, HandedOn { past: () })
     }
 
     /// Its slice ends so.
@@ -320,25 +320,25 @@ pub(crate) enum TicketDue {
 
 /// What is due where this has come of a look for a ticket.
 #[inline(always)]
-fn due_by(ticket: Ticket) -> TicketDue
+fn due_by(ticket: TicketResult) -> TicketDue
     ensures { result ≡ due_for ticket }
 {
     match ticket {
-        Ticket::None => TicketDue::NoTicket,
-        Ticket::Gone => TicketDue::Lost,
-        Ticket::Posted(post) => TicketDue::TellOfPost(Untold { post }),
+        TicketResult::None => TicketDue::NoTicket,
+        TicketResult::Gone => TicketDue::Lost,
+        TicketResult::Posted(post) => TicketDue::TellOfPost(Untold { post }),
     }
 }
 
 /// What is told where this has come of a look for a ticket.
 #[inline(always)]
-fn event_by(ticket: Ticket) -> Option<Event>
+fn event_by(ticket: TicketResult) -> Option<WorkerEvent>
     ensures { result ≡ event_for ticket }
 {
     match ticket {
-        Ticket::None => None,
-        Ticket::Gone => Some(Event::Ticket(false)),
-        Ticket::Posted(_) => Some(Event::Ticket(true)),
+        TicketResult::None => None,
+        TicketResult::Gone => Some(WorkerEvent::Ticket(false)),
+        TicketResult::Posted(_) => Some(WorkerEvent::Ticket(true)),
     }
 }
 

@@ -1,15 +1,15 @@
 //! A slice of a thread, and its end.
 ghost use Rattle.std.specs.Prelude.{◌≡◌, ◌≤◌, ◌+◌, min, IfOk, IsSome};
 
-use crate::desk::{Desk, Halt, SliceEnd, Stop, Thinned, thin_out};
+use crate::desk::{Desk, Halt, SliceEnd, Thinned, ThreadStop, thin_out};
 use crate::due::EndedSo;
 use crate::policy;
 use crate::queue::Agenda;
-use crate::sleep::{Shared, Sliced};
+use crate::sleep::{SharedWords, Sliced};
 use crate::steps::{Steps, advance};
 use crate::stopping::Running;
 use crate::tending::Tended;
-use crate::turn::{InHand, Leave, Over, Turn};
+use crate::turn::{Over, SliceLeave, TakenInHand, ThreadTurn};
 use crate::wake::{posted, tell};
 use arachne_arbiter::Pace;
 use std::sync::Wait;
@@ -49,9 +49,9 @@ struct Numbered {
 
 /// The worker of one core.
 #[derive(Drop)]
-pub struct Worker<'a, H, D> {
+pub struct CoreWorker<'a, H, D> {
     pub rt: &'a H,
-    pub shared: &'a Shared,
+    pub shared: &'a SharedWords,
     pub core: u8,
     pub slots: u8,
     pub agenda: Agenda,
@@ -62,18 +62,18 @@ pub struct Worker<'a, H, D> {
     pub desk: D,
 }
 
-impl<'a, H: Wait + Clock, D: Desk> Worker<'a, H, D> {
+impl<'a, H: Wait + Clock, D: Desk> CoreWorker<'a, H, D> {
     /// The thread in hand has a slice, and more as long as others may come to wait for what it
     /// holds or nothing else is to go on. Then it rests, or has ended. Whether it waits.
     pub(crate) fn turn(
         &mut self,
-        in_hand: InHand,
+        in_hand: TakenInHand,
         tended: Tended,
         running: Running,
     ) -> Result<bool, Halt>
         ensures { self.new.desk ≡ self.old.desk }
     {
-        let (leave, mut turn) = Turn::begin(in_hand, self.desk.quantum(), running);
+        let (leave, mut turn) = ThreadTurn::begin(in_hand, self.desk.quantum(), running);
         let end = match self.slices(leave, &mut turn, tended) {
             Ok(end) => end,
             Err(halt) => return Err(turn.meets(halt)),
@@ -87,7 +87,12 @@ impl<'a, H: Wait + Clock, D: Desk> Worker<'a, H, D> {
     }
 
     /// The slices of a turn, from the first one on. How the last one ends.
-    fn slices(&mut self, leave: Leave, turn: &mut Turn, tended: Tended) -> Result<SliceEnd, Halt>
+    fn slices(
+        &mut self,
+        leave: SliceLeave,
+        turn: &mut ThreadTurn,
+        tended: Tended,
+    ) -> Result<SliceEnd, Halt>
         ensures { self.new.desk ≡ self.old.desk }
     {
         let mut end = self.slice(leave, tended)?;
@@ -104,7 +109,7 @@ impl<'a, H: Wait + Clock, D: Desk> Worker<'a, H, D> {
     /// Whether the thread in hand has another slice at once after one that has ended so: it holds what others may come
     /// to wait for, or no other is known to be ready, no ticket could be taken in the round that found this one, and
     /// the workers go on.
-    fn goes_on(&mut self, turn: &mut Turn, end: SliceEnd) -> Option<Leave>
+    fn goes_on(&mut self, turn: &mut ThreadTurn, end: SliceEnd) -> Option<SliceLeave>
         ensures desk { self.new.desk ≡ self.old.desk }
         ensures same { (self.new.agenda ≡ self.old.agenda) × (self.new.slices ≡ self.old.slices) }
         ensures end { IsSome result → end ≡ SliceEnd.GoesOn }
@@ -122,7 +127,7 @@ impl<'a, H: Wait + Clock, D: Desk> Worker<'a, H, D> {
 
     /// One slice of the thread in hand, before which orders were looked at: it goes on for at most as many steps as it
     /// has leave for.
-    fn slice(&mut self, leave: Leave, tended: Tended) -> Result<SliceEnd, Halt>
+    fn slice(&mut self, leave: SliceLeave, tended: Tended) -> Result<SliceEnd, Halt>
         ensures desk { self.new.desk ≡ self.old.desk }
         ensures number { self.new.slices ≡ min (self.old.slices + 1) u64.MAX }
         ensures scan { self.new.agenda.scan ≡ self.old.agenda.scan }
@@ -146,7 +151,7 @@ impl<'a, H: Wait + Clock, D: Desk> Worker<'a, H, D> {
 
     /// The steps of a slice, at most as many as there is leave for: how many they are, and how it ends. Where all are
     /// used up, all that the worker posted is told of.
-    fn spend(&mut self, leave: Leave, numbered: Numbered) -> Result<Sliced, Halt>
+    fn spend(&mut self, leave: SliceLeave, numbered: Numbered) -> Result<Sliced, Halt>
         ensures desk { self.new.desk ≡ self.old.desk }
         ensures steps { IfOk result (λ sliced. sliced.steps ≤ leave.steps) }
         ensures others { (self.new.slices ≡ self.old.slices) × (self.new.agenda.scan ≡ self.old.agenda.scan) }
@@ -167,22 +172,22 @@ impl<'a, H: Wait + Clock, D: Desk> Worker<'a, H, D> {
                 telling.done(tell(&mut self.agenda, self.shared));
             }
             match stopped.stop() {
-                Stop::Goes => stopped.goes(),
-                Stop::Posted(post) => {
+                ThreadStop::Goes => stopped.goes(),
+                ThreadStop::Posted(post) => {
                     let untold = stopped.untold(post);
                     posted(&mut self.agenda, self.shared, self.core, untold);
                 }
-                Stop::Spilled => stopped.tell_of_ticket(&self.desk),
-                Stop::Ends => {
+                ThreadStop::Spilled => stopped.tell_of_ticket(&self.desk),
+                ThreadStop::Ends => {
                     return Ok(Sliced::new(steps, stopped.ended(SliceEnd::Ended)));
                 }
-                Stop::Blocks => {
+                ThreadStop::Blocks => {
                     return Ok(Sliced::new(steps, stopped.ended(SliceEnd::AwaitsChild)));
                 }
-                Stop::Waits(number) => {
+                ThreadStop::Waits(number) => {
                     return Ok(Sliced::new(steps, stopped.ended(SliceEnd::Awaits(number))));
                 }
-                Stop::Wakes(id) => {
+                ThreadStop::Wakes(id) => {
                     let (unwoken, freed) = stopped.unwoken(id);
                     self.wake(unwoken);
                     steps.pass_free(freed, &self.agenda);

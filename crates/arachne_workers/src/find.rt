@@ -2,9 +2,9 @@
 ghost use Rattle.std.specs.Prelude.{◌≡◌, ◌↔◌, ◌⊎◌, IsOk, IsTrue};
 
 use crate::candidate::Candidate;
-use crate::desk::{Desk, Event, Halt, Halted, Thinned, give_all_back, keep_none, thin_out};
+use crate::desk::{Desk, Halt, Halted, Thinned, WorkerEvent, give_all_back, keep_none, thin_out};
 use crate::due::{TicketDue, take_ticket};
-use crate::execute::Worker;
+use crate::execute::CoreWorker;
 use crate::hints::Indexes;
 use crate::parks::{ToPark, nobody_waits};
 use crate::policy;
@@ -23,7 +23,7 @@ struct Scanned {
     found: bool,
 }
 
-/// A ticket was looked for, if there is a place. `Worker::take_ticket` alone gives one.
+/// A ticket was looked for, if there is a place. `CoreWorker::take_ticket` alone gives one.
 #[derive(Drop)]
 struct TicketTried {
     found: bool,
@@ -42,7 +42,7 @@ impl TicketTried {
     }
 }
 
-impl<'a, H: Wait + Clock, D: Desk> Worker<'a, H, D> {
+impl<'a, H: Wait + Clock, D: Desk> CoreWorker<'a, H, D> {
     /// Runs threads until all workers stop, and gives back the places that it keeps.
     pub fn work(&mut self) -> Result<(), Halted>
         ensures { self.new.desk ≡ self.old.desk }
@@ -87,7 +87,7 @@ impl<'a, H: Wait + Clock, D: Desk> Worker<'a, H, D> {
         if found {
             self.pace.found();
             if overslept {
-                self.desk.told(Event::Overslept);
+                self.desk.told(WorkerEvent::Overslept);
             }
         }
         Ok(found)

@@ -22,12 +22,14 @@ mod turn;
 mod waiting;
 mod wake;
 
-pub use desk::{Cause, Desk, Event, Grip, Halt, Halted, SliceEnd, Stop, Ticket, give_all_back};
+pub use desk::{
+    Cause, Desk, Grip, Halt, Halted, SliceEnd, ThreadStop, TicketResult, WorkerEvent, give_all_back,
+};
 pub use drained::Drained;
-pub use execute::Worker;
+pub use execute::CoreWorker;
 pub use hints::Hints;
 pub use policy::{keeps_place, may_keep_places, may_take_ticket};
-pub use queue::{Agenda, Post};
-pub use sleep::{CoresHinted, Hinted, Shared};
+pub use queue::{Agenda, PostedThread};
+pub use sleep::{CoresHinted, Hinted, SharedWords};
 pub use tending::Tended;
 pub use waiting::stand_by;

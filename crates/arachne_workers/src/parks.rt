@@ -1,7 +1,7 @@
 //! What a worker has shown and told before it parks, and that it was parked.
 ghost use Rattle.std.specs.Prelude.{◌≡◌, ◌↔◌, false, IsSome};
 
-use crate::desk::{Desk, Event, NoneKept};
+use crate::desk::{Desk, NoneKept, WorkerEvent};
 use crate::drained::Drained;
 use crate::wake::Told;
 
@@ -47,7 +47,7 @@ impl ToPark {
         none_kept: NoneKept,
     ) -> ToPark {
         let _ = (unawaited, drained, told, none_kept);
-        desk.told(Event::Parks);
+        desk.told(WorkerEvent::Parks);
         ToPark { told: () }
     }
 
@@ -68,6 +68,6 @@ impl Parked {
     #[inline(always)]
     pub(crate) fn tell<D: Desk>(self, desk: &D) {
         let Parked { since: () } = self;
-        desk.told(Event::Unparked);
+        desk.told(WorkerEvent::Unparked);
     }
 }

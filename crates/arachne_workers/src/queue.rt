@@ -13,7 +13,7 @@ use crate::candidate::Candidate;
 use crate::due::Untold;
 use crate::hints::{Indexes, bit_of};
 use crate::policy;
-use crate::refusal::{Refusal, room_for_one};
+use crate::refusal::{RoomRefused, room_for_one};
 use crate::turn::Resting;
 use crate::wake::Told;
 use arachne_core::{Place, Rest, SLOTS, ThreadId};
@@ -21,7 +21,7 @@ use std::alloc::Global;
 
 /// A thread that was posted, and where it was then.
 #[derive(Clone, Copy)]
-pub struct Post {
+pub struct PostedThread {
     pub id: ThreadId,
     pub place: Place,
 }
@@ -29,12 +29,12 @@ pub struct Post {
 /// What becomes of a thread that was posted on another core. It can't be dropped, so that what is to be told of is.
 pub(crate) enum Keeping {
     /// It is told of at once, since the worker has posted few before.
-    AtOnce(Post),
+    AtOnce(PostedThread),
     KeptBack,
     /// As many as may be were kept back: it is in the place of this one, the oldest, which is told of.
-    ForOldest(Post),
+    ForOldest(PostedThread),
     /// The same where memory was refused. Where none was kept back it is told of itself.
-    Refused(Post, Refusal),
+    Refused(PostedThread, RoomRefused),
 }
 
 impl Keeping {
@@ -55,11 +55,11 @@ impl Keeping {
 /// At most so many steps are made before the worker looks whether it is to tell of what is kept back.
 /// [`Agenda::stretch`] alone gives it.
 #[derive(Drop)]
-pub(crate) struct Stretch {
+pub(crate) struct StepStretch {
     steps: u32,
 }
 
-impl Stretch {
+impl StepStretch {
     #[inline(always)]
     pub(crate) fn steps(&self) -> u32
         ensures { result ≡ self.now.steps }
@@ -110,7 +110,7 @@ pub struct Agenda {
     /// The index at which a thread is to go on before all others.
     next: Option<u8>,
     /// What it has posted on other cores and not told of, the newest last.
-    posts: Vec<Post>,
+    posts: Vec<PostedThread>,
     /// After how many steps more it tells of all of them.
     patience: u32,
     /// How many threads it has posted on other cores.
@@ -301,10 +301,10 @@ impl Agenda {
     /// How many steps of so many, which are left of a slice, may be made before the worker is to tell of what is kept
     /// back.
     #[inline(always)]
-    pub(crate) fn stretch(&self, left: u32) -> Stretch
+    pub(crate) fn stretch(&self, left: u32) -> StepStretch
         ensures { result.steps ≡ min left (max 1 self.now.patience) }
     {
-        Stretch {
+        StepStretch {
             steps: left.min(self.patience.max(1)),
         }
     }
@@ -324,7 +324,7 @@ impl Agenda {
 }
 
 /// Puts one behind those that are kept back, and takes the oldest of all.
-fn for_oldest(posts: &mut Vec<Post>, post: Post) -> Post
+fn for_oldest(posts: &mut Vec<PostedThread>, post: PostedThread) -> PostedThread
     ensures all { result ∷ posts.new.items ≡ posts.old.items ++ post ∷ [] }
     ensures many { length posts.new.items ≡ length posts.old.items }
 {

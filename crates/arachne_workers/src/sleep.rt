@@ -3,7 +3,7 @@ ghost use Rattle.std.specs.Prelude.{◌≡◌, ◌↔◌, ◌<◌, IfOk, IfSome,
 ghost use Rattle.std.specs.Int.{bit_at};
 ghost use Rattle.arachne_arbiter.specs.KernelThreads.{counted_cores, parked_cores};
 
-use crate::desk::{Desk, Event, SliceEnd};
+use crate::desk::{Desk, SliceEnd, WorkerEvent};
 use crate::due::{EndedSo, Untold};
 use crate::hints::{Hints, SLEEPS, bit_of};
 use crate::parks::{Parked, ToPark};
@@ -38,10 +38,10 @@ impl Sliced {
 
     /// What is told of it.
     #[inline(always)]
-    fn event(&self) -> Event
-        ensures { result ≡ Event.Sliced self.now.steps self.now.end }
+    fn event(&self) -> WorkerEvent
+        ensures { result ≡ WorkerEvent.Sliced self.now.steps self.now.end }
     {
-        Event::Sliced(self.steps, self.end)
+        WorkerEvent::Sliced(self.steps, self.end)
     }
 
     /// Tells the desk of it.
@@ -101,32 +101,32 @@ impl Sleeper {
     }
 }
 
-/// The worker of a core was woken, if there is one. [`Shared::wake`] alone gives one.
+/// The worker of a core was woken, if there is one. [`SharedWords::wake`] alone gives one.
 #[derive(Drop)]
 pub(crate) struct Awake {
     core: u8,
 }
 
-/// The thread at a place was hinted at, and its core's worker was woken if it slept. [`Shared::hint`] alone gives one.
-/// It has no bytes.
+/// The thread at a place was hinted at, and its core's worker was woken if it slept. [`SharedWords::hint`] alone gives
+/// one. It has no bytes.
 #[derive(Drop)]
 pub struct Hinted {
     place: Snapshot<Place>,
 }
 
-/// The same of all threads of these cores. [`Shared::hint_cores`] alone gives one. It has no bytes.
+/// The same of all threads of these cores. [`SharedWords::hint_cores`] alone gives one. It has no bytes.
 #[derive(Drop)]
 pub struct CoresHinted {
     cores: Snapshot<u64>,
 }
 
-/// The word of a worker's core says that it is about to sleep. [`Shared::announce`] alone gives one.
+/// The word of a worker's core says that it is about to sleep. [`SharedWords::announce`] alone gives one.
 #[derive(Drop)]
 struct Announced {
     said: (),
 }
 
-/// A worker that is about to sleep, as its word says, was not to stop. [`Shared::unstopped`] alone gives one.
+/// A worker that is about to sleep, as its word says, was not to stop. [`SharedWords::unstopped`] alone gives one.
 #[derive(Drop)]
 struct Unstopped {
     seen: (),
@@ -134,7 +134,7 @@ struct Unstopped {
 
 /// The word that stops all workers, the hints, on whose words they sleep, the counts of their slices and their parkers.
 #[derive(Drop)]
-pub struct Shared {
+pub struct SharedWords {
     stop: StopWord,
     hints: Hints,
     slices: SliceCounts,
@@ -142,7 +142,7 @@ pub struct Shared {
 }
 
 // Contracts see for how many cores it is.
-impl Model for Shared {
+impl Model for SharedWords {
     ghost use Rattle.std.specs.Prelude.{◌≡◌, ℕ};
     ghost use Rattle.arachne_arbiter.specs.KernelThreads.{counted_cores, parked_cores};
 
@@ -153,12 +153,12 @@ impl Model for Shared {
     ghost invariant = { λ s. (counted_cores s.slices ≡ s.hints) × (parked_cores s.parking ≡ s.hints) };
 }
 
-impl Shared {
+impl SharedWords {
     /// For so many cores. No thread is ready, no slice has ended, and no worker sleeps.
-    pub fn new(alloc: Global, cores: u8) -> Result<Shared, AllocError>
+    pub fn new(alloc: Global, cores: u8) -> Result<SharedWords, AllocError>
         ensures { IfOk result (λ shared. shared ≡ cores) }
     {
-        Ok(Shared {
+        Ok(SharedWords {
             stop: StopWord::new(),
             hints: Hints::new(alloc, cores)?,
             slices: SliceCounts::new(alloc, cores)?,

@@ -3,9 +3,9 @@ ghost use Rattle.std.specs.Prelude.{◌≡◌, ◌≤◌, ◌+◌, ◌-◌, min,
 ghost use Rattle.arachne_workers.specs.declared.policy.TheConstants.{STEPS_PAST_FREE};
 
 use crate::desk::{Desk, Halt};
-use crate::due::{Freed, Stopped};
+use crate::due::{HandedOn, Stopped};
 use crate::policy;
-use crate::queue::{Agenda, SliceBegun, Stretch};
+use crate::queue::{Agenda, SliceBegun, StepStretch};
 use arachne_arbiter::Pace;
 
 /// Steps that the thread in hand has made. It can't be dropped, so that they are counted. [`advance`] alone gives it.
@@ -19,7 +19,7 @@ pub(crate) struct Made {
 pub(crate) fn advance<D: Desk>(
     desk: &mut D,
     pace: &mut Pace,
-    stretch: Stretch,
+    stretch: StepStretch,
 ) -> Result<(Stopped, Made), Halt>
     requires { 1 ≤ stretch.steps }
     ensures desk { desk.new ≡ desk.old }
@@ -92,7 +92,7 @@ impl Steps {
 
     /// The thread has freed a lock. Fewer steps are left where its next holder is to go on here.
     #[inline(always)]
-    pub(crate) fn pass_free(&mut self, freed: Freed, agenda: &Agenda)
+    pub(crate) fn pass_free(&mut self, freed: HandedOn, agenda: &Agenda)
         ensures { MatchOption agenda.now.next (self.new ≡ self.old) (λ _. self.new ≡ record self.old { left = min self.old.left STEPS_PAST_FREE }) }
     {
         freed.counted();

@@ -1,13 +1,13 @@
 //! Orders, which are looked at before each slice.
 ghost use Rattle.std.specs.Prelude.{◌≡◌, ◌≢◌, ◌↔◌, IfSome, IsNone, IsSome, MatchOption};
 
-use crate::desk::{Desk, Event};
-use crate::execute::Worker;
+use crate::desk::{Desk, WorkerEvent};
+use crate::execute::CoreWorker;
 use crate::sleep::CoresHinted;
 use std::sync::Wait;
 use std::time::Clock;
 
-/// The orders that were due have been applied. `Worker::tend` alone gives one, and each slice uses one up.
+/// The orders that were due have been applied. `CoreWorker::tend` alone gives one, and each slice uses one up.
 #[derive(Drop)]
 pub struct Tended {
     done: (),
@@ -32,7 +32,7 @@ impl Applied {
     #[inline(always)]
     fn tell<D: Desk>(self, desk: &D) -> AppliedTold {
         let Applied { count } = self;
-        desk.told(Event::Applied(count));
+        desk.told(WorkerEvent::Applied(count));
         AppliedTold { done: () }
     }
 }
@@ -85,11 +85,11 @@ impl MovedTo {
     {
         let _ = hinted;
         let MovedTo { cores } = self;
-        desk.told(Event::MovedAway(cores));
+        desk.told(WorkerEvent::MovedAway(cores));
     }
 }
 
-impl<'a, H: Wait + Clock, D: Desk> Worker<'a, H, D> {
+impl<'a, H: Wait + Clock, D: Desk> CoreWorker<'a, H, D> {
     /// Where there are orders, the worker that has the arbiter applies those that are due, and moves threads away from
     /// a closed core.
     #[inline(always)]

@@ -11,13 +11,13 @@ use crate::stopping::Running;
 use arachne_core::{OccWord, Rest};
 
 /// A thread was taken in hand at this index, and its turn is to begin. [`take`] alone gives one.
-pub(crate) struct InHand {
+pub(crate) struct TakenInHand {
     index: u8,
 }
 
 /// What came of a try to take a thread in hand ([`Grip`]).
 pub(crate) enum Grasp {
-    Begins(InHand),
+    Begins(TakenInHand),
     None,
     /// The place changed meanwhile, and is to be tried again.
     Lost(Candidate),
@@ -27,25 +27,25 @@ pub(crate) enum Grasp {
 #[inline(always)]
 pub(crate) fn take<D: Desk>(desk: &mut D, candidate: Candidate) -> Grasp
     ensures desk { desk.new ≡ desk.old }
-    ensures begins { (in_hand : InHand) → result ≡ Grasp.Begins in_hand → in_hand.index ≡ candidate.index }
+    ensures begins { (in_hand : TakenInHand) → result ≡ Grasp.Begins in_hand → in_hand.index ≡ candidate.index }
     ensures lost { (again : Candidate) → result ≡ Grasp.Lost again → again.index ≡ candidate.index }
 {
     let index = candidate.index();
     match desk.take(index) {
-        Grip::Taken => Grasp::Begins(InHand { index }),
+        Grip::Taken => Grasp::Begins(TakenInHand { index }),
         Grip::None => Grasp::None,
         Grip::Lost => Grasp::Lost(Candidate::at(index)),
     }
 }
 
-/// The thread in hand may have a slice of at most so many steps, since all workers go on. A [`Turn`] alone gives one,
-/// and each slice uses one up.
+/// The thread in hand may have a slice of at most so many steps, since all workers go on. A [`ThreadTurn`] alone gives
+/// one, and each slice uses one up.
 #[derive(Drop)]
-pub(crate) struct Leave {
+pub(crate) struct SliceLeave {
     steps: u32,
 }
 
-impl Leave {
+impl SliceLeave {
     #[inline(always)]
     pub(crate) fn steps(&self) -> u32
         ensures { result ≡ self.now.steps }
@@ -70,13 +70,13 @@ impl Most {
         others: bool,
         takes_ticket: bool,
         running: Running,
-    ) -> Option<Leave>
+    ) -> Option<SliceLeave>
         ensures given { IsSome result ↔ (now.closed ≡ false) × ((self.holds ≡ true) ⊎ ((others ≡ false) × (takes_ticket ≡ false))) }
         ensures steps { IfSome result (λ leave. leave.steps ≡ self.steps) }
     {
         let _ = running;
         if policy::may_go_on(now, self.holds, others, takes_ticket) {
-            Some(Leave { steps: self.steps })
+            Some(SliceLeave { steps: self.steps })
         } else {
             None
         }
@@ -85,27 +85,31 @@ impl Most {
 
 /// The turn of the thread in hand: its index, the steps of a slice, and those that are left to it for what it holds. It
 /// can't be dropped, so that the thread is put back or ended.
-pub(crate) struct Turn {
+pub(crate) struct ThreadTurn {
     index: u8,
     quantum: u32,
     grace: u32,
 }
 
-impl Turn {
+impl ThreadTurn {
     /// The turn of a thread whose slices have so many steps, and leave for its first slice.
     #[inline(always)]
-    pub(crate) fn begin(in_hand: InHand, quantum: u32, running: Running) -> (Leave, Turn)
+    pub(crate) fn begin(
+        in_hand: TakenInHand,
+        quantum: u32,
+        running: Running,
+    ) -> (SliceLeave, ThreadTurn)
         ensures first { result.0.steps ≡ quantum }
         ensures further { result.1 ≡ record { index = in_hand.index; quantum = quantum; grace = STEPS_TO_FREE } }
     {
-        let InHand { index } = in_hand;
+        let TakenInHand { index } = in_hand;
         let _ = running;
-        let turn = Turn {
+        let turn = ThreadTurn {
             index,
             quantum,
             grace: policy::STEPS_TO_FREE,
         };
-        (Leave { steps: quantum }, turn)
+        (SliceLeave { steps: quantum }, turn)
     }
 
     /// How many steps a further slice may have after one that has ended so. None where the thread doesn't go on, or has
@@ -132,7 +136,7 @@ impl Turn {
         ensures index { IfOk result (λ resting. resting.index ≡ self.index) }
     {
         let _ = end;
-        let Turn {
+        let ThreadTurn {
             index,
             quantum: _,
             grace: _,
@@ -147,7 +151,7 @@ impl Turn {
         requires { end ≡ SliceEnd.Ended }
     {
         let _ = end;
-        let Turn {
+        let ThreadTurn {
             index: _,
             quantum: _,
             grace: _,
@@ -160,7 +164,7 @@ impl Turn {
     pub(crate) fn meets(self, halt: Halt) -> Halt
         ensures { result ≡ halt }
     {
-        let Turn {
+        let ThreadTurn {
             index: _,
             quantum: _,
             grace: _,
@@ -169,7 +173,7 @@ impl Turn {
     }
 }
 
-/// The thread in hand has ended, and is to be ended at the desk. [`Turn::over`] alone gives one, which can't be
+/// The thread in hand has ended, and is to be ended at the desk. [`ThreadTurn::over`] alone gives one, which can't be
 /// dropped.
 pub(crate) struct Over {
     since: (),
@@ -187,7 +191,8 @@ impl Over {
     }
 }
 
-/// The thread at this index was put back, and rests so. [`Turn::put_back`] alone gives one, which can't be dropped.
+/// The thread at this index was put back, and rests so. [`ThreadTurn::put_back`] alone gives one, which can't be
+/// dropped.
 pub(crate) struct Resting {
     index: u8,
     rest: Rest,

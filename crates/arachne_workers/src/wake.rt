@@ -1,22 +1,23 @@
 //! Threads that a worker posts or wakes, and how the workers of their cores learn of them.
-ghost use Rattle.std.specs.Prelude.{◌≡◌, ◌≢◌, ◌↔◌, ◌≤◌, ◌<◌, ◌⊎◌, ◌+◌, ◌^◌, [], false, length, min, IfSome, IsSome, None, Some};
+ghost use Rattle.std.specs.Prelude.{◌≡◌, ◌≢◌, ◌↔◌, ◌≤◌, ◌<◌, ◌⊎◌, ◌+◌, ◌^◌, [], false, length, min, IsSome, None, Some};
 ghost use Rattle.std.specs.Int.RustNames.{bit_or};
 ghost use Rattle.arachne_core.specs.declared.layout.TheConstants.{SLOTS};
 ghost use Rattle.arachne_workers.specs.declared.policy.TheConstants.{MOST_KEPT_BACK};
+ghost use Rattle.arachne_workers.specs.Agendas.{HasGivenNext, noting};
 
 use crate::candidate::Candidate;
-use crate::desk::{Cause, Desk, Event};
+use crate::desk::{Cause, Desk, WorkerEvent};
 use crate::due::{Awoken, Untold, Unwoken, WakeTold};
-use crate::execute::Worker;
+use crate::execute::CoreWorker;
 use crate::places::{LastSeen, index_on, ready_place};
 use crate::policy;
 use crate::queue::Agenda;
-use crate::sleep::Shared;
+use crate::sleep::SharedWords;
 use arachne_core::{Place, ThreadId};
 use std::sync::Wait;
 use std::time::Clock;
 
-impl<'a, H: Wait + Clock, D: Desk> Worker<'a, H, D> {
+impl<'a, H: Wait + Clock, D: Desk> CoreWorker<'a, H, D> {
     /// Wakes a thread, if it has not ended, and has it go on. One that holds a lock goes on here, as
     /// others may wait for it; another one too where its core's worker sleeps: moving it takes less than waking a
     /// kernel thread. If the thread is moved meanwhile, the arbiter says so of its new core.
@@ -56,7 +57,7 @@ impl<'a, H: Wait + Clock, D: Desk> Worker<'a, H, D> {
         }
         let at = at.moved(self.desk.mark_of(id.context));
         if at.place().core == self.core {
-            self.desk.told(Event::Pulled(id, from.core));
+            self.desk.told(WorkerEvent::Pulled(id, from.core));
         }
         at
     }
@@ -66,8 +67,7 @@ impl<'a, H: Wait + Clock, D: Desk> Worker<'a, H, D> {
     /// Those that can't be are told of, and those that went on meanwhile are forgotten.
     pub(crate) fn next(&mut self, waits: bool) -> Option<Candidate>
         ensures desk { self.new.desk ≡ self.old.desk }
-        ensures next { IsSome self.old.agenda.next → IsSome result × IfSome result (λ candidate. self.old.agenda.next ≡ Some candidate.index)
-            × (self.new.agenda ≡ record self.old.agenda { next = None }) }
+        ensures next { IsSome self.old.agenda.next → HasGivenNext result self.old.agenda self.new.agenda }
         ensures goes_on { self.old.agenda.next ≡ None → waits ≡ false → (result ≡ None) × (self.new.agenda ≡ self.old.agenda) }
         ensures others { (self.new.agenda ≡ record self.old.agenda { posts = self.new.agenda.posts; next = None }) × (self.new.slices ≡ self.old.slices) }
     {
@@ -104,14 +104,14 @@ impl<'a, H: Wait + Clock, D: Desk> Worker<'a, H, D> {
             return None;
         }
         let here = index_on(self.core, self.desk.mark_of(id.context))?;
-        self.desk.told(Event::Pulled(id, place.core));
+        self.desk.told(WorkerEvent::Pulled(id, place.core));
         Some(here)
     }
 }
 
 /// A thread was posted by the worker of a core. The worker of another core is told of it later, unless it is taken back
 /// until then.
-pub(crate) fn posted(agenda: &mut Agenda, shared: &Shared, core: u8, untold: Untold)
+pub(crate) fn posted(agenda: &mut Agenda, shared: &SharedWords, core: u8, untold: Untold)
     ensures others { (agenda.new.scan ≡ agenda.old.scan) × (agenda.new.next ≡ agenda.old.next) }
     ensures here { untold.post.place.core ≡ core → agenda.new ≡ record agenda.old { ready = agenda.new.ready } }
     ensures noted { untold.post.place.core ≡ core → untold.post.place.index < SLOTS
@@ -132,7 +132,7 @@ pub(crate) fn posted(agenda: &mut Agenda, shared: &Shared, core: u8, untold: Unt
 /// others if it is served and no other does.
 fn goes_on_at(
     agenda: &mut Agenda,
-    shared: &Shared,
+    shared: &SharedWords,
     core: u8,
     at: LastSeen,
     woken: Awoken,
@@ -141,7 +141,7 @@ fn goes_on_at(
     ensures elsewhere { at.place.core ≢ core → agenda.new ≡ agenda.old }
     ensures next { at.place.core ≡ core → at.place.index < SLOTS → woken.cause ≡ Cause.IsServed → agenda.old.next ≡ None → agenda.new ≡ record agenda.old { next = Some at.place.index } }
     ensures noted { at.place.core ≡ core → at.place.index < SLOTS → (woken.cause ≡ Cause.ChildEnded) ⊎ IsSome agenda.old.next
-        → agenda.new ≡ record agenda.old { ready = bit_or agenda.old.ready (2 ^ at.place.index) } }
+        → agenda.new ≡ noting at.place.index agenda.old }
     ensures others { (agenda.new ≡ record agenda.old { ready = agenda.new.ready; next = agenda.new.next }) × (woken.cause ≢ Cause.IsServed → agenda.new.next ≡ agenda.old.next) }
 {
     let place = at.is_told();
@@ -161,7 +161,7 @@ pub(crate) struct Told {
 }
 
 /// Tells of all that was kept back.
-pub(crate) fn tell(agenda: &mut Agenda, shared: &Shared) -> Told
+pub(crate) fn tell(agenda: &mut Agenda, shared: &SharedWords) -> Told
     ensures others { agenda.new ≡ record agenda.old { posts = agenda.new.posts } }
     ensures all { length agenda.old.posts.items ≤ MOST_KEPT_BACK → agenda.new.posts.items ≡ [] }
 {

@@ -1,8 +1,8 @@
 -- The one job in hand is the newest.
 use Rattle.std.proofs.Common.{◌≡◌, ℕ, List, [], ◌∷◌, sym, ap, ◌∙◌}
-use Rattle.arachne_exec.specs.declared.view.Known.{Known}
+use Rattle.arachne_exec.specs.declared.view.Notes.{Notes}
 use Rattle.arachne_exec.specs.Changes.{older}
 use Rattle.arachne_exec.specs.Seats.{IsNewest}
 
-pub newest : (k : Known) (place job : ℕ) → k.hand ≡ (place, job) ∷ [] → IsNewest place k
+pub newest : (k : Notes) (place job : ℕ) → k.hand ≡ (place, job) ∷ [] → IsNewest place k
 newest k place job e = record { job = job; hand = e ∙ ap (λ (t : List (ℕ × ℕ)). (place, job) ∷ t) (sym (ap older e)) }

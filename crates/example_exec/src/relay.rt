@@ -3,7 +3,8 @@ ghost use Rattle.std.specs.Prelude.{◌≡◌, ◌*◌, ◌<◌, IfOk};
 ghost use Rattle.example_exec.specs.Relay.{IsFree, HasOne, HasNone};
 
 use arachne_exec::{
-    ExecSeat, Executor, Job, Next, Rested, Spawned, WORKERS, Woken, place_of, worker_of_place,
+    ExecSeat, Executor, HeldJob, JobRested, JobSpawned, JobWoken, Next, WORKERS, place_of,
+    worker_of_place,
 };
 use arachne_team::{Team, TeamFault};
 use std::alloc::{AllocError, Global};
@@ -40,7 +41,7 @@ fn spawn_all(
         for shard in 0..executor.shards().min(WORKERS) {
             let block = 64 * shard + turn / 64 % 64;
             let job = names.len() as u64 + 1;
-            let Spawned::Placed(placed) = executor.spawn(seat, block, job) else {
+            let JobSpawned::Placed(placed) = executor.spawn(seat, block, job) else {
                 return Err(AllocError);
             };
             names.push(AtomicU64::new(placed.name))?;
@@ -104,8 +105,8 @@ impl Relay {
         let name = name.load(Ordering::SeqCst);
         for _ in rt.forever() {
             match self.executor.wake(seat, name) {
-                Woken::Lost => {}
-                Woken::Ready { unpark: true } => {
+                JobWoken::Lost => {}
+                JobWoken::Ready { unpark: true } => {
                     self.unpark(place_of(name));
                     return;
                 }
@@ -115,7 +116,7 @@ impl Relay {
     }
 
     /// Ends a job if it is its turn, and has it wait if not.
-    fn run<R: Wait>(&self, rt: &R, seat: &mut ExecSeat, job: Job)
+    fn run<R: Wait>(&self, rt: &R, seat: &mut ExecSeat, job: HeldJob)
         requires own { HasOne self.now.executor job seat.old }
         requires place { job.place < 4096 * self.now.executor.shards }
         ensures { HasNone self.now.executor seat.new × (seat.new.known.worker ≡ seat.old.known.worker) }
@@ -124,7 +125,10 @@ impl Relay {
             self.executor.finish(seat, job.place);
             self.last.store(job.job, Ordering::SeqCst);
             self.wake(rt, seat, job.job as usize);
-        } else if let Rested::Ready { unpark: true } = self.executor.rest_blocked(seat, job.place) {
+        } else if let JobRested::Ready { unpark: true } = self
+            .executor
+            .rest_blocked(seat, job.place)
+        {
             self.unpark(job.place);
         }
     }

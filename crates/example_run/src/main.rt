@@ -67,8 +67,8 @@ fn report<R: Threads + Wait + Clock + Sync>(
     alloc: Global,
     text: &[u8],
 ) -> Result<Report, &'static str>
-    ensures { IfOk result (λ report. (program : Source) × (text_of program ≡ text.now) × (meaning_in report ≡ meaning_of program)
-        × All HasOneHolderAtATime (histories_in report)) }
+    ensures meaning { IfOk result (λ report. (program : Source) × (text_of program ≡ text.now) × (meaning_in report ≡ meaning_of program)) }
+    ensures one_holder { IfOk result (λ report. All HasOneHolderAtATime (histories_in report)) }
 {
     let Ok(program) = parse(alloc, text) else {
         return Err("the text is no program");

@@ -16,8 +16,8 @@ use std::alloc::Global;
 use std::sync::Wait;
 use std::time::Clock;
 
-/// What the kernel threads have in common. The first one is the sender, and the last one the timer's; between them there
-/// is one for each of the server's cores.
+/// What the kernel threads have in common. The first one is the sender, and the last one the timer's; between them
+/// there is one for each of the server's cores.
 #[derive(Drop)]
 pub struct Crew<'s, C: Seats> {
     pub alloc: Global,

@@ -69,7 +69,8 @@ impl Keeper {
         self.scans = self.scans.saturating_add(u64::from(self.held));
     }
 
-    /// At the end of an interval, whether a core is to come or to go, where so many nanoseconds of work are done by now.
+    /// At the end of an interval, whether a core is to come or to go, where so many nanoseconds of work are done by
+    /// now.
     pub fn judge(&mut self, at: u64, busy: u64) -> Advice
         ensures { self.new.most ≡ self.old.most }
     {

@@ -1,10 +1,11 @@
 //! A server over the pool: it answers a list of requests, and holds as many cores as their load asks for.
 //!
-//! `example_server < LIST` says how many it has answered; `example_server CORES INTERVAL [PATIENCE] < LIST` also how long
-//! that took. Times are in microseconds.
+//! `example_server < LIST` says how many it has answered; `example_server CORES INTERVAL [PATIENCE] < LIST` also how
+//! long that took. Times are in microseconds.
 #![tactic(auto)]
 
 mod crew;
+mod entry;
 mod job;
 mod keeper;
 mod print;
@@ -14,6 +15,7 @@ mod send;
 mod serve;
 mod start;
 mod timer;
+mod waiting;
 
 use anyhow::{Result, bail};
 use crew::Books;

@@ -3,6 +3,7 @@ use crate::crew::Books;
 use crate::keeper::Keeper;
 use crate::report::{Report, quantile};
 use crate::requests::Class;
+use crate::timer::Left;
 use std::alloc::Global;
 use std::io;
 
@@ -31,18 +32,27 @@ fn served(rt: &impl Print, report: &Report, requests: usize) -> io::Result<()> {
     )
 }
 
-/// How many waited for the slow part, if any, and whether others were answered meanwhile.
+/// How many waited for the slow part, if any was to, whether others were answered meanwhile, and what is left of it.
 fn slow(rt: &impl Print, report: &Report) -> io::Result<()> {
-    let waited = report.count(Class::Slow);
-    if waited == 0 {
+    let slow = report.count(Class::Slow);
+    if slow == 0 {
         return Ok(());
     }
-    let others = if report.overtaken() >= waited - waited / 2 {
+    let others = if report.overtaken() >= slow - slow / 2 {
         "went on"
     } else {
         "waited too"
     };
-    println!(rt; "{waited} of them waited for the slow part, and the others {others} meanwhile")
+    let waited = report.waited();
+    println!(rt; "{waited} of them waited for the slow part, and the others {others} meanwhile")?;
+    let Left {
+        waiting,
+        calls,
+        overslept,
+    } = report.left;
+    println!(rt;
+        "then {waiting} wait, {calls} calls are left, and the timer has overslept {overslept} times"
+    )
 }
 
 /// How long the requests took.

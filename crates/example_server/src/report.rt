@@ -2,7 +2,9 @@
 ghost use Rattle.std.specs.Prelude.{◌≡◌, ◌+◌, [], IfOk, OnOk, OnErr, vec_len};
 ghost use Rattle.example_server.specs.Work.{mixed};
 
+use crate::entry::SLOW;
 use crate::requests::{Class, Due};
+use crate::timer::Left;
 use std::alloc::{AllocError, Global};
 
 /// A request that was answered. The answer is that of its own work.
@@ -12,6 +14,8 @@ pub struct Answered {
     pub work: u32,
     pub class: Class,
     pub value: u64,
+    /// From when it was sent until its work began, in nanoseconds.
+    pub waited: u64,
     /// When its work was done, in nanoseconds from the begin.
     pub ended: u64,
     /// From when it was due until its work was done.
@@ -32,6 +36,8 @@ pub struct Report {
     pub busy: u64,
     /// From the begin to the last answer.
     pub nanos: u64,
+    /// What is left of the slow part.
+    pub left: Left,
 }
 
 impl Report {
@@ -45,6 +51,7 @@ impl Report {
             late: Vec::with_capacity(alloc, requests)?,
             busy: 0,
             nanos: 0,
+            left: Left::nothing(),
         })
     }
 
@@ -69,6 +76,16 @@ impl Report {
         let mut count: usize = 0;
         for answer in self.answers.iter() {
             count = count.saturating_add(usize::from(answer.class == class));
+        }
+        count
+    }
+
+    /// How many requests have waited for the slow part, as long as that takes.
+    pub fn waited(&self) -> usize {
+        let mut count: usize = 0;
+        for answer in self.answers.iter() {
+            let has_waited = answer.class == Class::Slow && answer.waited >= SLOW;
+            count = count.saturating_add(usize::from(has_waited));
         }
         count
     }

@@ -2,6 +2,7 @@
 ghost use Rattle.std.specs.Prelude.{◌≡◌, ◌+◌, ◌<◌, IfOk, IfSome, IsSome, OnSome, if◌then◌else◌, length, vec_len};
 ghost use Rattle.std.specs.VecDeque.{deque_len};
 ghost use Rattle.arachne_pool.specs.Workers.{IsWorkerOf};
+ghost use Rattle.example_server.specs.Counts.{ended_in};
 
 use crate::crew::Books;
 use crate::job::{Request, now};
@@ -24,6 +25,8 @@ const BETWEEN_LOOKS: u64 = 20_000;
 struct Sent {
     number: u64,
     due: Due,
+    /// When it was sent, in nanoseconds from the begin.
+    at: u64,
     handle: Handle<Request>,
     ghost number_right: { handle.number ≡ number },
     ghost work_right: { handle.work ≡ due.work },
@@ -136,7 +139,7 @@ fn settles(
 ) -> Option<bool>
     requires handle { IfSome spawned (λ spawned. IfOk spawned (λ handle. (handle.number ≡ number) × (handle.work ≡ due.work))) }
     requires few { report.old.refused < usize.MAX }
-    ensures all { IfSome result (λ settled. vec_len report.new.answers + report.new.refused + deque_len sent.new ≡ vec_len report.old.answers + report.old.refused + deque_len sent.old + (if settled then 1 else 0)) }
+    ensures all { IfSome result (λ settled. ended_in report.new + deque_len sent.new ≡ ended_in report.old + deque_len sent.old + (if settled then 1 else 0)) }
 {
     let late = at.saturating_sub(due.at);
     match spawned {
@@ -145,6 +148,7 @@ fn settles(
             let one = Sent {
                 number,
                 due,
+                at,
                 handle,
             };
             sent.push_back(one).ok()?;
@@ -211,6 +215,7 @@ fn take_answer(sent: &mut VecDeque<Sent>, begin: u64, report: &mut Report) -> Op
     let Sent {
         number,
         due,
+        at,
         handle,
     } = first;
     match handle.poll() {
@@ -225,6 +230,7 @@ fn take_answer(sent: &mut VecDeque<Sent>, begin: u64, report: &mut Report) -> Op
                     work: due.work,
                     class: due.class,
                     value: answer.value,
+                    waited: answer.began.saturating_sub(begin).saturating_sub(at),
                     ended,
                     nanos: ended.saturating_sub(due.at),
                 })
@@ -235,6 +241,7 @@ fn take_answer(sent: &mut VecDeque<Sent>, begin: u64, report: &mut Report) -> Op
             sent.push_front(Sent {
                 number,
                 due,
+                at,
                 handle,
             })
             .ok()?;

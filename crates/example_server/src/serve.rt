@@ -1,5 +1,5 @@
 //! What the kernel threads of the server share, and what that of a core does.
-ghost use Rattle.std.specs.Prelude.{◌≡◌, ◌<◌, IfSome};
+ghost use Rattle.std.specs.Prelude.{◌≡◌, ◌-◌, ◌<◌, IfSome};
 ghost use Rattle.arachne_pool.specs.Workers.{IsWorkerOf};
 
 use crate::timer::Timer;
@@ -28,7 +28,7 @@ impl<C: Seats> Server<C> {
 
     /// How many requests live that don't wait for the slow part.
     pub fn runnable(&self) -> u64 {
-        self.pool.live().saturating_sub(self.timer.waiting())
+        runnable_of(self.pool.live(), self.timer.waiting())
     }
 
     /// No more requests come.
@@ -56,8 +56,15 @@ impl<C: Seats> Server<C> {
     }
 }
 
-/// Serves as the kernel thread of a core until the server is over. It sleeps while there is nothing to do there, and while
-/// the core is given back. At once over where there is no such core.
+/// How many of those that live don't wait.
+fn runnable_of(live: u64, waiting: u64) -> u64
+    ensures { result ≡ live - waiting }
+{
+    live.saturating_sub(waiting)
+}
+
+/// Serves as the kernel thread of a core until the server is over. It sleeps while there is nothing to do there, and
+/// while the core is given back. At once over where there is no such core.
 pub fn serve<R: Wait + Clock, J: PoolJob, C: Contexts<Spawned<J>>>(
     rt: &R,
     server: &Server<C>,

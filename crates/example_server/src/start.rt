@@ -20,8 +20,8 @@ use std::time::Clock;
 /// The pool's table.
 type Table = WordContexts<Spawned<Request>>;
 
-/// Answers or refuses all requests of a list, with the cores of a keeper and one more core, on which nothing runs: the sender's.
-/// What was done, or why that can't be.
+/// Answers or refuses all requests of a list, with the cores of a keeper and one more core, on which nothing runs: the
+/// sender's. What was done, or why that can't be.
 pub fn run<R: Threads + Wait + Clock + Sync>(
     rt: &R,
     alloc: Global,
@@ -42,7 +42,10 @@ pub fn run<R: Threads + Wait + Clock + Sync>(
         requests,
     };
     let share = work_together(rt, alloc, &crew, share);
-    end::<Table, R>(rt, alloc, server.pool, share)
+    let left = server.timer.left();
+    let mut books = end::<Table, R>(rt, alloc, server.pool, share)?;
+    books.report.left = left;
+    Ok(books)
 }
 
 /// The server before anything is sent, and what its kernel threads have of it, for so many requests.
@@ -70,8 +73,8 @@ fn begin<C: Contexts<Spawned<Request>> + Drop>(
     Ok((Server::new(pool, timer, clock), share))
 }
 
-/// Closes the pool of a server that is over, with what its kernel threads have left. What it has done, or why that can't be
-/// told.
+/// Closes the pool of a server that is over, with what its kernel threads have left. What it has done, or why that
+/// can't be told.
 fn end<C: Contexts<Spawned<Request>> + Drop, R: Wait>(
     rt: &R,
     alloc: Global,

@@ -1,9 +1,11 @@
 //! The slow part that some requests wait for: a timer, which answers each after a while, on a kernel thread of its own.
-ghost use Rattle.std.specs.Prelude.{◌≡◌, IfSome};
+ghost use Rattle.std.specs.Prelude.{◌≡◌, IfSome, MatchOption, min};
 ghost use Rattle.arachne_pool.specs.Workers.{IsIdleAt, IsWorkerOf};
 
+use crate::entry::Entry;
 use crate::job::{Request, now};
 use crate::serve::Server;
+use crate::waiting::{First, Waiting};
 use arachne_core::ThreadId;
 use arachne_pool::{Spawned, Waker, Worker};
 use arachne_table::Contexts;
@@ -12,66 +14,48 @@ use std::sync::atomic::{AtomicU64, Ordering};
 use std::sync::{Arc, Wait};
 use std::time::{Clock, Duration};
 
-/// How many nanoseconds the slow part takes, of each request.
-const SLOW: u64 = 2_000_000;
-
 /// How many nanoseconds the timer sleeps where no request waits.
 const IDLE: u64 = 1_000_000_000;
-
-/// What a request that waits shares with the timer.
-#[derive(Drop)]
-struct Entry {
-    /// 1 while a request has it.
-    is_taken: AtomicU64,
-    /// 1 once its slow part has begun.
-    is_begun: AtomicU64,
-    /// When the answer comes; 0 where none is waited for.
-    until: AtomicU64,
-    /// The id of the job that sleeps until then.
-    context: AtomicU64,
-    generation: AtomicU64,
-    /// 1 once the answer has come.
-    answer: AtomicU64,
-}
-
-impl Entry {
-    fn new() -> Entry {
-        Entry {
-            is_taken: AtomicU64::new(0),
-            is_begun: AtomicU64::new(0),
-            until: AtomicU64::new(0),
-            context: AtomicU64::new(0),
-            generation: AtomicU64::new(0),
-            answer: AtomicU64::new(0),
-        }
-    }
-
-    /// The answer comes. Who is to be woken: it finds the answer then.
-    fn give_answer(&self) -> ThreadId {
-        self.until.store(0, Ordering::SeqCst);
-        self.answer.store(1, Ordering::SeqCst);
-        ThreadId {
-            context: u32::try_from(self.context.load(Ordering::SeqCst)).unwrap_or(u32::MAX),
-            generation: self.generation.load(Ordering::SeqCst),
-        }
-    }
-}
 
 /// What the timer's kernel thread does next.
 enum Next {
     Wakes(ThreadId),
     /// Nothing, for so many nanoseconds.
     Rests(u64),
+    /// Nothing, until it is told: no request waits.
+    Idles,
+}
+
+/// What is left of the slow part once all requests are answered. Nothing, where each was counted, its call was given
+/// back, and the timer was told.
+#[derive(Clone, Copy)]
+pub struct Left {
+    /// How many requests are counted as waiting.
+    pub waiting: u64,
+    /// How many calls were not given back.
+    pub calls: usize,
+    /// How often the timer has slept its time out and then found something of which nobody had told it.
+    pub overslept: u64,
+}
+
+impl Left {
+    pub fn nothing() -> Left {
+        Left {
+            waiting: 0,
+            calls: 0,
+            overslept: 0,
+        }
+    }
 }
 
 /// An entry for each request that may wait at once, and what the timer's kernel thread is told.
 #[derive(Drop)]
 pub struct Timer {
     entries: Vec<Entry>,
-    /// How many wait.
-    waiting: AtomicU64,
+    waiting: Waiting,
     is_told: AtomicU64,
     is_over: AtomicU64,
+    overslept: AtomicU64,
 }
 
 impl Timer {
@@ -83,9 +67,10 @@ impl Timer {
         }
         let timer = Timer {
             entries,
-            waiting: AtomicU64::new(0),
+            waiting: Waiting::new(),
             is_told: AtomicU64::new(0),
             is_over: AtomicU64::new(0),
+            overslept: AtomicU64::new(0),
         };
         Ok(Arc::new(alloc, timer)?)
     }
@@ -94,10 +79,8 @@ impl Timer {
     pub fn call(timer: &Arc<Timer>) -> Option<Call> {
         let shared = timer.clone().ok()?;
         for (number, entry) in timer.entries.iter().enumerate() {
-            if entry.is_taken.load(Ordering::SeqCst) == 0 {
-                entry.is_begun.store(0, Ordering::SeqCst);
-                entry.answer.store(0, Ordering::SeqCst);
-                entry.is_taken.store(1, Ordering::SeqCst);
+            if !entry.is_taken() {
+                entry.take();
                 return Some(Call {
                     timer: shared,
                     entry: number,
@@ -109,7 +92,20 @@ impl Timer {
 
     /// How many requests wait.
     pub fn waiting(&self) -> u64 {
-        self.waiting.load(Ordering::SeqCst)
+        self.waiting.count()
+    }
+
+    /// What is left of the slow part.
+    pub fn left(&self) -> Left {
+        let mut calls: usize = 0;
+        for entry in self.entries.iter() {
+            calls = calls.saturating_add(usize::from(entry.is_taken()));
+        }
+        Left {
+            waiting: self.waiting(),
+            calls,
+            overslept: self.overslept.load(Ordering::SeqCst),
+        }
     }
 
     /// Whether no more requests come.
@@ -123,6 +119,13 @@ impl Timer {
         self.tell();
     }
 
+    /// A request waits before which none did. Each takes as long, so where others wait the timer looks again before
+    /// this one's time.
+    fn tell_of_first(&self, first: First) {
+        first.told();
+        self.tell();
+    }
+
     fn tell(&self) {
         if self.is_told.swap(1, Ordering::SeqCst) == 0 {
             self.is_told.wake_one();
@@ -131,27 +134,56 @@ impl Timer {
 
     /// What is to be done at this time. One whose time has come is answered.
     fn look(&self, now: u64) -> Next {
-        let mut rest = IDLE;
+        let mut rest: Option<u64> = None;
         for entry in self.entries.iter() {
-            let until = entry.until.load(Ordering::SeqCst);
-            if until == 0 {
-                continue;
+            match entry.left(now) {
+                None => {}
+                Some(0) => return Next::Wakes(entry.answer(self.waiting.end_one())),
+                Some(left) => rest = Some(sooner(rest, left)),
             }
-            if until <= now {
-                self.waiting.fetch_sub(1, Ordering::SeqCst);
-                return Next::Wakes(entry.give_answer());
-            }
-            rest = rest.min(until - now);
         }
-        Next::Rests(rest)
+        match rest {
+            Some(nanos) => Next::Rests(nanos),
+            None => Next::Idles,
+        }
     }
 
-    /// Sleeps for so long, unless it is told meanwhile, or was since it was asked last.
-    fn rest<R: Wait>(&self, rt: &R, nanos: u64) {
-        if self.is_told.swap(0, Ordering::SeqCst) == 0 {
-            self.is_told
-                .park_timeout(rt, 0, Duration::from_nanos(nanos));
+    /// Whether there is something to do at this time or later.
+    fn is_any(&self) -> bool {
+        for entry in self.entries.iter() {
+            if entry.left(0).is_some() {
+                return true;
+            }
         }
+        self.is_over()
+    }
+
+    /// Sleeps for so long, unless it is told meanwhile, or was since it was asked last. Whether it was not told.
+    fn rest<R: Wait>(&self, rt: &R, nanos: u64) -> bool {
+        if self.is_told.swap(0, Ordering::SeqCst) != 0 {
+            return false;
+        }
+        self.is_told
+            .park_timeout(rt, 0, Duration::from_nanos(nanos));
+        self.is_told.load(Ordering::SeqCst) == 0
+    }
+
+    /// Sleeps until it is told that there is something to do. It looks after a while all the same, and where nobody has
+    /// told it then, that is counted.
+    fn idle<R: Wait>(&self, rt: &R) {
+        if self.rest(rt, IDLE) && self.is_any() {
+            self.overslept.fetch_add(1, Ordering::SeqCst);
+        }
+    }
+}
+
+/// The shorter one of the times of a sleep, if there is one, and of another.
+fn sooner(rest: Option<u64>, left: u64) -> u64
+    ensures { MatchOption rest (result ≡ left) (λ nanos. result ≡ min nanos left) }
+{
+    match rest {
+        Some(nanos) => nanos.min(left),
+        None => left,
     }
 }
 
@@ -166,34 +198,25 @@ impl Call {
     /// Whether it was answered.
     pub fn is_answered(&self) -> bool {
         match self.timer.entries.get(self.entry) {
-            Some(entry) => entry.answer.load(Ordering::SeqCst) != 0,
+            Some(entry) => entry.is_answered(),
             None => true,
         }
     }
 
     /// The job of this id sleeps until it is answered. The slow part begins now, unless it has before.
     pub fn begin(&self, now: u64, id: ThreadId) {
-        let Some(entry) = self.timer.entries.get(self.entry) else {
-            return;
-        };
-        entry.context.store(u64::from(id.context), Ordering::SeqCst);
-        entry.generation.store(id.generation, Ordering::SeqCst);
-        if entry.is_begun.swap(1, Ordering::SeqCst) != 0 {
-            return;
-        }
-        entry
-            .until
-            .store(now.saturating_add(SLOW), Ordering::SeqCst);
-        // Each takes as long, so where others wait the timer looks again before this one's time.
-        if self.timer.waiting.fetch_add(1, Ordering::SeqCst) == 0 {
-            self.timer.tell();
+        if let Some(entry) = self.timer.entries.get(self.entry)
+            && let Some(begun) = entry.begin(now, id)
+            && let Some(first) = self.timer.waiting.begin_one(begun)
+        {
+            self.timer.tell_of_first(first);
         }
     }
 
     /// Another request may have its entry.
     pub fn end(&self) {
         if let Some(entry) = self.timer.entries.get(self.entry) {
-            entry.is_taken.store(0, Ordering::SeqCst);
+            entry.give_back();
         }
     }
 }
@@ -234,7 +257,10 @@ fn wake_all<R: Wait + Clock, C: Contexts<Spawned<Request>>>(
             Next::Wakes(id) => {
                 let _ = server.pool.wake::<R, Request>(rt, waker, id);
             }
-            Next::Rests(nanos) => server.timer.rest(rt, nanos),
+            Next::Rests(nanos) => {
+                server.timer.rest(rt, nanos);
+            }
+            Next::Idles => server.timer.idle(rt),
         }
     }
 }

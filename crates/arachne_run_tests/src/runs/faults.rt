@@ -41,7 +41,7 @@ const ROWS: &[Row] = &[
         watching: Watching::Cores,
         facts: &[],
         telling: Telling::Nothing,
-        told: "Token",
+        told: "Worker(Token)",
     },
     // The same while cores 2, 3 and 4 are taken back: they have nothing to do and are parked.
     Row {
@@ -76,7 +76,7 @@ const ROWS: &[Row] = &[
         watching: Watching::Cores,
         facts: &[],
         telling: Telling::Nothing,
-        told: "Token",
+        told: "Worker(Token)",
     },
     // Of the root and its child on core 1 one holds the lock on and on, and the other waits for it. A child on core 2
     // ends.
@@ -96,7 +96,7 @@ const ROWS: &[Row] = &[
         watching: Watching::Cores,
         facts: &[],
         telling: Telling::Nothing,
-        told: "Token",
+        told: "Worker(Token)",
     },
     // Each core has one place. The root forks more children than have one before any ends.
     Row {
@@ -115,7 +115,7 @@ const ROWS: &[Row] = &[
         watching: Watching::Cores,
         facts: &[],
         telling: Telling::Nothing,
-        told: "Token",
+        told: "Worker(Token)",
     },
     // Cores 0 and 1 are full of the root and of its first child, so that its second one runs on and on in its place.
     Row {
@@ -150,7 +150,7 @@ const ROWS: &[Row] = &[
         watching: Watching::Cores,
         facts: &[],
         telling: Telling::Nothing,
-        told: "Token",
+        told: "Worker(Token)",
     },
     // The root's first child goes on and on on core 1, where there is no memory for a second one.
     Row {
@@ -169,7 +169,7 @@ const ROWS: &[Row] = &[
         watching: Watching::Cores,
         facts: &[],
         telling: Telling::Nothing,
-        told: "Memory",
+        told: "Worker(Memory)",
     },
     // The same while the others are parked.
     Row {
@@ -209,7 +209,7 @@ const ROWS: &[Row] = &[
         watching: Watching::Cores,
         facts: &[],
         telling: Telling::Nothing,
-        told: "Memory",
+        told: "Worker(Memory)",
     },
     // The root's child ends on core 1 while the root asks for memory there. One fault is recorded first, and the other
     // then.
@@ -229,7 +229,7 @@ const ROWS: &[Row] = &[
         watching: Watching::Cores,
         facts: &[],
         telling: Telling::Nothing,
-        told: "Memory",
+        told: "Worker(Memory)",
     },
     // The other way round.
     Row {
@@ -248,7 +248,7 @@ const ROWS: &[Row] = &[
         watching: Watching::Cores,
         facts: &[],
         telling: Telling::Nothing,
-        told: "Token",
+        told: "Worker(Token)",
     },
     // What runs well in the same process behind all of them.
     Row {

@@ -20,7 +20,7 @@ const LEFT: &[Row] = &[Row {
     watching: Watching::Nothing,
     facts: &[],
     telling: Telling::Nothing,
-    told: "Token",
+    told: "Worker(Token)",
 }];
 
 #[test]

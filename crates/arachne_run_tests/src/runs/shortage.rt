@@ -13,7 +13,7 @@ use crate::gates::Watching;
 use arachne_core::SLOTS;
 use arachne_lang::Program;
 use arachne_policy::{CoreOrder, OrderKind};
-use arachne_run::RunFault;
+use arachne_run::{RunFault, WorkerFault};
 use arachne_shortage::Hoard;
 use std::alloc::Global;
 use std::sync::Wait;
@@ -168,8 +168,8 @@ const WELL: Tried = Ok(true);
 /// Whether memory was refused. On several cores that can be a kernel thread's.
 fn is_want(tried: Tried, cores: u64) -> bool {
     match tried {
-        Err(RunFault::Memory) => true,
-        Err(RunFault::KernelThread) => cores > 1,
+        Err(RunFault::Worker(WorkerFault::Memory)) => true,
+        Err(RunFault::Worker(WorkerFault::KernelThread)) => cores > 1,
         _ => false,
     }
 }
@@ -190,7 +190,7 @@ fn refused<R: Threads + Wait + Clock + Sync>(
 {
     let (cores, _, _) = machine;
     let most = if cores > 1 { RUNS_ON_CORES } else { RUNS };
-    let mut came = Err(RunFault::Memory);
+    let mut came = Err(RunFault::Worker(WorkerFault::Memory));
     for runs in 0..most {
         came = tried(rt, alloc, row, program, form, machine);
         if came == last || !is_want(came, cores) {
@@ -236,13 +236,13 @@ fn without_memory<R: Threads + Wait + Clock + Sync>(
     requires { IsChecked (source_of program.now) }
 {
     let Ok(mut hoard) = Hoard::take(alloc) else {
-        return (0, Err(RunFault::Memory));
+        return (0, Err(RunFault::Worker(WorkerFault::Memory)));
     };
     let (runs, came) = refused(rt, alloc, row, program, form, machine, &mut hoard, last);
     hoard.give_back(SLACK);
     let (cores, _, _) = machine;
     if cores == 1 && !goes_well(rt, alloc, row, program, form, machine, REPEATED) {
-        return (runs, Err(RunFault::Memory));
+        return (runs, Err(RunFault::Worker(WorkerFault::Memory)));
     }
     (runs, came)
 }
@@ -315,6 +315,6 @@ fn each_growth_is_refused_behind_a_lock(rt: HostRuntime) -> Result<(), Fail> {
 /// The first run of the process has no stack for a kernel thread, and the next one has.
 #[test]
 fn kernel_threads_are_refused(rt: HostRuntime) -> Result<(), Fail> {
-    let last = Err(RunFault::KernelThread);
+    let last = Err(RunFault::Worker(WorkerFault::KernelThread));
     row_ends(&rt, rt.alloc(), &FORKS, Form::Words, last)
 }

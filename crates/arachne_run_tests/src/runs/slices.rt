@@ -188,7 +188,7 @@ const STOPPED: Row = Row {
     watching: Watching::Stopping(0),
     facts: &[],
     telling: Telling::Nothing,
-    told: "Token",
+    told: "Worker(Token)",
 };
 
 const STOPS: &[Row] = &[

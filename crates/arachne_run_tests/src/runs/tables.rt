@@ -37,7 +37,7 @@ const ROWS: &[Row] = &[
         watching: Watching::Nothing,
         facts: &[],
         telling: Telling::Nothing,
-        told: "Token",
+        told: "Worker(Token)",
     },
     // That something is out with a seat in the end is none of memory's faults.
     Row {
@@ -51,7 +51,7 @@ const ROWS: &[Row] = &[
         watching: Watching::Nothing,
         facts: &[],
         telling: Telling::Nothing,
-        told: "Token",
+        told: "Worker(Token)",
     },
     // Where all other cores answer that they are full, core 0 runs every thread.
     Row {
@@ -80,7 +80,7 @@ const ROWS: &[Row] = &[
         watching: Watching::Nothing,
         facts: &[],
         telling: Telling::Nothing,
-        told: "Memory",
+        told: "Worker(Memory)",
     },
     Row {
         shows: "the first fault is told",
@@ -93,7 +93,7 @@ const ROWS: &[Row] = &[
         watching: Watching::Nothing,
         facts: &[],
         telling: Telling::Nothing,
-        told: "Memory",
+        told: "Worker(Memory)",
     },
 ];
 

@@ -3,13 +3,13 @@ ghost use Rattle.std.specs.Prelude.{◌<◌, IfSome, [], ◌∷◌};
 ghost use Rattle.arachne_contexts.specs.Out.{Claim as a_claim};
 ghost use Rattle.arachne_locked.specs.Seats.{HasCounted};
 
-use super::Job;
+use super::TagOnly;
 use crate::{Claimed, Contexts, LockedClaim, LockedContexts, LockedSeat, Seats};
 use std::alloc::Global;
 use std::sync::Wait;
 use std::test::Fail;
 
-type Locked = LockedContexts<Job>;
+type Locked = LockedContexts<TagOnly>;
 
 /// Two of four seats.
 #[derive(Clone, Copy, Debug)]
@@ -32,7 +32,7 @@ const PAIRS: &[Pair] = &[
 ];
 
 /// Claims a place on core 0.
-fn claimed<C: Contexts<Job>, R: Wait>(rt: &R, table: &C, seat: &mut C::Seat) -> Option<C::Claim>
+fn claimed<C: Contexts<TagOnly>, R: Wait>(rt: &R, table: &C, seat: &mut C::Seat) -> Option<C::Claim>
     requires seat { C.sits table.now seat.old × C.idle table.now seat.old }
     requires core { 0 < C.core_count table.now }
     ensures { IfSome result (λ claim. C.has table.now seat.new (a_claim claim ∷ [])) }

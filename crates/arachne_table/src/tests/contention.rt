@@ -2,7 +2,7 @@
 ghost use Rattle.std.specs.Prelude.{◌≡◌, ◌<◌, ◌≤◌, IfSome};
 ghost use Rattle.arachne_words.specs.Seats.{HasNothingOut};
 
-use super::Job;
+use super::TagOnly;
 use crate::{Claimed, Contexts, Moved, Taken, WordContexts, WordSeat};
 use arachne_core::{CORES, Place, SLOTS, ThreadId};
 use std::alloc::Global;
@@ -27,24 +27,24 @@ struct Work<S> {
 /// How many threads were posted and have ended or are left, once each, or none if there is one that wasn't; and how
 /// many were moved.
 #[derive(Clone, Copy)]
-struct Outcome {
+struct ContentionResult {
     settled: Option<usize>,
     moved: u64,
 }
 
-impl Outcome {
+impl ContentionResult {
     /// Each thread of both kernel threads is settled.
     fn is_settled(&self) -> bool {
         self.settled == Some(2 * THREADS as usize)
     }
 }
 
-type Words = WordContexts<Job>;
+type Words = WordContexts<TagOnly>;
 
-type WordWork = Work<WordSeat<Job>>;
+type WordWork = Work<WordSeat<TagOnly>>;
 
 /// Claims a place on a core, and posts a thread there if it got one. None where the table refuses memory or the claim.
-fn post<C: Contexts<Job>, R: Wait>(
+fn post<C: Contexts<TagOnly>, R: Wait>(
     rt: &R,
     table: &C,
     work: &mut Work<C::Seat>,
@@ -57,7 +57,7 @@ fn post<C: Contexts<Job>, R: Wait>(
 {
     match table.claim(rt, &mut work.seat, core).ok()? {
         Claimed::Place(claim) => {
-            table.post(rt, &mut work.seat, claim, Job(tag)).ok()?;
+            table.post(rt, &mut work.seat, claim, TagOnly(tag)).ok()?;
             work.posted = work.posted.wrapping_add(1);
             work.log.push(tag.wrapping_mul(2)).ok()
         }
@@ -68,12 +68,12 @@ fn post<C: Contexts<Job>, R: Wait>(
 }
 
 /// How the end of a thread is noted.
-fn ended(job: &Job) -> u64 {
+fn ended(job: &TagOnly) -> u64 {
     job.0.wrapping_mul(2).wrapping_add(1)
 }
 
 /// Takes the thread at a place, if it is ready, and ends it.
-fn end<C: Contexts<Job>, R: Wait>(
+fn end<C: Contexts<TagOnly>, R: Wait>(
     rt: &R,
     table: &C,
     work: &mut Work<C::Seat>,
@@ -97,7 +97,7 @@ fn end<C: Contexts<Job>, R: Wait>(
 }
 
 /// Ends what is ready on a core. How many there were.
-fn end_all<C: Contexts<Job>, R: Wait>(
+fn end_all<C: Contexts<TagOnly>, R: Wait>(
     rt: &R,
     table: &C,
     work: &mut Work<C::Seat>,
@@ -121,7 +121,7 @@ fn end_all<C: Contexts<Job>, R: Wait>(
 /// moves, it then closes core 1, moves what is there to core 0, and opens it. It ends what is ready on the cores from
 /// one on.
 #[derive(Clone, Copy)]
-struct Part {
+struct RoundPlan {
     cores: u8,
     moves: bool,
     from: u8,
@@ -129,7 +129,7 @@ struct Part {
 }
 
 /// Closes core 1, moves what is at rest there to core 0, and opens it. How many were moved.
-fn move_away<C: Contexts<Job>, R: Wait>(rt: &R, table: &C, work: &mut Work<C::Seat>) -> u64
+fn move_away<C: Contexts<TagOnly>, R: Wait>(rt: &R, table: &C, work: &mut Work<C::Seat>) -> u64
     requires seat { C.sits table.now work.old.seat × C.idle table.now work.old.seat }
     requires cores { 1 < C.core_count table.now }
     requires slots { SLOTS ≡ C.slot_count table.now }
@@ -148,12 +148,12 @@ fn move_away<C: Contexts<Job>, R: Wait>(rt: &R, table: &C, work: &mut Work<C::Se
 }
 
 /// Rounds of a kernel thread until it has posted all of its threads. None where memory is refused.
-fn all_rounds<C: Contexts<Job>, R: Wait>(
+fn all_rounds<C: Contexts<TagOnly>, R: Wait>(
     rt: &R,
     table: &C,
     alloc: Global,
     seat: C::Seat,
-    part: Part,
+    part: RoundPlan,
 ) -> Option<Work<C::Seat>>
     requires seat { C.sits table.now seat × C.idle table.now seat }
     requires cores { (1 ≤ part.cores) × (part.cores ≡ C.core_count table.now) }
@@ -187,9 +187,9 @@ fn work_side_by_side<R: Threads + Wait + Sync>(
     rt: &R,
     table: &Words,
     alloc: Global,
-    seat: WordSeat<Job>,
-    own: Part,
-    their: Part,
+    seat: WordSeat<TagOnly>,
+    own: RoundPlan,
+    their: RoundPlan,
 ) -> Option<(WordWork, WordWork)>
     requires seat { (seat.table ≡ table.now.table) × HasNothingOut seat.known }
     requires slots { SLOTS ≡ table.now.shape.places_per_core }
@@ -218,7 +218,7 @@ fn work_side_by_side<R: Threads + Wait + Sync>(
 fn settled(
     mut log: Vec<u64>,
     other: Vec<u64>,
-    left: Vec<(ThreadId, Job)>,
+    left: Vec<(ThreadId, TagOnly)>,
 ) -> Result<Option<usize>, Fail> {
     log.extend(other)?;
     for (_, job) in left {
@@ -243,9 +243,9 @@ fn is_pair(pair: &[u64]) -> bool {
 fn left(
     alloc: Global,
     table: Words,
-    seat: WordSeat<Job>,
-    other: WordSeat<Job>,
-) -> Option<Vec<(ThreadId, Job)>>
+    seat: WordSeat<TagOnly>,
+    other: WordSeat<TagOnly>,
+) -> Option<Vec<(ThreadId, TagOnly)>>
     requires seat { (seat.table ≡ table.table) × HasNothingOut seat.known }
     requires other { (other.table ≡ table.table) × HasNothingOut other.known }
 {
@@ -262,17 +262,17 @@ fn contend<R: Threads + Wait + Sync>(
     alloc: Global,
     cores: u8,
     moves: bool,
-) -> Result<Outcome, Fail>
+) -> Result<ContentionResult, Fail>
     requires some { 1 ≤ cores }
     requires most { cores ≤ CORES }
 {
-    let own = Part {
+    let own = RoundPlan {
         cores,
         moves: false,
         from: 0,
         first_tag: 0,
     };
-    let their = Part {
+    let their = RoundPlan {
         cores,
         moves,
         from: u8::from(moves),
@@ -283,7 +283,7 @@ fn contend<R: Threads + Wait + Sync>(
     let (first, second) = works.ok_or("no memory")?;
     let moved = first.moved.wrapping_add(second.moved);
     let left = left(alloc, table, first.seat, second.seat).ok_or("not closed")?;
-    Ok(Outcome {
+    Ok(ContentionResult {
         settled: settled(first.log, second.log, left)?,
         moved,
     })

@@ -2,7 +2,7 @@
 ghost use Rattle.std.specs.Prelude.{◌≡◌, List, IfOk, IfSome, [], ◌∷◌};
 ghost use Rattle.arachne_contexts.specs.Out.{Out, KeepsOut, Claim as a_claim, Thread as a_thread};
 
-use super::Job;
+use super::TagOnly;
 use super::steps::{Answer, Size, Step, answered, told_id};
 use crate::{Claimed, Contexts, Held, Placed, Rested, Taken};
 use arachne_core::{CORES, LAST_GENERATION, Rest, SLOTS, ThreadId};
@@ -15,7 +15,7 @@ type Rows = &'static [(Step, Answer)];
 
 /// How a claim or a thread is spent.
 #[derive(Clone, Copy)]
-enum Spend {
+enum SpendKind {
     Back,
     /// A thread with a tag is posted at the place.
     Post(u64),
@@ -29,13 +29,13 @@ enum Spend {
 struct Use {
     got: Answer,
     steps: Rows,
-    spend: Spend,
+    spend: SpendKind,
     spent: Answer,
 }
 
 /// A part of a run: steps with nothing out, a place that is claimed on a core, or the whole core, or the thread at a
 /// core's index.
-enum Part {
+enum RunPart {
     Steps(Rows),
     Claim(u8, bool, Use),
     Thread(u8, u8, Use),
@@ -43,11 +43,11 @@ enum Part {
 
 /// The cores of a run's table, the generation that its contexts begin with, its parts, and where that is looked at what
 /// is left at the end: each thread's context, its generation and its tag.
-struct Run {
+struct TableRun {
     cores: u8,
     slots: u8,
     first_generation: u64,
-    parts: &'static [Part],
+    parts: &'static [RunPart],
     left: Option<&'static [(u32, u64, u64)]>,
 }
 
@@ -63,7 +63,7 @@ fn same(expected: Answer, shown: Answer) -> Result<(), Fail> {
 }
 
 /// Takes steps that leave out what is out.
-fn go_on<C: Contexts<Job>, R: Wait>(
+fn go_on<C: Contexts<TagOnly>, R: Wait>(
     rt: &R,
     table: &C,
     seat: &mut C::Seat,
@@ -83,26 +83,26 @@ fn go_on<C: Contexts<Job>, R: Wait>(
 }
 
 /// Posts a thread with the claim, or gives it back. What that answers.
-fn spend_claim<C: Contexts<Job>, R: Wait>(
+fn spend_claim<C: Contexts<TagOnly>, R: Wait>(
     rt: &R,
     table: &C,
     seat: &mut C::Seat,
     claim: C::Claim,
-    spend: Spend,
+    spend: SpendKind,
 ) -> Option<Answer>
     requires seat { C.sits table.now seat.old }
     requires out { C.has table.now seat.old (a_claim claim ∷ []) }
     ensures { IfSome result (λ _. C.sits table.now seat.new × C.idle table.now seat.new) }
 {
-    let Spend::Post(tag) = spend else {
+    let SpendKind::Post(tag) = spend else {
         table.give_back(rt, seat, claim).ok()?;
         return Some(("back", 0, 0));
     };
-    Some(told_id(table.post(rt, seat, claim, Job(tag)).ok()?))
+    Some(told_id(table.post(rt, seat, claim, TagOnly(tag)).ok()?))
 }
 
 /// Takes the steps while a claim is out, and spends it.
-fn use_claim<C: Contexts<Job>, R: Wait>(
+fn use_claim<C: Contexts<TagOnly>, R: Wait>(
     rt: &R,
     table: &C,
     seat: &mut C::Seat,
@@ -123,7 +123,7 @@ fn use_claim<C: Contexts<Job>, R: Wait>(
 }
 
 /// Claims a place or a whole core, and spends the claim if it got one.
-fn with_claim<C: Contexts<Job>, R: Wait>(
+fn with_claim<C: Contexts<TagOnly>, R: Wait>(
     rt: &R,
     table: &C,
     seat: &mut C::Seat,
@@ -153,23 +153,23 @@ fn with_claim<C: Contexts<Job>, R: Wait>(
 }
 
 /// Ends the thread, or puts it back as blocked or as ready. What that answers.
-fn spend_thread<C: Contexts<Job>, R: Wait>(
+fn spend_thread<C: Contexts<TagOnly>, R: Wait>(
     rt: &R,
     table: &C,
     seat: &mut C::Seat,
-    held: Held<Job, C::Hold>,
-    spend: Spend,
+    held: Held<TagOnly, C::Hold>,
+    spend: SpendKind,
 ) -> Option<Answer>
     requires seat { C.sits table.now seat.old }
     requires out { C.has table.now seat.old (a_thread held.hold held.value.0 ∷ []) }
     ensures { IfSome result (λ _. C.sits table.now seat.new × C.idle table.now seat.new) }
 {
-    if let Spend::End = spend {
+    if let SpendKind::End = spend {
         let job = table.finish(rt, seat, held).ok()?;
         return Some(("tag", job.0, 0));
     }
     let rest = match spend {
-        Spend::Ready => Rest::Ready,
+        SpendKind::Ready => Rest::Ready,
         _ => Rest::Blocked,
     };
     match table.put_back(rt, seat, held, rest).ok()? {
@@ -179,7 +179,7 @@ fn spend_thread<C: Contexts<Job>, R: Wait>(
 }
 
 /// Takes the thread at a place, and spends it.
-fn with_thread<C: Contexts<Job>, R: Wait>(
+fn with_thread<C: Contexts<TagOnly>, R: Wait>(
     rt: &R,
     table: &C,
     seat: &mut C::Seat,
@@ -205,12 +205,12 @@ fn with_thread<C: Contexts<Job>, R: Wait>(
 }
 
 /// Takes all parts of a run.
-fn follow<C: Contexts<Job>, R: Wait>(
+fn follow<C: Contexts<TagOnly>, R: Wait>(
     rt: &R,
     table: &C,
     seat: &mut C::Seat,
     size: Size,
-    parts: &[Part],
+    parts: &[RunPart],
 ) -> Result<(), Fail>
     requires seat { C.sits table.now seat.old × C.idle table.now seat.old }
     requires size { (size.cores ≡ C.core_count table.now) × (size.slots ≡ C.slot_count table.now) }
@@ -218,11 +218,11 @@ fn follow<C: Contexts<Job>, R: Wait>(
 {
     for part in parts {
         match part {
-            Part::Steps(steps) => go_on(rt, table, seat, size, steps)?,
-            Part::Claim(core, alone, part) => {
+            RunPart::Steps(steps) => go_on(rt, table, seat, size, steps)?,
+            RunPart::Claim(core, alone, part) => {
                 with_claim(rt, table, seat, size, *core, *alone, part)?
             }
-            Part::Thread(core, index, part) => {
+            RunPart::Thread(core, index, part) => {
                 with_thread(rt, table, seat, size, *core, *index, part)?
             }
         }
@@ -231,7 +231,7 @@ fn follow<C: Contexts<Job>, R: Wait>(
 }
 
 /// Whether these threads are left, each with its context, its generation and its tag.
-fn are_left(left: &[(ThreadId, Job)], expected: &[(u32, u64, u64)]) -> bool {
+fn are_left(left: &[(ThreadId, TagOnly)], expected: &[(u32, u64, u64)]) -> bool {
     if left.len() != expected.len() {
         return false;
     }
@@ -245,12 +245,12 @@ fn are_left(left: &[(ThreadId, Job)], expected: &[(u32, u64, u64)]) -> bool {
 }
 
 /// Splits the seat, joins both halves, and closes the table. The threads that are left.
-pub(super) fn close<C: Contexts<Job> + Drop, R: Wait>(
+pub(super) fn close<C: Contexts<TagOnly> + Drop, R: Wait>(
     rt: &R,
     alloc: Global,
     table: C,
     seat: C::Seat,
-) -> Option<Vec<(ThreadId, Job)>>
+) -> Option<Vec<(ThreadId, TagOnly)>>
     requires { C.sits table seat × C.idle table seat }
 {
     let (first, second) = table.split(rt, seat);
@@ -265,8 +265,12 @@ pub(super) fn close<C: Contexts<Job> + Drop, R: Wait>(
 }
 
 /// Takes a run.
-fn take<C: Contexts<Job> + Drop, R: Wait>(rt: &R, alloc: Global, run: &Run) -> Result<(), Fail> {
-    let Run { cores, slots, .. } = *run;
+fn take<C: Contexts<TagOnly> + Drop, R: Wait>(
+    rt: &R,
+    alloc: Global,
+    run: &TableRun,
+) -> Result<(), Fail> {
+    let TableRun { cores, slots, .. } = *run;
     if cores == 0 || cores > CORES || slots == 0 || slots > SLOTS {
         return Err("no such table".into());
     }
@@ -285,24 +289,24 @@ fn take<C: Contexts<Job> + Drop, R: Wait>(rt: &R, alloc: Global, run: &Run) -> R
     Ok(())
 }
 
-const RUNS: &[Run] = &[
+const RUNS: &[TableRun] = &[
     // A core of three places is full with three.
-    Run {
+    TableRun {
         cores: 1,
         slots: 3,
         first_generation: 0,
         parts: &[
-            Part::Steps(&[
+            RunPart::Steps(&[
                 (Step::Fill(0), ("id", 2, 0)),
                 (Step::Look(0), ("word", 0x300000000000007, 0)),
             ]),
-            Part::Claim(
+            RunPart::Claim(
                 0,
                 false,
                 Use {
                     got: ("full", 0x300000000000007, 0),
                     steps: &[],
-                    spend: Spend::Back,
+                    spend: SpendKind::Back,
                     spent: ("back", 0, 0),
                 },
             ),
@@ -310,37 +314,37 @@ const RUNS: &[Run] = &[
         left: None,
     },
     // A claim takes the lowest free index.
-    Run {
+    TableRun {
         cores: 1,
         slots: SLOTS,
         first_generation: 0,
         parts: &[
-            Part::Claim(
+            RunPart::Claim(
                 0,
                 false,
                 Use {
                     got: ("place", 0, 0),
                     steps: &[(Step::Look(0), ("word", 0x100000000000001, 0))],
-                    spend: Spend::Post(5),
+                    spend: SpendKind::Post(5),
                     spent: ("id", 0, 0),
                 },
             ),
-            Part::Steps(&[
+            RunPart::Steps(&[
                 (Step::Post(0, 6), ("id", 1, 0)),
                 (Step::Post(0, 7), ("id", 2, 0)),
             ]),
-            Part::Thread(
+            RunPart::Thread(
                 0,
                 1,
                 Use {
                     got: ("id", 1, 0),
                     steps: &[],
-                    spend: Spend::End,
+                    spend: SpendKind::End,
                     spent: ("tag", 0x6, 0),
                 },
             ),
-            Part::Steps(&[(Step::Look(0), ("word", 0x200000000000005, 0))]),
-            Part::Claim(
+            RunPart::Steps(&[(Step::Look(0), ("word", 0x200000000000005, 0))]),
+            RunPart::Claim(
                 0,
                 false,
                 Use {
@@ -349,7 +353,7 @@ const RUNS: &[Run] = &[
                         (Step::Look(0), ("word", 0x300000000000007, 0)),
                         (Step::Out, ("out", 0x1, 0)),
                     ],
-                    spend: Spend::Back,
+                    spend: SpendKind::Back,
                     spent: ("back", 0, 0),
                 },
             ),
@@ -357,12 +361,12 @@ const RUNS: &[Run] = &[
         left: None,
     },
     // A place that is given back is free.
-    Run {
+    TableRun {
         cores: 1,
         slots: SLOTS,
         first_generation: 0,
         parts: &[
-            Part::Claim(
+            RunPart::Claim(
                 0,
                 false,
                 Use {
@@ -371,17 +375,17 @@ const RUNS: &[Run] = &[
                         (Step::Second(0, 3), ("id", 2, 0)),
                         (Step::Look(0), ("word", 0x200000000000005, 0)),
                     ],
-                    spend: Spend::Post(5),
+                    spend: SpendKind::Post(5),
                     spent: ("id", 0, 0),
                 },
             ),
-            Part::Claim(
+            RunPart::Claim(
                 0,
                 false,
                 Use {
                     got: ("place", 0, 1),
                     steps: &[(Step::Look(0), ("word", 0x300000000000007, 0))],
-                    spend: Spend::Back,
+                    spend: SpendKind::Back,
                     spent: ("back", 0, 0),
                 },
             ),
@@ -389,50 +393,50 @@ const RUNS: &[Run] = &[
         left: None,
     },
     // A closed core and a full one.
-    Run {
+    TableRun {
         cores: 2,
         slots: SLOTS,
         first_generation: 0,
         parts: &[
-            Part::Steps(&[
+            RunPart::Steps(&[
                 (Step::Close(0), ("word", 0x0, 0)),
                 (Step::Drained(0), ("drained", 1, 0)),
             ]),
-            Part::Claim(
+            RunPart::Claim(
                 0,
                 false,
                 Use {
                     got: ("closed", 0x4000000000000000, 0),
                     steps: &[],
-                    spend: Spend::Back,
+                    spend: SpendKind::Back,
                     spent: ("back", 0, 0),
                 },
             ),
-            Part::Steps(&[
+            RunPart::Steps(&[
                 (Step::Open(0), ("word", 0x4000000000000000, 0)),
                 (Step::Drained(0), ("drained", 0, 0)),
             ]),
-            Part::Claim(
+            RunPart::Claim(
                 0,
                 false,
                 Use {
                     got: ("place", 0, 0),
                     steps: &[],
-                    spend: Spend::Back,
+                    spend: SpendKind::Back,
                     spent: ("back", 0, 0),
                 },
             ),
-            Part::Steps(&[
+            RunPart::Steps(&[
                 (Step::Look(0), ("word", 0x0, 0)),
                 (Step::Fill(0), ("id", 55, 0)),
             ]),
-            Part::Claim(
+            RunPart::Claim(
                 0,
                 false,
                 Use {
                     got: ("full", 0x38ffffffffffffff, 0),
                     steps: &[],
-                    spend: Spend::Back,
+                    spend: SpendKind::Back,
                     spent: ("back", 0, 0),
                 },
             ),
@@ -440,61 +444,61 @@ const RUNS: &[Run] = &[
         left: None,
     },
     // A core for one thread.
-    Run {
+    TableRun {
         cores: 2,
         slots: SLOTS,
         first_generation: 0,
         parts: &[
-            Part::Claim(
+            RunPart::Claim(
                 0,
                 true,
                 Use {
                     got: ("place", 0, 0),
                     steps: &[],
-                    spend: Spend::Post(3),
+                    spend: SpendKind::Post(3),
                     spent: ("id", 0, 0),
                 },
             ),
-            Part::Steps(&[
+            RunPart::Steps(&[
                 (Step::Look(0), ("word", 0x8100000000000001, 0)),
                 (Step::Mark(0), ("word", 0x9, 0)),
             ]),
-            Part::Claim(
+            RunPart::Claim(
                 0,
                 false,
                 Use {
                     got: ("full", 0x8100000000000001, 0),
                     steps: &[],
-                    spend: Spend::Back,
+                    spend: SpendKind::Back,
                     spent: ("back", 0, 0),
                 },
             ),
-            Part::Steps(&[(Step::Post(1, 4), ("id", 56, 0))]),
-            Part::Claim(
+            RunPart::Steps(&[(Step::Post(1, 4), ("id", 56, 0))]),
+            RunPart::Claim(
                 1,
                 true,
                 Use {
                     got: ("full", 0x100000000000001, 0),
                     steps: &[],
-                    spend: Spend::Back,
+                    spend: SpendKind::Back,
                     spent: ("back", 0, 0),
                 },
             ),
-            Part::Steps(&[(Step::Look(1), ("word", 0x100000000000001, 0))]),
+            RunPart::Steps(&[(Step::Look(1), ("word", 0x100000000000001, 0))]),
         ],
         left: None,
     },
     // A thread is woken while it is held. When it has ended it is gone.
-    Run {
+    TableRun {
         cores: 1,
         slots: SLOTS,
         first_generation: 0,
         parts: &[
-            Part::Steps(&[
+            RunPart::Steps(&[
                 (Step::Post(0, 3), ("id", 0, 0)),
                 (Step::Mark(0), ("word", 0x1, 0)),
             ]),
-            Part::Thread(
+            RunPart::Thread(
                 0,
                 0,
                 Use {
@@ -504,26 +508,26 @@ const RUNS: &[Run] = &[
                         (Step::Wake(0, 0), ("woken", 0, 0)),
                         (Step::Mark(0), ("word", 0x4, 0)),
                     ],
-                    spend: Spend::Block,
+                    spend: SpendKind::Block,
                     spent: ("woken meanwhile", 0, 0),
                 },
             ),
-            Part::Steps(&[
+            RunPart::Steps(&[
                 (Step::Mark(0), ("word", 0x1, 0)),
                 (Step::Wake(0, 0), ("already", 0x1, 0)),
                 (Step::Mark(0), ("word", 0x1, 0)),
             ]),
-            Part::Thread(
+            RunPart::Thread(
                 0,
                 0,
                 Use {
                     got: ("id", 0, 0),
                     steps: &[],
-                    spend: Spend::End,
+                    spend: SpendKind::End,
                     spent: ("tag", 0x3, 0),
                 },
             ),
-            Part::Steps(&[
+            RunPart::Steps(&[
                 (Step::Mark(0), ("word", 0x10000, 0)),
                 (Step::Look(0), ("word", 0x0, 0)),
                 (Step::Wake(0, 0), ("gone", 0, 0)),
@@ -538,37 +542,37 @@ const RUNS: &[Run] = &[
         left: None,
     },
     // The last generation is spent.
-    Run {
+    TableRun {
         cores: 1,
         slots: SLOTS,
         first_generation: LAST_GENERATION,
         parts: &[
-            Part::Steps(&[
+            RunPart::Steps(&[
                 (Step::Post(0, 3), ("id", 0, LAST_GENERATION)),
                 (Step::Mark(0), ("word", 0xffffffffffff0001, 0)),
             ]),
-            Part::Thread(
+            RunPart::Thread(
                 0,
                 0,
                 Use {
                     got: ("id", 0, LAST_GENERATION),
                     steps: &[],
-                    spend: Spend::End,
+                    spend: SpendKind::End,
                     spent: ("tag", 0x3, 0),
                 },
             ),
-            Part::Steps(&[
+            RunPart::Steps(&[
                 (Step::Mark(0), ("word", 0xffffffffffff0005, 0)),
                 (Step::Look(0), ("word", 0x100000000000001, 0)),
                 (Step::Wake(0, LAST_GENERATION), ("gone", 0, 0)),
             ]),
-            Part::Claim(
+            RunPart::Claim(
                 0,
                 false,
                 Use {
                     got: ("place", 0, 1),
                     steps: &[],
-                    spend: Spend::Back,
+                    spend: SpendKind::Back,
                     spent: ("back", 0, 0),
                 },
             ),
@@ -576,13 +580,13 @@ const RUNS: &[Run] = &[
         left: None,
     },
     // A held thread and one that has its core alone are not moved, and a thread is put back as ready.
-    Run {
+    TableRun {
         cores: 2,
         slots: SLOTS,
         first_generation: 0,
         parts: &[
-            Part::Steps(&[(Step::Post(0, 3), ("id", 0, 0))]),
-            Part::Thread(
+            RunPart::Steps(&[(Step::Post(0, 3), ("id", 0, 0))]),
+            RunPart::Thread(
                 0,
                 0,
                 Use {
@@ -592,22 +596,22 @@ const RUNS: &[Run] = &[
                         (Step::Move(0, 0, 1), ("running", 0, 0)),
                         (Step::Mark(0), ("word", 0x3, 0)),
                     ],
-                    spend: Spend::Ready,
+                    spend: SpendKind::Ready,
                     spent: ("as asked", 0, 0),
                 },
             ),
-            Part::Steps(&[(Step::Mark(0), ("word", 0x1, 0))]),
-            Part::Claim(
+            RunPart::Steps(&[(Step::Mark(0), ("word", 0x1, 0))]),
+            RunPart::Claim(
                 1,
                 true,
                 Use {
                     got: ("place", 1, 0),
                     steps: &[],
-                    spend: Spend::Post(4),
+                    spend: SpendKind::Post(4),
                     spent: ("id", 56, 0),
                 },
             ),
-            Part::Steps(&[
+            RunPart::Steps(&[
                 (Step::Move(1, 0, 0), ("alone", 0, 0)),
                 (Step::Move(0, 0, 1), ("no room", 0x8100000000000001, 0)),
                 (Step::Mark(56), ("word", 0x409, 0)),
@@ -617,26 +621,26 @@ const RUNS: &[Run] = &[
         left: None,
     },
     // A core is drained.
-    Run {
+    TableRun {
         cores: 2,
         slots: SLOTS,
         first_generation: 0,
         parts: &[
-            Part::Steps(&[
+            RunPart::Steps(&[
                 (Step::Post(1, 5), ("id", 56, 0)),
                 (Step::Post(1, 6), ("id", 57, 0)),
             ]),
-            Part::Thread(
+            RunPart::Thread(
                 1,
                 1,
                 Use {
                     got: ("id", 57, 0),
                     steps: &[],
-                    spend: Spend::Block,
+                    spend: SpendKind::Block,
                     spent: ("as asked", 0, 0),
                 },
             ),
-            Part::Claim(
+            RunPart::Claim(
                 1,
                 false,
                 Use {
@@ -655,11 +659,11 @@ const RUNS: &[Run] = &[
                         (Step::Mark(1), ("word", 0x410, 0)),
                         (Step::Wake(57, 0), ("woken", 0, 0)),
                     ],
-                    spend: Spend::Post(7),
+                    spend: SpendKind::Post(7),
                     spent: ("id", 58, 0),
                 },
             ),
-            Part::Steps(&[
+            RunPart::Steps(&[
                 (Step::Mark(56), ("word", 0x1, 0)),
                 (Step::Mark(57), ("word", 0x11, 0)),
                 (Step::Mark(0), ("word", 0x400, 0)),
@@ -674,12 +678,12 @@ const RUNS: &[Run] = &[
         left: None,
     },
     // A thread goes there and back.
-    Run {
+    TableRun {
         cores: 2,
         slots: SLOTS,
         first_generation: 0,
         parts: &[
-            Part::Steps(&[
+            RunPart::Steps(&[
                 (Step::Post(1, 5), ("id", 56, 0)),
                 (Step::Move(1, 0, 0), ("moved", 0, 0)),
                 (Step::Mark(56), ("word", 0x1, 0)),
@@ -692,13 +696,13 @@ const RUNS: &[Run] = &[
                 (Step::Close(0), ("word", 0x0, 0)),
                 (Step::Move(1, 0, 0), ("no room", 0x4000000000000000, 0)),
             ]),
-            Part::Thread(
+            RunPart::Thread(
                 1,
                 0,
                 Use {
                     got: ("id", 56, 0),
                     steps: &[],
-                    spend: Spend::End,
+                    spend: SpendKind::End,
                     spent: ("tag", 0x5, 0),
                 },
             ),
@@ -706,23 +710,23 @@ const RUNS: &[Run] = &[
         left: None,
     },
     // What is left comes back by context.
-    Run {
+    TableRun {
         cores: 2,
         slots: SLOTS,
         first_generation: 0,
         parts: &[
-            Part::Steps(&[
+            RunPart::Steps(&[
                 (Step::Post(1, 5), ("id", 56, 0)),
                 (Step::Post(0, 6), ("id", 0, 0)),
                 (Step::Post(1, 7), ("id", 57, 0)),
             ]),
-            Part::Thread(
+            RunPart::Thread(
                 1,
                 0,
                 Use {
                     got: ("id", 56, 0),
                     steps: &[],
-                    spend: Spend::End,
+                    spend: SpendKind::End,
                     spent: ("tag", 0x5, 0),
                 },
             ),
@@ -730,22 +734,25 @@ const RUNS: &[Run] = &[
         left: Some(&[(0, 0, 6), (57, 0, 7)]),
     },
     // An id of no context is gone.
-    Run {
+    TableRun {
         cores: 1,
         slots: SLOTS,
         first_generation: 0,
-        parts: &[Part::Steps(&[(Step::Wake(56, 0), ("gone", 0, 0))])],
+        parts: &[RunPart::Steps(&[(Step::Wake(56, 0), ("gone", 0, 0))])],
         left: None,
     },
 ];
 
 /// The runs.
-fn runs() -> &'static [Run] {
+fn runs() -> &'static [TableRun] {
     RUNS
 }
 
 /// The table gives what each run shows. How many runs there are.
-pub(super) fn give<C: Contexts<Job> + Drop, R: Wait>(rt: &R, alloc: Global) -> Result<usize, Fail> {
+pub(super) fn give<C: Contexts<TagOnly> + Drop, R: Wait>(
+    rt: &R,
+    alloc: Global,
+) -> Result<usize, Fail> {
     let runs = runs();
     for run in runs {
         take::<C, R>(rt, alloc, run)?;

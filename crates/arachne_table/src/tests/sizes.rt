@@ -1,7 +1,7 @@
 //! Tables of many sizes, filled to the last place and closed, and a core whose contexts have all had their last thread.
 ghost use Rattle.std.specs.Prelude.{◌≡◌, ◌<◌, ◌≤◌, IfOk, IfSome};
 
-use super::Job;
+use super::TagOnly;
 use super::rows::close;
 use super::steps::{Size, Step, answered};
 use crate::{Claimed, Contexts, Taken};
@@ -26,7 +26,7 @@ const SLOT_COUNTS: &[(u8, u64)] = &[
 ];
 
 /// Posts a thread at each place of a core, and is refused one more for its word.
-fn fill_core<C: Contexts<Job>, R: Wait>(
+fn fill_core<C: Contexts<TagOnly>, R: Wait>(
     rt: &R,
     table: &C,
     seat: &mut C::Seat,
@@ -47,7 +47,7 @@ fn fill_core<C: Contexts<Job>, R: Wait>(
 }
 
 /// Fills each core of a table, and closes it. How many threads were left.
-fn fill_table<C: Contexts<Job> + Drop, R: Wait>(
+fn fill_table<C: Contexts<TagOnly> + Drop, R: Wait>(
     rt: &R,
     alloc: Global,
     size: Size,
@@ -66,7 +66,7 @@ fn fill_table<C: Contexts<Job> + Drop, R: Wait>(
 }
 
 /// Fills a table of each size.
-pub(super) fn fill_tables<C: Contexts<Job> + Drop, R: Wait>(
+pub(super) fn fill_tables<C: Contexts<TagOnly> + Drop, R: Wait>(
     rt: &R,
     alloc: Global,
 ) -> Result<(), Fail> {
@@ -82,7 +82,7 @@ pub(super) fn fill_tables<C: Contexts<Job> + Drop, R: Wait>(
 }
 
 /// Makes a table of each size that there is, and how many there are.
-pub(super) fn make_tables<C: Contexts<Job> + Drop>(alloc: Global) -> Result<usize, AllocError> {
+pub(super) fn make_tables<C: Contexts<TagOnly> + Drop>(alloc: Global) -> Result<usize, AllocError> {
     let mut made = 0usize;
     for cores in 1..CORES + 1 {
         for slots in 1..SLOTS + 1 {
@@ -94,7 +94,7 @@ pub(super) fn make_tables<C: Contexts<Job> + Drop>(alloc: Global) -> Result<usiz
 }
 
 /// Posts a thread on core 0, and ends it at this index.
-fn pass<C: Contexts<Job>, R: Wait>(
+fn pass<C: Contexts<TagOnly>, R: Wait>(
     rt: &R,
     table: &C,
     seat: &mut C::Seat,
@@ -116,7 +116,7 @@ fn pass<C: Contexts<Job>, R: Wait>(
 
 /// On one core whose contexts begin at the last generation, a thread passes through each. Its word then, its word once
 /// the core is closed, and whether it is drained.
-pub(super) fn spend_core<C: Contexts<Job> + Drop, R: Wait>(
+pub(super) fn spend_core<C: Contexts<TagOnly> + Drop, R: Wait>(
     rt: &R,
     alloc: Global,
 ) -> Result<(u64, u64, bool), Fail> {

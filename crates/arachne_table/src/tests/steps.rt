@@ -2,7 +2,7 @@
 ghost use Rattle.std.specs.Prelude.{◌≡◌, ◌<◌, List, IfSome};
 ghost use Rattle.arachne_contexts.specs.Out.{Out, KeepsOut};
 
-use super::Job;
+use super::TagOnly;
 use crate::{Claimed, Contexts, Moved, Woken};
 use arachne_core::{Place, ThreadId};
 use std::sync::Wait;
@@ -65,7 +65,7 @@ pub(super) struct Size {
 }
 
 /// A step at a core.
-fn at_core<C: Contexts<Job>, R: Wait>(
+fn at_core<C: Contexts<TagOnly>, R: Wait>(
     rt: &R,
     table: &C,
     seat: &mut C::Seat,
@@ -92,7 +92,7 @@ fn at_core<C: Contexts<Job>, R: Wait>(
 }
 
 /// A step at a context, with a thread's id or at two cores, or the count of what is out.
-fn at_context<C: Contexts<Job>, R: Wait>(
+fn at_context<C: Contexts<TagOnly>, R: Wait>(
     rt: &R,
     table: &C,
     seat: &mut C::Seat,
@@ -125,7 +125,7 @@ fn at_context<C: Contexts<Job>, R: Wait>(
 }
 
 /// Claims a place and posts a thread there.
-fn post<C: Contexts<Job>, R: Wait>(
+fn post<C: Contexts<TagOnly>, R: Wait>(
     rt: &R,
     table: &C,
     seat: &mut C::Seat,
@@ -140,11 +140,11 @@ fn post<C: Contexts<Job>, R: Wait>(
     let Claimed::Place(claim) = table.claim(rt, seat, core).ok()? else {
         return None;
     };
-    Some(told_id(table.post(rt, seat, claim, Job(tag)).ok()?))
+    Some(told_id(table.post(rt, seat, claim, TagOnly(tag)).ok()?))
 }
 
 /// Claims two places, posts a thread at the second, and gives the first back.
-fn post_second<C: Contexts<Job>, R: Wait>(
+fn post_second<C: Contexts<TagOnly>, R: Wait>(
     rt: &R,
     table: &C,
     seat: &mut C::Seat,
@@ -165,7 +165,7 @@ fn post_second<C: Contexts<Job>, R: Wait>(
 }
 
 /// Posts a thread at each place of a core. The id of the last.
-fn fill<C: Contexts<Job>, R: Wait>(
+fn fill<C: Contexts<TagOnly>, R: Wait>(
     rt: &R,
     table: &C,
     seat: &mut C::Seat,
@@ -184,7 +184,7 @@ fn fill<C: Contexts<Job>, R: Wait>(
 }
 
 /// What a step answers. None where a core or a context is not there, or a claim isn't had.
-pub(super) fn answered<C: Contexts<Job>, R: Wait>(
+pub(super) fn answered<C: Contexts<TagOnly>, R: Wait>(
     rt: &R,
     table: &C,
     seat: &mut C::Seat,

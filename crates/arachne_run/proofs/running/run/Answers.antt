@@ -13,11 +13,11 @@ returns-clause-report g c = record {
   meaning = c.in_ok-report.ensures.meaning ∙ ap (λ p. meaning_of (source_of p)) (c.in-Ok.ensures.value.0 ∙ c.in_ok-root.ensures.program);
   tags = c.in_ok-report.ensures.tags;
   histories = length-map c.in_ok-report.report.histories.items (λ history. history.items)
-      ∙ ap (λ histories. length histories.items) c.in_ok-report.ensures.histories ∙ c.in_ok-remains.ensures.sound.1 ∙ c.in_ok-machine.ensures.made.3;
+      ∙ ap (λ histories. length histories.items) c.in_ok-report.ensures.histories ∙ c.in_ok-remains.ensures.sound.1.0 ∙ c.in_ok-machine.ensures.made.2.1;
   sound = All-map IsSound (λ history. history.items) c.in_ok-report.report.histories.items
-      (subst (λ histories. All (λ history. IsSound history.items) histories.items) (sym c.in_ok-report.ensures.histories) c.in_ok-remains.ensures.sound.2);
+      (subst (λ histories. All (λ history. IsSound history.items) histories.items) (sym c.in_ok-report.ensures.histories) c.in_ok-remains.ensures.sound.1.1);
   one_holder = All-map HasOneHolderAtATime (λ history. history.items) c.in_ok-report.report.histories.items
-      (subst (λ histories. All (λ history. HasOneHolderAtATime history.items) histories.items) (sym c.in_ok-report.ensures.histories) c.in_ok-remains.ensures.sound.3);
+      (subst (λ histories. All (λ history. HasOneHolderAtATime history.items) histories.items) (sym c.in_ok-report.ensures.histories) c.in_ok-remains.ensures.sound.1.2);
   grants = c.in_ok-report.ensures.grants;
-  applied = subst (λ applied. applied ≤ length c.args.setup.orders.items) (sym c.in_ok-report.ensures.applied) (subst (λ orders. c.in_ok-remains.applied ≤ orders) c.in_ok-machine.ensures.made.2 c.in_ok-remains.ensures.sound.0);
+  applied = subst (λ applied. applied ≤ length c.args.setup.orders.items) (sym c.in_ok-report.ensures.applied) (subst (λ orders. c.in_ok-remains.applied ≤ orders) c.in_ok-machine.ensures.made.2.0 c.in_ok-remains.ensures.sound.0);
 }

@@ -13,7 +13,7 @@ use Rattle.arachne_jobs.specs.contracts.job.JobTagged.TheImpl as tagged
 use Rattle.arachne_machine.proofs.thread.Thread.TheLaws as thread
 use Rattle.arachne_jobs.proofs.job.Job.TheLaws as job
 use Rattle.arachne_jobs.proofs.waiting.Ticket.TheLaws as ticket
-use Rattle.arachne_jobs.proofs.spares.Spares.TheLaws as spares
+use Rattle.arachne_jobs.proofs.spares.JobSpares.TheLaws as spares
 use Rattle.arachne_machine.proofs.Crossing.{thread_send}
 use Rattle.arachne_jobs.proofs.Crossing.{job_send, spares_send, ticket_send}
 use Rattle.arachne_run_tests.proofs.altered.Altered.TheSendSync as altered

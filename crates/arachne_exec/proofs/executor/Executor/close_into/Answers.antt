@@ -4,7 +4,7 @@ use Rattle.atomic_table.specs.Table.{Final, Seen}
 use Rattle.arachne_weights.specs.declared.token.Token.{Token}
 use Rattle.arachne_weights.specs.Tokens.{held}
 use Rattle.arachne_weights.specs.Weight.{whole}
-use Rattle.arachne_exec.specs.declared.view.Known.{Known}
+use Rattle.arachne_exec.specs.declared.view.Notes.{Notes}
 use Rattle.arachne_exec.specs.Board.{IsLawful}
 use Rattle.arachne_exec.proofs.Leaving.{EndsWith, SoFar, so-far-none, so-far-zero, so-far-some, all-settled, still-filled, none-taken}
 use Rattle.arachne_exec.proofs.executor.Executor.close_into.Goals as goal
@@ -20,7 +20,7 @@ loop-place-init c =
     let long = c.close_with-closed.ensures.counts.1 ∙ sym c.slot_count-places.ensures in record {
       ends = (
         id,
-        subst (λ (z : ℕ × Token Known). Final (Seen (IsLawful z.0) id z.1) (slots_items c.close_with-closed.result.words) (slots_items c.close_with-closed.result.slots))
+        subst (λ (z : ℕ × Token Notes). Final (Seen (IsLawful z.0) id z.1) (slots_items c.close_with-closed.result.words) (slots_items c.close_with-closed.result.slots))
             (λ i. (shards i, me i)) values.2,
       );
       long = long;

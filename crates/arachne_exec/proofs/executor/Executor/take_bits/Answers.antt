@@ -1,5 +1,5 @@
 use Rattle.std.proofs.Common.{ℕ, ◌∙◌, List, ◌++◌, arith, refl}
-use Rattle.arachne_exec.specs.declared.view.Known.{Known}
+use Rattle.arachne_exec.specs.declared.view.Notes.{Notes}
 use Rattle.arachne_exec.specs.Changes.{gaining, noted}
 use Rattle.arachne_exec.specs.Seats.{CallView}
 use Rattle.arachne_exec.proofs.Told.{live-told, told-view}
@@ -19,6 +19,6 @@ returns c =
     let got = c.fetch_and-found.ensures.2 c.args.block c.args.pick (omega arith) c.ready_word.ensures (omega arith) in
     let found : ℕ = c.fetch_and-found.result in
     let now = told-view c.seat.inside.seat.table_id c.fetch_and-found.new.seat.table_id c.seat.inside.seat.me c.fetch_and-found.new.seat.me c.args.seat.now c.seat.view_is c.fetch_and-found.ensures.0
-    (λ (k : Known). gaining got.0 (noted c.ready_word.result found k)) (λ (l : List (ℕ × ℕ)). got.0 ++ l) got.2 in
+    (λ (k : Notes). gaining got.0 (noted c.ready_word.result found k)) (λ (l : List (ℕ × ℕ)). got.0 ++ l) got.2 in
     let old : CallView = c.args.seat.now in
     record { took = (got.0, found, refl, got.1, now ∙ (λ i. record old { known = gaining got.0 (noted (c.ready_word.ensures i) found old.known); slots = got.0 ++ old.slots })) }

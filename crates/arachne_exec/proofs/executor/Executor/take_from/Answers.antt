@@ -1,7 +1,7 @@
 use Rattle.std.proofs.Common.{◌≡◌, ℕ, ◌+◌, ◌*◌, ◌%◌, ◌^◌, ◌≤◌, ◌∙◌, Bool, List, ◌∷◌, IsTrue, ◌↔◌, inr, refl, ap, sym, subst, arith}
 use Rattle.atomic_table.specs.Table.{rest}
-use Rattle.arachne_exec.specs.declared.answers.Job.{Job}
-use Rattle.arachne_exec.specs.declared.turns.Taken.{Taken}
+use Rattle.arachne_exec.specs.declared.answers.HeldJob.{HeldJob}
+use Rattle.arachne_exec.specs.declared.turns.TakenJob.{TakenJob}
 use Rattle.arachne_exec.specs.Layout.{ready_at, mark_at}
 use Rattle.arachne_exec.specs.Changes.{newest_job, gained, hearing, noted}
 use Rattle.arachne_exec.specs.Seats.{CallView, HasNewest}
@@ -38,7 +38,7 @@ lay-job-requires-clause-out c =
     let slots = came (goal.at.lay-job-requires-clause-out c).After-refresh-mark in
     (job, slots ∙ ap (λ (l : List (ℕ × ℕ)). (64 * c.args.block + c.first_from-index.result, job) ∷ l) (sym (ap rest slots)))
 
-abbrev taken_with : Bool → Job → Taken
+abbrev taken_with : Bool → HeldJob → TakenJob
 taken_with more job = record { job = job; more = more }
 
 pub returns-clause-took : goal.returns-clause-took
@@ -52,7 +52,7 @@ returns-clause-took c =
     let same : got.0 ≡ c.lay-job.result = sym (ap newest_job (came at.After-refresh-mark)) ∙ ap newest_job c.lay-job.ensures.found in
     let held = ap (λ v. v.known) got.1 ∙ (λ i. gained place (same i) (saw at.After-first_from-index i)) in
     let back : index ≡ place % 64 = omega (arith, low) in
-    subst (λ (taken : Taken). HasTakenFrom c.args.from.index taken c.args.block c.args.seat.now.known c.lay.new.seat.known)
+    subst (λ (taken : TakenJob). HasTakenFrom c.args.from.index taken c.args.block c.args.seat.now.known c.lay.new.seat.known)
     (sym (c.new.ensures ∙ ap (taken_with c.has_more.result) c.job_at.ensures))
     (record {
       took = record {

@@ -3,12 +3,12 @@ use Rattle.std.proofs.Common.{List, ◌++◌, ◌∙◌}
 use Rattle.arachne_lock.specs.Deeds.{asked_events}
 use Rattle.arachne_lock.specs.State.{Lock, IsAsked}
 use Rattle.arachne_lock.proofs.GoingOn.{Leaves, ask-goes-on}
-use Rattle.arachne_lock.specs.declared.event.LockEvent.{LockEvent}
+use Rattle.arachne_lock.specs.declared.event.QueueEvent.{QueueEvent}
 use Rattle.arachne_lock.proofs.Visiting.{returnable, idle-again, called}
 use Rattle.arachne_lock.proofs.locks.Locks.ask.Goals.{After-ask_guarded-answer}
 use Rattle.arachne_lock.proofs.locks.Locks.ask.Goals as goal
 
-goes : (c : goal.After-ask_guarded-answer) (h : List LockEvent) → Leaves h c.ask_guarded-answer.ensures.asked.0.lock → Leaves (h ++ asked_events c.args.who c.ask_guarded-answer.result) c.ask_guarded-answer.ensures.asked.1.lock
+goes : (c : goal.After-ask_guarded-answer) (h : List QueueEvent) → Leaves h c.ask_guarded-answer.ensures.asked.0.lock → Leaves (h ++ asked_events c.args.who c.ask_guarded-answer.result) c.ask_guarded-answer.ensures.asked.1.lock
 goes c h leaves =
     let a = c.ask_guarded-answer.ensures.asked in
     ask-goes-on h a.0.lock a.1.lock c.args.who c.ask_guarded-answer.result leaves a.3

@@ -3,12 +3,12 @@
 use Rattle.std.proofs.Common.{List, [], ◌++◌, ◌∙◌}
 use Rattle.arachne_lock.specs.State.{Lock, IsChecked}
 use Rattle.arachne_lock.proofs.GoingOn.{Leaves, check-goes-on}
-use Rattle.arachne_lock.specs.declared.event.LockEvent.{LockEvent}
+use Rattle.arachne_lock.specs.declared.event.QueueEvent.{QueueEvent}
 use Rattle.arachne_lock.proofs.Visiting.{returnable, idle-again, called}
 use Rattle.arachne_lock.proofs.locks.Locks.check.Goals.{After-check_guarded-answer}
 use Rattle.arachne_lock.proofs.locks.Locks.check.Goals as goal
 
-goes : (c : goal.After-check_guarded-answer) (h : List LockEvent) → Leaves h c.check_guarded-answer.ensures.checked.0.lock → Leaves (h ++ []) c.check_guarded-answer.ensures.checked.1.lock
+goes : (c : goal.After-check_guarded-answer) (h : List QueueEvent) → Leaves h c.check_guarded-answer.ensures.checked.0.lock → Leaves (h ++ []) c.check_guarded-answer.ensures.checked.1.lock
 goes c h leaves =
     let a = c.check_guarded-answer.ensures.checked in
     check-goes-on h a.0.lock a.1.lock c.args.who c.check_guarded-answer.result leaves a.3

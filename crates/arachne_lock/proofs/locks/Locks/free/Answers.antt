@@ -3,12 +3,12 @@ use Rattle.std.proofs.Common.{List, ◌++◌, ◌∙◌}
 use Rattle.arachne_lock.specs.Deeds.{freed_events}
 use Rattle.arachne_lock.specs.State.{Lock, IsFreed}
 use Rattle.arachne_lock.proofs.GoingOn.{Leaves, free-goes-on}
-use Rattle.arachne_lock.specs.declared.event.LockEvent.{LockEvent}
+use Rattle.arachne_lock.specs.declared.event.QueueEvent.{QueueEvent}
 use Rattle.arachne_lock.proofs.Visiting.{returnable, idle-again, called}
 use Rattle.arachne_lock.proofs.locks.Locks.free.Goals.{After-free_guarded-answer}
 use Rattle.arachne_lock.proofs.locks.Locks.free.Goals as goal
 
-goes : (c : goal.After-free_guarded-answer) (h : List LockEvent) → Leaves h c.free_guarded-answer.ensures.freed.0.lock → Leaves (h ++ freed_events c.args.who c.free_guarded-answer.result) c.free_guarded-answer.ensures.freed.1.lock
+goes : (c : goal.After-free_guarded-answer) (h : List QueueEvent) → Leaves h c.free_guarded-answer.ensures.freed.0.lock → Leaves (h ++ freed_events c.args.who c.free_guarded-answer.result) c.free_guarded-answer.ensures.freed.1.lock
 goes c h leaves =
     let a = c.free_guarded-answer.ensures.freed in
     free-goes-on h a.0.lock a.1.lock c.args.who c.free_guarded-answer.result leaves a.3

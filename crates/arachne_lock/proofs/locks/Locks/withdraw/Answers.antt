@@ -3,12 +3,12 @@ use Rattle.std.proofs.Common.{List, ◌++◌, ◌∙◌}
 use Rattle.arachne_lock.specs.Deeds.{withdrawn_events}
 use Rattle.arachne_lock.specs.State.{Lock, IsWithdrawn}
 use Rattle.arachne_lock.proofs.GoingOn.{Leaves, withdraw-goes-on}
-use Rattle.arachne_lock.specs.declared.event.LockEvent.{LockEvent}
+use Rattle.arachne_lock.specs.declared.event.QueueEvent.{QueueEvent}
 use Rattle.arachne_lock.proofs.Visiting.{returnable, idle-again, called}
 use Rattle.arachne_lock.proofs.locks.Locks.withdraw.Goals.{After-withdraw_guarded-answer}
 use Rattle.arachne_lock.proofs.locks.Locks.withdraw.Goals as goal
 
-goes : (c : goal.After-withdraw_guarded-answer) (h : List LockEvent) → Leaves h c.withdraw_guarded-answer.ensures.withdrawn.0.lock → Leaves (h ++ withdrawn_events c.args.who c.withdraw_guarded-answer.result) c.withdraw_guarded-answer.ensures.withdrawn.1.lock
+goes : (c : goal.After-withdraw_guarded-answer) (h : List QueueEvent) → Leaves h c.withdraw_guarded-answer.ensures.withdrawn.0.lock → Leaves (h ++ withdrawn_events c.args.who c.withdraw_guarded-answer.result) c.withdraw_guarded-answer.ensures.withdrawn.1.lock
 goes c h leaves =
     let a = c.withdraw_guarded-answer.ensures.withdrawn in
     withdraw-goes-on h a.0.lock a.1.lock c.args.who c.withdraw_guarded-answer.result leaves a.3

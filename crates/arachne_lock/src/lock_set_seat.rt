@@ -1,0 +1,26 @@
+//! What a kernel thread has of a set of locks.
+use crate::guarded_lock::GuardedLock;
+use crate::view::KnownLocks;
+use atomic_table::Seat;
+use std::marker::Model;
+
+/// The right to use a set of locks, with what was done through it. It has no bytes.
+///
+/// It is used, split and joined with the locks that it came from.
+#[derive(Drop)]
+pub struct LockSetSeat {
+    pub(crate) seat: Seat<GuardedLock, KnownLocks>,
+}
+
+// Clauses see the table that it came from and its log.
+impl Model for LockSetSeat {
+    ghost use Rattle.std.specs.Prelude.{◌≡◌};
+    ghost use Rattle.arachne_lock.specs.Views.{SeatView};
+    ghost use Rattle.arachne_lock.specs.Steps.{idle};
+
+    ghost Value = { SeatView };
+
+    ghost view = { λ s. record { table = s.seat.table_id; log = s.seat.me.0.log } };
+
+    ghost invariant = { λ s. s.seat.me ≡ idle s.seat.me.0.log };
+}

@@ -1,0 +1,75 @@
+//! Those that wait for a lock.
+ghost use Rattle.std.specs.Prelude.{◌≡◌, ◌↔◌, [], ◌∷◌, ◌++◌, drop, slice_get, Contains, IsTrue, OnOk, OnErr};
+ghost use Rattle.arachne_lock.specs.Law.{without};
+
+use std::alloc::{AllocError, Global};
+use std::collections::{HashSet, VecDeque};
+use std::marker::Model;
+
+/// A queue in which nobody stands twice. A set of its members beside it answers whether one is in it at a cost that
+/// doesn't grow with the queue.
+#[derive(Debug, Drop)]
+pub(crate) struct WaiterQueue {
+    order: VecDeque<u64>,
+    members: HashSet<u64>,
+}
+
+// Clauses see who waits, the first to come first.
+impl Model for WaiterQueue {
+    ghost use Rattle.std.specs.Prelude.{List, ℕ};
+    ghost use Rattle.arachne_lock.specs.WaiterQueue.{IsIndexed};
+
+    ghost Value = { List ℕ };
+
+    ghost view = { λ q. q.order.items };
+
+    ghost invariant = { IsIndexed };
+}
+
+impl WaiterQueue {
+    /// An empty one, which takes no memory.
+    pub(crate) fn new(alloc: Global) -> Self
+        ensures { result ≡ [] }
+    {
+        WaiterQueue {
+            order: VecDeque::new(alloc),
+            members: HashSet::new(alloc),
+        }
+    }
+
+    pub(crate) fn contains(&self, who: u64) -> bool
+        ensures { IsTrue result ↔ Contains self.now who }
+    {
+        self.members.contains(&who)
+    }
+
+    /// Adds one at the end.
+    pub(crate) fn push(&mut self, who: u64) -> Result<(), AllocError>
+        requires { ¬ Contains self.old who }
+        ensures ok { OnOk result (self.new ≡ self.old ++ who ∷ []) }
+        ensures err { OnErr result (self.new ≡ self.old) }
+    {
+        self.order.reserve(1)?;
+        self.members.insert(who)?;
+        self.order.push_back_reserved(who);
+        Ok(())
+    }
+
+    /// Takes the front out.
+    pub(crate) fn pop(&mut self) -> Option<u64>
+        ensures front { result ≡ slice_get self.old 0 }
+        ensures rest { self.new ≡ drop 1 self.old }
+    {
+        let front = self.order.pop_front()?;
+        self.members.remove(&front);
+        Some(front)
+    }
+
+    /// Takes one out, wherever it stands.
+    pub(crate) fn remove(&mut self, who: u64)
+        ensures { self.new ≡ without who self.old }
+    {
+        self.members.remove(&who);
+        self.order.retain(|waiter| *waiter != who);
+    }
+}
