@@ -27,8 +27,8 @@ pub trait Contexts<T: Tagged>: Seats {
     /// What is out with the seat, in any order: what it has claimed or taken and not spent.
     ghost has: { Self → Self.Seat → List (Out Self.Claim Self.Hold) → Type 0 };
 
-    /// By all that the seat has seen, each thread that was posted has ended or is one of these, each once, by its id and
-    /// its tag. Of a form whose seats don't know what was posted it says nothing.
+    /// By all that the seat has seen, each thread that was posted has ended or is one of these, each once, by its id
+    /// and its tag. Of a form whose seats don't know what was posted it says nothing.
     ghost settles: { Self → Self.Seat → List (ThreadId × ℕ) → Type 0 };
 
     /// The occupancy word of a core, looked at with no seat. It tells nothing, and is for a choice alone.
@@ -207,8 +207,8 @@ pub trait Contexts<T: Tagged>: Seats {
         ensures out { KeepsOut (has self.now) seat.old seat.new }
         ensures answer { MovesAs (Self.slot_count self.now) result };
 
-    /// What was posted and not finished, each thread once, by context. The seat is whole, and nothing claimed or taken is out. Table and
-    /// seat come back where memory is refused.
+    /// What was posted and not finished, each thread once, by context. The seat is whole, and nothing claimed or taken
+    /// is out. Table and seat come back where memory is refused.
     fn close<R: Wait>(
         self,
         rt: &R,

@@ -98,8 +98,8 @@ pub extern "C" fn arachne_exec_join(
 
 /// Ends the executor, and writes the jobs that were spawned and haven't ended, but for jobs 0, over the begin of the
 /// array, each as often as it is left; the handle holds nothing then. DONE, with how many there are; REFUSED, where the
-/// handle holds nothing, has a job in hand, or isn't whole, since another handle wasn't joined, or where the array has no
-/// room for a job of each of the 4,096 places of each shard; NO_MEMORY.
+/// handle holds nothing, has a job in hand, or isn't whole, since another handle wasn't joined, or where the array has
+/// no room for a job of each of the 4,096 places of each shard; NO_MEMORY.
 #[unsafe(no_mangle)]
 pub extern "C" fn arachne_exec_end(
     alloc: Global,
@@ -236,9 +236,9 @@ pub extern "C" fn arachne_exec_take(
 }
 
 /// Takes up to so many of a block's ready jobs at once, by one step: the places that came into the hand, a bit for each
-/// of the block's 64. The lowest is the newest: the calls on the job in hand speak of it, and once it rests or has ended
-/// of the next one. `arachne_exec_start` tells its name and number. 0, where none was got, a job is in hand, the handle
-/// holds nothing, or there is no such block.
+/// of the block's 64. The lowest is the newest: the calls on the job in hand speak of it, and once it rests or has
+/// ended of the next one. `arachne_exec_start` tells its name and number. 0, where none was got, a job is in hand, the
+/// handle holds nothing, or there is no such block.
 #[unsafe(no_mangle)]
 pub extern "C" fn arachne_exec_take_many(
     alloc: Global,
@@ -256,8 +256,8 @@ pub extern "C" fn arachne_exec_take_many(
     told
 }
 
-/// The newest job in hand, of those that were taken at once, is about to run: a wake that has come until now is used up.
-/// RUN, with its name and number; REFUSED, where none is in hand.
+/// The newest job in hand, of those that were taken at once, is about to run: a wake that has come until now is used
+/// up. RUN, with its name and number; REFUSED, where none is in hand.
 #[unsafe(no_mangle)]
 pub extern "C" fn arachne_exec_start(alloc: Global, exec: &mut ArachneExec) -> ArachneExecTold
     ensures { IsToldOf (λ place. Tells (Starts place) told_job) (code_alone refused) (held exec.old) (held exec.new) result }

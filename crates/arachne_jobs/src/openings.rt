@@ -60,7 +60,8 @@ pub(crate) struct ForkPlacing<'a> {
 }
 
 impl<'a> ForkPlacing<'a> {
-    /// Whether a child with so many turns to make may get a place or wait for one. If not, a word of the chooser is owed.
+    /// Whether a child with so many turns to make may get a place or wait for one. If not, a word of the chooser is
+    /// owed.
     #[inline(always)]
     fn may_have_a_place(&mut self, class: Class, turns: u64) -> bool
         ensures exclusive { class ≡ Class.Exclusive → IsTrue result }

@@ -6,8 +6,8 @@ ghost use Rattle.arachne_jobs.specs.Places.{Gains};
 use arachne_contexts::{Claimed, Contexts, Held, Tagged};
 use std::sync::Wait;
 
-/// A place came free, and is to be counted. It can't be dropped. [`finish`] and [`give_back`] alone give it, and it goes
-/// to [`Room::place_was_left`](crate::Room::place_was_left) or into a claim ([`claim_again`]).
+/// A place came free, and is to be counted. It can't be dropped. [`finish`] and [`give_back`] alone give it, and it
+/// goes to [`Room::place_was_left`](crate::Room::place_was_left) or into a claim ([`claim_again`]).
 pub struct PlaceLeft {
     uncounted: (),
 }

@@ -7,7 +7,8 @@ pub(crate) struct PushRefused {
     seen: (),
 }
 
-/// Memory for a child that is to wait was refused, and it runs in its parent's place: a job's fault is never made of it.
+/// Memory for a child that is to wait was refused, and it runs in its parent's place: a job's fault is never made of
+/// it.
 #[derive(Drop)]
 pub(crate) struct Unreserved {
     seen: (),

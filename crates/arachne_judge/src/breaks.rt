@@ -24,8 +24,8 @@ pub(crate) fn is_early(after: u64, ended: u64) -> bool
     ended < after
 }
 
-/// `Due`: core 0 begins a slice though an order is due, after so many slices of those that are counted: so many of other
-/// cores, and its own.
+/// `Due`: core 0 begins a slice though an order is due, after so many slices of those that are counted: so many of
+/// other cores, and its own.
 pub(crate) fn is_overdue(after: u64, others: u64, own: u64) -> bool
     ensures { IsTrue result ↔ (after ≤ min (others + own) u64.MAX) }
 {
@@ -77,8 +77,8 @@ pub(crate) fn is_from_there(core: u8, from: u8) -> bool
     from == core
 }
 
-/// `InHand`: a thread on this core begins a slice, and was last on another one, is in a slice, or has ended, or the core
-/// is in one.
+/// `InHand`: a thread on this core begins a slice, and was last on another one, is in a slice, or has ended, or the
+/// core is in one.
 pub(crate) fn is_not_in_hand(
     core: u8,
     last: u8,

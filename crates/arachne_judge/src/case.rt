@@ -1,8 +1,8 @@
 //! Goes through a log once, and judges each rule where it comes up.
 //!
 //! An entry is written just after what it tells of was done, or just before. So another core may show what came of it
-//! first: that a thread was moved, that a core was closed or granted, or that a thread was woken. Core 0 is to tell what
-//! it did before its next slice, and each other core at once: until then such a thing is owed.
+//! first: that a thread was moved, that a core was closed or granted, or that a thread was woken. Core 0 is to tell
+//! what it did before its next slice, and each other core at once: until then such a thing is owed.
 ghost use Rattle.std.specs.Prelude.{◌≡◌, ◌≢◌, ◌<◌, ◌==◌, IsSome, not};
 ghost use Rattle.arachne_judge.specs.Rules.{broken_by_pull, broken_if, first_broken};
 ghost use Rattle.arachne_judge.specs.declared.rules.Rule.TheVariants.{CoreZero};
@@ -18,10 +18,10 @@ use arachne_policy::OrderKind;
 use arachne_workers::{SliceEnd, WorkerEvent};
 use std::alloc::{AllocError, Global};
 
-/// How many moves nobody may be told of: where a thread left its place just before a worker moved it from there, the one
-/// that came after it is moved. That takes a delay between two steps of a worker, so it is rare, and a delay there may
-/// come again: one more is allowed for each `TURNS_PER_UNTOLD` times that a thread went on. A program with an exclusive
-/// fork has no such moves.
+/// How many moves nobody may be told of: where a thread left its place just before a worker moved it from there, the
+/// one that came after it is moved. That takes a delay between two steps of a worker, so it is rare, and a delay there
+/// may come again: one more is allowed for each `TURNS_PER_UNTOLD` times that a thread went on. A program with an
+/// exclusive fork has no such moves.
 const UNTOLD: u64 = 2;
 
 const TURNS_PER_UNTOLD: u64 = 64;
@@ -48,8 +48,8 @@ struct Case<'r> {
     owes: bool,
     /// How many moves nobody was told of.
     untold: u64,
-    /// The threads that have had a turn after a wait and were not told to be woken yet, a place for each other core: each
-    /// may have woken one just now. Such a thread may have ended since, and its context have another one.
+    /// The threads that have had a turn after a wait and were not told to be woken yet, a place for each other core:
+    /// each may have woken one just now. Such a thread may have ended since, and its context have another one.
     unwoken: Vec<Option<ThreadId>>,
     scans: Scans,
     counts: Counts,
@@ -337,7 +337,8 @@ impl<'r> Case<'r> {
         before.woken.saturating_sub(1)
     }
 
-    /// Puts this into one of the places for threads that were not told to be woken, where that was. Whether there was one.
+    /// Puts this into one of the places for threads that were not told to be woken, where that was. Whether there was
+    /// one.
     fn replace_unwoken(&mut self, from: Option<ThreadId>, to: Option<ThreadId>) -> bool {
         for place in self.unwoken.iter_mut() {
             if *place == from {
@@ -423,8 +424,8 @@ impl<'r> Case<'r> {
         }
     }
 
-    /// A core has found itself closed with nothing on it at some time since its last entry, and parks. Since then it may
-    /// have been granted, closed again and given threads.
+    /// A core has found itself closed with nothing on it at some time since its last entry, and parks. Since then it
+    /// may have been granted, closed again and given threads.
     fn parks(&mut self, core: u8) {
         self.counts(Rule::Parks);
         let mut known = self.core(core);
@@ -495,8 +496,8 @@ impl<'r> Case<'r> {
     }
 }
 
-/// `InHand`: a thread begins a slice on a core and may not, since it was last on another one, is in a slice or has ended,
-/// or since the core is in one.
+/// `InHand`: a thread begins a slice on a core and may not, since it was last on another one, is in a slice or has
+/// ended, or since the core is in one.
 fn is_out_of_hand(thread: &ThreadFacts, core: u8, is_second: bool) -> bool {
     breaks::is_not_in_hand(
         core,

@@ -8,8 +8,8 @@ use arachne_lang::Sequence;
 use std::alloc::{AllocError, Global};
 use std::mem::replace;
 
-/// What an outcome brings beside its program. Of a [`crate::DetachedOutcome`] it lies in a box that was there before the
-/// thread ended, and only that box is moved from the thread that ends to the one that joins it.
+/// What an outcome brings beside its program. Of a [`crate::DetachedOutcome`] it lies in a box that was there before
+/// the thread ended, and only that box is moved from the thread that ends to the one that joins it.
 #[derive(Debug, Drop)]
 pub struct Contents {
     pub(crate) value: u64,

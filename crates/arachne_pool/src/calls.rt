@@ -79,8 +79,9 @@ impl<C: Seats> Pool<C> {
     }
 
     /// One round on a core: orders that are due are applied, each job that is ready there has a slice, and a job of the
-    /// worker that waits for a place gets one. Where there is none it takes over a job that is ready on another core, for
-    /// which a kernel thread has come to `work`, and to which that one has not come. Whether there was any.
+    /// worker that waits for a place gets one. Where no job is ready it takes over one that is ready on another core,
+    /// for which a kernel thread has come to `work`, and to which that one has not come. Where a job came to the core
+    /// so and none had a slice, a second round follows, in which it has one. Whether there was anything to do.
     pub fn turn<'a, H: Wait + Clock, J: PoolJob>(
         &'a self,
         rt: &'a H,

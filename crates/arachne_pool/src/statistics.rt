@@ -16,8 +16,8 @@ pub struct Statistics {
     /// Rounds that found nothing to do, after each of which the worker has waited.
     pub rests: u64,
     /// How often the worker has slept its time out and then found something of which nobody had told it, or that all
-    /// was over. It is counted at once. A few such sleeps are of jobs without a place; many show that signals are
-    /// missed.
+    /// was over. It is counted at once. A few such sleeps are those of workers that have jobs for which no core had a
+    /// place, since nobody tells them that one came free; many show that signals are missed.
     pub overslept: u64,
 }
 

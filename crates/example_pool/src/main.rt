@@ -1,4 +1,5 @@
-//! A pool counts the grains of a heap by two kernel threads: each heap counts one, and forks heaps of halves of the rest.
+//! A pool counts the grains of a heap by two kernel threads: each heap counts one, and forks heaps of halves of the
+//! rest.
 #![tactic(auto)]
 
 mod crew;
@@ -63,7 +64,8 @@ impl PoolJob for Heap {
     }
 }
 
-/// A pool of two cores of 8 places each, over any form of table, its worker, and the handle of a heap that it is to count.
+/// A pool of two cores of 8 places each, over any form of table, its worker, and the handle of a heap that it is to
+/// count.
 fn begin<C: Contexts<Spawned<Heap>> + Drop, R: Wait>(
     rt: &R,
     alloc: Global,
@@ -98,8 +100,8 @@ fn end<C: Contexts<Spawned<Heap>> + Drop, R: Wait>(
     Some((count, left.placed.len() + left.near.len()))
 }
 
-/// Counts a heap by two kernel threads. This one function has the table's type written out: `proofs/run` shows that what
-/// a kernel thread takes along may cross.
+/// Counts a heap by two kernel threads. This one function has the table's type written out: `proofs/run` shows that
+/// what a kernel thread takes along may cross.
 fn run<R: Threads + Wait + Clock + Sync>(rt: &R, alloc: Global) -> Option<(u64, usize)>
     ensures { IfSome result (λ counted. counted.0 ≡ 10000) }
 {

@@ -56,8 +56,8 @@ impl Served {
     }
 }
 
-/// Answers all requests. One for which there is no place is refused, and asks again once the others have ended, so there
-/// are never more than places. None where memory is refused.
+/// Answers all requests. One for which there is no place is refused, and asks again once the others have ended, so
+/// there are never more than places. None where memory is refused.
 pub fn serve<C: Contexts<Spawned<Request>>, R: Wait + Clock>(
     rt: &R,
     alloc: Global,

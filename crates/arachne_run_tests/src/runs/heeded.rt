@@ -224,10 +224,10 @@ const LOST_ALONE: Row = Row {
     told: "slot slot ",
 };
 
-/// The root and fifteen others have all places of the core. The last of them forks one thread after the other, for which
-/// there is no place, until the queue is full. The others end in one scan before it, their places are kept, and with the
-/// last end all of them are given back: its next thread gets one at once, and does not run in place as those of a whole
-/// slice would.
+/// The root and fifteen others have all places of the core. The last of them forks one thread after the other, for
+/// which there is no place, until the queue is full. The others end in one scan before it, their places are kept, and
+/// with the last end all of them are given back: its next thread gets one at once, and does not run in place as those
+/// of a whole slice would.
 const GIVEN_BACK: Row = Row {
     shows: "a place that was kept and is given back is free at once",
     source: Source {

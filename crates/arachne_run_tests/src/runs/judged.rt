@@ -98,8 +98,8 @@ fn orders_of(alloc: Global, judged: &Judged, cores: u64) -> Result<Vec<CoreOrder
     }
 }
 
-/// How often each rule was judged in the log of a run. None is broken, there was room for all, and the steps are as many
-/// as they have to be.
+/// How often each rule was judged in the log of a run. None is broken, there was room for all, and the steps are as
+/// many as they have to be.
 fn counts_of(
     alloc: Global,
     judged: &Judged,
@@ -287,8 +287,8 @@ const HOLDS: Judged = Judged {
     ..COUNTS
 };
 
-/// Six threads of core 0 hold a lock for longer than a holder goes on at once, so that the others come to wait for it, and
-/// each goes on before others once it has it. Meanwhile an order is due in each slice.
+/// Six threads of core 0 hold a lock for longer than a holder goes on at once, so that the others come to wait for it,
+/// and each goes on before others once it has it. Meanwhile an order is due in each slice.
 const NEXT: Row = Row {
     shows: "orders are applied before the slice of a thread that goes next",
     source: Source {

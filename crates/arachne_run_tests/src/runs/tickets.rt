@@ -72,7 +72,8 @@ const KEPT: Row = Row {
     told: "slot slot slot spill ",
 };
 
-/// The root holds the lock for longer than it may at once, so that its child comes to wait for it, and then awaits that.
+/// The root holds the lock for longer than it may at once, so that its child comes to wait for it, and then awaits
+/// that.
 const WAKES: Row = Row {
     shows: "a thread is told as woken for what it waited for",
     source: Source {

@@ -32,8 +32,8 @@ const HOLDS: Row = Row {
 const HELD: &[Row] = &[HOLDS];
 
 /// A worker that has yielded once doesn't do so in the next 4,096 rounds that find something, and a run of a thousand
-/// holds has fewer. So each of the four workers may yield once in each of the two runs, and looks twice at the clock: one
-/// that can be read at each look, at none, or at every other one.
+/// holds has fewer. So each of the four workers may yield once in each of the two runs, and looks twice at the clock:
+/// one that can be read at each look, at none, or at every other one.
 #[test]
 fn who_yields_in_vain_yields_no_more(rt: HostRuntime) -> Result<(), Fail> {
     for fails in 0..3 {
@@ -73,8 +73,8 @@ const TOLD: Row = Row {
     told: "",
 };
 
-/// Core 1's worker has run a child, has nothing to run any more, and sleeps when its core is taken back. By the slice in
-/// which it gets time for that, five slices have ended at most.
+/// Core 1's worker has run a child, has nothing to run any more, and sleeps when its core is taken back. By the slice
+/// in which it gets time for that, five slices have ended at most.
 const TAKEN_BACK: Row = Row {
     shows: "who sleeps is told that its core is taken back",
     source: Source {
