@@ -1,5 +1,5 @@
 //! The keeper of the cores: it judges samples of the load, and orders cores and gives them back.
-ghost use Rattle.std.specs.Prelude.{◌≡◌, ◌+◌, ◌≤◌, IfOk};
+ghost use Rattle.std.specs.Prelude.{◌≡◌, ◌*◌, ◌+◌, ◌≤◌, IfOk};
 ghost use Rattle.arachne_policy.specs.Orders.{AreInOrder};
 
 use arachne_policy::{Advice, CoreOrder, Estimator, OrderKind, Sample, check_orders};
@@ -122,7 +122,9 @@ impl Keeper {
 
     /// How many requests may wait for the slow part: half of those for which its cores have places, so that there are
     /// places for others.
-    pub fn waiting(&self) -> usize {
+    pub fn waiting(&self) -> usize
+        ensures { 2 * result ≡ 56 * self.now.most }
+    {
         usize::from(self.most) * usize::from(Keeper::PLACES) / 2
     }
 
