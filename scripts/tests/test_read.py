@@ -1,0 +1,63 @@
+"""Wrong bodies (mutants) apply to today's sources, and those that the compiler refuses are found among many."""
+import sys
+import unittest
+from importlib.machinery import SourceFileLoader
+from importlib.util import module_from_spec, spec_from_loader
+from pathlib import Path
+from unittest import mock
+
+from loading import TOP
+
+loader = SourceFileLoader("read", str(TOP / "wrong-bodies/read"))
+spec = spec_from_loader("read", loader)
+assert spec
+read = sys.modules["read"] = module_from_spec(spec)
+loader.exec_module(read)
+
+TEXT = "".join(f"line {it};\n" for it in range(100))
+
+
+def edit(line: int, new: str = "fine") -> "read.Edit":
+    """An edit of that line."""
+    return read.Edit(f"at_{line}", "src/a.rt", ((f"line {line};", new),))
+
+
+def compiler(_: Path, texts: dict[str, str]) -> list[tuple[str, int, str]]:
+    """A compiler that refuses each line with the word bad, and says where, and says only that it has found worse."""
+    lines = texts["src/a.rt"].splitlines()
+    found = [("src/a.rt", at + 1, "error: bad") for at, it in enumerate(lines) if "bad" in it]
+    return found or [("", 0, "error: worse") for it in lines if "worse" in it]
+
+
+class Read(unittest.TestCase):
+    def refused(self, *edits: "read.Edit") -> list[str]:
+        """The names of those that this compiler refuses."""
+        with mock.patch.object(read, "read", compiler):
+            return sorted(it.name for it, _ in read.refused(Path(), {"src/a.rt": TEXT}, list(edits)))
+
+    def test_each_applies(self) -> None:
+        for crate in (it for it in (TOP / "wrong-bodies").iterdir() if it.is_dir()):
+            for it in read.edits_of(crate.name):
+                text = (TOP / "crates" / crate.name / it.file).read_text(encoding="utf-8")
+                self.assertIsNotNone(read.applied(it, text), f"{crate.name}: {it.name}")
+
+    def test_one_that_stands_nowhere_or_twice_does_not_apply(self) -> None:
+        self.assertIsNone(read.applied(edit(100), TEXT))
+        self.assertIsNone(read.applied(edit(7), TEXT + TEXT))
+        self.assertEqual(read.applied(edit(7), TEXT), (TEXT.replace("line 7;", "fine"), [8]))
+
+    def test_edits_that_stand_close_are_read_one_after_the_other(self) -> None:
+        _, taken, left = read.together([edit(10), edit(12), edit(30)], {"src/a.rt": TEXT})
+        self.assertEqual(([it.name for it in taken], [it.name for it in left]), (["at_10", "at_30"], ["at_12"]))
+
+    def test_those_that_are_refused_are_found(self) -> None:
+        fine = [edit(it) for it in range(0, 100, 10)]
+        self.assertEqual(self.refused(*fine), [])
+        self.assertEqual(self.refused(*fine, edit(25, "bad"), edit(33, "bad"), edit(27, "bad")), ["at_25", "at_27", "at_33"])
+
+    def test_one_is_found_where_no_line_is_told(self) -> None:
+        self.assertEqual(self.refused(*(edit(it) for it in range(0, 100, 10)), edit(45, "worse")), ["at_45"])
+
+
+if __name__ == "__main__":
+    unittest.main()
