@@ -1,5 +1,5 @@
 //! What the server has done: the answer to each request, and how long it took.
-ghost use Rattle.std.specs.Prelude.{◌≡◌, ◌+◌, [], IfOk, OnOk, OnErr, vec_len};
+ghost use Rattle.std.specs.Prelude.{◌≡◌, ◌+◌, [], IfOk, OnOk, OnErr, count_by, vec_len};
 ghost use Rattle.example_server.specs.Work.{mixed};
 
 use crate::entry::SLOW;
@@ -23,6 +23,17 @@ pub struct Answered {
     ghost right: { value ≡ mixed work number },
 }
 
+impl Answered {
+    ghost use Rattle.example_server.specs.Counts.{has_waited};
+
+    /// Whether it has waited for the slow part, as long as that takes.
+    fn has_waited(&self) -> bool
+        ensures { result ≡ has_waited self.now }
+    {
+        matches!(self.class, Class::Slow) && self.waited >= SLOW
+    }
+}
+
 /// What the server has done.
 #[derive(Drop)]
 pub struct Report {
@@ -41,6 +52,8 @@ pub struct Report {
 }
 
 impl Report {
+    ghost use Rattle.example_server.specs.Counts.{has_waited};
+
     /// No answer has come, and there is room for so many.
     pub fn new(alloc: Global, requests: usize) -> Result<Report, AllocError>
         ensures { IfOk result (λ report. (vec_len report.answers ≡ 0) × (report.refused ≡ 0)) }
@@ -81,13 +94,13 @@ impl Report {
     }
 
     /// How many requests have waited for the slow part, as long as that takes.
-    pub fn waited(&self) -> usize {
-        let mut count: usize = 0;
-        for answer in self.answers.iter() {
-            let has_waited = answer.class == Class::Slow && answer.waited >= SLOW;
-            count = count.saturating_add(usize::from(has_waited));
-        }
-        count
+    pub fn waited(&self) -> usize
+        ensures { result ≡ count_by has_waited self.now.answers.items }
+    {
+        self.answers
+            .iter()
+            .filter(|answer| answer.has_waited())
+            .count()
     }
 
     /// How many requests that waited for the slow part were overtaken: another one, which was sent later and did not

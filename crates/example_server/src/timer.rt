@@ -148,14 +148,9 @@ impl Timer {
         }
     }
 
-    /// Whether there is something to do at this time or later.
-    fn is_any(&self) -> bool {
-        for entry in self.entries.iter() {
-            if entry.left(0).is_some() {
-                return true;
-            }
-        }
-        self.is_over()
+    /// Whether an answer is due at this time, or no more requests come.
+    fn is_due(&self, now: u64) -> bool {
+        self.is_over() || self.entries.iter().any(|entry| entry.left(now) == Some(0))
     }
 
     /// Sleeps for so long, unless it is told meanwhile, or was since it was asked last. Whether it was not told.
@@ -168,10 +163,10 @@ impl Timer {
         self.is_told.load(Ordering::SeqCst) == 0
     }
 
-    /// Sleeps until it is told that there is something to do. It looks after a while all the same, and where nobody has
-    /// told it then, that is counted.
-    fn idle<R: Wait>(&self, rt: &R) {
-        if self.rest(rt, IDLE) && self.is_any() {
+    /// Sleeps until it is told that there is something to do. It looks after a while all the same, and where something
+    /// is due by then of which nobody has told it, that is counted.
+    fn idle<R: Wait, K: Clock>(&self, rt: &R, clock: &K) {
+        if self.rest(rt, IDLE) && self.is_due(now(clock)) {
             self.overslept.fetch_add(1, Ordering::SeqCst);
         }
     }
@@ -260,7 +255,7 @@ fn wake_all<R: Wait + Clock, C: Contexts<Spawned<Request>>>(
             Next::Rests(nanos) => {
                 server.timer.rest(rt, nanos);
             }
-            Next::Idles => server.timer.idle(rt),
+            Next::Idles => server.timer.idle(rt, &server.clock),
         }
     }
 }
