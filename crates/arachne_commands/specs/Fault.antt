@@ -1,67 +1,83 @@
 -- The line that a fault prints.
 use Rattle.std.specs.Prelude.{ℕ, List, [], ◌∷◌, ◌++◌, codes, decimal}
-use Rattle.arachne_lang.specs.declared.text_fault.TextFault.{TextFault}
 use Rattle.arachne_lang.specs.declared.text_fault.TextFault.TheVariants as text
-use Rattle.arachne_lang.specs.declared.check_fault.CheckFault.{CheckFault}
 use Rattle.arachne_lang.specs.declared.check_fault.CheckFault.TheVariants as check
 use Rattle.arachne_policy.specs.declared.orders.OrderFault.{OrderFault}
 use Rattle.arachne_policy.specs.declared.orders.OrderFaultKind.{OrderFaultKind}
 use Rattle.arachne_policy.specs.declared.orders.OrderFaultKind.TheVariants.{NoSuchCore, ReleasesCoreZero, AfterFalls}
-use Rattle.arachne_run.specs.declared.fault.RunFault.{RunFault}
 use Rattle.arachne_run.specs.declared.fault.RunFault.TheVariants as run
-use Rattle.arachne_run.specs.declared.fault.WorkerFault.{WorkerFault}
 use Rattle.arachne_run.specs.declared.fault.WorkerFault.TheVariants as worker
+use Rattle.arachne_commands.specs.declared.fault.Where.{Where}
+use Rattle.arachne_commands.specs.declared.fault.Where.TheVariants as place
 use Rattle.arachne_commands.specs.declared.fault.Fault.{Fault}
 use Rattle.arachne_commands.specs.declared.fault.Fault.TheVariants.{InText, InProgram, BadSample, NoOrder, InRun, Memory, TooLong, Read, Write}
 
-abbrev pub text_fault_words : TextFault → List ℕ
-text_fault_words text.Memory = codes "fault 30"
-text_fault_words (text.Header byte) = codes "fault 1 at " ++ decimal byte
-text_fault_words (text.Syntax byte) = codes "fault 2 at " ++ decimal byte
-text_fault_words (text.Number byte) = codes "fault 3 at " ++ decimal byte
-text_fault_words (text.Nesting byte) = codes "fault 4 at " ++ decimal byte
+-- the number of a fault of an order
+abbrev pub order_fault_number : OrderFaultKind → ℕ
+order_fault_number NoSuchCore = 22
+order_fault_number ReleasesCoreZero = 23
+order_fault_number AfterFalls = 25
 
-abbrev pub check_fault_words : CheckFault → List ℕ
-check_fault_words check.Nesting = codes "fault 4"
-check_fault_words (check.NoArray node) = codes "fault 5 node " ++ decimal node
-check_fault_words (check.NoLedger node) = codes "fault 6 node " ++ decimal node
-check_fault_words (check.NoLock node) = codes "fault 7 node " ++ decimal node
-check_fault_words (check.Unbound node) = codes "fault 8 node " ++ decimal node
-check_fault_words (check.WithinHold node) = codes "fault 9 node " ++ decimal node
-check_fault_words check.OverLimit = codes "fault 10"
-check_fault_words (check.NoGrain node) = codes "fault 11 node " ++ decimal node
+-- the number of a fault
+abbrev pub fault_number : Fault → ℕ
+fault_number (InText (text.Header byte)) = 1
+fault_number (InText (text.Syntax byte)) = 2
+fault_number (InText (text.Number byte)) = 3
+fault_number (InText (text.Nesting byte)) = 4
+fault_number (InText text.Memory) = 30
+fault_number (InProgram check.Nesting) = 4
+fault_number (InProgram (check.NoArray node)) = 5
+fault_number (InProgram (check.NoLedger node)) = 6
+fault_number (InProgram (check.NoLock node)) = 7
+fault_number (InProgram (check.Unbound node)) = 8
+fault_number (InProgram (check.WithinHold node)) = 9
+fault_number (InProgram check.OverLimit) = 10
+fault_number (InProgram (check.NoGrain node)) = 11
+fault_number (BadSample line) = 12
+fault_number (InRun run.Cores) = 20
+fault_number (InRun run.Quantum) = 21
+fault_number (InRun run.Choosers) = 24
+fault_number (InRun run.Slots) = 27
+fault_number (InRun (run.Orders fault)) = order_fault_number fault.kind
+fault_number (InRun (run.Worker worker.Memory)) = 30
+fault_number (InRun (run.Worker worker.Foreign)) = 31
+fault_number (InRun (run.Worker worker.Threads)) = 32
+fault_number (InRun (run.Worker worker.Ledgers)) = 33
+fault_number (InRun (run.Worker worker.Token)) = 34
+fault_number (InRun (run.Worker worker.KernelThread)) = 35
+fault_number (NoOrder index) = 26
+fault_number Memory = 30
+fault_number TooLong = 36
+fault_number Read = 37
+fault_number Write = 38
 
-abbrev pub order_fault_number : OrderFaultKind → List ℕ
-order_fault_number NoSuchCore = codes "22"
-order_fault_number ReleasesCoreZero = codes "23"
-order_fault_number AfterFalls = codes "25"
+-- the place of a fault
+abbrev pub fault_place : Fault → Where
+fault_place (InText (text.Header byte)) = place.At byte
+fault_place (InText (text.Syntax byte)) = place.At byte
+fault_place (InText (text.Number byte)) = place.At byte
+fault_place (InText (text.Nesting byte)) = place.At byte
+fault_place (InProgram (check.NoArray node)) = place.Node node
+fault_place (InProgram (check.NoLedger node)) = place.Node node
+fault_place (InProgram (check.NoLock node)) = place.Node node
+fault_place (InProgram (check.Unbound node)) = place.Node node
+fault_place (InProgram (check.WithinHold node)) = place.Node node
+fault_place (InProgram (check.NoGrain node)) = place.Node node
+fault_place (BadSample line) = place.Line line
+fault_place (NoOrder index) = place.Order index
+fault_place (InRun (run.Orders fault)) = place.Order fault.index
+fault_place _ = place.Nowhere
 
-abbrev pub worker_fault_words : WorkerFault → List ℕ
-worker_fault_words worker.Memory = codes "fault 30"
-worker_fault_words worker.Foreign = codes "fault 31"
-worker_fault_words worker.Threads = codes "fault 32"
-worker_fault_words worker.Ledgers = codes "fault 33"
-worker_fault_words worker.Token = codes "fault 34"
-worker_fault_words worker.KernelThread = codes "fault 35"
-
-abbrev pub run_fault_words : RunFault → List ℕ
-run_fault_words run.Cores = codes "fault 20"
-run_fault_words run.Quantum = codes "fault 21"
-run_fault_words run.Slots = codes "fault 27"
-run_fault_words run.Choosers = codes "fault 24"
-run_fault_words (run.Orders fault) = codes "fault " ++ order_fault_number fault.kind ++ codes " order " ++ decimal fault.index
-run_fault_words (run.Worker fault) = worker_fault_words fault
+-- what a fault's line says behind its number
+abbrev pub place_words : Where → List ℕ
+place_words place.Nowhere = []
+place_words (place.At byte) = codes " at " ++ decimal byte
+place_words (place.Node node) = codes " node " ++ decimal node
+place_words (place.Line line) = codes " line " ++ decimal line
+place_words (place.Order index) = codes " order " ++ decimal index
 
 abbrev pub fault_words : Fault → List ℕ
-fault_words (InText fault) = text_fault_words fault
-fault_words (InProgram fault) = check_fault_words fault
-fault_words (BadSample line) = codes "fault 12 line " ++ decimal line
-fault_words (NoOrder index) = codes "fault 26 order " ++ decimal index
-fault_words (InRun fault) = run_fault_words fault
-fault_words Memory = codes "fault 30"
-fault_words TooLong = codes "fault 36"
-fault_words Read = codes "fault 37"
-fault_words Write = codes "fault 38"
+fault_words fault = codes "fault " ++ decimal (fault_number fault) ++ place_words (fault_place fault)
 
 abbrev pub fault_line : Fault → List ℕ
 fault_line fault = fault_words fault ++ 10 ∷ []

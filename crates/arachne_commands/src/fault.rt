@@ -1,5 +1,6 @@
 //! Why the program fails, and the line that it prints of that.
 ghost use Rattle.std.specs.Prelude.{◌≡◌};
+ghost use Rattle.arachne_commands.specs.Fault.{fault_number, fault_place};
 ghost use Rattle.arachne_commands.specs.declared.fault.Fault.TheVariants.{InRun, InText, InProgram, Memory};
 
 use arachne_lang::{CheckFault, TextFault};
@@ -63,6 +64,104 @@ impl From<AllocError> for Fault {
     }
 }
 
+/// The place of a fault, as its line names it behind the number.
+#[derive(Clone, Copy)]
+enum Where {
+    Nowhere,
+    At(usize),
+    Node(u64),
+    Line(usize),
+    Order(usize),
+}
+
+impl fmt::Display for Where {
+    ghost use Rattle.std.specs.Prelude.{Some};
+    ghost use Rattle.arachne_commands.specs.Fault.{place_words};
+
+    ghost output = { λ place. Some (place_words place) };
+
+    fn fmt<W: fmt::Write>(&self, f: &mut fmt::Formatter<W>) -> fmt::Result {
+        match self {
+            Where::Nowhere => Ok(()),
+            Where::At(byte) => write!(f, " at {byte}"),
+            Where::Node(node) => write!(f, " node {node}"),
+            Where::Line(line) => write!(f, " line {line}"),
+            Where::Order(index) => write!(f, " order {index}"),
+        }
+    }
+}
+
+impl Fault {
+    /// Returns its number.
+    fn number(self) -> u8
+        ensures { result ≡ fault_number self }
+    {
+        match self {
+            Fault::InText(TextFault::Header { .. }) => 1,
+            Fault::InText(TextFault::Syntax { .. }) => 2,
+            Fault::InText(TextFault::Number { .. }) => 3,
+            Fault::InText(TextFault::Nesting { .. }) => 4,
+            Fault::InText(TextFault::Memory) => 30,
+            Fault::InProgram(CheckFault::Nesting) => 4,
+            Fault::InProgram(CheckFault::NoArray(_)) => 5,
+            Fault::InProgram(CheckFault::NoLedger(_)) => 6,
+            Fault::InProgram(CheckFault::NoLock(_)) => 7,
+            Fault::InProgram(CheckFault::Unbound(_)) => 8,
+            Fault::InProgram(CheckFault::WithinHold(_)) => 9,
+            Fault::InProgram(CheckFault::OverLimit) => 10,
+            Fault::InProgram(CheckFault::NoGrain(_)) => 11,
+            Fault::BadSample { .. } => 12,
+            Fault::InRun(RunFault::Cores) => 20,
+            Fault::InRun(RunFault::Quantum) => 21,
+            Fault::InRun(RunFault::Choosers) => 24,
+            Fault::InRun(RunFault::Slots) => 27,
+            Fault::InRun(RunFault::Orders(OrderFault { kind, .. })) => match kind {
+                OrderFaultKind::NoSuchCore => 22,
+                OrderFaultKind::ReleasesCoreZero => 23,
+                OrderFaultKind::AfterFalls => 25,
+            },
+            Fault::InRun(RunFault::Worker(WorkerFault::Memory)) => 30,
+            Fault::InRun(RunFault::Worker(WorkerFault::Foreign)) => 31,
+            Fault::InRun(RunFault::Worker(WorkerFault::Threads)) => 32,
+            Fault::InRun(RunFault::Worker(WorkerFault::Ledgers)) => 33,
+            Fault::InRun(RunFault::Worker(WorkerFault::Token)) => 34,
+            Fault::InRun(RunFault::Worker(WorkerFault::KernelThread)) => 35,
+            Fault::NoOrder { .. } => 26,
+            Fault::Memory => 30,
+            Fault::TooLong => 36,
+            Fault::Read => 37,
+            Fault::Write => 38,
+        }
+    }
+
+    /// Returns its place.
+    fn place(self) -> Where
+        ensures { result ≡ fault_place self }
+    {
+        match self {
+            Fault::InText(
+                TextFault::Header { at }
+                | TextFault::Syntax { at }
+                | TextFault::Number { at }
+                | TextFault::Nesting { at },
+            ) => Where::At(at),
+            Fault::InProgram(
+                CheckFault::NoArray(node)
+                | CheckFault::NoLedger(node)
+                | CheckFault::NoLock(node)
+                | CheckFault::Unbound(node)
+                | CheckFault::WithinHold(node)
+                | CheckFault::NoGrain(node),
+            ) => Where::Node(node),
+            Fault::BadSample { line } => Where::Line(line),
+            Fault::NoOrder { index } | Fault::InRun(RunFault::Orders(OrderFault { index, .. })) => {
+                Where::Order(index)
+            }
+            _ => Where::Nowhere,
+        }
+    }
+}
+
 impl fmt::Display for Fault {
     ghost use Rattle.std.specs.Prelude.{Some};
     ghost use Rattle.arachne_commands.specs.Fault.{fault_words};
@@ -70,41 +169,6 @@ impl fmt::Display for Fault {
     ghost output = { λ fault. Some (fault_words fault) };
 
     fn fmt<W: fmt::Write>(&self, f: &mut fmt::Formatter<W>) -> fmt::Result {
-        match self {
-            Fault::InText(TextFault::Memory) => write!(f, "fault 30"),
-            Fault::InText(TextFault::Header { at }) => write!(f, "fault 1 at {at}"),
-            Fault::InText(TextFault::Syntax { at }) => write!(f, "fault 2 at {at}"),
-            Fault::InText(TextFault::Number { at }) => write!(f, "fault 3 at {at}"),
-            Fault::InText(TextFault::Nesting { at }) => write!(f, "fault 4 at {at}"),
-            Fault::InProgram(CheckFault::Nesting) => write!(f, "fault 4"),
-            Fault::InProgram(CheckFault::NoArray(node)) => write!(f, "fault 5 node {node}"),
-            Fault::InProgram(CheckFault::NoLedger(node)) => write!(f, "fault 6 node {node}"),
-            Fault::InProgram(CheckFault::NoLock(node)) => write!(f, "fault 7 node {node}"),
-            Fault::InProgram(CheckFault::Unbound(node)) => write!(f, "fault 8 node {node}"),
-            Fault::InProgram(CheckFault::WithinHold(node)) => write!(f, "fault 9 node {node}"),
-            Fault::InProgram(CheckFault::OverLimit) => write!(f, "fault 10"),
-            Fault::InProgram(CheckFault::NoGrain(node)) => write!(f, "fault 11 node {node}"),
-            Fault::BadSample { line } => write!(f, "fault 12 line {line}"),
-            Fault::NoOrder { index } => write!(f, "fault 26 order {index}"),
-            Fault::InRun(RunFault::Cores) => write!(f, "fault 20"),
-            Fault::InRun(RunFault::Quantum) => write!(f, "fault 21"),
-            Fault::InRun(RunFault::Slots) => write!(f, "fault 27"),
-            Fault::InRun(RunFault::Choosers) => write!(f, "fault 24"),
-            Fault::InRun(RunFault::Orders(OrderFault { index, kind })) => match kind {
-                OrderFaultKind::NoSuchCore => write!(f, "fault 22 order {index}"),
-                OrderFaultKind::ReleasesCoreZero => write!(f, "fault 23 order {index}"),
-                OrderFaultKind::AfterFalls => write!(f, "fault 25 order {index}"),
-            },
-            Fault::InRun(RunFault::Worker(WorkerFault::Memory)) => write!(f, "fault 30"),
-            Fault::InRun(RunFault::Worker(WorkerFault::Foreign)) => write!(f, "fault 31"),
-            Fault::InRun(RunFault::Worker(WorkerFault::Threads)) => write!(f, "fault 32"),
-            Fault::InRun(RunFault::Worker(WorkerFault::Ledgers)) => write!(f, "fault 33"),
-            Fault::InRun(RunFault::Worker(WorkerFault::Token)) => write!(f, "fault 34"),
-            Fault::InRun(RunFault::Worker(WorkerFault::KernelThread)) => write!(f, "fault 35"),
-            Fault::Memory => write!(f, "fault 30"),
-            Fault::TooLong => write!(f, "fault 36"),
-            Fault::Read => write!(f, "fault 37"),
-            Fault::Write => write!(f, "fault 38"),
-        }
+        write!(f, "fault {}{}", self.number(), self.place())
     }
 }

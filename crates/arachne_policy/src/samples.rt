@@ -37,10 +37,19 @@ impl fmt::Display for Advice {
     ghost output = { λ a. Some (advice_text a) };
 
     fn fmt<W: fmt::Write>(&self, f: &mut fmt::Formatter<W>) -> fmt::Result {
+        f.write_str(self.word())
+    }
+}
+
+impl Advice {
+    /// Returns its word.
+    fn word(&self) -> &'static str
+        ensures { result.now ≡ advice_text self.now }
+    {
         match self {
-            Advice::Add => write!(f, "add"),
-            Advice::Stay => write!(f, "stay"),
-            Advice::Remove => write!(f, "remove"),
+            Advice::Add => "add",
+            Advice::Stay => "stay",
+            Advice::Remove => "remove",
         }
     }
 }
