@@ -67,6 +67,12 @@ class Estimates(unittest.TestCase):
                     self.assertLess(minutes, 4 * left + 2)
                     self.assertGreater(minutes, left / 4 - 1)
 
+    def test_the_share_counts_a_crate_in_work_but_never_as_proved(self) -> None:
+        estimate = build.Estimate({"lower": 60, "upper": 40}, {"lower": [], "upper": ["lower"]}, 4, (120, 60))
+        self.assertEqual([estimate.share({"lower": it}) for it in (0, 60, 600)], [0, 30, 57])
+        estimate.proved("lower", 120)
+        self.assertEqual(estimate.share({}), 60)
+
     def test_a_look_counts_for_three_times_the_usual_at_most(self) -> None:
         with tempfile.TemporaryDirectory() as out, mock.patch.object(build, "OUT", Path(out)):
             self.assertEqual(build.speed(10_000), (180, 60))
