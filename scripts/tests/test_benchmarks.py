@@ -68,7 +68,8 @@ class Benchmarks(unittest.TestCase):
                 around = re.split(r"(?<=-->\n).*?(?=<!--)", (TOP / "bench/GATE.md").read_text(), flags=re.S)
                 self.assertEqual(len(around), 2, "the page has one place for the table")
                 page.write_text("the last table\n".join(around))
-                tool.write_text(f"#!/bin/sh\necho \"$1 $2 --anew\"\necho 2 passed\nexit {int(not passes)}\n")
+                helps = '[ "$1" != help ] || exec echo --anew >&2'
+                tool.write_text(f"#!/bin/sh\n{helps}\necho 2 passed\nexit {int(not passes)}\n")
                 tool.chmod(0o755)
                 place = {**os.environ, "PATH": f"{room}:{os.environ['PATH']}"}
                 how = {"stdout": subprocess.PIPE, "stderr": subprocess.DEVNULL, "text": True, "env": place}
@@ -77,7 +78,25 @@ class Benchmarks(unittest.TestCase):
                 self.assertIn("`rt ci --anew` on ", ran.stdout)
                 self.assertIn(": `2 passed`, 0 minutes by the clock.", ran.stdout)
                 self.assertIn("| `upper` | 0 | 0 | 0 | 0 |\n", ran.stdout)
+                self.assertIn(" was not proved.", ran.stdout)
                 self.assertEqual(page.read_text(), (ran.stdout if written else "the last table\n").join(around))
+
+    def test_the_unit_is_a_crate_of_a_fixed_commit(self) -> None:
+        with tempfile.TemporaryDirectory() as room:
+            tool, seen = Path(room) / "rt", Path(room) / "seen"
+            # (a crate of the unit's name, which takes some time)
+            prover = 'exec -a rattle sh -c "i=0; while [ \\$i -lt 200000 ]; do i=\\$((i + 1)); done; :" --crate-name arachne_core'
+            # (rt of the gate itself does nothing)
+            asked = '[ "$1" != help ] || exec echo --anew >&2\n[ "$1 $2" = "ci --anew" ] && [ -n "$RT_JOBS" ] || exit 0'
+            text = f'#!/bin/bash\n{asked}\ncat crates.txt crates/*/src/lib.rt > {seen}\n({prover})\n'
+            tool.write_text(text)
+            tool.chmod(0o755)
+            place = {**os.environ, "PATH": f"{room}:{os.environ['PATH']}"}
+            ran = subprocess.run([TOP / "bench/gate"], env=place, stdout=subprocess.PIPE, stderr=subprocess.DEVNULL, text=True)
+            if not seen.exists():
+                self.skipTest("the history has no such commit")
+            self.assertIn("The unit, `arachne_core` of ab3d6c87, took ", ran.stdout)
+            self.assertTrue(seen.read_text().startswith("arachne_core:\n//! "))
 
 
 if __name__ == "__main__":
