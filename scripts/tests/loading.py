@@ -12,9 +12,9 @@ from typing import Any
 TOP = Path(__file__).resolve().parents[2]
 
 
-def load(name: str) -> ModuleType:
-    """The script of that name in scripts/."""
-    loader = SourceFileLoader(name, str(TOP / "scripts" / name))
+def load(name: str, folder: str = "scripts") -> ModuleType:
+    """The script of that name in a folder."""
+    loader = SourceFileLoader(name, str(TOP / folder / name))
     spec = spec_from_loader(name, loader)
     assert spec
     sys.modules[name] = module_from_spec(spec)

@@ -1,18 +1,11 @@
 """Wrong bodies (mutants) apply to today's sources, and those that the compiler refuses are found among many."""
-import sys
 import unittest
-from importlib.machinery import SourceFileLoader
-from importlib.util import module_from_spec, spec_from_loader
 from pathlib import Path
 from unittest import mock
 
-from loading import TOP
+from loading import TOP, load
 
-loader = SourceFileLoader("read", str(TOP / "wrong-bodies/read"))
-spec = spec_from_loader("read", loader)
-assert spec
-read = sys.modules["read"] = module_from_spec(spec)
-loader.exec_module(read)
+read = load("read", "wrong-bodies")
 
 TEXT = "".join(f"line {it};\n" for it in range(100))
 
@@ -36,10 +29,11 @@ class Read(unittest.TestCase):
             return sorted(it.name for it, _ in read.refused(Path(), {"src/a.rt": TEXT}, list(edits)))
 
     def test_each_applies(self) -> None:
-        for crate in (it for it in (TOP / "wrong-bodies").iterdir() if it.is_dir()):
-            for it in read.edits_of(crate.name):
-                text = (TOP / "crates" / crate.name / it.file).read_text(encoding="utf-8")
-                self.assertIsNotNone(read.applied(it, text), f"{crate.name}: {it.name}")
+        self.assertTrue(read.crates())
+        for crate in read.crates():
+            for it in read.edits_of(crate):
+                text = (TOP / "crates" / crate / it.file).read_text(encoding="utf-8")
+                self.assertIsNotNone(read.applied(it, text), f"{crate}: {it.name}")
 
     def test_one_that_stands_nowhere_or_twice_does_not_apply(self) -> None:
         self.assertIsNone(read.applied(edit(100), TEXT))
