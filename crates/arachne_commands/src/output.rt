@@ -3,8 +3,8 @@ ghost use Rattle.std.specs.Prelude.{◌≡◌, ◌++◌, OnOk, IfOk, map, string
 ghost use Rattle.std.specs.List.{flat_map};
 ghost use Rattle.arachne_commands.specs.Output.{output_of, ledger_lines, thread_line, name_text};
 
-use arachne_lang::{Line, Name};
-use arachne_machine::ThreadLine;
+use arachne_lang::{Line, Name, Sequence};
+use arachne_machine::{ThreadLine, ThreadLines};
 use std::alloc::{AllocError, Global};
 use std::fmt::Write;
 
@@ -47,23 +47,72 @@ impl PrintedThread for ThreadLine {
     }
 }
 
+/// Threads of which lines are printed.
+pub trait PrintedThreads {
+    ghost use Rattle.std.specs.Prelude.{List, length, string_bytes};
+    ghost use Rattle.arachne_lang.specs.declared.meaning.Line.{Line as Shown};
+
+    ghost all_shown: { Self → List Shown };
+
+    /// Returns the number of threads.
+    fn count(&self) -> usize
+        ensures { result ≡ length (all_shown self.now) };
+
+    /// Writes a line for each.
+    fn write(&self, text: &mut String) -> Result<(), AllocError>
+        ensures { OnOk result (string_bytes text.new ≡ string_bytes text.old ++ flat_map thread_line (all_shown self.now)) };
+}
+
+impl PrintedThreads for Sequence<Line> {
+    ghost all_shown = { λ threads. threads };
+
+    fn count(&self) -> usize {
+        self.as_slice().len()
+    }
+
+    fn write(&self, text: &mut String) -> Result<(), AllocError> {
+        for thread in self.as_slice() {
+            write_thread(text, thread)?;
+        }
+        Ok(())
+    }
+}
+
+impl PrintedThreads for ThreadLines {
+    ghost use Rattle.std.specs.Prelude.{map};
+    ghost use Rattle.arachne_machine.specs.Outcome.{named_holds};
+
+    ghost all_shown = { λ threads. map named_holds threads };
+
+    fn count(&self) -> usize {
+        self.len()
+    }
+
+    fn write(&self, text: &mut String) -> Result<(), AllocError> {
+        for thread in self.iter() {
+            write_thread(text, thread)?;
+        }
+        Ok(())
+    }
+}
+
 /// What is printed of a value, the totals of the ledgers and the threads, with a line for each thread where the names
 /// are wanted.
-pub fn render<T: PrintedThread>(
+pub fn render<T: PrintedThreads>(
     alloc: Global,
     value: u64,
     totals: &[u64],
-    threads: &[T],
+    threads: &T,
     names: bool,
 ) -> Result<String, AllocError>
-    ensures { IfOk result (λ text. string_bytes text ≡ output_of names (record { value = value; totals = totals.now; threads = map T.shown threads.now })) }
+    ensures { IfOk result (λ text. string_bytes text ≡ output_of names (record { value = value; totals = totals.now; threads = T.all_shown threads.now })) }
 {
     let mut text = String::new(alloc);
     writeln!(text, "value {}", value)?;
     write_totals(&mut text, totals)?;
-    writeln!(text, "threads {}", threads.len())?;
+    writeln!(text, "threads {}", threads.count())?;
     if names {
-        write_threads(&mut text, threads)?;
+        threads.write(&mut text)?;
     }
     Ok(text)
 }
@@ -75,16 +124,6 @@ fn write_totals(text: &mut String, totals: &[u64]) -> Result<(), AllocError>
 {
     for (ledger, total) in totals.iter().enumerate() {
         writeln!(text, "ledger {ledger} {total}")?;
-    }
-    Ok(())
-}
-
-/// Writes a line for each thread.
-fn write_threads<T: PrintedThread>(text: &mut String, threads: &[T]) -> Result<(), AllocError>
-    ensures { OnOk result (string_bytes text.new ≡ string_bytes text.old ++ flat_map thread_line (map T.shown threads.now)) }
-{
-    for thread in threads {
-        write_thread(text, thread)?;
     }
     Ok(())
 }

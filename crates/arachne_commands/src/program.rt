@@ -75,7 +75,7 @@ fn run_of<R: Threads + Wait + Clock + Sync>(
         alloc,
         report.value,
         report.totals.as_slice(),
-        report.threads.as_slice(),
+        &report.threads,
         names,
     )?;
     Ok(output)
@@ -94,7 +94,7 @@ fn evaluation(alloc: Global, text: &[u8], names: bool) -> Result<String, Fault>
         alloc,
         meaning.value,
         meaning.totals.as_slice(),
-        meaning.threads.as_slice(),
+        &meaning.threads,
         names,
     )?;
     Ok(output)

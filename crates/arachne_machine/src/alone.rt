@@ -140,7 +140,9 @@ fn meaning(alloc: Global, outcome: DetachedOutcome) -> Result<Meaning, AllocErro
     let Ok(parts) = outcome.into_parts() else {
         return Err(AllocError);
     };
-    let lines = parts.lines.into_vec();
+    let Ok(lines) = parts.lines.into_vec(alloc) else {
+        return Err(AllocError);
+    };
     let threads: Vec<Line> = lines.into_iter().map(line_of_thread).collect(alloc)?;
     Ok(Meaning {
         value: parts.value,

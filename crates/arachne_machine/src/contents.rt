@@ -37,8 +37,8 @@ impl Contents {
         }
     }
 
-    /// The value, the sums and the lines, of which nothing is left. It takes memory for the list of lines; where that
-    /// is refused nothing has changed.
+    /// The value, the sums and the lines, of which nothing is left. It takes memory for a list of the lists of
+    /// lines; where that is refused nothing has changed.
     pub(crate) fn take_parts(&mut self) -> Result<OutcomeParts, AllocError>
         ensures value { IfOk result (λ parts. parts.value ≡ self.old.value) }
         ensures sums { IfOk result (λ parts. parts.sums ≡ self.old.sums.items) }
@@ -50,7 +50,7 @@ impl Contents {
         Ok(OutcomeParts {
             value: self.value,
             sums: Sequence::from(replace(&mut self.sums, Vec::new(alloc))),
-            lines: Sequence::from(lines),
+            lines,
         })
     }
 }

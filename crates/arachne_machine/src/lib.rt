@@ -22,6 +22,7 @@ mod spares;
 mod state;
 mod tables;
 mod thread;
+mod thread_lines;
 mod turns;
 mod worth;
 
@@ -34,3 +35,4 @@ pub use pause::{NotJoined, NotPlaced, Pause, Pending};
 pub use placing::{Everywhere, Placing};
 pub use spares::Spares;
 pub use thread::Thread;
+pub use thread_lines::{LinesLeft, ThreadLines};

@@ -4,6 +4,7 @@ ghost use Rattle.arachne_machine.specs.declared.line.ThreadLine.{ThreadLine};
 ghost use Rattle.arachne_machine.specs.Lines.{CountsHoldAt, lines_in};
 
 use crate::line::ThreadLine;
+use crate::thread_lines::ThreadLines;
 use std::alloc::{AllocError, Global};
 use std::marker::Model;
 use std::mem::replace;
@@ -151,22 +152,25 @@ impl Lines {
         Ok(())
     }
 
-    /// This line, and behind it the others, as one list. Where memory is refused nothing has changed.
+    /// Takes this line, and behind it the others, in their lists. Where memory is refused nothing has changed.
     pub fn complete(
         &mut self,
         alloc: Global,
         own: &mut ThreadLine,
-    ) -> Result<Vec<ThreadLine>, AllocError>
-        ensures lines { IfOk result (λ list. list.items ≡ own.old ∷ self.old) }
+    ) -> Result<ThreadLines, AllocError>
+        ensures lines { IfOk result (λ all. all ≡ own.old ∷ self.old) }
         ensures err { OnErr result (self.new ≡ self.old) }
         ensures own { OnErr result (own.new ≡ own.old) }
     {
-        let mut all = Vec::with_capacity(alloc, self.len() + 1)?;
-        all.push_reserved(own.take(alloc));
+        let mut first = Vec::with_capacity(alloc, 1)?;
+        let mut lists = Vec::with_capacity(alloc, self.earlier.len() + 2)?;
+        let count = self.len() + 1;
+        first.push_reserved(own.take(alloc));
+        lists.push_reserved(first);
+        let _ = lists.append(&mut self.earlier);
+        lists.push_reserved(replace(&mut self.last, Vec::new(alloc)));
         self.count = 0;
-        move_lines(replace(&mut self.earlier, Vec::new(alloc)), &mut all);
-        let _ = all.append(&mut self.last);
-        Ok(all)
+        Ok(ThreadLines::of(lists, count))
     }
 }
 
@@ -201,16 +205,4 @@ fn count_hold_in(alloc: Global, lists: &mut Vec<Vec<ThreadLine>>, place: usize, 
     }
     let list = &mut lists[at];
     list[left].count_hold(alloc, lock);
-}
-
-/// Moves all lines to the end of the list, which has room for them.
-fn move_lines(lists: Vec<Vec<ThreadLine>>, lines: &mut Vec<ThreadLine>)
-    requires { vec_len lines.old + length (lines_in lists.items) ≤ vec_capacity lines.old }
-    ensures items { lines.new.items ≡ lines.old.items ++ lines_in lists.items }
-    ensures room { vec_capacity lines.old ≤ vec_capacity lines.new }
-{
-    for list in lists {
-        let mut list = list;
-        let _ = lines.append(&mut list);
-    }
 }

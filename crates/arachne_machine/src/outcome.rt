@@ -3,7 +3,7 @@ ghost use Rattle.std.specs.Prelude.{◌≡◌, ◌∷◌, IfOk, IfErr};
 ghost use Rattle.arachne_machine.specs.Outcome.{IsOfItsName};
 
 use crate::contents::Contents;
-use crate::line::ThreadLine;
+use crate::thread_lines::ThreadLines;
 use arachne_lang::{Name, Program, Sequence};
 use std::marker::Model;
 
@@ -37,7 +37,7 @@ pub struct OutcomeParts {
     /// For each ledger its sum, modulo 2^64.
     pub sums: Sequence<u64>,
     /// The own line, then those below.
-    pub lines: Sequence<ThreadLine>,
+    pub lines: ThreadLines,
 }
 
 impl<'p> Outcome<'p> {
@@ -63,8 +63,8 @@ impl<'p> Outcome<'p> {
         self.contents.value
     }
 
-    /// The value, the sums and the lines. It takes memory for the list of lines; where that is refused the outcome
-    /// comes back.
+    /// The value, the sums and the lines. It takes memory for a list of the lists of lines; where that is refused the
+    /// outcome comes back.
     pub fn into_parts(self) -> Result<OutcomeParts, Outcome<'p>>
         ensures value { IfOk result (λ parts. parts.value ≡ self.entry.value) }
         ensures sums { IfOk result (λ parts. parts.sums ≡ self.entry.sums) }

@@ -7,14 +7,14 @@ ghost use Rattle.arachne_run.specs.Histories.{GrantsAreHolds, IsGrantedAsHeld, g
 ghost use Rattle.arachne_run.specs.declared.fault.WorkerFault.TheVariants.{Memory, Threads};
 
 use crate::fault::WorkerFault;
-use arachne_machine::ThreadLine;
+use arachne_machine::{ThreadLine, ThreadLines};
 use arachne_sleep::{History, LockEvent};
 use std::alloc::{AllocError, Global};
 
 /// Looks whether no two threads have one tag, and each lock was granted to each thread as often as that held it.
 pub(crate) fn audit(
     alloc: Global,
-    threads: &[ThreadLine],
+    threads: &ThreadLines,
     histories: &[History],
 ) -> Result<(), WorkerFault>
     ensures distinct { OnOk result (AreDistinct (map (λ line. line.tag) threads.now)) }
@@ -33,15 +33,15 @@ pub(crate) fn audit(
 
 /// The marks of the threads' tags, if no two are the same and none is 2^64 - 1. They take a byte for each tag up to the
 /// greatest, and for each thread at least.
-fn marks_of(alloc: Global, threads: &[ThreadLine]) -> Result<Option<Vec<bool>>, AllocError>
+fn marks_of(alloc: Global, threads: &ThreadLines) -> Result<Option<Vec<bool>>, AllocError>
     ensures distinct { IfOk result (λ found. IfSome found (λ marks. AreDistinct (map (λ line. line.tag) threads.now))) }
     ensures marks { IfOk result (λ found. IfSome found (λ marks. AreMarksOf (map (λ line. line.tag) threads.now) marks.items)) }
     ensures none { IfOk result (λ found. IfNone found (HasClash (map (λ line. line.tag) threads.now))) }
 {
     let mut marks = Vec::new(alloc);
     marks.resize(threads.len(), false)?;
-    for line in threads {
-        let place = line.tag as usize;
+    for line in threads.iter() {
+        let place = place_of(line);
         if place == usize::MAX {
             return Ok(None);
         }
@@ -56,11 +56,19 @@ fn marks_of(alloc: Global, threads: &[ThreadLine]) -> Result<Option<Vec<bool>>, 
     Ok(Some(marks))
 }
 
+/// Returns the place of a thread's mark, which is its tag.
+#[inline(always)]
+fn place_of(line: &ThreadLine) -> usize
+    ensures { result ≡ line.now.tag }
+{
+    line.tag as usize
+}
+
 /// Whether each lock was granted to each thread as often as that held it, and to no other. The marks are those of the
 /// threads' tags.
 fn are_grants_holds(
     alloc: Global,
-    threads: &[ThreadLine],
+    threads: &ThreadLines,
     marks: &[bool],
     histories: &[History],
 ) -> Result<bool, AllocError>
@@ -78,7 +86,7 @@ fn are_grants_holds(
 /// The same of one lock, in a time that grows with its events and the threads.
 fn is_granted_as_held(
     alloc: Global,
-    threads: &[ThreadLine],
+    threads: &ThreadLines,
     marks: &[bool],
     lock: usize,
     history: &History,
@@ -89,7 +97,7 @@ fn is_granted_as_held(
     let Some(grants) = grants_by_tag(alloc, marks, history)? else {
         return Ok(false);
     };
-    for line in threads {
+    for line in threads.iter() {
         let held = number_at(line.holds.as_slice(), lock);
         if number_at(grants.as_slice(), line.tag as usize) != held {
             return Ok(false);

@@ -11,7 +11,7 @@ use crate::audit::audit;
 use crate::fault::WorkerFault;
 use crate::resources::Remains;
 use arachne_lang::Sequence;
-use arachne_machine::{DetachedOutcome, ThreadLine};
+use arachne_machine::{DetachedOutcome, ThreadLines};
 use arachne_sleep::History;
 use std::alloc::Global;
 
@@ -23,7 +23,7 @@ pub struct Report {
     /// For each ledger the sum of what was tallied to it, modulo 2^64.
     pub totals: Sequence<u64>,
     /// Its threads, the root first.
-    pub threads: Sequence<ThreadLine>,
+    pub threads: ThreadLines,
     /// For each lock all that was asked, granted and freed, oldest first.
     pub histories: Vec<History>,
     /// How many of the orders were applied.
@@ -56,7 +56,7 @@ impl Report {
         if parts.sums.as_slice() != words.as_slice() {
             return Err(WorkerFault::Ledgers);
         }
-        audit(alloc, parts.lines.as_slice(), histories.as_slice())?;
+        audit(alloc, &parts.lines, histories.as_slice())?;
         Ok(Report {
             value: parts.value,
             totals: Sequence::from(words),

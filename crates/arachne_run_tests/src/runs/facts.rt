@@ -56,12 +56,9 @@ pub(super) enum Fact {
 pub(super) fn number(report: &Report, watch: &Watch, fact: Fact) -> u64 {
     match fact {
         Fact::Value => report.value,
-        Fact::Threads => report.threads.as_slice().len() as u64,
+        Fact::Threads => report.threads.len() as u64,
         Fact::Slot => count_of(report, Ran::Slot),
-        Fact::LastTwoInSlots => match report.threads.as_slice() {
-            [.., first, second] => u64::from(first.ran == Ran::Slot && second.ran == Ran::Slot),
-            _ => 0,
-        },
+        Fact::LastTwoInSlots => u64::from(are_last_two_in_slots(report)),
         Fact::Spill => count_of(report, Ran::Spill),
         Fact::InPlace => count_of(report, Ran::InPlace),
         Fact::InPlaceUpTo(most) => u64::from(count_of(report, Ran::InPlace) <= most),
@@ -81,10 +78,23 @@ pub(super) fn number(report: &Report, watch: &Watch, fact: Fact) -> u64 {
     }
 }
 
+/// Returns true if there are two threads at least, and the last two had places.
+fn are_last_two_in_slots(report: &Report) -> bool {
+    let mut in_slots = 0u64;
+    for line in report.threads.iter() {
+        in_slots = if line.ran == Ran::Slot {
+            in_slots.wrapping_add(1)
+        } else {
+            0
+        };
+    }
+    in_slots >= 2
+}
+
 /// How many threads ran so.
 fn count_of(report: &Report, ran: Ran) -> u64 {
     let mut count = 0u64;
-    for line in report.threads.as_slice() {
+    for line in report.threads.iter() {
         count = count.wrapping_add(u64::from(line.ran == ran));
     }
     count
@@ -120,7 +130,7 @@ pub(super) fn told(
 /// How each thread ran: a word for each, the root's first.
 fn ran_of(alloc: Global, report: &Report) -> Result<String, Fail> {
     let mut text = String::new(alloc);
-    for line in report.threads.as_slice() {
+    for line in report.threads.iter() {
         let word = match line.ran {
             Ran::Slot => "slot ",
             Ran::Spill => "spill ",

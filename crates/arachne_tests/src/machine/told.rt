@@ -28,7 +28,7 @@ fn told_line(alloc: Global, line: &ThreadLine) -> Option<String> {
 pub(super) fn told(alloc: Global, parts: &OutcomeParts) -> Option<String> {
     let (value, sums) = (parts.value, parts.sums.as_slice());
     let mut text = format!(in alloc; "{value} {sums:?}").ok()?;
-    for line in parts.lines.as_slice() {
+    for line in parts.lines.iter() {
         text.push_str(told_line(alloc, line)?.as_str()).ok()?;
     }
     Some(text)
