@@ -6,3 +6,4 @@ pub mod Classes
 pub mod Places
 pub mod Queued
 pub mod Faults
+pub mod Dues

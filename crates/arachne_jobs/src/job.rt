@@ -321,11 +321,13 @@ impl<'p> Job<'p> {
         ensures left { IfOk result (λ slice. IsLeft (λ j child. IsForking j.thread child) (λ j. pause_of j.thread) slice self.new) }
         ensures steps { IfOk result (λ slice. UsesSteps slice left.old left.new) }
     {
+        let mut due = openings.due;
         let mut asked = ForkPlacing { room, openings };
-        match self
+        let paused = self
             .thread
-            .advance_within(left, &mut spares.threads, &mut asked)?
-        {
+            .advance_tallying(left, &mut spares.threads, &mut asked, &mut due);
+        asked.openings.due = due;
+        match paused? {
             Pause::Budget => Ok(Slice::Goes),
             Pause::Forks(class, child) => Ok(Slice::Forks(class, child)),
             Pause::Joins => match self.join(spares)? {

@@ -3,6 +3,7 @@
 
 mod awaited;
 mod classes;
+mod due;
 mod ends;
 mod fault;
 mod job;
@@ -22,6 +23,7 @@ mod waiting;
 mod wanted;
 
 pub use classes::has_exclusive;
+pub use due::Due;
 pub use fault::JobFault;
 pub use job::Job;
 pub use openings::Openings;

@@ -1,34 +1,37 @@
-//! What a thread is told at its forks.
+//! What a worker has for the slices of its threads: what a thread is told at its forks, and what it has tallied.
 ghost use Rattle.std.specs.Prelude.{◌≡◌, ◌↔◌, ◌≤◌, ◌+◌, ◌%◌, ◌^◌, false, true, if◌then◌else◌, IsTrue};
 ghost use Rattle.arachne_jobs.specs.declared.openings.TheConstants.{LARGE};
 
+use crate::due::Due;
 use crate::room::Room;
 use crate::tags::Tags;
 use arachne_lang::Class;
 use arachne_machine::Placing;
 
-/// What a worker has for the forks of its threads: its tags, and for how many forks that were no pause the chooser's
-/// word is still to be drawn.
+/// What a worker has for the slices of its threads: its tags, for how many forks that were no pause the chooser's word
+/// is still to be drawn, and what is due to a ledger.
 #[derive(Drop)]
 pub struct Openings {
     pub tags: Tags,
     pub draws: u64,
     /// Whether the child that was forked last has much to do.
     pub is_large: bool,
+    pub due: Due,
 }
 
 /// How many turns of a sweep a child has at least that is worth room in the queue.
 const LARGE: u64 = 1024;
 
 impl Openings {
-    /// No tag is drawn yet, and no word is owed.
+    /// No tag is drawn yet, no word is owed, and nothing is due.
     pub fn new() -> Openings
-        ensures { (result.tags.left ≡ 0) × (result.draws ≡ 0) × (result.is_large ≡ false) }
+        ensures { (result.tags.left ≡ 0) × (result.draws ≡ 0) × (result.is_large ≡ false) × (result.due.amount ≡ 0) }
     {
         Openings {
             tags: Tags::new(),
             draws: 0,
             is_large: false,
+            due: Due::none(),
         }
     }
 

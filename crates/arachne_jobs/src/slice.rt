@@ -33,7 +33,7 @@ pub enum Slice<Child> {
     Awaits(u64),
     /// It frees this lock, and goes on once it is answered.
     Frees(u64),
-    /// It adds to this ledger this amount, and goes on once it is answered.
+    /// It adds to this ledger this amount, while another's is due, and goes on once it is answered.
     Tallies(u64, u64),
     /// It has ended.
     Ends,
@@ -102,7 +102,7 @@ pub trait RunJob: RunThread {
     ghost forks: { Self → Self.Child → Type 0 };
 
     /// Goes on for at most as many steps as are left, of which fewer are left then. A thread that waits makes none. A
-    /// child for which there is no place runs in this job's.
+    /// child for which there is no place runs in this job's. What it tallies is due then.
     fn slice(
         &mut self,
         left: &mut u32,

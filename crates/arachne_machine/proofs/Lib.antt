@@ -32,6 +32,7 @@ pub mod Moving
 pub mod Taking
 pub mod Handed
 pub mod Showing
+pub mod Gone
 pub mod Begun
 pub mod Crossing
 pub mod WorkedPrograms

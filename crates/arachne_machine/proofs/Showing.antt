@@ -44,6 +44,7 @@ pub record Shown (Q : Type 0) (had left : ℕ) (old : State) (ps : List (Box Sta
   pub within : IsChecked (source_of old.program.now) → PausesAt gives (suspended (top new))
   pub alone : IsAlone (nested old ps) → PlacesNone (nested old ps) gives (nested new qs) → AdvancedAlone had (nested old ps) gives (nested new qs)
   pub everywhere : Q → IsAlone (nested old ps) → PlacesNone (nested old ps) gives (nested new qs)
+  pub sums : seen_children ps ≡ [] → new.sums.items ≡ old.sums.items
 
 by_itself : (t : State) (ps : List (Box State)) → IsAlone (nested t ps) → IsByItself t
 by_itself t ps alone = record { parents = none_parents t alone.0; here = alone.2 }
@@ -79,6 +80,7 @@ shown_budget Q had left old new ps qs w none_left = record {
         holds = ap (λ o. o.holds) g.goes.own;
       };
   everywhere = λ q alone. whole_forks new qs ∙ (w.by_itself (none_placed ps alone.1)).1.places_none q (by_itself old ps alone) ∙ sym (whole_forks old ps);
+  sums = λ none. (w.by_itself (none_placed ps none)).1.runs.sums;
 }
 
 -- it pauses
@@ -89,6 +91,7 @@ record ShownPause (Q : Type 0) (had left : ℕ) (old : State) (ps : List (Box St
   within : IsChecked (source_of old.program.now) → PausesAt pauses.Joins (suspended (top new))
   alone : IsAlone (nested old ps) → (whole (nested new qs)).forks ≡ (whole (nested old ps)).forks → AdvancedAlone had (nested old ps) (pause_at (Some next)) (nested new qs)
   everywhere : Q → IsAlone (nested old ps) → (whole (nested new qs)).forks ≡ (whole (nested old ps)).forks
+  sums : seen_children ps ≡ [] → new.sums.items ≡ old.sums.items
 
 shown_stop : (Q : Type 0) (had beside left : ℕ) (old new : State) (ps qs : List (Box State)) (next : Pending) → had ≡ beside + 1 → WentToPause Q beside left old ps next new qs → ShownPause Q had left old ps next new qs
 shown_stop Q had beside left old new ps qs next one p =
@@ -118,6 +121,7 @@ shown_stop Q had beside left old new ps qs next one p =
             holds = ap (λ o. o.holds) (at.own ∙ g.goes.own);
           };
       everywhere = λ q alone. whole_forks new qs ∙ forks ∙ (w.by_itself (none_placed ps alone.1)).1.places_none q (by_itself old ps alone) ∙ sym (whole_forks old ps);
+      sums = λ none. l.sums ∙ (w.by_itself (none_placed ps none)).1.runs.sums;
     }
 
 shown_pause : (Q : Type 0) (had beside left : ℕ) (old new : State) (ps qs : List (Box State)) (next : Pending) → had ≡ beside + 1 → WentToPause Q beside left old ps next new qs →
@@ -125,16 +129,16 @@ shown_pause : (Q : Type 0) (had beside left : ℕ) (old new : State) (ps qs : Li
 shown_pause Q had beside left old new ps qs pause.Forks one p = absurd p.stops
 shown_pause Q had beside left old new ps qs pause.Joins one p =
     let s = shown_stop Q had beside left old new ps qs pause.Joins one p in
-    record { kept = s.kept; moves = s.stops; spent = omega (arith, p.went.fewer, one); charged = omega (arith, s.charged); rest = p.went.rest; elsewhere = p.elsewhere refl; within = s.within; alone = s.alone; everywhere = s.everywhere }
+    record { kept = s.kept; moves = s.stops; spent = omega (arith, p.went.fewer, one); charged = omega (arith, s.charged); rest = p.went.rest; elsewhere = p.elsewhere refl; within = s.within; alone = s.alone; everywhere = s.everywhere; sums = s.sums }
 shown_pause Q had beside left old new ps qs (pause.Asks lock) one p =
     let s = shown_stop Q had beside left old new ps qs (pause.Asks lock) one p in
-    record { kept = s.kept; moves = s.stops; spent = omega (arith, p.went.fewer, one); charged = omega (arith, s.charged); rest = p.went.rest; elsewhere = tt; within = s.within; alone = s.alone; everywhere = s.everywhere }
+    record { kept = s.kept; moves = s.stops; spent = omega (arith, p.went.fewer, one); charged = omega (arith, s.charged); rest = p.went.rest; elsewhere = tt; within = s.within; alone = s.alone; everywhere = s.everywhere; sums = s.sums }
 shown_pause Q had beside left old new ps qs (pause.Frees lock) one p =
     let s = shown_stop Q had beside left old new ps qs (pause.Frees lock) one p in
-    record { kept = s.kept; moves = s.stops; spent = omega (arith, p.went.fewer, one); charged = omega (arith, s.charged); rest = p.went.rest; elsewhere = tt; within = s.within; alone = s.alone; everywhere = s.everywhere }
+    record { kept = s.kept; moves = s.stops; spent = omega (arith, p.went.fewer, one); charged = omega (arith, s.charged); rest = p.went.rest; elsewhere = tt; within = s.within; alone = s.alone; everywhere = s.everywhere; sums = s.sums }
 shown_pause Q had beside left old new ps qs (pause.Tallies ledger amount) one p =
     let s = shown_stop Q had beside left old new ps qs (pause.Tallies ledger amount) one p in
-    record { kept = s.kept; moves = s.stops; spent = omega (arith, p.went.fewer, one); charged = omega (arith, s.charged); rest = p.went.rest; elsewhere = tt; within = s.within; alone = s.alone; everywhere = s.everywhere }
+    record { kept = s.kept; moves = s.stops; spent = omega (arith, p.went.fewer, one); charged = omega (arith, s.charged); rest = p.went.rest; elsewhere = tt; within = s.within; alone = s.alone; everywhere = s.everywhere; sums = s.sums }
 shown_pause Q had beside left old new ps qs pause.Ended one p =
     let s = shown_stop Q had beside left old new ps qs pause.Ended one p in
     record {
@@ -147,6 +151,7 @@ shown_pause Q had beside left old new ps qs pause.Ended one p =
       within = s.within;
       alone = s.alone;
       everywhere = s.everywhere;
+      sums = s.sums;
     }
 
 forks_go_on : ◌≡◌ {A = Option Pending} (Some pause.Forks) (Some pause.Ended) → ⊥
@@ -240,6 +245,7 @@ shown_fork Q had beside left old new ps qs class child was one f =
             ap (map suspended) (alone_waiting new none),
             omega (arith, g.forks, alone_forks last go.alone.parents, alone_forks new none, whole_forks new qs, whole_forks old ps, same),
           );
+      sums = λ none. l.sums ∙ (w.by_itself (none_placed ps none)).1.runs.sums;
     }
 
 pub shown : (Q : Type 0) (had left : ℕ) (old new : State) (ps qs : List (Box State)) (forked : Option (Class × Box State)) (next : Option Pending) → IsKept old ps → AdvancesWith Q had left old ps forked next new qs →

@@ -3,6 +3,7 @@ pub mod Outcome
 pub mod Suspended
 pub mod Nested
 pub mod Advance
+pub mod Tallying
 pub mod Work
 pub mod Pure
 pub mod Trace

@@ -32,7 +32,7 @@ pub use detached::DetachedOutcome;
 pub use line::{Ran, ThreadLine};
 pub use outcome::{Outcome, OutcomeParts};
 pub use pause::{NotJoined, NotPlaced, Pause, Pending};
-pub use placing::{Everywhere, Placing};
+pub use placing::{Everywhere, Placing, Tallying};
 pub use spares::Spares;
 pub use thread::Thread;
 pub use thread_lines::{LinesLeft, ThreadLines};

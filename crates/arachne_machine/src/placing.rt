@@ -1,5 +1,6 @@
-//! What a thread asks at its forks.
-ghost use Rattle.std.specs.Prelude.{◌≡◌, Bool, true, IsTrue};
+//! What a thread asks at its forks, and of what takes its tallies.
+ghost use Rattle.std.specs.Prelude.{◌≡◌, ℕ, Bool, true, false, IsTrue};
+ghost use Rattle.arachne_machine.specs.Tallying.{GainsAt};
 
 use arachne_lang::Class;
 
@@ -22,6 +23,17 @@ pub trait Placing {
 
     /// The tag of a child that begins in its parent's place.
     fn tag(&mut self) -> u64;
+}
+
+/// Takes amounts that are due to ledgers.
+pub trait Tallying {
+    /// The amount that is due to each ledger, modulo 2^64.
+    ghost due_to: { Self → ℕ → ℕ };
+
+    /// Takes an amount for this ledger. If it doesn't, it returns false and has not changed.
+    fn take(&mut self, ledger: u64, amount: u64) -> bool
+        ensures taken { result ≡ true → GainsAt (due_to self.old) ledger amount (due_to self.new) }
+        ensures full { result ≡ false → self.new ≡ self.old };
 }
 
 /// Each fork is a pause.

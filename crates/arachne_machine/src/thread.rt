@@ -1,9 +1,10 @@
 //! A thread with those that run in its place, as callers advance, answer and join it.
-ghost use Rattle.std.specs.Prelude.{◌≡◌, ◌≢◌, ◌↔◌, ◌≤◌, ◌+◌, ◌-◌, ℕ, ◌∷◌, [], ◌++◌, true, Err, None, Some, IfOk, IfSome, OnOk, IfErr, OnErr, IsTrue};
+ghost use Rattle.std.specs.Prelude.{◌≡◌, ◌≢◌, ◌↔◌, ◌≤◌, ◌+◌, ◌-◌, ℕ, ◌∷◌, [], ◌++◌, true, false, Err, None, Some, IfOk, IfSome, OnOk, IfErr, OnErr, IsTrue};
 ghost use Rattle.arachne_lang.specs.Effects.{tabulated};
 ghost use Rattle.arachne_machine.specs.Suspended.{IsAnswered, IsAsk, IsFree, IsFresh, IsNext, IsTally, Joined, SameThread, added, awaited, own_line_of, raised};
 ghost use Rattle.arachne_machine.specs.Advance.{AdvancedAlone, AwaitsAt, Moves, PlacesNone, RefusedAlone, IsForeign, IsCharged, IsNotAwaited, IsSpentAt, PausesAt, child_back, handed_back, pause_seen};
 ghost use Rattle.arachne_machine.specs.Nested.{AwaitsElsewhere, FallsBy, IsAlone, IsChildOf, IsNested, IsPlacing, IsRest, MayBePlaced, Nested, PlacesAtFork, SameWhole, alone, begun_in, pending_in, spilled_of, whole, with_tag, work_in};
+ghost use Rattle.arachne_machine.specs.Tallying.{AdvancesOver, GainsAt, IsAdvance, IsRefusedAdvance, IsTallied, RefusedOver};
 ghost use Rattle.arachne_machine.specs.Faultless.{PausesWithin};
 ghost use Rattle.arachne_machine.specs.Kept.{IsSoundChild, nested};
 ghost use Rattle.arachne_machine.specs.Outcome.{IsOfItsName, finished};
@@ -22,7 +23,7 @@ use crate::line::Ran;
 use crate::outcome::Outcome;
 use crate::pause::{NotJoined, NotPlaced, Pause, Pending};
 use crate::placed::Unplaced;
-use crate::placing::{Everywhere, Placing};
+use crate::placing::{Everywhere, Placing, Tallying};
 use crate::spares::Spares;
 use crate::state::State;
 use arachne_lang::{Class, Name, Program};
@@ -169,6 +170,7 @@ impl<'p> Thread<'p> {
         ensures within { IfOk result (λ pause. IsChecked (source_of (whole self.old).program) → PausesAt pause self.new.running) }
         ensures alone { IfOk result (λ pause. IsAlone self.old → PlacesNone self.old pause self.new → AdvancedAlone left.old self.old pause self.new) }
         ensures rest { IsRest self.old.placed self.new.placed }
+        ensures sums { OnOk result (self.old.placed ≡ [] → self.new.sums ≡ self.old.sums) }
         ensures everywhere { P.gives_all ≡ true → IfOk result (λ pause. IsAlone self.old → PlacesNone self.old pause self.new) }
         ensures err_same { OnErr result (SameWhole self.old self.new) }
         ensures err_work { OnErr result (FallsBy 0 (left.old - 1) (work_in self.old) (work_in self.new)) }
@@ -177,10 +179,78 @@ impl<'p> Thread<'p> {
         ensures err_alone { OnErr result (IsAlone self.old → (whole self.new).forks ≡ (whole self.old).forks → RefusedAlone left.old self.old self.new) }
         ensures err_everywhere { P.gives_all ≡ true → OnErr result (IsAlone self.old → (whole self.new).forks ≡ (whole self.old).forks) }
     {
+        let forked = self.stop(left, spares, places)?;
+        Ok(pause_of(forked, self.pending()))
+    }
+
+    /// Goes on as `advance_within` does, over each tally of which `due` takes the amount: it is made, and is no pause.
+    pub fn advance_tallying<P: Placing, D: Tallying>(
+        &mut self,
+        left: &mut u32,
+        spares: &mut Spares<'p>,
+        places: &mut P,
+        due: &mut D,
+    ) -> Result<Pause<'p>, AllocError>
+        requires not_paused { pending_in self.old ≡ None }
+        requires some { 1 ≤ left.old }
+        ensures over { IfOk result (λ pause. AdvancesOver left.old left.new self.old pause self.new (D.due_to due.old) (D.due_to due.new)) }
+        ensures ok { IfOk result (λ pause. Moves left.old self.old pause self.new) }
+        ensures spent { IfOk result (λ pause. IsSpentAt pause left.old left.new) }
+        ensures charged { IfOk result (λ pause. IsCharged left.old left.new self.old pause self.new) }
+        ensures elsewhere { IfOk result (λ pause. AwaitsAt pause self.new) }
+        ensures within { IfOk result (λ pause. IsChecked (source_of (whole self.old).program) → PausesAt pause self.new.running) }
+        ensures err_over { OnErr result (RefusedOver left.old left.new self.old self.new (D.due_to due.old) (D.due_to due.new)) }
+        ensures err_same { OnErr result (SameWhole self.old self.new) }
+        ensures err_charged { OnErr result (work_in self.new + left.old ≡ work_in self.old + left.new) }
+        ensures err_pending { OnErr result (pending_in self.new ≡ None) }
+    {
+        while *left > 0 {
+            if let Some(forked) = self.stop(left, spares, places)? {
+                return Ok(pause_of(Some(forked), None));
+            }
+            if !self.tally(due) {
+                return Ok(pause_of(None, self.pending()));
+            }
+        }
+        Ok(Pause::Budget)
+    }
+
+    /// Makes the tally at which the thread has paused, and returns true, if there is one and `due` takes its amount.
+    #[inline(always)]
+    fn tally<D: Tallying>(&mut self, due: &mut D) -> bool
+        ensures made { result ≡ true → (ledger amount : ℕ) × IsTallied ledger amount self.old self.new × GainsAt (D.due_to due.old) ledger amount (D.due_to due.new) }
+        ensures none { result ≡ false → (self.new ≡ self.old) × (due.new ≡ due.old) }
+    {
+        let Control::Tallies { ledger, amount, .. } = self.state.control else {
+            return false;
+        };
+        if !due.take(ledger, amount) {
+            return false;
+        }
+        self.tallied();
+        true
+    }
+
+    /// Goes on until it pauses. Returns the child if it pauses for a fork.
+    #[inline(always)]
+    fn stop<P: Placing>(
+        &mut self,
+        left: &mut u32,
+        spares: &mut Spares<'p>,
+        places: &mut P,
+    ) -> Result<Option<(Class, Box<State<'p>>)>, AllocError>
+        requires not_paused { pending_in self.old ≡ None }
+        requires some { 1 ≤ left.old }
+        ensures child { IfOk result (λ forked. IfSome forked (λ f. IsSoundChild f.1.value)) }
+        ensures advance { IfOk result (λ forked. IsAdvance left.old left.new self.old (pause_seen forked (pending_in self.new)) self.new) }
+        ensures everywhere { P.gives_all ≡ true → IfOk result (λ forked. IsAlone self.old → PlacesNone self.old (pause_seen forked (pending_in self.new)) self.new) }
+        ensures err { OnErr result (IsRefusedAdvance left.old left.new self.old self.new) }
+        ensures err_everywhere { P.gives_all ≡ true → OnErr result (IsAlone self.old → (whole self.new).forks ≡ (whole self.old).forks) }
+    {
         let forked = self
             .state
             .advance_with(&mut self.placed, left, spares, places)?;
-        Ok(pause_of(forked, self.state.pending()))
+        Ok(forked)
     }
 
     /// Answers a fork once the child was given away. It takes no memory.

@@ -1,10 +1,12 @@
 -- What a thread asks for, what may come of it, and where it stops.
-use Rattle.std.specs.Prelude.{◌≡◌, ℕ, Bool, false, true, if◌then◌else◌, List, Option, None, Some, Result}
+use Rattle.std.specs.Prelude.{◌≡◌, ◌≢◌, ℕ, Bool, false, true, if◌then◌else◌, List, Option, None, Some, Result}
 use Rattle.arachne_core.specs.declared.thread_id.ThreadId.{ThreadId}
 use Rattle.arachne_machine.specs.declared.pause.Pending.{Pending}
 use Rattle.arachne_machine.specs.declared.pause.Pending.TheVariants as pause
 use Rattle.arachne_workers.specs.declared.desk.ThreadStop.{ThreadStop}
 use Rattle.arachne_workers.specs.declared.desk.ThreadStop.TheVariants as stop
+use Rattle.arachne_jobs.specs.declared.due.Due.{Due}
+use Rattle.arachne_ledger.specs.Sums.{raised}
 use Rattle.arachne_sleep.specs.Calls.{AskAnswer, CheckAnswer}
 use Rattle.arachne_sleep.specs.SleepLocks.{ChangesAt}
 use Rattle.arachne_sleep.specs.Views.{SeatView}
@@ -61,6 +63,11 @@ IsServed (Tallies ledger amount) who (Waits awaited unserved) = ⊥
 IsServed (Tallies ledger amount) who (Holds granted) = ⊥
 IsServed (Tallies ledger amount) who (Freed release) = ⊥
 IsServed (Tallies ledger amount) who (Added addition) = IsAddition ledger amount addition
+
+-- A share has got what was due, once: where something was, its sum for that ledger is raised by it.
+pub record IsSettled (due : Due) (old new : List ℕ) : Type 0 where
+  pub none : due.amount ≡ 0 → new ≡ old
+  pub some : due.amount ≢ 0 → new ≡ raised old due.ledger due.amount
 
 -- this is what a thread with this pause asks for
 abbrev pub IsWantOf : Want → Option Pending → Type 0

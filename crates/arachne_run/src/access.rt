@@ -4,7 +4,7 @@ ghost use Rattle.arachne_ledger.specs.Sums.{raised};
 ghost use Rattle.arachne_ledger.specs.Views.{IsShareOf};
 ghost use Rattle.arachne_sleep.specs.Calls.{FreeAnswer};
 ghost use Rattle.arachne_sleep.specs.SleepLocks.{AreSeatsOf, ChangesAt};
-ghost use Rattle.arachne_run.specs.Serving.{IsAddition, IsGrantBy, IsServed, IsWantOf, StopsAt, has_lock_after, has_lock_by, id_of, is_wait};
+ghost use Rattle.arachne_run.specs.Serving.{IsAddition, IsGrantBy, IsServed, IsSettled, IsWantOf, StopsAt, has_lock_after, has_lock_by, id_of, is_wait};
 ghost use Rattle.arachne_run.specs.Tokens.{AreHoldingsOf};
 ghost use Rattle.arachne_workers.specs.declared.desk.ThreadStop.TheVariants as stopped;
 ghost use Rattle.arachne_run.specs.declared.access.Want.TheVariants.{Asks, Awaits};
@@ -19,7 +19,7 @@ use crate::granted::{self, Got, Granted, Unserved};
 use crate::resources::{Holdings, Resources};
 use arachne_arbiter::Pace;
 use arachne_core::ThreadId;
-use arachne_jobs::RunThread;
+use arachne_jobs::{Due, RunThread};
 use arachne_ledger::{Ledgers, Share};
 use arachne_sleep::{Freed, LockSeats, NotHolder, SleepLocks, Tried, Who};
 use arachne_workers::{ThreadStop, stand_by};
@@ -335,6 +335,15 @@ impl<'a> Access<'a> {
         )
     }
 
+    /// Adds what is due to its ledger. Nothing is due then.
+    #[inline(always)]
+    pub(crate) fn settle(&mut self, due: &mut Due) -> Result<(), WorkerFault>
+        ensures same { self.new ≡ self.old }
+        ensures settled { OnOk result (due.new.amount ≡ 0) }
+    {
+        settle_at(&self.resources.ledgers, &mut self.holdings.share, due)
+    }
+
     /// Adds to a ledger. In a checked program a pause names a ledger that is there.
     pub(crate) fn add(&mut self, ledger: u64, amount: u64) -> Result<Addition, WorkerFault>
         ensures same { self.new ≡ self.old }
@@ -383,6 +392,22 @@ fn add_to(
         ledger: Snapshot::of(&ledger),
         amount: Snapshot::of(&amount),
     })
+}
+
+/// Adds what is due, if that is anything, to the share's sum for its ledger. Nothing is due then.
+#[inline(always)]
+fn settle_at(ledgers: &Ledgers, share: &mut Share, due: &mut Due) -> Result<(), WorkerFault>
+    requires { IsShareOf ledgers.now share.old }
+    ensures own { IsShareOf ledgers.now share.new }
+    ensures added { OnOk result (IsSettled due.old share.old.sums share.new.sums) }
+    ensures settled { OnOk result (due.new.amount ≡ 0) }
+{
+    if due.amount == 0 {
+        return Ok(());
+    }
+    let _ = add_to(ledgers, share, due.ledger, due.amount)?;
+    due.amount = 0;
+    Ok(())
 }
 
 /// The lock of this number, if it is there.

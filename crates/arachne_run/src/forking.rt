@@ -37,7 +37,7 @@ pub(crate) struct ForkSupplies<R, P> {
 }
 
 /// The thread in hand goes on for at most as many steps as are left, and what it asks for, if it comes to that, is
-/// done.
+/// done. Before that the ledgers have got what it has tallied.
 #[inline(always)]
 pub(crate) fn go_on<H: Wait + Clock, T: RunJob, C: Contexts<T>, R: Rng>(
     rt: &H,
@@ -61,6 +61,7 @@ pub(crate) fn go_on<H: Wait + Clock, T: RunJob, C: Contexts<T>, R: Rng>(
     ensures hand { OnOk result (C.has machine.now.table seat.new (thread_in T.tag_of held.new ∷ []) × (left.new ≤ left.old)) }
     ensures stops { IfOk result (λ stop. StopsAt stop (T.pause_of held.new.value)) }
     ensures drawn { IsOk result → forks.new.openings.draws ≡ 0 }
+    ensures settled { OnOk result (forks.new.openings.due.amount ≡ 0) }
 {
     let (room, had) = (machine.shared.room(), *left);
     let slice = held
@@ -68,6 +69,7 @@ pub(crate) fn go_on<H: Wait + Clock, T: RunJob, C: Contexts<T>, R: Rng>(
         .slice(left, &mut forks.spares, room, &mut forks.openings)?;
     draw(&mut forks.chooser, forks.openings.draws);
     forks.openings.draws = 0;
+    access.settle(&mut forks.openings.due)?;
     let want = match slice {
         Slice::Goes => return Ok(ThreadStop::Goes),
         Slice::Forks(class, child) => {
@@ -116,6 +118,7 @@ fn answer_fork<H: Wait, T: RunJob, C: Contexts<T>, R: Rng>(
         × OnOk result (C.has machine.now.table seat.new (thread_in T.tag_of held.new ∷ [])) }
     ensures stops { IfOk result (λ stop. StopsAt stop (T.pause_of held.new.value)) }
     ensures draws { forks.new.openings.draws ≡ forks.old.openings.draws }
+    ensures due { forks.new.openings.due ≡ forks.old.openings.due }
 {
     let (me, room) = (held.id(), machine.shared.room());
     let tag = forks.openings.tags.take(room);

@@ -1,0 +1,45 @@
+//! An amount that a worker's threads have tallied and that its ledger has not got yet.
+ghost use Rattle.std.specs.Prelude.{◌≡◌, true, false};
+ghost use Rattle.arachne_machine.specs.Tallying.{GainsAt};
+ghost use Rattle.arachne_jobs.specs.Dues.{IsOfAnother, due_to};
+
+use arachne_machine::Tallying;
+
+/// An amount that is still to be added to a ledger.
+#[derive(Clone, Copy, Debug)]
+pub struct Due {
+    pub ledger: u64,
+    /// Modulo 2^64, as a ledger's sum is. Where it is 0 nothing is due.
+    pub amount: u64,
+}
+
+impl Due {
+    /// Returns one of which nothing is due.
+    pub fn none() -> Due
+        ensures { result.amount ≡ 0 }
+    {
+        Due {
+            ledger: 0,
+            amount: 0,
+        }
+    }
+}
+
+impl Tallying for Due {
+    ghost due_to = { due_to };
+
+    /// Takes an amount, unless one for another ledger is due.
+    #[inline(always)]
+    fn take(&mut self, ledger: u64, amount: u64) -> bool
+        ensures taken { result ≡ true → GainsAt (due_to self.old) ledger amount (due_to self.new) }
+        ensures full { result ≡ false → self.new ≡ self.old }
+        ensures another { result ≡ false → IsOfAnother self.old ledger }
+    {
+        if self.amount != 0 && self.ledger != ledger {
+            return false;
+        }
+        self.ledger = ledger;
+        self.amount = self.amount.wrapping_add(amount);
+        true
+    }
+}
