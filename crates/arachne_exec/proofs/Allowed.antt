@@ -245,12 +245,12 @@ module _ (table : TableId) (key n : ℕ) (laid : IsLaidOut table key n) (exec : 
   )
 
   module _ (worker mask : ℕ) where
-    pub rise-asks : mask ≡ others worker → Asks 0 (λ z. bit_and z mask) (Rises (step table.slots 0 mask 0 none) me)
-    rise-asks o = (
+    pub rise-asks : view.known.worker ≡ worker + 1 → mask ≡ others worker → Asks 0 (λ z. bit_and z mask) (Rises (step table.slots 0 mask 0 none) me)
+    rise-asks is_worker o = (
       at-home,
       omega (arith, laid.words),
       subst (λ (z : ℕ × Mine). Allows (IsLawful key) table.slots id z.1 0 (λ a. bit_and a z.0) (Rises (step table.slots 0 z.0 0 none) z.1)) (λ i. (sym o i, sym whole i))
-          (rises key table.slots id me.0.weight me.0.known me.1 worker),
+          (rises key table.slots id me.0.weight me.0.known me.1 worker (ap (λ (k : Notes). k.worker) known-is ∙ is_worker)),
     )
 
     pub rest-asks : view.known.worker ≡ worker + 1 → mask ≡ 2 ^ worker → Asks 0 (λ z. bit_or z mask) (Rests (step table.slots 0 mask 0 none) me)

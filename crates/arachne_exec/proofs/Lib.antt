@@ -6,6 +6,7 @@ mod Keeping
 mod Balancing
 mod Hearing
 mod Debts
+mod Rousing
 mod KeepsShown
 mod Sleeping
 mod Opening

@@ -12,7 +12,7 @@ use Rattle.arachne_weights.specs.Tokens.{held, learns}
 use Rattle.arachne_exec.specs.declared.view.Notes.{Notes}
 use Rattle.arachne_exec.specs.Layout.{idle_at, numbers_at, summary_at, ready_at, worker_of, others, in_word}
 use Rattle.arachne_exec.specs.Board.{is_idle, Board, IsShown, WakesSleepers, IsLawful}
-use Rattle.arachne_exec.specs.Changes.{noted, rousing, unshowing, owing, having_seen, working}
+use Rattle.arachne_exec.specs.Changes.{noted, rousing, unshowing, owing, having_seen, lying, rising, working}
 use Rattle.arachne_exec.specs.Steps.{Mine, knowing, FindsShown, Shows, Hides, LooksAgain, LooksIdle, Unparks, Rises, Rests, LooksNext, Registers, Leaves}
 use Rattle.arachne_exec.proofs.Bits.{one-same, one-apart, same_others, clear_same, clear_other, clear_le, unset, set_same, set_other, not_one, elsewhere, here}
 use Rattle.arachne_exec.proofs.Keeping.{keeps-aside, keeps-summary, keeps-view}
@@ -238,6 +238,7 @@ module _ (shards slots id w : ℕ) where
           tt,
           unpark-law s h mine (rousing true (worker_of d) (owing 0 k)) refl refl refl refl refl refl refl refl refl _ refl,
           λ c e. let is : d ≡ c = omega (arith, debt, e) in (
+            ap (λ x. others (worker_of x)) is,
             λ _. ap (λ x. knowing m (rousing true (worker_of x) (owing 0 k))) is,
             λ none_there. absurd (clash n (worker_of d) there (subst (λ x. bit_at n (worker_of x) ≡ 0) (sym is) none_there)),
           ),
@@ -247,33 +248,37 @@ module _ (shards slots id w : ℕ) where
           keeps,
           tt,
           unpark-law s h mine (owing 0 k) refl refl refl refl refl refl refl refl refl _ refl,
-          λ c e. let is : d ≡ c = omega (arith, debt, e) in ((λ there. absurd (clash n (worker_of d) (subst (λ x. bit_at n (worker_of x) ≡ 1) (sym is) there) clear)), λ _. refl),
+          λ c e. let is : d ≡ c = omega (arith, debt, e) in (
+            ap (λ x. others (worker_of x)) is,
+            λ there. absurd (clash n (worker_of d) (subst (λ x. bit_at n (worker_of x) ≡ 1) (sym is) there) clear),
+            λ _. refl,
+          ),
         ))
 
   module _ (k : Notes) (xs : List (ℕ × ℕ)) (j : ℕ) where
     -- the worker's own idle bit is cleared
-    pub rises : Allows (IsLawful shards) slots id (held w k, xs) idle_at (λ n. bit_and n (others j)) (Rises (step slots idle_at (others j) 0 none) (held w k, xs))
-    rises s h _ mine small =
-        let n : ℕ = get_or s.words idle_at 0 in let now : ℕ = bit_and n (others j) in
+    pub rises : k.worker ≡ j + 1 → Allows (IsLawful shards) slots id (held w k, xs) idle_at (λ n. bit_and n (others j)) (Rises (step slots idle_at (others j) 0 none) (held w k, xs))
+    rises is_worker s h _ mine small =
+        let n : ℕ = get_or s.words idle_at 0 in let now : ℕ = bit_and n (others j) in let l : Notes = rising j n k in let m : Mine = (held w k, xs) in
         let there : get_or (set s.words idle_at now) idle_at 0 ≡ now = get_or-set_same s.words idle_at now 0 (idle-room s h) in (
-          held w k,
+          held w l,
           keeps,
           tt,
-          aside-law s h k k mine refl refl refl refl refl idle_at now (omega arith) (idle-shows s h k k mine refl now)
-              (keeps-sleep s h.sleep id (held w k) (held w k) mine (set s.words idle_at now) s.homes
-              (λ i low. (λ z. bit_at (get_or-set_other s.words idle_at numbers_at now 0 (λ e. omega (arith, e)) z) i + seats-same s h.sleep id (held w k) (held w k) mine refl i z) ∙ h.sleep.single i low)
+          aside-law s h k l mine refl refl refl refl refl idle_at now (omega arith) (idle-shows s h k l mine refl now)
+              (keeps-sleep s h.sleep id (held w k) (held w l) mine (set s.words idle_at now) s.homes
+              (λ i low. (λ z. bit_at (get_or-set_other s.words idle_at numbers_at now 0 (λ e. omega (arith, e)) z) i + seats-same s h.sleep id (held w k) (held w l) mine refl i z) ∙ h.sleep.single i low)
               (h.sleep.near id (held w k) mine)
               (λ i e. inl (was_set n j i (ap (λ x. bit_at x i) (sym there) ∙ e)))
-              (λ c e some_shown. let same = with-same (λ z. z.owes) s.views id (held w k) (held w k) mine refl c in
+              (λ c e some_shown. let same = with-same (λ z. z.owes) s.views id (held w k) (held w l) mine refl c in
               let old = get_or-set_other s.words idle_at (summary_at c) now 0 (λ f. omega (arith, f)) in ((λ o. omega (arith, o, same)), inl (omega (arith, some_shown, old))))
-              (λ i c is below. inl (is, below))),
-          refl,
+              (λ i c is below. absurd (omega (arith, below)))),
+          ((λ e. omega (arith, e, is_worker)), λ c e. let is : j ≡ c = omega (arith, is_worker, e) in (ap others is, ap (λ x. knowing m (rising x n k)) is)),
         )
 
     -- the worker's idle bit is set
     pub rests : k.worker ≡ j + 1 → Allows (IsLawful shards) slots id (held w k, xs) idle_at (λ n. bit_or n (2 ^ j)) (Rests (step slots idle_at (2 ^ j) 0 none) (held w k, xs))
     rests is_worker s h _ mine small =
-        let n : ℕ = get_or s.words idle_at 0 in let now : ℕ = bit_or n (2 ^ j) in let l : Notes = having_seen 0 k in
+        let n : ℕ = get_or s.words idle_at 0 in let now : ℕ = bit_or n (2 ^ j) in let l : Notes = lying j n k in let m : Mine = (held w k, xs) in
         let there : get_or (set s.words idle_at now) idle_at 0 ≡ now = get_or-set_same s.words idle_at now 0 (idle-room s h) in (
           held w l,
           keeps,
@@ -288,7 +293,7 @@ module _ (shards slots id w : ℕ) where
               (λ c e some_shown. let same = with-same (λ z. z.owes) s.views id (held w k) (held w l) mine refl c in
               let old = get_or-set_other s.words idle_at (summary_at c) now 0 (λ f. omega (arith, f)) in ((λ o. omega (arith, o, same)), inl (omega (arith, some_shown, old))))
               (λ i c is below. absurd (omega (arith, below)))),
-          refl,
+          ((λ e. omega (arith, e, is_worker)), λ c e. let is : j ≡ c = omega (arith, is_worker, e) in (ap (λ x. 2 ^ x) is, ap (λ x. knowing m (lying x n k)) is)),
         )
 
     -- the next one of the worker's summary words is looked at

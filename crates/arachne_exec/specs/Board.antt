@@ -18,7 +18,7 @@ Board = State ℕ (Token Notes)
 
 -- a seat that has done nothing
 abbrev pub blank : Notes
-blank = record { hand = []; spawned = []; ended = []; woken = []; heard = []; roused = []; deeds = []; unshown = 0; owes = 0; worker = 0; seen = 0 }
+blank = record { hand = []; spawned = []; ended = []; woken = []; heard = []; lain = []; risen = []; roused = []; deeds = []; unshown = 0; owes = 0; worker = 0; seen = 0 }
 
 -- the first seat has the whole weight
 abbrev pub first_view : Token Notes

@@ -24,7 +24,7 @@ use Rattle.arachne_exec.specs.declared.turns.TakenJob.{TakenJob}
 use Rattle.arachne_exec.specs.Seats.{CallView}
 use Rattle.arachne_exec.specs.Turns.{IsFirstFrom}
 use Rattle.arachne_exec.specs.Layout.{summary_at, ready_at, free_at, mark_at, places_in_word, PicksLowest, worker_of, last_generation, name_of}
-use Rattle.arachne_exec.specs.Changes.{older, gained, gaining, unblocking, readying, blocking, spawning, beginning, ending, marking, hearing, noted, rousing, having_seen}
+use Rattle.arachne_exec.specs.Changes.{older, gained, gaining, unblocking, readying, blocking, spawning, beginning, ending, marking, hearing, noted, rousing, often, having_seen, lying, rising}
 
 -- the worker of a place
 abbrev pub worker_at : ℕ → ℕ
@@ -170,31 +170,33 @@ HasWokenHere here.Already places place generation k after = IsAlready place gene
 HasWokenHere here.Gone places place generation k after = IsGone places place generation k after
 HasWokenHere here.Lost places place generation k after = IsLost place generation k after
 
--- it has looked at words, and told workers to be unparked
-abbrev pub HasLooked : Notes → Notes → Type 0
-HasLooked k after = after ≡ record k { deeds = after.deeds; roused = after.roused }
+-- it has looked at words, and cleared the idle bit of that worker so often to wake it, and of no other
+abbrev pub HasLooked : ℕ → Notes → Notes → Type 0
+HasLooked worker k after = (n : ℕ) × (after ≡ record k { deeds = after.deeds; roused = often n worker k.roused })
 
 -- it has looked, and then taken a job of a block of that shard, one of so many
 abbrev pub HasTakenInShard : HeldJob → (shards shard : ℕ) → Notes → Notes → Type 0
-HasTakenInShard job shards shard k after = (block : ℕ) × (looked : Notes) × (block < 64 * shards) × (block / 64 ≡ shard) × HasLooked k looked × HasTaken job block looked after
+HasTakenInShard job shards shard k after = (block : ℕ) × (looked : Notes) × (block < 64 * shards) × (block / 64 ≡ shard) × HasLooked (worker_of shard) k looked × HasTaken job block looked after
 
--- since its idle bit was set, the worker has found each of its summary words empty
+-- since it has set its idle bit, which it hasn't cleared again, the worker has found each of its summary words empty
 abbrev pub HasSeenAll : ℕ → Notes → Type 0
 HasSeenAll shards k = (worker j : ℕ) → k.worker ≡ worker + 1 → worker + 64 * j < shards → j < k.seen
 
--- it has set its idle bit, and then found all of its summary words empty
-abbrev pub HasFoundNone : ℕ → Notes → Notes → Type 0
-HasFoundNone shards k after = (seen : ℕ) × (after ≡ having_seen seen k) × HasSeenAll shards after
+-- it has set its idle bit, then found all of its summary words empty, and done nothing else
+abbrev pub HasFoundNone : ℕ → ℕ → Notes → Notes → Type 0
+HasFoundNone shards worker k after = (found seen : ℕ) × (after ≡ having_seen seen (lying worker found k)) × HasSeenAll shards after
 
--- it has set its idle bit, and then found one of its summary words not empty
+-- it has set its idle bit, then found one of its summary words not empty, and cleared the bit again
 abbrev pub HasFoundSome : ℕ → ℕ → Notes → Notes → Type 0
-HasFoundSome shards worker k after = (seen shard shown : ℕ) × (shard < shards) × (worker_of shard ≡ worker) × (shown ≢ 0) × (after ≡ noted (summary_at shard) shown (having_seen seen k))
+HasFoundSome shards worker k after = (found shard shown then : ℕ) × (shard < shards) × (worker_of shard ≡ worker) × (shown ≢ 0)
+    × (after ≡ rising worker then (noted (summary_at shard) shown (lying worker found k)))
 
--- Run: a job of a block of the worker's. Park: all of its summary words were found empty. Again: one wasn't
+-- Before each answer it may have cleared the worker's own idle bit to wake it, and that of no other. Run: a job of a
+-- block of the worker's. Park: it has set its idle bit, and then found all of its summary words empty. Again: one wasn't
 abbrev pub HasAnswered : Next → ℕ → ℕ → Notes → Notes → Type 0
-HasAnswered (next.Run job) shards worker k after = (block : ℕ) × (looked : Notes) × (block < 64 * shards) × (worker_of (block / 64) ≡ worker) × HasLooked k looked × HasTaken job block looked after
-HasAnswered next.Park shards worker k after = (looked : Notes) × HasLooked k looked × HasFoundNone shards looked after
-HasAnswered next.Again shards worker k after = (looked : Notes) × HasLooked k looked × HasFoundSome shards worker looked after
+HasAnswered (next.Run job) shards worker k after = (block : ℕ) × (looked : Notes) × (block < 64 * shards) × (worker_of (block / 64) ≡ worker) × HasLooked worker k looked × HasTaken job block looked after
+HasAnswered next.Park shards worker k after = (looked : Notes) × HasLooked worker k looked × HasFoundNone shards worker looked after
+HasAnswered next.Again shards worker k after = (looked : Notes) × HasLooked worker k looked × HasFoundSome shards worker looked after
 
 -- what a wake has found, within a call
 abbrev pub IsFound : RouseResult → ℕ → ℕ → ℕ → CallView → CallView → Type 0

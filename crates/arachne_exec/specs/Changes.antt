@@ -1,10 +1,12 @@
 -- What a step adds to what a seat knows.
 use Rattle.std.specs.Prelude.{ℕ, zero, suc, Bool, true, false, List, [], ◌∷◌, ◌++◌}
+use Rattle.std.specs.Int.{bit_at}
 use Rattle.arachne_weights.specs.declared.token.Token.{Token}
 use Rattle.arachne_weights.specs.Tokens.{held}
 use Rattle.arachne_weights.specs.Weight.{first_part, second_part, joined}
 use Rattle.arachne_exec.specs.declared.view.Notes.{Notes}
 use Rattle.arachne_exec.specs.declared.view.Deed.TheVariants.{Looked, Readied, Blocked, Unblocked}
+use Rattle.arachne_exec.specs.Layout.{idle_at}
 use Rattle.arachne_exec.specs.Board.{blank}
 
 abbrev pub older : List (ℕ × ℕ) → List (ℕ × ℕ)
@@ -73,6 +75,29 @@ roused_more true worker roused = worker ∷ roused
 abbrev pub rousing : Bool → ℕ → Notes → Notes
 rousing told worker k = record k { roused = roused_more told worker k.roused }
 
+-- that worker's idle bit was found set so often, and cleared to wake it
+abbrev pub often : ℕ → ℕ → List ℕ → List ℕ
+often zero worker roused = roused
+often (suc n) worker roused = worker ∷ often n worker roused
+
+-- a worker has found its idle bit so (0: clear, 1: set), and set it: it lies down where it was clear
+abbrev pub lain_more : ℕ → ℕ → List ℕ → List ℕ
+lain_more zero worker lain = worker ∷ lain
+lain_more (suc n) worker lain = lain
+
+-- the idle word was found to be that number, and the worker has set its bit there, and seen none of its summary words
+-- since
+abbrev pub lying : ℕ → ℕ → Notes → Notes
+lying worker found k = record k { lain = lain_more (bit_at found worker) worker k.lain; deeds = Looked idle_at found ∷ k.deeds; seen = 0 }
+
+-- a worker has found its idle bit so (0: clear, 1: set), and cleared it: it rises where it was set
+abbrev pub risen_more : ℕ → ℕ → List ℕ → List ℕ
+risen_more zero worker risen = risen
+risen_more (suc n) worker risen = worker ∷ risen
+
+abbrev pub rising : ℕ → ℕ → Notes → Notes
+rising worker found k = record k { risen = risen_more (bit_at found worker) worker k.risen; deeds = Looked idle_at found ∷ k.deeds; seen = 0 }
+
 abbrev pub unshowing : ℕ → Notes → Notes
 unshowing block k = record k { unshown = block }
 
@@ -104,6 +129,8 @@ together k l = record k {
   ended = k.ended ++ l.ended;
   woken = k.woken ++ l.woken;
   heard = k.heard ++ l.heard;
+  lain = k.lain ++ l.lain;
+  risen = k.risen ++ l.risen;
   roused = k.roused ++ l.roused;
   deeds = k.deeds ++ l.deeds;
 }

@@ -7,7 +7,7 @@ use Rattle.arachne_weights.specs.declared.token.Token.{Token}
 use Rattle.arachne_weights.specs.Tokens.{held}
 use Rattle.arachne_exec.specs.declared.view.Notes.{Notes}
 use Rattle.arachne_exec.specs.Layout.{summary_at, ready_at, mark_at, retired, worker_of, others, places_in_word}
-use Rattle.arachne_exec.specs.Changes.{newest_job, gained, gaining, unblocking, readying, blocking, spawning, beginning, ending, marking, hearing, noted, rousing, unshowing, owing, having_seen, working}
+use Rattle.arachne_exec.specs.Changes.{newest_job, gained, gaining, unblocking, readying, blocking, spawning, beginning, ending, marking, hearing, noted, rousing, unshowing, owing, having_seen, lying, rising, working}
 
 -- a view, and the slots that are out with the seat: each a place with what is in it
 abbrev pub Mine : Type 0
@@ -128,19 +128,23 @@ abbrev pub LooksIdle : Step ℕ → Mine → ℕ → Mine → Type 0
 LooksIdle step before found after = (shard : ℕ) → before.0.known.owes ≡ shard + 1
     → (bit_at found (worker_of shard) ≡ 1 → after ≡ before) × (bit_at found (worker_of shard) ≡ 0 → after ≡ knowing before (owing 0 before.0.known))
 
--- the worker's idle bit is cleared: where it was set, the worker is to be unparked
+-- the worker's idle bit is cleared, and no other: where it was set, the worker is to be unparked
 abbrev pub Unparks : Step ℕ → Mine → ℕ → Mine → Type 0
 Unparks step before found after = (shard : ℕ) → before.0.known.owes ≡ shard + 1
-    → (bit_at found (worker_of shard) ≡ 1 → after ≡ knowing before (rousing true (worker_of shard) (owing 0 before.0.known)))
+    → (step.first ≡ others (worker_of shard))
+    × (bit_at found (worker_of shard) ≡ 1 → after ≡ knowing before (rousing true (worker_of shard) (owing 0 before.0.known)))
     × (bit_at found (worker_of shard) ≡ 0 → after ≡ knowing before (owing 0 before.0.known))
 
--- a worker clears its own idle bit
+-- a worker clears its own idle bit, and no other: where it was set, the worker has risen
 abbrev pub Rises : Step ℕ → Mine → ℕ → Mine → Type 0
-Rises step before found after = after ≡ before
+Rises step before found after = (before.0.known.worker ≢ 0)
+    × ((worker : ℕ) → before.0.known.worker ≡ worker + 1 → (step.first ≡ others worker) × (after ≡ knowing before (rising worker found before.0.known)))
 
--- a worker sets its idle bit, and has looked at none of its summary words since
+-- a worker sets its own idle bit, and no other, and has looked at none of its summary words since: where it was clear,
+-- the worker has lain down
 abbrev pub Rests : Step ℕ → Mine → ℕ → Mine → Type 0
-Rests step before found after = after ≡ knowing before (having_seen 0 before.0.known)
+Rests step before found after = (before.0.known.worker ≢ 0)
+    × ((worker : ℕ) → before.0.known.worker ≡ worker + 1 → (step.first ≡ 2 ^ worker) × (after ≡ knowing before (lying worker found before.0.known)))
 
 -- the next one of the worker's summary words: where it is empty, one more was seen
 abbrev pub LooksNext : Step ℕ → Mine → ℕ → Mine → Type 0

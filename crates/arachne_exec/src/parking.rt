@@ -1,8 +1,8 @@
 //! What a worker does next, and when it may park.
 ghost use Rattle.std.specs.Prelude.{◌≡◌, ℕ, ◌+◌, ◌*◌, ◌<◌, IsTrue, IsFalse, IfSome, IfNone, OnOk, OnErr};
 ghost use Rattle.std.specs.Int.{bit_at};
-ghost use Rattle.arachne_exec.specs.Layout.{numbers_at};
-ghost use Rattle.arachne_exec.specs.Changes.{noted, working};
+ghost use Rattle.arachne_exec.specs.Layout.{numbers_at, worker_of};
+ghost use Rattle.arachne_exec.specs.Changes.{noted, rising, working};
 ghost use Rattle.arachne_exec.specs.Calls.{HasAnswered, HasFoundNone, HasFoundSome, HasLooked, HasTakenInShard, HandsNext, HandsOver, KeepsHand};
 
 use crate::answers::{HeldJob, Next};
@@ -51,7 +51,7 @@ impl Executor {
     pub fn wake_up(&self, seat: &mut ExecSeat, worker: usize) -> Risen
         requires own { seat.old.table ≡ self.now.table }
         requires worker { (seat.old.known.worker ≡ worker + 1) × (worker < 64) }
-        ensures { seat.new ≡ seat.old }
+        ensures { (found : ℕ) × (seat.new ≡ record seat.old { known = rising worker found seat.old.known }) }
     {
         self.clear_idle(&mut seat.at, worker)
     }
@@ -61,7 +61,7 @@ impl Executor {
         requires own { seat.old.table ≡ self.now.table }
         requires worker { (seat.old.known.worker ≡ worker + 1) × (worker < 64) }
         ensures seat { seat.new ≡ record seat.old { known = seat.new.known } }
-        ensures parks { OnOk result (HasFoundNone self.now.shards seat.old.known seat.new.known) }
+        ensures parks { OnOk result (HasFoundNone self.now.shards worker seat.old.known seat.new.known) }
         ensures stays { OnErr result (HasFoundSome self.now.shards worker seat.old.known seat.new.known) }
     {
         self.few();
@@ -79,7 +79,7 @@ impl Executor {
         requires own { seat.old.table ≡ self.now.table }
         requires worker { (seat.old.known.worker ≡ worker + 1) × (worker < 64) }
         ensures seat { seat.new ≡ record seat.old { known = seat.new.known } }
-        ensures parks { IsTrue result → HasFoundNone self.now.shards seat.old.known seat.new.known }
+        ensures parks { IsTrue result → HasFoundNone self.now.shards worker seat.old.known seat.new.known }
         ensures stays { IsFalse result → HasFoundSome self.now.shards worker seat.old.known seat.new.known }
     {
         self.lie_down(&mut seat.at, worker).is_ok()
@@ -92,7 +92,7 @@ impl Executor {
         requires shard { shard.shard < self.now.shards }
         ensures seat { seat.new ≡ record seat.old { known = seat.new.known } }
         ensures took { IfSome result (λ job. HasTakenInShard job self.now.shards shard.shard seat.old.known seat.new.known) }
-        ensures none { IfNone result (HasLooked seat.old.known seat.new.known) }
+        ensures none { IfNone result (HasLooked (worker_of shard.shard) seat.old.known seat.new.known) }
         ensures hand { IfSome result (λ job. HandsOver (4096 * self.now.shards) job seat.old.known seat.new.known) }
         ensures same { IfNone result (KeepsHand seat.old.known seat.new.known) }
     {

@@ -2,7 +2,7 @@
 ghost use Rattle.std.specs.Prelude.{◌≡◌, ◌≢◌, ℕ, ◌+◌, ◌*◌, ◌/◌, ◌%◌, ◌<◌, IsTrue, IsFalse};
 ghost use Rattle.std.specs.Int.{bit_at};
 ghost use Rattle.arachne_exec.specs.Layout.{numbers_at, summary_at, worker_of};
-ghost use Rattle.arachne_exec.specs.Changes.{noted, rousing, unshowing, owing, having_seen, working};
+ghost use Rattle.arachne_exec.specs.Changes.{noted, rousing, unshowing, owing, having_seen, lying, rising, working};
 
 use crate::executor::Executor;
 use crate::layout::{IDLE, NUMBERS, all_but, bit, ready_word, summary_word};
@@ -121,7 +121,7 @@ impl Executor {
     pub(crate) fn set_idle(&self, seat: &mut SeatInCall, worker: usize)
         requires own { seat.old.table ≡ self.now.table }
         requires worker { (seat.old.known.worker ≡ worker + 1) × (worker < 64) }
-        ensures seat { seat.new ≡ record seat.old { known = having_seen 0 seat.old.known } }
+        ensures seat { (found : ℕ) × (seat.new ≡ record seat.old { known = lying worker found seat.old.known }) }
     {
         let _ = self.shards;
         let shared = &self.table.shared;
@@ -133,7 +133,7 @@ impl Executor {
         requires own { seat.old.table ≡ self.now.table }
         requires worker { (seat.old.known.worker ≡ worker + 1) × (worker < 64) }
         ensures risen { result.worker ≡ worker }
-        ensures seat { seat.new ≡ seat.old }
+        ensures seat { (found : ℕ) × (seat.new ≡ record seat.old { known = rising worker found seat.old.known }) }
     {
         let _ = self.shards;
         let shared = &self.table.shared;

@@ -22,7 +22,10 @@ pub struct Notes {
     /// The places whose jobs it has marked as woken, and those where it has used up such a mark.
     pub woken: LinkedList<u64>,
     pub heard: LinkedList<u64>,
-    /// The workers whose idle bits it has found set, and cleared.
+    /// The workers that it was when it set their idle bits, which were clear, and when it cleared them, which were set.
+    pub lain: LinkedList<u64>,
+    pub risen: LinkedList<u64>,
+    /// The workers whose idle bits it has found set, and cleared to wake them.
     pub roused: LinkedList<u64>,
     /// What it has done.
     pub deeds: LinkedList<Deed>,
@@ -32,7 +35,8 @@ pub struct Notes {
     pub owes: u64,
     /// One more than the number of the worker that it is. 0: none.
     pub worker: u64,
-    /// How many of the worker's summary words, from the first on, it has found empty since its idle bit was set.
+    /// How many of the worker's summary words, from the first on, it has found empty since it has set its idle bit. 0
+    /// where it has cleared the bit since.
     pub seen: u64,
 }
 

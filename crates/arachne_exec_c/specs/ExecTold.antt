@@ -19,7 +19,7 @@ use Rattle.arachne_exec.specs.declared.answers.WokenHere.{WokenHere}
 use Rattle.arachne_exec.specs.declared.answers.WokenHere.TheVariants as here
 use Rattle.arachne_exec.specs.Calls.{worker_at, HasSpawned, HasSpawnedHere, HasTaken, HasTakenNone, HasTakenMany, HasStarted, HasRested, HasFinished, HasWoken, HasWokenHere, HasAnswered, HasFoundNone, HasFoundSome}
 use Rattle.arachne_exec.specs.Layout.{numbers_at}
-use Rattle.arachne_exec.specs.Changes.{readying, noted, rousing, working}
+use Rattle.arachne_exec.specs.Changes.{readying, noted, rousing, rising, working}
 use Rattle.arachne_exec_c.specs.Codes as code
 use Rattle.arachne_exec_c.specs.Executing.{Exec, now, holding, HasBlock, IsEmptyHanded, IsWorker, IsNoWorker}
 use Rattle.arachne_exec_c.specs.declared.exec_told.ArachneExecTold.{ArachneExecTold}
@@ -169,14 +169,19 @@ IsToldOf Does refusal None new told = (new ≡ None) × (told ≡ refusal)
 IsToldOf Does refusal (Some old) new told = MatchOption old.hand ((new ≡ Some old) × (told ≡ refusal))
     (λ place. (after : Exec) × (new ≡ Some after) × Does place old after told)
 
--- Park: all of the worker's summary words were found empty since its idle bit was set. Again: one wasn't
+-- Park: the worker has set its idle bit, and then found all of its summary words empty. Again: one wasn't, and the bit was
+-- cleared again
 abbrev pub ParksOrNot : Exec → Exec → ℕ → Type 0
 ParksOrNot old new told = (new ≡ now old new.seat.known old.hand)
-    × (((told ≡ code.park) × HasFoundNone old.executor.shards old.seat.known new.seat.known)
+    × (((told ≡ code.park) × ((worker : ℕ) → old.worker ≡ worker + 1 → HasFoundNone old.executor.shards worker old.seat.known new.seat.known))
     ⊎ ((told ≡ code.again) × ((worker : ℕ) → old.worker ≡ worker + 1 → HasFoundSome old.executor.shards worker old.seat.known new.seat.known)))
 
+-- the worker has cleared its idle bit
+abbrev pub HasRisen : Exec → Exec → Type 0
+HasRisen old new = (new ≡ now old new.seat.known old.hand) × ((worker : ℕ) → old.worker ≡ worker + 1 → (found : ℕ) × (new.seat.known ≡ rising worker found old.seat.known))
+
 abbrev pub WakesUp : Exec → Exec → ℕ → Type 0
-WakesUp old new told = (new ≡ old) × (told ≡ code.done)
+WakesUp old new told = HasRisen old new × (told ≡ code.done)
 
 abbrev pub Finishes : ℕ → Exec → Exec → ℕ → Type 0
 Finishes place old new told = Ends place old new × (told ≡ code.done)

@@ -3,6 +3,7 @@ ghost use Rattle.std.specs.Prelude.{◌≡◌, ◌↔◌, ℕ, ◌+◌, ◌*◌,
 ghost use Rattle.std.specs.declared.option.Option.TheVariants.{None, Some};
 ghost use Rattle.std.specs.Prelude.{◌⊎◌, vec_len};
 ghost use Rattle.arachne_weights.specs.Weight.{whole};
+ghost use Rattle.arachne_exec.specs.Changes.{rising};
 ghost use Rattle.arachne_exec.specs.Calls.{HasFoundNone, HasFoundSome};
 ghost use Rattle.arachne_exec.specs.Layout.{summary_at, ready_at};
 ghost use Rattle.arachne_exec_c.specs.Executing.{Exec, HasBlock, HasShard, IsEmptyHanded, IsIdle, IsNew, IsNoWorker, IsWorker, now, lowest_place, without_lowest, first_of, second_of, joined_of};
@@ -188,7 +189,7 @@ impl Executing {
     pub(crate) fn may_park(&mut self) -> bool
         requires { IsWorker self.old }
         ensures known { self.new ≡ now self.old self.new.seat.known self.old.hand }
-        ensures parks { IsTrue result → HasFoundNone self.old.executor.shards self.old.seat.known self.new.seat.known }
+        ensures parks { IsTrue result → (worker : ℕ) → self.old.worker ≡ worker + 1 → HasFoundNone self.old.executor.shards worker self.old.seat.known self.new.seat.known }
         ensures stays { IsFalse result → (worker : ℕ) → self.old.worker ≡ worker + 1 → HasFoundSome self.old.executor.shards worker self.old.seat.known self.new.seat.known }
     {
         self.executor.may_park(&mut self.seat, self.worker - 1)
@@ -196,7 +197,8 @@ impl Executing {
 
     pub(crate) fn wake_up(&mut self)
         requires { IsWorker self.old }
-        ensures { self.new ≡ self.old }
+        ensures known { self.new ≡ now self.old self.new.seat.known self.old.hand }
+        ensures risen { (worker : ℕ) → self.old.worker ≡ worker + 1 → (found : ℕ) × (self.new.seat.known ≡ rising worker found self.old.seat.known) }
     {
         self.executor.wake_up(&mut self.seat, self.worker - 1);
     }

@@ -1,11 +1,13 @@
 use Rattle.std.proofs.Common.{◌≡◌, ℕ, ◌+◌, ◌*◌, refl, ap, ◌∙◌, arith}
 use Rattle.arachne_exec.specs.Layout.{summary_at}
-use Rattle.arachne_exec.specs.Changes.{noted}
+use Rattle.arachne_exec.specs.Changes.{noted, rising}
 use Rattle.arachne_exec.proofs.executor.Executor.lie_down.Goals as goal
 
 pub returns-clause-parks : goal.returns-clause-parks
 returns-clause-parks c =
-    let known = ap (λ v. v.known) c.loop-next.invariant.seen in (
+    let lain = c.loop-next.invariant.seen in
+    let known = ap (λ v. v.known) lain.1 in (
+      lain.0,
       c.loop-next.next,
       known,
       λ w j is inside.
@@ -18,13 +20,17 @@ returns-clause-parks c =
 pub returns-then-not-sees_none-clause-stays : goal.returns-then-not-sees_none-clause-stays
 returns-then-not-sees_none-clause-stays c =
     let next : ℕ = c.loop-next.next in let shard : ℕ = c.args.worker + 64 * next in
-    let found = c.if-not-sees_none.ensures.full refl in
+    let lain = c.loop-next.invariant.seen in
+    let shown = c.if-not-sees_none.ensures.full refl in
+    let risen = c.clear_idle.ensures.seat in
     let inside = c.shards_of-next-end.ensures.none next c.loop-next-test.true in (
-      next,
+      lain.0,
       shard,
-      found.0,
+      shown.0,
+      risen.0,
       omega (arith, inside, ap (λ e. e.shards) c.self.view_is),
       omega (arith, c.requires.worker.1),
-      found.1,
-      ap (λ v. v.known) c.clear_idle.ensures.seat ∙ ap (λ v. v.known) found.2 ∙ ap (λ v. noted (summary_at shard) found.0 v.known) c.loop-next.invariant.seen,
+      shown.1,
+      ap (λ v. v.known) risen.1 ∙ ap (λ v. rising c.args.worker risen.0 v.known) shown.2
+          ∙ ap (λ v. rising c.args.worker risen.0 (noted (summary_at shard) shown.0 v.known)) lain.1,
     )

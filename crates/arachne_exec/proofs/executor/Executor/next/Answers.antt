@@ -1,5 +1,11 @@
 use Rattle.std.proofs.Common.{◌≡◌, ◌∙◌, ℕ, ◌+◌, ◌*◌, ◌<◌, refl, ap, sym, subst, arith, rules}
+use Rattle.arachne_exec.specs.declared.view.Notes.{Notes}
+use Rattle.arachne_exec.specs.declared.answers.HeldJob.{HeldJob}
+use Rattle.arachne_exec.specs.declared.answers.Next.TheVariants as next
+use Rattle.arachne_exec.specs.Layout.{worker_of}
+use Rattle.arachne_exec.specs.Calls.{HasLooked, HasAnswered}
 use Rattle.arachne_exec.proofs.executor.Executor.next.Goals.{After-of-round}
+use Rattle.arachne_exec.proofs.Rousing.{looked-none, looked-on, answered-on, took-on}
 use Rattle.arachne_exec.proofs.executor.Executor.next.Goals as goal
 
 -- the shards that were counted are the executor's
@@ -11,7 +17,7 @@ loop-shard-init c =
     let same = shards (goal.at.loop-shard-init c).After-of-round in
     record {
       seat = refl;
-      looked = refl;
+      looked = looked-none c.args.worker c.args.seat.now.known;
       hand = (refl, refl);
       worker = c.of-round.ensures.worker;
       all = λ j below. subst (λ (n : ℕ). j < n) (sym c.of-round.ensures.all.0)
@@ -30,9 +36,11 @@ take_in_shard-requires-clause-shard c =
 pub loop-shard-preserved : goal.loop-shard-preserved
 loop-shard-preserved c =
     let count = c.in-Some.ensures.same.1 in
+    let is : worker_of c.in-Some.shard.shard ≡ c.args.worker = omega (arith, c.in-Some.ensures.inside.3, c.loop-shard.invariant.worker, c.requires.worker.1) in
     record {
       seat = search rules;
-      looked = search rules;
+      looked = looked-on c.args.worker c.args.seat.now.known c.loop-shard.seat.known c.loop-shard.invariant.looked c.take_in_shard.new.seat.known
+          (subst (λ (w : ℕ). HasLooked w c.loop-shard.seat.known c.take_in_shard.new.seat.known) is c.in_default-take_in_shard.ensures.none);
       hand = search rules;
       worker = c.in-Some.ensures.same.0 ∙ c.loop-shard.invariant.worker;
       all = λ j below. subst (λ (n : ℕ). j < n) (sym count) (c.loop-shard.invariant.all j below);
@@ -42,3 +50,14 @@ loop-shard-preserved c =
 pub end_round-requires-clause-all : goal.end_round-requires-clause-all
 end_round-requires-clause-all c = λ j below.
     subst (λ (n : ℕ). j < n) (sym c.next.ensures.same.1) (c.loop-shard.invariant.all j below)
+
+pub returns-in-Some-take_in_shard-clause-answer : goal.returns-in-Some-take_in_shard-clause-answer
+returns-in-Some-take_in_shard-clause-answer c =
+    let k : Notes = c.args.seat.now.known in let after : Notes = c.take_in_shard.new.seat.known in
+    let is : worker_of c.in-Some.shard.shard ≡ c.args.worker = omega (arith, c.in-Some.ensures.inside.3, c.loop-shard.invariant.worker, c.requires.worker.1) in
+    subst (λ (job : HeldJob). HasAnswered (next.Run job) c.args.self.now.shards c.args.worker k after) (sym c.found.ensures)
+    (took-on c.args.worker k c.loop-shard.seat.known c.loop-shard.invariant.looked c.args.self.now.shards c.in-Some.shard.shard after c.in-Some-take_in_shard.job is c.in-Some-take_in_shard.ensures.took)
+
+pub returns-clause-answer : goal.returns-clause-answer
+returns-clause-answer c =
+    answered-on c.args.worker c.args.seat.now.known c.loop-shard.seat.known c.loop-shard.invariant.looked c.args.self.now.shards c.end_round.new.seat.known c.end_round.result c.end_round.ensures.answer

@@ -5,7 +5,7 @@ use Rattle.arachne_exec.proofs.executor.Executor.next.Given as goal
 abbrev pub invariant-loop-shard : goal.invariant-loop-shard
 invariant-loop-shard l = record {
   seat : l.seat ≡ record l.fn.seat { known = l.seat.known };
-  looked : HasLooked l.fn.seat.known l.seat.known;
+  looked : HasLooked l.worker l.fn.seat.known l.seat.known;
   hand : KeepsHand l.fn.seat.known l.seat.known;
   worker : l.round.worker ≡ l.worker;
   all : (j : ℕ) → l.worker + 64 * j < l.self.shards → j < l.round.count;

@@ -6,9 +6,10 @@ use Rattle.arachne_exec_c.specs.Executing.{Exec}
 use Rattle.arachne_exec_c.proofs.executing.Executing.may_park.Goals as goal
 
 pub returns-clause-parks : goal.returns-clause-parks
-returns-clause-parks c = λ yes.
-    subst (λ (z : Places × Notes). HasFoundNone z.0.shards z.1 c.may_park.new.seat.known)
-    (λ i. ((c.deref.ensures ∙ ap (λ (x : Exec). x.executor) c.self.view_is) i, ap (λ (x : Exec). x.seat.known) c.self.view_is i)) (c.may_park.ensures.parks yes)
+returns-clause-parks c = λ yes worker is.
+    let same = ap (λ (x : Exec). x.worker) c.self.view_is in let number : c.self.inside.worker - 1 ≡ worker = omega (arith, same, is) in
+    subst (λ (z : Places × Notes × ℕ). HasFoundNone z.0.shards z.2 z.1 c.may_park.new.seat.known)
+    (λ i. ((c.deref.ensures ∙ ap (λ (x : Exec). x.executor) c.self.view_is) i, ap (λ (x : Exec). x.seat.known) c.self.view_is i, number i)) (c.may_park.ensures.parks yes)
 
 pub returns-clause-stays : goal.returns-clause-stays
 returns-clause-stays c = λ no worker is.
