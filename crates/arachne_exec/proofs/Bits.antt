@@ -1,5 +1,5 @@
 -- Bits of a word, and how one word's change shows in the bits of places.
-use Rattle.std.proofs.Common.{◌≡◌, ◌≢◌, ℕ, ◌+◌, ◌-◌, ◌/◌, ◌%◌, ◌^◌, ◌<◌, ◌≤◌, min, List, length, get_or, set, if◌then◌else◌, sym, refl, ap, ◌∙◌, subst, arith, get_or-set_same, get_or-set_other}
+use Rattle.std.proofs.Common.{◌≡◌, ◌≢◌, ℕ, ◌+◌, ◌-◌, ◌*◌, ◌/◌, ◌%◌, ◌^◌, ◌<◌, ◌≤◌, min, List, length, get_or, set, if◌then◌else◌, sym, refl, ap, ◌∙◌, subst, arith, get_or-set_same, get_or-set_other}
 use Rattle.std.specs.Int.{bit_at, w64}
 use Rattle.std.specs.Int.RustNames.{bit_and, bit_or}
 use Rattle.std.proofs.lemmas.Nat.{pow_below, and_le_l}
@@ -87,3 +87,20 @@ module _ (at : ℕ → ℕ) (apart : (c d : ℕ) → at c ≡ at d → c ≡ d) 
       let n : ℕ = get_or ws (at (q / 64)) 0 in let m : ℕ = bit_or n (2 ^ (q % 64)) in dite (ℕ_discrete q p)
       (λ e. subst (λ x. in_word at (set ws (at (q / 64)) m) x ≡ in_word at ws x + one q x) e (here m ∙ set_same n (q % 64) ∙ sym (λ i. was i + one-same q q refl i)))
       (λ ne. elsewhere m (λ i l d. set_other n (q % 64) i d) p (λ s. ne (sym s)) ∙ sym ((λ i. in_word at ws p + one-apart q p ne i) ∙ omega arith))
+
+-- a bit that is cleared, and one that is set, as a count
+pub clear_counts : (n k i : ℕ) → k < 64 → i < 64 → bit_at (bit_and n (others k)) i + bit_at n k * one k i ≡ bit_at n i
+clear_counts n k i low l = dite (ℕ_discrete k i)
+    (λ e. let x : bit_at n k * one k i ≡ bit_at n k = ap (λ y. bit_at n k * y) (one-same k i e) ∙ omega arith in
+    let gone : bit_at (bit_and n (others k)) i ≡ 0 = subst (λ j. bit_at (bit_and n (others k)) j ≡ 0) e (clear_same n k low) in
+    let was : bit_at n k ≡ bit_at n i = ap (bit_at n) e in omega (arith, x, gone, was))
+    (λ ne. let x : bit_at n k * one k i ≡ 0 = ap (λ y. bit_at n k * y) (one-apart k i ne) ∙ omega arith in
+    let same = clear_other n k low i l (λ e. ne (sym e)) in omega (arith, x, same))
+
+pub set_counts : (n k i : ℕ) → bit_at (bit_or n (2 ^ k)) i ≡ bit_at n i + (1 - bit_at n k) * one k i
+set_counts n k i = dite (ℕ_discrete k i)
+    (λ e. let x : (1 - bit_at n k) * one k i ≡ 1 - bit_at n k = ap (λ y. (1 - bit_at n k) * y) (one-same k i e) ∙ omega arith in
+    let there : bit_at (bit_or n (2 ^ k)) i ≡ 1 = subst (λ j. bit_at (bit_or n (2 ^ k)) j ≡ 1) e (set_same n k) in
+    let was : bit_at n k ≡ bit_at n i = ap (bit_at n) e in let low = bit_at-lt n k in omega (arith, x, there, was, low))
+    (λ ne. let x : (1 - bit_at n k) * one k i ≡ 0 = ap (λ y. (1 - bit_at n k) * y) (one-apart k i ne) ∙ omega arith in
+    let same = set_other n k i (λ e. ne (sym e)) in omega (arith, x, same))

@@ -16,5 +16,6 @@ mod Many
 mod Allowed
 mod Told
 mod Leaving
+mod Owing
 mod Chains
 mod Crossing

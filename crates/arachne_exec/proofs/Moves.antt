@@ -26,7 +26,7 @@ use Rattle.arachne_exec.proofs.Keeping.{ready_apart, free_apart, mark_apart, in-
 use Rattle.arachne_exec.proofs.Balancing.{balanced-same, balanced-taken, balanced-put, balanced-spawned, balanced-begun, balanced-ended}
 use Rattle.arachne_exec.proofs.Hearing.{hears-on, as-marked, hears-mark, hears-clear}
 use Rattle.arachne_exec.proofs.KeepsShown.{shows-on, shows-owing}
-use Rattle.arachne_exec.proofs.Sleeping.{sleeps-on}
+use Rattle.arachne_exec.proofs.Sleeping.{Unmoved, sleeps-on}
 
 same_place : (p q : ℕ) → p / 64 ≡ q / 64 → p % 64 ≡ q % 64 → p ≡ q
 same_place p q e r = omega (arith, e, r)
@@ -69,7 +69,7 @@ module _ (shards slots id w : ℕ) where
       balance = balanced-same s h.balance id (held w k) (held w l) mine s.words refl refl refl;
       hears = hears-on (64 * shards) s h.hears id (held w k) (held w l) mine s.homes s.words (λ p inside. refl) refl refl;
       shows = shows-on (64 * shards) s h.shows id (held w k) (held w l) mine s.words s.homes (λ c r. r) (λ c. refl) refl;
-      sleep = sleeps-on s h.sleep id (held w k) (held w l) mine s.words s.homes refl refl (λ c r. r) refl refl refl;
+      sleep = sleeps-on s h.sleep id (held w k) (held w l) mine s.words s.homes refl refl (λ c r. r) refl refl refl (refl, refl, refl);
     }
 
     pub noting : (xs : List (ℕ × ℕ)) (i n : ℕ) → IsLawful shards (stepped s i (get_or s.words i 0) id xs (held w (noted i n k)) keeps)
@@ -99,10 +99,10 @@ module _ (shards slots id w : ℕ) where
         pub quiet-shows : ((c : ℕ) → ready_at c ≢ i) → ((c : ℕ) → summary_at c ≢ i) → l.unshown ≡ k.unshown → IsShown (64 * shards) (record { words = set s.words i now; homes = homes; views = set s.views id (held w l) })
         quiet-shows none_ready none_shown same = shows-on (64 * shards) s h.shows id (held w k) (held w l) mine (set s.words i now) homes (same_ready none_ready) (same_shown none_shown) same
 
-        quiet-sleep : numbers_at ≢ i → idle_at ≢ i → ((c : ℕ) → summary_at c ≢ i) → l.owes ≡ k.owes → l.worker ≡ k.worker → l.seen ≡ k.seen
+        quiet-sleep : numbers_at ≢ i → idle_at ≢ i → ((c : ℕ) → summary_at c ≢ i) → l.owes ≡ k.owes → l.worker ≡ k.worker → l.seen ≡ k.seen → Unmoved k l
             → WakesSleepers (record { words = set s.words i now; homes = homes; views = set s.views id (held w l) })
-        quiet-sleep numbers idles none_shown owes worker seen = sleeps-on s h.sleep id (held w k) (held w l) mine (set s.words i now) homes
-            (get_or-set_other s.words i numbers_at now 0 numbers) (get_or-set_other s.words i idle_at now 0 idles) (same_summary none_shown) owes worker seen
+        quiet-sleep numbers idles none_shown owes worker seen unmoved = sleeps-on s h.sleep id (held w k) (held w l) mine (set s.words i now) homes
+            (get_or-set_other s.words i numbers_at now 0 numbers) (get_or-set_other s.words i idle_at now 0 idles) (same_summary none_shown) owes worker seen unmoved
 
     -- a ready word that falls
     fallen : (d : ℕ) → d < 64 * shards → (now : ℕ) → now ≤ get_or s.words (ready_at d) 0 → (c : ℕ) → 0 < get_or (set s.words (ready_at d) now) (ready_at c) 0 → 0 < get_or s.words (ready_at c) 0
@@ -123,24 +123,24 @@ module _ (shards slots id w : ℕ) where
       mark-shows : l.unshown ≡ k.unshown → IsShown (64 * shards) (record { words = set s.words (mark_at q) now; homes = homes; views = set s.views id (held w l) })
       mark-shows same = quiet-shows (mark_at q) now l homes (λ c e. omega (arith, e)) (λ c e. omega (arith, e)) same
 
-      mark-sleep : l.owes ≡ k.owes → l.worker ≡ k.worker → l.seen ≡ k.seen → WakesSleepers (record { words = set s.words (mark_at q) now; homes = homes; views = set s.views id (held w l) })
-      mark-sleep owes worker seen = quiet-sleep (mark_at q) now l homes (λ e. omega (arith, e)) (λ e. omega (arith, e)) (λ c e. omega (arith, e)) owes worker seen
+      mark-sleep : l.owes ≡ k.owes → l.worker ≡ k.worker → l.seen ≡ k.seen → Unmoved k l → WakesSleepers (record { words = set s.words (mark_at q) now; homes = homes; views = set s.views id (held w l) })
+      mark-sleep owes worker seen unmoved = quiet-sleep (mark_at q) now l homes (λ e. omega (arith, e)) (λ e. omega (arith, e)) (λ c e. omega (arith, e)) owes worker seen unmoved
 
     -- a ready bit that is set: the place was in hand
     module _ (q x y : ℕ) (within : q < 64 * (64 * shards)) (l : Notes) where
       ready-law : (now : ℕ) → now ≡ bit_or (get_or s.words (ready_at (q / 64)) 0) (2 ^ (q % 64)) → k.hand ≡ (q, x) ∷ l.hand
           → IsBalanced (record { words = set s.words (ready_at (q / 64)) now; homes = set s.homes q (some y); views = set s.views id (held w l) }) → l.woken ≡ k.woken → l.heard ≡ k.heard
           → IsShown (64 * shards) (record { words = set s.words (ready_at (q / 64)) now; homes = set s.homes q (some y); views = set s.views id (held w l) })
-          → l.owes ≡ k.owes → l.worker ≡ k.worker → l.seen ≡ k.seen
+          → l.owes ≡ k.owes → l.worker ≡ k.worker → l.seen ≡ k.seen → Unmoved k l
           → IsLawful shards (record { words = set s.words (ready_at (q / 64)) now; homes = set s.homes q (some y); views = set s.views id (held w l) })
-      ready-law now is hand balance woken heard shows owes worker seen = record {
+      ready-law now is hand balance woken heard shows owes worker seen unmoved = record {
         shared = learns h.shared id w k l mine;
         keeper = subst (λ n. HasOneKeeper (64 * shards) (record { words = set s.words (ready_at (q / 64)) n; homes = set s.homes q (some y); views = set s.views id (held w l) })) (sym is)
             (keeps-ready (64 * shards) s h.keeper id (held w k) mine q within (held w l) x y hand);
         balance = balance;
         hears = hears-on (64 * shards) s h.hears id (held w k) (held w l) mine (set s.homes q (some y)) (set s.words (ready_at (q / 64)) now) (unmarked (ready_at (q / 64)) now (λ p e. omega (arith, e))) woken heard;
         shows = shows;
-        sleep = quiet-sleep (ready_at (q / 64)) now l (set s.homes q (some y)) (λ e. omega (arith, e)) (λ e. omega (arith, e)) (λ c e. omega (arith, e)) owes worker seen;
+        sleep = quiet-sleep (ready_at (q / 64)) now l (set s.homes q (some y)) (λ e. omega (arith, e)) (λ e. omega (arith, e)) (λ c e. omega (arith, e)) owes worker seen unmoved;
       }
 
       -- the block had none before
@@ -178,7 +178,7 @@ module _ (shards slots id w : ℕ) where
           hears = hears-on (64 * shards) s h.hears id (held w k) (held w l) mine _ _ (unmarked s h k mine i now (λ p e. omega (arith, e))) refl refl;
           shows = shows-on (64 * shards) s h.shows id (held w k) (held w l) mine _ _ (fallen s h k mine (q / 64) (omega (arith, within)) now (clear_le n (q % 64) (omega arith)))
               (same_shown s h k mine i now (λ c e. omega (arith, e))) refl;
-          sleep = quiet-sleep s h k mine i now l (set s.homes q none) (λ e. omega (arith, e)) (λ e. omega (arith, e)) (λ c e. omega (arith, e)) refl refl refl;
+          sleep = quiet-sleep s h k mine i now l (set s.homes q none) (λ e. omega (arith, e)) (λ e. omega (arith, e)) (λ c e. omega (arith, e)) refl refl refl (refl, refl, refl);
         },
         λ p at first. let same = same_bits p q (ready_apart (q / 64) (p / 64) at) first in (
           λ _. (job.0, ap (λ x. with m (gained x job.0 k) ((x, job.0) ∷ xs)) (sym same)),
@@ -210,7 +210,7 @@ module _ (shards slots id w : ℕ) where
           balance = balanced-taken s h.balance id (held w k) (held w l) mine _ q 0 empty refl refl refl;
           hears = hears-on (64 * shards) s h.hears id (held w k) (held w l) mine _ _ (unmarked s h k mine i now (λ p e. omega (arith, e))) refl refl;
           shows = quiet-shows s h k mine i now l (set s.homes q none) (λ c e. omega (arith, e)) (λ c e. omega (arith, e)) refl;
-          sleep = quiet-sleep s h k mine i now l (set s.homes q none) (λ e. omega (arith, e)) (λ e. omega (arith, e)) (λ c e. omega (arith, e)) refl refl refl;
+          sleep = quiet-sleep s h k mine i now l (set s.homes q none) (λ e. omega (arith, e)) (λ e. omega (arith, e)) (λ c e. omega (arith, e)) refl refl refl (refl, refl, refl);
         },
         λ p at first. let same = same_bits p q (free_apart (q / 64) (p / 64) at) first in (
           λ _. ap (λ x. with m (gained x 0 k) ((x, 0) ∷ xs)) (sym same),
@@ -253,7 +253,7 @@ module _ (shards slots id w : ℕ) where
             balance = balanced-ended s h.balance id (held w k) (held w l) mine _ q x (out s h mine) refl (ap (λ j. j ∷ k.ended) (same_job k q x (older k.hand) hand)) hand;
             hears = hears-on (64 * shards) s h.hears id (held w k) (held w l) mine _ _ (unmarked s h k mine i now (λ p e. omega (arith, e))) refl refl;
             shows = quiet-shows s h k mine i now l (set s.homes q (some 0)) (λ c e. omega (arith, e)) (λ c e. omega (arith, e)) refl;
-            sleep = quiet-sleep s h k mine i now l (set s.homes q (some 0)) (λ e. omega (arith, e)) (λ e. omega (arith, e)) (λ c e. omega (arith, e)) refl refl refl;
+            sleep = quiet-sleep s h k mine i now l (set s.homes q (some 0)) (λ e. omega (arith, e)) (λ e. omega (arith, e)) (λ c e. omega (arith, e)) refl refl refl (refl, refl, refl);
           },
           refl,
         )
@@ -266,7 +266,7 @@ module _ (shards slots id w : ℕ) where
           gives,
           tt,
           ready-law s h k mine q x x within l now refl hand (balanced-put s h.balance id (held w k) (held w l) mine _ q x (out s h mine) refl refl hand) refl refl
-              (ready-first s h k mine q x x within l now shown refl) refl refl refl,
+              (ready-first s h k mine q x x within l now shown refl) refl refl refl (refl, refl, refl),
           λ p at. let same : d ≡ p / 64 = ready_apart d (p / 64) at in (
             λ _. ap (λ c. with m (unshowing (c + 1) (readying k)) xs) same,
             λ full. absurd (full empty),
@@ -277,7 +277,7 @@ module _ (shards slots id w : ℕ) where
           gives,
           tt,
           ready-law s h k mine q x x within l now refl hand (balanced-put s h.balance id (held w k) (held w l) mine _ q x (out s h mine) refl refl hand) refl refl
-              (ready-more s h k mine q x x within l now full refl) refl refl refl,
+              (ready-more s h k mine q x x within l now full refl) refl refl refl (refl, refl, refl),
           λ p at. ((λ empty. absurd (full empty)), λ _. refl),
         ))
 
@@ -296,7 +296,7 @@ module _ (shards slots id w : ℕ) where
             balance = balanced-put s h.balance id (held w k) (held w l) mine _ q x (out s h mine) refl refl hand;
             hears = hears-on (64 * shards) s h.hears id (held w k) (held w l) mine _ _ (λ p inside. as-marked (64 * shards) s h.hears id (held w k) (held w l) mine s.homes q (mark-room s h mine) new (omega (arith, hit, is)) p) refl refl;
             shows = mark-shows s h k mine q new l (set s.homes q (some x)) refl;
-            sleep = mark-sleep s h k mine q new l (set s.homes q (some x)) refl refl refl;
+            sleep = mark-sleep s h k mine q new l (set s.homes q (some x)) refl refl refl (refl, refl, refl);
           },
           ((λ _. refl), (λ miss. absurd (miss hit)), omega (arith, unwoken, is)),
         ))
@@ -305,15 +305,15 @@ module _ (shards slots id w : ℕ) where
     -- a new mark, by who has the place
     module _ (new : ℕ) (clear : new % 2 ≡ 0) (s : Board) (h : IsLawful shards s) (mine : get_elem? s.views id ≡ some (held w k)) (l : Notes) where
       renewed : new / 2 % 2 ≡ 0 → l.hand ≡ k.hand → l.spawned ≡ k.spawned → l.ended ≡ k.ended → l.woken ≡ k.woken → l.heard ≡ (hearing (get_or s.words (mark_at q) 0 % 2) q k).heard → l.unshown ≡ k.unshown
-          → l.owes ≡ k.owes → l.worker ≡ k.worker → l.seen ≡ k.seen
+          → l.owes ≡ k.owes → l.worker ≡ k.worker → l.seen ≡ k.seen → Unmoved k l
           → IsLawful shards (record { words = set s.words (mark_at q) new; homes = s.homes; views = set s.views id (held w l) })
-      renewed is_awake same spawned ended woken heard unshown owes worker seen = record {
+      renewed is_awake same spawned ended woken heard unshown owes worker seen unmoved = record {
         shared = learns h.shared id w k l mine;
         keeper = keeps-mark (64 * shards) s h.keeper id (held w k) mine q within (held w l) new (is_awake ∙ sym (unblocked-here s h mine)) same;
         balance = balanced-same s h.balance id (held w k) (held w l) mine _ spawned ended same;
         hears = hears-clear (64 * shards) s h.hears id (held w k) (held w l) mine s.homes q (mark-room s h mine) new clear woken heard;
         shows = mark-shows s h k mine q new l s.homes unshown;
-        sleep = mark-sleep s h k mine q new l s.homes owes worker seen;
+        sleep = mark-sleep s h k mine q new l s.homes owes worker seen unmoved;
       }
 
     module _ (y : ℕ) where
@@ -323,7 +323,7 @@ module _ (shards slots id w : ℕ) where
             held w l,
             keeps,
             tt,
-            renewed new (omega (arith, clear)) s h mine l (omega (arith, clear)) refl refl refl refl refl refl refl refl refl,
+            renewed new (omega (arith, clear)) s h mine l (omega (arith, clear)) refl refl refl refl refl refl refl refl refl (refl, refl, refl),
             λ p at. ap (λ z. knowing m (noted (mark_at q) new (hearing (n % 2) z k))) (mark_apart q p at),
           )
 
@@ -339,7 +339,7 @@ module _ (shards slots id w : ℕ) where
             balance = balanced-ended s h.balance id (held w k) (held w l) mine _ q x (out s h mine) refl (ap (λ j. j ∷ k.ended) (same_job k q x (older k.hand) hand)) hand;
             hears = hears-clear (64 * shards) s h.hears id (held w k) (held w l) mine (set s.homes q (some 0)) q (mark-room s h mine) new (omega (arith, is)) refl refl;
             shows = mark-shows s h k mine q new l (set s.homes q (some 0)) refl;
-            sleep = mark-sleep s h k mine q new l (set s.homes q (some 0)) refl refl refl;
+            sleep = mark-sleep s h k mine q new l (set s.homes q (some 0)) refl refl refl (refl, refl, refl);
           },
           ((λ p at. ap (λ z. with m (ending (hearing (n % 2) z k)) xs) (mark_apart q p at)), gone),
         )
@@ -362,7 +362,7 @@ module _ (shards slots id w : ℕ) where
             held w l,
             keeps,
             tt,
-            renewed (bit_and n kept_bits) (low_clear n) s h mine l (next_clear n) refl refl refl refl refl refl refl refl refl,
+            renewed (bit_and n kept_bits) (low_clear n) s h mine l (next_clear n) refl refl refl refl refl refl refl refl refl (refl, refl, refl),
             ((λ p at. ap (λ z. knowing m (hearing (n % 2) z k)) (mark_apart q p at)), refl),
           )
 
@@ -377,7 +377,7 @@ module _ (shards slots id w : ℕ) where
         gives,
         tt,
         ready-law s h k mine q 0 y within l now refl hand (balanced-spawned s h.balance id (held w k) (held w l) mine _ q y away refl refl hand) refl refl
-            (ready-first s h k mine q 0 y within l now shown refl) refl refl refl,
+            (ready-first s h k mine q 0 y within l now shown refl) refl refl refl (refl, refl, refl),
         λ p at. let same : d ≡ p / 64 = ready_apart d (p / 64) at in (
           λ _. ap (λ c. with m (unshowing (c + 1) (spawning y k)) xs) same,
           λ full. absurd (full empty),
@@ -388,7 +388,7 @@ module _ (shards slots id w : ℕ) where
         gives,
         tt,
         ready-law s h k mine q 0 y within l now refl hand (balanced-spawned s h.balance id (held w k) (held w l) mine _ q y away refl refl hand) refl refl
-            (ready-more s h k mine q 0 y within l now full refl) refl refl refl,
+            (ready-more s h k mine q 0 y within l now full refl) refl refl refl (refl, refl, refl),
         λ p at. ((λ empty. absurd (full empty)), λ _. refl),
       ))
 
@@ -407,7 +407,7 @@ module _ (shards slots id w : ℕ) where
           balance = balanced-begun s h.balance id (held w k) (held w l) mine s.words q y (older k.hand) refl refl hand now;
           hears = hears-on (64 * shards) s h.hears id (held w k) (held w l) mine s.homes s.words (λ p inside. refl) refl refl;
           shows = shows-on (64 * shards) s h.shows id (held w k) (held w l) mine s.words s.homes (λ c r. r) (λ c. refl) refl;
-          sleep = sleeps-on s h.sleep id (held w k) (held w l) mine s.words s.homes refl refl (λ c r. r) refl refl refl;
+          sleep = sleeps-on s h.sleep id (held w k) (held w l) mine s.words s.homes refl refl (λ c r. r) refl refl refl (refl, refl, refl);
         }),
         refl,
       )
@@ -431,7 +431,7 @@ module _ (shards slots id w : ℕ) where
             hears = hears-on (64 * shards) s h.hears id (held w k) (held w l) mine _ _
                 (λ p inside. as-marked (64 * shards) s h.hears id (held w k) (held w l) mine s.homes q (omega (arith, h.keeper.sized, within)) new (omega (arith, hit, was, now)) p) refl refl;
             shows = mark-shows s h k mine q new l (set s.homes q none) refl;
-            sleep = mark-sleep s h k mine q new l (set s.homes q none) refl refl refl;
+            sleep = mark-sleep s h k mine q new l (set s.homes q none) refl refl refl (refl, refl, refl);
           },
           λ p at. ((λ _. (job.0, ap (λ z. with m (unblocking z job.0 k) ((z, job.0) ∷ xs)) (mark_apart q p at))), (λ miss. absurd (miss hit)), omega (arith, was, now)),
         ))
@@ -452,7 +452,7 @@ module _ (shards slots id w : ℕ) where
             balance = balanced-same s h.balance id (held w k) (held w l) mine _ refl refl refl;
             hears = hears-mark (64 * shards) s h.hears id (held w k) (held w l) mine s.homes q (omega (arith, h.keeper.sized, within)) new (omega (arith, hit, was)) (omega (arith, was, now)) refl refl;
             shows = mark-shows s h k mine q new l s.homes refl;
-            sleep = mark-sleep s h k mine q new l s.homes refl refl refl;
+            sleep = mark-sleep s h k mine q new l s.homes refl refl refl (refl, refl, refl);
           },
           λ p at. ((λ _. ap (λ z. knowing m (marking z k)) (mark_apart q p at)), (λ miss. absurd (miss hit)), omega (arith, was, now)),
         ))

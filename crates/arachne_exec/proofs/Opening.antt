@@ -14,8 +14,8 @@ use Rattle.arachne_weights.specs.declared.token.Token.{Token}
 use Rattle.arachne_weights.specs.Tokens.{held, spent, begins, splits, joins}
 use Rattle.arachne_weights.proofs.Totals.{total-set, total-snoc}
 use Rattle.arachne_exec.specs.declared.view.Notes.{Notes}
-use Rattle.arachne_exec.specs.Layout.{ready_at, free_at, mark_at}
-use Rattle.arachne_exec.specs.Board.{is_free, is_ready, is_blocked, one, times, places_in, jobs_in, by_all, in_hands, seats_of, Board, IsLawful, blank, first_view, is_number, at_home}
+use Rattle.arachne_exec.specs.Layout.{idle_at, ready_at, free_at, mark_at}
+use Rattle.arachne_exec.specs.Board.{is_free, is_ready, is_blocked, one, times, places_in, jobs_in, by_all, in_hands, seats_of, is_idle, lies, rises, rouses, Board, IsLawful, blank, first_view, is_number, at_home}
 use Rattle.arachne_exec.specs.Changes.{first_of, second_of, together, both_of}
 use Rattle.arachne_exec.specs.First.{first_word, AreFirstWords}
 use Rattle.arachne_exec.proofs.Bits.{one-apart}
@@ -86,6 +86,9 @@ opens shards ws xs a slots clear = record {
         omega (arith, f, n, one_zero w);
     near = λ h v there. subst (λ (x : Token Notes). x.known.worker ≤ 64) (the_one h v there) (omega arith);
     awake = λ h v there w k is below. let none_seen : v.known.seen ≡ 0 = ap (λ (x : Token Notes). x.known.seen) (sym (the_one h v there)) in absurd (omega (arith, below, none_seen));
+    ended = λ w low.
+        let i : is_idle ws w ≡ 0 = ap (λ x. bit_at x w) (a.1 idle_at (omega arith) ∙ empty_at idle_at (λ e. omega (arith, e)) (λ e. omega (arith, e))) ∙ bit_at-zero w in
+        let l : lies w (first_view ∷ []) ≡ 0 = refl in let r : rises w (first_view ∷ []) ≡ 0 = refl in let t : rouses w (first_view ∷ []) ≡ 0 = refl in omega (arith, i, l, r, t);
   };
 }
 
@@ -145,6 +148,9 @@ deals-law shards id w k s h mine = record {
         (at_set s.views id j (first_of (held w k)) x old))
         (λ new. let none_seen : x.known.seen ≡ 0 = ap (λ (y : Token Notes). y.known.seen) (sym new) in absurd (omega (arith, below, none_seen)))
         (at_snoc (set s.views id (first_of (held w k))) (second_of (held w k)) x j there);
+    ended = λ j low.
+        let a = split-total (λ l. times j l.lain) refl s.views id w k mine in let b = split-total (λ l. times j l.risen) refl s.views id w k mine in
+        let c = split-total (λ l. times j l.roused) refl s.views id w k mine in let old = h.sleep.ended j low in omega (arith, a, b, c, old);
   };
 }
 
@@ -201,6 +207,11 @@ module _ (shards id w other x : ℕ) (k l : Notes) (nothing : (l.hand ≡ []) ×
               (λ u. let was = h.sleep.awake j y u.1 g n is below idle some_ready in omega (arith, was, same))
               (at_set s.views id j (both_of (held w k) (held x l)) y t.1))
               (at_set (set s.views id (both_of (held w k) (held x l))) other j (spent blank) y there);
+          ended = λ j low.
+              let a = join-total (λ m. times j m.lain) refl s.views id w other x k l mine apart from (sum_by-append (λ (y : ℕ). one y j) k.lain l.lain) in
+              let b = join-total (λ m. times j m.risen) refl s.views id w other x k l mine apart from (sum_by-append (λ (y : ℕ). one y j) k.risen l.risen) in
+              let c = join-total (λ m. times j m.roused) refl s.views id w other x k l mine apart from (sum_by-append (λ (y : ℕ). one y j) k.roused l.roused) in
+              let old = h.sleep.ended j low in omega (arith, a, b, c, old);
         };
       }
 

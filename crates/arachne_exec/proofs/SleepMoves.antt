@@ -11,16 +11,17 @@ use Rattle.atomic_table.specs.Table.{step, keeps, Allows, stepped}
 use Rattle.arachne_weights.specs.Tokens.{held, learns}
 use Rattle.arachne_exec.specs.declared.view.Notes.{Notes}
 use Rattle.arachne_exec.specs.Layout.{idle_at, numbers_at, summary_at, ready_at, worker_of, others, in_word}
-use Rattle.arachne_exec.specs.Board.{is_idle, Board, IsShown, WakesSleepers, IsLawful}
+use Rattle.std.proofs.lemmas.Nat.Bits.{bit_at-lt}
+use Rattle.arachne_exec.specs.Board.{one, is_idle, Board, IsShown, WakesSleepers, IsLawful}
 use Rattle.arachne_exec.specs.Changes.{noted, rousing, unshowing, owing, having_seen, lying, rising, working}
 use Rattle.arachne_exec.specs.Steps.{Mine, knowing, FindsShown, Shows, Hides, LooksAgain, LooksIdle, Unparks, Rises, Rests, LooksNext, Registers, Leaves}
-use Rattle.arachne_exec.proofs.Bits.{one-same, one-apart, same_others, clear_same, clear_other, clear_le, unset, set_same, set_other, not_one, elsewhere, here}
+use Rattle.arachne_exec.proofs.Bits.{one-same, one-apart, same_others, clear_same, clear_other, clear_le, unset, set_same, set_other, not_one, clear_counts, set_counts, elsewhere, here}
 use Rattle.arachne_exec.proofs.Keeping.{keeps-aside, keeps-summary, keeps-view}
-use Rattle.arachne_exec.proofs.Balancing.{balanced-same}
+use Rattle.arachne_exec.proofs.Balancing.{more-times, balanced-same}
 use Rattle.arachne_exec.proofs.Hearing.{hears-on}
 use Rattle.arachne_exec.proofs.Debts.{with-same, with-more, with-less, with-others}
 use Rattle.arachne_exec.proofs.KeepsShown.{shows-on, shows-owing, shows-paid}
-use Rattle.arachne_exec.proofs.Sleeping.{seats-same, keeps-sleep, sleeps-on}
+use Rattle.arachne_exec.proofs.Sleeping.{risen-times, lain-times, Ends, ends-same, seats-same, keeps-sleep, sleeps-on}
 use Rattle.arachne_exec.proofs.Moves.{summary_apart, clash, was_set, some_number, unchanged, stays, unmarked, sunk, same_ready, quiet-shows, noting}
 
 module _ (shards slots id w : ℕ) where
@@ -70,7 +71,7 @@ module _ (shards slots id w : ℕ) where
         → IsLawful shards (record { words = s.words; homes = s.homes; views = set s.views id (held w (unshowing 0 k)) })
     paid-law s h mine debt shown = view-law s h k (unshowing 0 k) mine refl refl refl refl refl
         (shows-paid (64 * shards) s h.shows id (held w k) (held w (unshowing 0 k)) mine s.words s.homes block debt refl shown (λ c ne r. r) (λ c ne. refl))
-        (sleeps-on s h.sleep id (held w k) (held w (unshowing 0 k)) mine s.words s.homes refl refl (λ c r. r) refl refl refl)
+        (sleeps-on s h.sleep id (held w k) (held w (unshowing 0 k)) mine s.words s.homes refl refl (λ c r. r) refl refl refl (refl, refl, refl))
 
     pub finds_shown : k.unshown ≡ block + 1 → Allows (IsLawful shards) slots id (held w k, xs) (summary_at (block / 64)) (λ n. n) (FindsShown (step slots (summary_at (block / 64)) 0 0 none) (held w k, xs))
     finds_shown debt s h _ mine small =
@@ -132,7 +133,8 @@ module _ (shards slots id w : ℕ) where
               (λ c e some_shown. let more = with-more (λ z. z.owes) s.views id (held w k) (held w l) mine d free refl c in dite (ℕ_discrete d c)
               (λ is. let one_ = one-same (d + 1) (c + 1) (omega (arith, is)) in ((λ o. omega (arith, more, one_)), inr (omega (arith, more, one_))))
               (λ ne. let same = get_or-set_other s.words i (summary_at c) now 0 (λ f. ne (sym (summary_apart c d f))) in ((λ o. omega (arith, more, o)), inl (omega (arith, some_shown, same)))))
-              (λ j c is below. inl (is, below))),
+              (λ j c is below. inl (is, below))
+              (ends-same k l s.words (set s.words i now) idles (refl, refl, refl))),
           λ c at. let same : d ≡ c / 64 = summary_apart d (c / 64) at in ((λ _. ap (λ x. knowing m (owing (x + 1) (unshowing 0 k))) same), λ full. absurd (full empty)),
         ))
         (λ full. let l : Notes = unshowing 0 k in (
@@ -144,7 +146,7 @@ module _ (shards slots id w : ℕ) where
               (λ c some_shown. dite (ℕ_discrete (summary_at c) i)
               (λ e. subst (λ x. 0 < get_or s.words x 0) (sym e) (some_number n full))
               (λ ne. let same = get_or-set_other s.words i (summary_at c) now 0 ne in omega (arith, some_shown, same)))
-              refl refl refl),
+              refl refl refl (refl, refl, refl)),
           λ c at. ((λ empty. absurd (full empty)), λ _. refl),
         ))
 
@@ -161,7 +163,7 @@ module _ (shards slots id w : ℕ) where
               (λ c ne. elsewhere summary_at summary_apart s.words block room now (λ j low apart. clear_other n (block % 64) (omega arith) j low apart) c ne))
               (sleeps-on s h.sleep id (held w k) (held w l) mine (set s.words i now) s.homes
               (get_or-set_other s.words i numbers_at now 0 (λ e. omega (arith, e))) (get_or-set_other s.words i idle_at now 0 (λ e. omega (arith, e)))
-              (sunk shards slots id w s h k mine d (omega (arith, within)) now (clear_le n (block % 64) (omega arith))) refl refl refl),
+              (sunk shards slots id w s h k mine d (omega (arith, within)) now (clear_le n (block % 64) (omega arith))) refl refl refl (refl, refl, refl)),
           λ c at first. let same : block ≡ c = let e = summary_apart d (c / 64) at in let r = same_others (block % 64) (c % 64) (omega arith) (omega arith) first in omega (arith, e, r) in ap (λ x. knowing m (unshowing (x + 1) k)) same,
         )
 
@@ -207,15 +209,17 @@ module _ (shards slots id w : ℕ) where
               (λ c e some_shown. dite (ℕ_discrete c d)
               (λ is. absurd (clash n (worker_of d) (subst (λ x. is_idle s.words (x % 64) ≡ 1) is e) clear))
               (λ ne. let same = with-others (λ z. z.owes) s.views id (held w k) (held w l) mine d debt refl c ne in ((λ o. omega (arith, o, same)), inl some_shown)))
-              (λ j c is below. inl (is, below)))),
+              (λ j c is below. inl (is, below))
+              (ends-same k l s.words s.words refl (refl, refl, refl)))),
           λ c e. let is : d ≡ c = omega (arith, debt, e) in ((λ there. absurd (clash n (worker_of d) (subst (λ x. bit_at n (worker_of x) ≡ 1) (sym is) there) clear)), λ _. refl),
         ))
 
     -- the idle bit of the worker is cleared
     unpark-law : (s : Board) → IsLawful shards s → get_elem? s.views id ≡ some (held w k) → (l : Notes) → l.hand ≡ k.hand → l.spawned ≡ k.spawned → l.ended ≡ k.ended → l.woken ≡ k.woken → l.heard ≡ k.heard
         → l.unshown ≡ k.unshown → l.owes ≡ 0 → l.worker ≡ k.worker → l.seen ≡ k.seen → (now : ℕ) → now ≡ bit_and (get_or s.words idle_at 0) (others (worker_of d))
+        → Ends k l s.words (set s.words idle_at now)
         → IsLawful shards (record { words = set s.words idle_at now; homes = s.homes; views = set s.views id (held w l) })
-    unpark-law s h mine l hand spawned ended woken heard unshown owes worker seen now is_now =
+    unpark-law s h mine l hand spawned ended woken heard unshown owes worker seen now is_now ends =
         let n : ℕ = get_or s.words idle_at 0 in
         let there : get_or (set s.words idle_at now) idle_at 0 ≡ bit_and n (others (worker_of d)) = get_or-set_same s.words idle_at now 0 (idle-room s h) ∙ is_now in
         aside-law s h k l mine hand spawned ended woken heard idle_at now (omega arith) (idle-shows s h k l mine unshown now)
@@ -227,16 +231,21 @@ module _ (shards slots id w : ℕ) where
         (λ is. absurd (clash (bit_and n (others (worker_of d))) (worker_of d) (ap (λ x. bit_at x (worker_of d)) (sym there) ∙ subst (λ x. is_idle (set s.words idle_at now) (x % 64) ≡ 1) is e) (clear_same n (worker_of d) (omega arith))))
         (λ ne. let same = with-others (λ z. z.owes) s.views id (held w k) (held w l) mine d debt owes c ne in
         let old = get_or-set_other s.words idle_at (summary_at c) now 0 (λ f. omega (arith, f)) in ((λ o. omega (arith, o, same)), inl (omega (arith, some_shown, old)))))
-        (λ j c is below. inl (sym worker ∙ is, omega (arith, below, seen))))
+        (λ j c is below. inl (sym worker ∙ is, omega (arith, below, seen)))
+        ends)
 
     pub unparks : Allows (IsLawful shards) slots id (held w k, xs) idle_at (λ n. bit_and n (others (worker_of d))) (Unparks (step slots idle_at (others (worker_of d)) 0 none) (held w k, xs))
     unparks s h _ mine small =
-        let n : ℕ = get_or s.words idle_at 0 in let m : Mine = (held w k, xs) in dite (ℕ_discrete (bit_at n (worker_of d)) 1)
+        let n : ℕ = get_or s.words idle_at 0 in let m : Mine = (held w k, xs) in let now : ℕ = bit_and n (others (worker_of d)) in
+        let fewer = λ (j : ℕ) (low : j < 64). ap (λ x. bit_at x j + bit_at n (worker_of d) * one (worker_of d) j) (get_or-set_same s.words idle_at now 0 (idle-room s h)) ∙ clear_counts n (worker_of d) j (omega arith) low in
+        dite (ℕ_discrete (bit_at n (worker_of d)) 1)
         (λ there. (
           held w (rousing true (worker_of d) (owing 0 k)),
           keeps,
           tt,
-          unpark-law s h mine (rousing true (worker_of d) (owing 0 k)) refl refl refl refl refl refl refl refl refl _ refl,
+          unpark-law s h mine (rousing true (worker_of d) (owing 0 k)) refl refl refl refl refl refl refl refl refl _ refl
+              (λ j low. let was = fewer j low in let one_ : bit_at n (worker_of d) * one (worker_of d) j ≡ one (worker_of d) j = ap (λ x. x * one (worker_of d) j) there ∙ omega arith in
+              let more = more-times j (worker_of d) k.roused in omega (arith, was, one_, more)),
           λ c e. let is : d ≡ c = omega (arith, debt, e) in (
             ap (λ x. others (worker_of x)) is,
             λ _. ap (λ x. knowing m (rousing true (worker_of x) (owing 0 k))) is,
@@ -247,7 +256,8 @@ module _ (shards slots id w : ℕ) where
           held w (owing 0 k),
           keeps,
           tt,
-          unpark-law s h mine (owing 0 k) refl refl refl refl refl refl refl refl refl _ refl,
+          unpark-law s h mine (owing 0 k) refl refl refl refl refl refl refl refl refl _ refl
+              (λ j low. let was = fewer j low in let none_ : bit_at n (worker_of d) * one (worker_of d) j ≡ 0 = ap (λ x. x * one (worker_of d) j) clear ∙ omega arith in omega (arith, was, none_)),
           λ c e. let is : d ≡ c = omega (arith, debt, e) in (
             ap (λ x. others (worker_of x)) is,
             λ there. absurd (clash n (worker_of d) (subst (λ x. bit_at n (worker_of x) ≡ 1) (sym is) there) clear),
@@ -271,7 +281,10 @@ module _ (shards slots id w : ℕ) where
               (λ i e. inl (was_set n j i (ap (λ x. bit_at x i) (sym there) ∙ e)))
               (λ c e some_shown. let same = with-same (λ z. z.owes) s.views id (held w k) (held w l) mine refl c in
               let old = get_or-set_other s.words idle_at (summary_at c) now 0 (λ f. omega (arith, f)) in ((λ o. omega (arith, o, same)), inl (omega (arith, some_shown, old))))
-              (λ i c is below. absurd (omega (arith, below)))),
+              (λ i c is below. absurd (omega (arith, below)))
+              (λ i low. let near = h.sleep.near id (held w k) mine in
+              let was = ap (λ x. bit_at x i + bit_at n j * one j i) there ∙ clear_counts n j i (omega (arith, near, is_worker)) low in
+              let more = risen-times i (bit_at n j) j k.risen (bit_at-lt n j) in omega (arith, was, more))),
           ((λ e. omega (arith, e, is_worker)), λ c e. let is : j ≡ c = omega (arith, is_worker, e) in (ap others is, ap (λ x. knowing m (rising x n k)) is)),
         )
 
@@ -292,7 +305,9 @@ module _ (shards slots id w : ℕ) where
               (λ ne. inl (sym (set_other n j i ne) ∙ ap (λ x. bit_at x i) (sym there) ∙ e)))
               (λ c e some_shown. let same = with-same (λ z. z.owes) s.views id (held w k) (held w l) mine refl c in
               let old = get_or-set_other s.words idle_at (summary_at c) now 0 (λ f. omega (arith, f)) in ((λ o. omega (arith, o, same)), inl (omega (arith, some_shown, old))))
-              (λ i c is below. absurd (omega (arith, below)))),
+              (λ i c is below. absurd (omega (arith, below)))
+              (λ i low. let more = lain-times i (bit_at n j) j k.lain (bit_at-lt n j) in
+              let now_set = ap (λ x. bit_at x i) there ∙ set_counts n j i in omega (arith, more, now_set))),
           ((λ e. omega (arith, e, is_worker)), λ c e. let is : j ≡ c = omega (arith, is_worker, e) in (ap (λ x. 2 ^ x) is, ap (λ x. knowing m (lying x n k)) is)),
         )
 
@@ -312,7 +327,8 @@ module _ (shards slots id w : ℕ) where
               (λ c e some_shown. let same = with-same (λ z. z.owes) s.views id (held w k) (held w l) mine refl c in ((λ o. omega (arith, o, same)), inl some_shown))
               (λ g c is below. dite (ℕ_discrete c k.seen)
               (λ e. let at : summary_at (g + 64 * c) ≡ i = omega (arith, is_worker, is, e) in inr (ap (λ x. get_or s.words x 0) at ∙ empty))
-              (λ ne. let apart : ¬ (c ≡ k.seen) = ne in inl (is, omega (arith, below, apart)))))),
+              (λ ne. let apart : ¬ (c ≡ k.seen) = ne in inl (is, omega (arith, below, apart))))
+              (ends-same k l s.words s.words refl (refl, refl, refl)))),
           ((λ _. refl), λ full. absurd (full empty)),
         ))
         (λ full. (held w (noted i n k), keeps, tt, noting shards slots id w s h k mine xs i n, ((λ empty. absurd (full empty)), λ _. refl)))
@@ -341,7 +357,8 @@ module _ (shards slots id w : ℕ) where
               (λ c e. inl (ap (λ x. bit_at x c) (sym (get_or-set_other s.words i idle_at now 0 (λ f. omega (arith, f)))) ∙ e))
               (λ c e some_shown. let same = with-same (λ z. z.owes) s.views id (held w k) (held w l) mine refl c in
               let old = get_or-set_other s.words i (summary_at c) now 0 (λ f. omega (arith, f)) in ((λ o. omega (arith, o, same)), inl (omega (arith, some_shown, old))))
-              (λ g c is below. absurd (omega (arith, below)))),
+              (λ g c is below. absurd (omega (arith, below)))
+              (ends-same k l s.words (set s.words i now) (get_or-set_other s.words i idle_at now 0 (λ f. omega (arith, f))) (refl, refl, refl))),
           λ c first below. let same : j ≡ c = same_others j c low below first in (
             λ _. ap (λ x. knowing m (working (x + 1) k)) same,
             λ none_there. absurd (clash n j there (subst (λ x. bit_at n x ≡ 0) (sym same) none_there)),
@@ -378,6 +395,7 @@ module _ (shards slots id w : ℕ) where
               (λ c e. inl (ap (λ x. bit_at x c) (sym (get_or-set_other s.words i idle_at now 0 (λ f. omega (arith, f)))) ∙ e))
               (λ c e some_shown. let same = with-same (λ z. z.owes) s.views id (held w k) (held w l) mine refl c in
               let old = get_or-set_other s.words i (summary_at c) now 0 (λ f. omega (arith, f)) in ((λ o. omega (arith, o, same)), inl (omega (arith, some_shown, old))))
-              (λ g c is below. absurd (omega (arith, below)))),
+              (λ g c is below. absurd (omega (arith, below)))
+              (ends-same k l s.words (set s.words i now) (get_or-set_other s.words i idle_at now 0 (λ f. omega (arith, f))) (refl, refl, refl))),
           refl,
         )

@@ -1,17 +1,42 @@
--- Each kind of step keeps that a sleeper is woken.
-use Rattle.std.proofs.Common.{◌≡◌, ◌≢◌, ◌⊎◌, inl, ⊎_elim, ℕ, ◌+◌, ◌*◌, ◌%◌, ◌<◌, ◌≤◌, List, get_or, set, sym, ap, ◌∙◌, subst, arith}
+-- Each kind of step keeps that a sleeper is woken, and that each sleep ends once.
+use Rattle.std.proofs.Common.{◌≡◌, ◌≢◌, ◌⊎◌, inl, ⊎_elim, ℕ, zero, suc, ◌+◌, ◌-◌, ◌*◌, ◌%◌, ◌<◌, ◌≤◌, List, get_or, set, sym, ap, ◌∙◌, subst, arith}
 use Rattle.std.specs.Int.{bit_at}
 use mathlib.Core.Option.{some}
 use mathlib.Core.Option as maybe
 use lib.ListN.{get_elem?}
 use Rattle.atomic_table.proofs.Lists.{at_set}
 use Rattle.arachne_weights.specs.declared.token.Token.{Token}
-use Rattle.arachne_weights.proofs.Totals.{two-le-total}
+use Rattle.arachne_weights.proofs.Totals.{total-set, two-le-total}
 use Rattle.arachne_exec.specs.declared.view.Notes.{Notes}
 use Rattle.arachne_exec.specs.Layout.{idle_at, numbers_at, summary_at}
-use Rattle.arachne_exec.specs.Board.{one, owed, seats_of, is_idle, Board, WakesSleepers}
+use Rattle.arachne_exec.specs.Board.{one, times, owed, seats_of, is_idle, Board, WakesSleepers}
+use Rattle.arachne_exec.specs.Changes.{lain_more, risen_more}
 use Rattle.arachne_exec.proofs.Bits.{one-same}
+use Rattle.arachne_exec.proofs.Balancing.{more-times}
 use Rattle.arachne_exec.proofs.Debts.{with-same}
+
+-- a worker that rises, or lies down, or doesn't
+pub risen-times : (w n j : ℕ) (xs : List ℕ) → n < 2 → times w (risen_more n j xs) ≡ n * one j w + times w xs
+risen-times w zero j xs low = omega arith
+risen-times w (suc zero) j xs low = more-times w j xs ∙ omega arith
+risen-times w (suc (suc n)) j xs low = absurd (omega (arith, low))
+
+pub lain-times : (w n j : ℕ) (xs : List ℕ) → n < 2 → times w (lain_more n j xs) ≡ (1 - n) * one j w + times w xs
+lain-times w zero j xs low = more-times w j xs ∙ omega arith
+lain-times w (suc zero) j xs low = omega arith
+lain-times w (suc (suc n)) j xs low = absurd (omega (arith, low))
+
+-- it has neither lain down nor risen, and woken nobody
+abbrev pub Unmoved : Notes → Notes → Type 0
+Unmoved k l = (l.lain ≡ k.lain) × (l.risen ≡ k.risen) × (l.roused ≡ k.roused)
+
+-- what a step has to keep of each worker, of this view and of the idle word
+abbrev pub Ends : Notes → Notes → List ℕ → List ℕ → Type 0
+Ends k l words now = (w : ℕ) → w < 64 → times w l.lain + times w k.risen + times w k.roused + is_idle words w ≡ times w k.lain + times w l.risen + times w l.roused + is_idle now w
+
+pub ends-same : (k l : Notes) (words now : List ℕ) → get_or now idle_at 0 ≡ get_or words idle_at 0 → Unmoved k l → Ends k l words now
+ends-same k l words now idle same w low =
+    let a = ap (times w) same.0 in let d = ap (times w) same.1 in let c = ap (times w) same.2 in let e = ap (λ n. bit_at n w) idle in omega (arith, a, d, c, e)
 
 module _ (b : Board) (r : WakesSleepers b) (h : ℕ) (v u : Token Notes) (mine : get_elem? b.views h ≡ some v) where
   pub seats-same : u.known.worker ≡ v.known.worker → (w : ℕ) → seats_of w (set b.views h u) ≡ seats_of w b.views
@@ -31,7 +56,8 @@ module _ (b : Board) (r : WakesSleepers b) (h : ℕ) (v u : Token Notes) (mine :
       (idle : (w : ℕ) → is_idle ws w ≡ 1 → (is_idle b.words w ≡ 1) ⊎ ((v.known.worker ≡ w + 1) × (u.known.seen ≡ 0)))
       (more : (s : ℕ) → is_idle ws (s % 64) ≡ 1 → 0 < get_or ws (summary_at s) 0
       → (0 < owed s b.views → 0 < owed s (set b.views h u)) × ((0 < get_or b.words (summary_at s) 0) ⊎ (0 < owed s (set b.views h u))))
-      (own : (w k : ℕ) → u.known.worker ≡ w + 1 → k < u.known.seen → ((v.known.worker ≡ w + 1) × (k < v.known.seen)) ⊎ (get_or ws (summary_at (w + 64 * k)) 0 ≡ 0)) where
+      (own : (w k : ℕ) → u.known.worker ≡ w + 1 → k < u.known.seen → ((v.known.worker ≡ w + 1) × (k < v.known.seen)) ⊎ (get_or ws (summary_at (w + 64 * k)) 0 ≡ 0))
+      (ends : Ends v.known u.known b.words ws) where
     finish : (w k : ℕ) → w < 64 → is_idle ws w ≡ 1 → 0 < get_or ws (summary_at (w + 64 * k)) 0 → (0 < get_or b.words (summary_at (w + 64 * k)) 0 → 0 < owed (w + 64 * k) b.views)
         → 0 < owed (w + 64 * k) (set b.views h u)
     finish w k small i some_ready was =
@@ -60,16 +86,22 @@ module _ (b : Board) (r : WakesSleepers b) (h : ℕ) (v u : Token Notes) (mine :
       single = number;
       near = λ j x there. ⊎_elim (λ t. subst (λ (y : Token Notes). y.known.worker ≤ 64) t.1 low) (λ t. r.near j x t.1) (at_set b.views h j u x there);
       awake = awake;
+      ended = λ w small.
+          let one_ = total-set (λ (t : Token Notes). times w t.known.lain) b.views h v u mine in
+          let two = total-set (λ (t : Token Notes). times w t.known.risen) b.views h v u mine in
+          let three = total-set (λ (t : Token Notes). times w t.known.roused) b.views h v u mine in
+          omega (arith, one_, two, three, r.ended w small, ends w small);
     }
 
   -- nothing of this changes, and summary words are only cleared
   pub sleeps-on : (ws : List ℕ) (homes : List (maybe.Option ℕ)) → get_or ws numbers_at 0 ≡ get_or b.words numbers_at 0 → get_or ws idle_at 0 ≡ get_or b.words idle_at 0
-      → ((s : ℕ) → 0 < get_or ws (summary_at s) 0 → 0 < get_or b.words (summary_at s) 0) → u.known.owes ≡ v.known.owes → u.known.worker ≡ v.known.worker → u.known.seen ≡ v.known.seen
+      → ((s : ℕ) → 0 < get_or ws (summary_at s) 0 → 0 < get_or b.words (summary_at s) 0) → u.known.owes ≡ v.known.owes → u.known.worker ≡ v.known.worker → u.known.seen ≡ v.known.seen → Unmoved v.known u.known
       → WakesSleepers (record { words = ws; homes = homes; views = set b.views h u })
-  sleeps-on ws homes numbers idles fewer owes worker seen =
+  sleeps-on ws homes numbers idles fewer owes worker seen unmoved =
       keeps-sleep ws homes
       (λ w low. (λ i. bit_at (numbers i) w + seats-same worker w i) ∙ r.single w low)
       (let near = r.near h v mine in omega (arith, near, worker))
       (λ w i. inl (ap (λ n. bit_at n w) (sym idles) ∙ i))
       (λ s i some_ready. ((λ o. let same = with-same (λ k. k.owes) b.views h v u mine owes s in omega (arith, o, same)), inl (fewer s some_ready)))
       (λ w k is small. inl (sym worker ∙ is, omega (arith, small, seen)))
+      (ends-same v.known u.known b.words ws idles unmoved)

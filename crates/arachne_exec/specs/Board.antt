@@ -110,16 +110,29 @@ owed shard views = by_all (λ (k : Notes). one k.owes (shard + 1)) views
 abbrev pub seats_of : ℕ → List (Token Notes) → ℕ
 seats_of worker views = by_all (λ (k : Notes). one k.worker (worker + 1)) views
 
+-- how often a worker's seat has set its idle bit where it was clear, and cleared it where it was set; and how often a seat
+-- has found it set, and cleared it to wake the worker
+abbrev pub lies : ℕ → List (Token Notes) → ℕ
+lies worker views = by_all (λ (k : Notes). times worker k.lain) views
+
+abbrev pub rises : ℕ → List (Token Notes) → ℕ
+rises worker views = by_all (λ (k : Notes). times worker k.risen) views
+
+abbrev pub rouses : ℕ → List (Token Notes) → ℕ
+rouses worker views = by_all (λ (k : Notes). times worker k.roused) views
+
 abbrev pub is_idle : List ℕ → ℕ → ℕ
 is_idle words worker = bit_at (slice_index words idle_at) worker
 
 -- A worker number is free or has one seat. If a worker's idle bit is set, then each of its summary words that it has
--- found empty since it set that bit is empty, or a seat owes the look at the idle word.
+-- found empty since it set that bit is empty, or a seat owes the look at the idle word. Each time that a worker lay down
+-- it has risen, or was woken, once, or its idle bit is set.
 pub record WakesSleepers (b : Board) : Type 0 where
   pub single : (worker : ℕ) → worker < 64 → bit_at (slice_index b.words numbers_at) worker + seats_of worker b.views ≡ 1
   pub near : (h : ℕ) (t : Token Notes) → get_elem? b.views h ≡ some t → t.known.worker ≤ 64
   pub awake : (h : ℕ) (t : Token Notes) → get_elem? b.views h ≡ some t → (worker k : ℕ) → t.known.worker ≡ worker + 1 → k < t.known.seen → is_idle b.words worker ≡ 1
       → 0 < slice_index b.words (summary_at (worker + 64 * k)) → 0 < owed (worker + 64 * k) b.views
+  pub ended : (worker : ℕ) → worker < 64 → lies worker b.views ≡ rises worker b.views + rouses worker b.views + is_idle b.words worker
 
 -- the rule of an executor with so many shards
 pub record IsLawful (shards : ℕ) (b : Board) : Type 0 where

@@ -6,7 +6,7 @@ use lib.ListN.{get_elem?}
 use Rattle.arachne_weights.specs.declared.token.Token.{Token}
 use Rattle.arachne_exec.specs.declared.view.Notes.{Notes}
 use Rattle.arachne_exec.specs.Layout.{numbers_at, summary_at, ready_at, mark_at, in_word}
-use Rattle.arachne_exec.specs.Board.{Board, by_all, times, jobs_in, is_free, is_ready, is_blocked, is_idle, in_hands, unshown_by, owed}
+use Rattle.arachne_exec.specs.Board.{Board, by_all, times, jobs_in, is_free, is_ready, is_blocked, is_idle, in_hands, unshown_by, owed, lies, rises, rouses}
 use Rattle.arachne_exec.specs.Calls.{HasSeenAll}
 
 -- the place's job is neither blocked nor in the hand of a seat, and the place isn't free
@@ -40,6 +40,14 @@ pub record IsParked (shards worker : ℕ) (b : Board) : Type 0 where
   pub has_seen : HasSeenAll shards view.known
   pub idle : is_idle b.words worker ≡ 1
 
+-- a worker whose seat has set its idle bit, hasn't cleared it since, and has then found all of its summary words empty
+pub record IsDown (shards worker : ℕ) (b : Board) : Type 0 where
+  pub seat : ℕ
+  pub view : Token Notes
+  pub there : get_elem? b.views seat ≡ some view
+  pub is_worker : view.known.worker ≡ worker + 1
+  pub has_seen : HasSeenAll shards view.known
+
 -- a seat in the midst of a call will set the block's bit in the summary word, or look whether its worker sleeps
 abbrev pub IsOwedTo : ℕ → Board → Type 0
 IsOwedTo block b = (0 < unshown_by block b.views) ⊎ (0 < owed (block / 64) b.views)
@@ -59,6 +67,22 @@ ends job b = by_all (λ (k : Notes). times job k.ended) b.views
 
 abbrev pub times_in_hand : ℕ → Board → ℕ
 times_in_hand job b = by_all (λ (k : Notes). jobs_in job k.hand) b.views
+
+-- the worker has lain down: its seat has set its idle bit, which was clear
+abbrev pub times_lain : ℕ → Board → ℕ
+times_lain worker b = lies worker b.views
+
+-- it has risen by itself: its seat has cleared the bit, which was set
+abbrev pub times_risen : ℕ → Board → ℕ
+times_risen worker b = rises worker b.views
+
+-- it was roused: a seat has found the bit set, and cleared it to wake the worker, which its call tells
+abbrev pub times_roused : ℕ → Board → ℕ
+times_roused worker b = rouses worker b.views
+
+-- as often as it lay down it has risen or was roused
+abbrev pub HasEndedAll : ℕ → Board → Type 0
+HasEndedAll worker b = times_lain worker b ≡ times_risen worker b + times_roused worker b
 
 -- a wake has set the mark at the place, or who had the place in hand has used it up
 abbrev pub wakes : ℕ → Board → ℕ

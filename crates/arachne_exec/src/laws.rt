@@ -1,8 +1,8 @@
 //! What holds of an executor between any two steps. The functions do nothing: a law is their contract.
-ghost use Rattle.std.specs.Prelude.{◌≡◌, ℕ, ◌+◌, ◌*◌, ◌<◌, ◌≤◌};
-ghost use Rattle.arachne_exec.specs.Board.{Board, IsLawful, at_home, is_ready, is_free, seats_of};
-ghost use Rattle.arachne_exec.specs.Promises.{IsReadyJob, IsEmptyPlace, keepers_of, HasReady, IsShownOrOwed, IsParked, AreOwedTo};
-ghost use Rattle.arachne_exec.specs.Promises.{spawns, ends, times_in_hand, wakes, wakes_heard, is_marked, is_unused};
+ghost use Rattle.std.specs.Prelude.{◌≡◌, ◌⊎◌, ℕ, ◌+◌, ◌*◌, ◌<◌, ◌≤◌};
+ghost use Rattle.arachne_exec.specs.Board.{Board, IsLawful, at_home, is_ready, is_free, is_idle, seats_of};
+ghost use Rattle.arachne_exec.specs.Promises.{IsReadyJob, IsEmptyPlace, keepers_of, HasReady, IsShownOrOwed, IsParked, IsDown, AreOwedTo};
+ghost use Rattle.arachne_exec.specs.Promises.{spawns, ends, times_in_hand, wakes, wakes_heard, is_marked, is_unused, times_lain, times_risen, times_roused, HasEndedAll};
 
 use crate::executor::Executor;
 use crate::seat::ExecSeat;
@@ -30,6 +30,16 @@ pub fn ready_blocks_are_shown()
 /// the block or the look that wakes the worker.
 pub fn sleepers_are_woken()
     ensures { (shards : ℕ) (b : Board) → IsLawful shards b → (worker : ℕ) → IsParked shards worker b → AreOwedTo shards worker b }
+{}
+
+/// Each time that a worker lay down it has risen by itself, or a seat has found its idle bit set and cleared it to wake
+/// it, once; or the bit is set. So a worker that is down is parked, and what is ready of its blocks is owed to it, or as
+/// often as it lay down it has risen or was roused.
+pub fn sleepers_are_told()
+    ensures once { (shards : ℕ) (b : Board) → IsLawful shards b → (worker : ℕ) → worker < 64
+        → times_lain worker b ≡ times_risen worker b + times_roused worker b + is_idle b.words worker }
+    ensures down { (shards : ℕ) (b : Board) → IsLawful shards b → (worker : ℕ) → IsDown shards worker b
+        → (IsParked shards worker b × AreOwedTo shards worker b) ⊎ HasEndedAll worker b }
 {}
 
 /// Each job number but 0 was spawned as often as it has ended, is in a hand, and lies in a slot.
