@@ -2,7 +2,7 @@
 ghost use Rattle.std.specs.Prelude.{◌≡◌, ◌*◌, ◌≤◌, [], vec_len, IfOk, IfErr};
 ghost use Rattle.std.specs.Vec.{vec_capacity};
 ghost use Rattle.arachne_weights.specs.Weight.{whole};
-ghost use Rattle.arachne_exec.specs.Ending.{IsSettled};
+ghost use Rattle.arachne_exec.specs.Ending.{IsSettled, IsLawfulEnd};
 
 use crate::executor::Executor;
 use crate::seat::{ExecSeat, SeatInCall};
@@ -16,6 +16,7 @@ impl Executor {
         requires whole { seat.weight ≡ whole }
         requires nothing_in_hand { seat.known.hand ≡ [] }
         ensures settled { IfOk result (λ left. IsSettled seat.known left.items) }
+        ensures lawful { IfOk result (λ left. IsLawfulEnd self.shards seat.known) }
         ensures handed_back { IfErr result (λ back. back ≡ (self, seat)) }
     {
         let Ok(left) = Vec::with_capacity(alloc, self.places()) else {
@@ -32,6 +33,7 @@ impl Executor {
         requires empty { list.items ≡ [] }
         requires room { 4096 * self.shards ≤ vec_capacity list }
         ensures settled { IsSettled seat.known result.items }
+        ensures lawful { IsLawfulEnd self.shards seat.known }
         ensures counted { vec_len result ≤ 4096 * self.shards }
     {
         let mut left = list;

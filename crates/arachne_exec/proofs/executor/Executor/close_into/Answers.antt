@@ -79,3 +79,6 @@ returns-clause-settled c =
     let e = inv.ends.1 in
     all-settled c.args.self.shards c.args.seat.known c.requires.nothing_in_hand c.loop-place.left.items (slots_items c.loop-place.closed.words) (slots_items c.loop-place.closed.slots) c.loop-place.place inv.ends
     (omega (arith, e.3, e.1.0.keeper.room, c.self.invariant.slots, ap (λ v. v.shards) c.self.view_is, c.slot_count-places.ensures, c.loop-place-test.false)) inv.so_far
+
+pub returns-clause-lawful : goal.returns-clause-lawful
+returns-clause-lawful c = let ends = c.loop-place.invariant.ends in record { board = ends.1.0; lawful = ends.1.1.0; seat = ends.0; there = ends.1.1.1 }
