@@ -1,5 +1,5 @@
 -- What an executor's seat may do on its table, with the words and masks that a call has computed.
-use Rattle.std.proofs.Common.{◌≡◌, ℕ, ◌+◌, ◌-◌, ◌*◌, ◌/◌, ◌%◌, ◌^◌, ◌<◌, [], ◌∷◌, true, false, eqb, sym, ap, ◌∙◌, subst, arith}
+use Rattle.std.proofs.Common.{◌≡◌, ℕ, ◌+◌, ◌-◌, ◌*◌, ◌/◌, ◌%◌, ◌^◌, ◌<◌, ◌≤◌, [], ◌∷◌, true, false, eqb, sym, ap, ◌∙◌, subst, arith}
 use Rattle.std.specs.Int.{bit_at}
 use Rattle.std.specs.Int.RustNames.{bit_and, bit_or}
 use Rattle.std.proofs.lemmas.Bool.{eqb-true, eq-eqb, false≢true}
@@ -13,11 +13,11 @@ use Rattle.atomic_table.specs.Table.{step, rest, Allows, Splits, Joins}
 use Rattle.arachne_weights.specs.declared.token.Token.{Token}
 use Rattle.arachne_weights.specs.Tokens.{held, spent}
 use Rattle.arachne_exec.specs.declared.view.Notes.{Notes}
-use Rattle.arachne_exec.specs.Layout.{summary_at, ready_at, free_at, mark_at, retired, worker_of, others, words_of}
+use Rattle.arachne_exec.specs.Layout.{summary_at, ready_at, free_at, mark_at, last_generation, retired, worker_of, others, words_of}
 use Rattle.arachne_exec.specs.Board.{IsLawful, blank}
 use Rattle.arachne_exec.specs.Changes.{older, first_of, second_of, both_of}
 use Rattle.arachne_exec.specs.Steps.{Mine, IsLive, Looks, Takes, TakesMany, Claims, Frees, Readies, Spawns, Begins, Blocks, Renews, Retires, Hears, Wakes, Marks, FindsShown, Shows, Hides, LooksAgain, LooksIdle, Unparks, Rises, Rests, LooksNext, Registers, Leaves}
-use Rattle.arachne_exec.specs.Seats.{Places, IsLaidOut, CallView, HasNewest}
+use Rattle.arachne_exec.specs.Seats.{Places, IsLaidOut, CallView, HasNewest, HasFoundMark}
 use Rattle.arachne_exec.proofs.Opening.{deals, gathers}
 use Rattle.arachne_exec.proofs.Moves.{looks, takes_ready, claims, frees, readies, spawns, begins, blocks_at, renews, retires, hears_wake, wakes, marks}
 use Rattle.arachne_exec.proofs.Many.{takes_many}
@@ -102,12 +102,12 @@ module _ (table : TableId) (key n : ℕ) (laid : IsLaidOut table key n) (exec : 
             (hears_wake key table.slots id me.0.weight me.0.known q x (rest view.slots) hand low y),
       )
 
-      pub renew-asks : (new : ℕ) → word ≡ mark_at q → new % 4 ≡ 0 → Asks word (λ _. new) (Renews (step table.slots word new 0 none) me)
-      renew-asks new e clear = (
+      pub renew-asks : (new next : ℕ) → word ≡ mark_at q → new ≡ 4 * next → (next < 2 ^ 44) × HasFoundMark q (λ mark. next ≡ mark / 4 + 1) view.known → Asks word (λ _. new) (Renews (step table.slots word new 0 none) me)
+      renew-asks new next e now has_found = let mark : ℕ = has_found.1.0 in let is = has_found.1.3 in (
         at-home,
         mark-inside e,
         subst (λ (z : ℕ × Mine). Allows (IsLawful key) table.slots id z.1 z.0 (λ _. new) (Renews (step table.slots z.0 new 0 none) z.1)) (λ i. (sym e i, sym mine i))
-            (renews key table.slots id me.0.weight me.0.known q x (rest view.slots) hand low y new clear),
+            (renews key table.slots id me.0.weight me.0.known q x (rest view.slots) hand low mark has_found.1.1 (known-is ∙ has_found.1.2) y new (omega (arith, has_found.0, is)) (omega (arith, now, is))),
       )
 
     module _ (x : ℕ) where
@@ -151,12 +151,13 @@ module _ (table : TableId) (key n : ℕ) (laid : IsLaidOut table key n) (exec : 
             (blocks_at key table.slots id me.0.weight me.0.known q x (rest view.slots) (hand x x has) low old new was now),
       )
 
-      pub retire-asks : HasNewest q x 0 view → (new : ℕ) → word ≡ mark_at q → new % 4 ≡ 2 → new ≡ retired → Asks word (λ _. new) (Retires (step table.slots word new 0 none) me)
-      retire-asks has new e now gone = (
+      pub retire-asks : HasNewest q x 0 view → HasFoundMark q (λ mark. last_generation ≤ mark / 4 + 1) view.known → (new : ℕ) → word ≡ mark_at q → new ≡ retired
+          → Asks word (λ _. new) (Retires (step table.slots word new 0 none) me)
+      retire-asks has has_found new e gone = (
         at-home,
         mark-inside e,
         subst (λ (z : ℕ × Mine). Allows (IsLawful key) table.slots id z.1 z.0 (λ _. new) (Retires (step table.slots z.0 new 0 none) z.1)) (λ i. (sym e i, sym (mine x 0 has) i))
-            (retires key table.slots id me.0.weight me.0.known q x (rest view.slots) (hand x 0 has) low new now gone),
+            (retires key table.slots id me.0.weight me.0.known q x (rest view.slots) (hand x 0 has) low has_found.0 has_found.1 (known-is ∙ has_found.2) new has_found.3 gone),
       )
 
     pub wake-asks : (old new : ℕ) → word ≡ mark_at q → old % 4 ≡ 2 → new ≡ old - 2 → Asks word (λ z. either (eqb z old) new z) (Wakes (step table.slots word old new none) me)

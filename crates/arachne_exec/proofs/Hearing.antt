@@ -43,11 +43,11 @@ module _ (blocks : ℕ) (b : Board) (r : HearsWakes blocks b) (h : ℕ) (v u : T
     else-same : (p : ℕ) → q ≢ p → get_or (set b.words (mark_at q) m) (mark_at p) 0 ≡ get_or b.words (mark_at p) 0
     else-same p ne = get_or-set_other b.words (mark_at q) (mark_at p) m 0 (λ e. ne (sym (mark_apart p q e)))
 
-    -- a mark that says of a wake as before
-    pub as-marked : m % 2 ≡ old % 2 → (p : ℕ) → get_or (set b.words (mark_at q) m) (mark_at p) 0 % 2 ≡ get_or b.words (mark_at p) 0 % 2
-    as-marked same p = dite (ℕ_discrete q p)
-        (λ e. ap (λ x. x % 2) (here p e) ∙ same ∙ ap (λ x. x % 2) (sym (there p e)))
-        (λ ne. ap (λ x. x % 2) (else-same p ne))
+    -- a mark that says this as before
+    pub as-marked : (f : ℕ → ℕ) → f m ≡ f old → (p : ℕ) → f (get_or (set b.words (mark_at q) m) (mark_at p) 0) ≡ f (get_or b.words (mark_at p) 0)
+    as-marked f same p = dite (ℕ_discrete q p)
+        (λ e. ap f (here p e) ∙ same ∙ ap f (sym (there p e)))
+        (λ ne. ap f (else-same p ne))
 
     pub hears-mark : old % 2 ≡ 0 → m % 2 ≡ 1 → u.known.woken ≡ q ∷ v.known.woken → u.known.heard ≡ v.known.heard
         → HearsWakes blocks (record { words = set b.words (mark_at q) m; homes = homes; views = set b.views h u })

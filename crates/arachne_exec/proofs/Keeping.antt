@@ -10,7 +10,7 @@ use native.Mathlib.Decide.{ℕ_discrete}
 use lib.ListN.{get_elem?}
 use Rattle.atomic_table.proofs.Lists.{set_here, set_else}
 use Rattle.arachne_weights.specs.declared.token.Token.{Token}
-use Rattle.arachne_weights.proofs.Totals.{total-set, at-le-total}
+use Rattle.arachne_weights.proofs.Totals.{total-set, at-le-total, two-le-total}
 use Rattle.arachne_exec.specs.declared.view.Notes.{Notes}
 use Rattle.arachne_exec.specs.Layout.{summary_at, ready_at, free_at, mark_at, others}
 use Rattle.arachne_exec.specs.Board.{is_free, is_ready, is_blocked, one, places_in, in_hands, Board, HasOneKeeper}
@@ -25,7 +25,7 @@ free_apart c d e = omega (arith, e)
 pub mark_apart : (p q : ℕ) → mark_at p ≡ mark_at q → p ≡ q
 mark_apart p q e = omega (arith, e)
 
-places-cons : (p q x : ℕ) (xs : List (ℕ × ℕ)) → places_in p ((q, x) ∷ xs) ≡ one q p + places_in p xs
+pub places-cons : (p q x : ℕ) (xs : List (ℕ × ℕ)) → places_in p ((q, x) ∷ xs) ≡ one q p + places_in p xs
 places-cons p q x xs = sum_by-cons (λ (y : ℕ × ℕ). one y.0 p) (q, x) xs
 
 module _ (blocks : ℕ) (b : Board) (r : HasOneKeeper blocks b) (h : ℕ) (v : Token Notes) (mine : get_elem? b.views h ≡ some v) where
@@ -51,6 +51,17 @@ module _ (blocks : ℕ) (b : Board) (r : HasOneKeeper blocks b) (h : ℕ) (v : T
   in-hand q x xs e =
       let some_hand = at-le-total (λ (t : Token Notes). places_in q t.known.hand) b.views h v mine in
       let one_more = ap (places_in q) e ∙ places-cons q q x xs in let here = one-same q q refl in omega (arith, some_hand, one_more, here)
+
+  -- nobody else has it, nor this seat once more
+  module _ (q x : ℕ) (xs : List (ℕ × ℕ)) (e : v.known.hand ≡ (q, x) ∷ xs) (within : q < 64 * blocks) where
+    once : places_in q v.known.hand ≡ 1 + places_in q xs
+    once = ap (places_in q) e ∙ places-cons q q x xs ∙ ap (λ n. n + places_in q xs) (one-same q q refl)
+
+    pub no-more : places_in q xs ≡ 0
+    no-more = let all = at-le-total (λ (t : Token Notes). places_in q t.known.hand) b.views h v mine in omega (arith, all, once, r.kept q within)
+
+    pub no-other : (j : ℕ) (t : Token Notes) → j ≢ h → get_elem? b.views j ≡ some t → places_in q t.known.hand ≡ 0
+    no-other j t ne there = let two = two-le-total (λ (y : Token Notes). places_in q y.known.hand) b.views h j v t mine ne there in omega (arith, two, once, r.kept q within)
 
   -- ---- a bit of a place's word
 

@@ -5,6 +5,7 @@ mod Turning
 mod Keeping
 mod Balancing
 mod Hearing
+mod Naming
 mod Debts
 mod Rousing
 mod KeepsShown

@@ -137,7 +137,7 @@ pub takes_many : (shards slots id w : ℕ) (k : Notes) (xs : List (ℕ × ℕ)) 
     → Allows (IsLawful shards) slots id (held w k, xs) (ready_at block) (λ n. bit_and n (2 ^ 64 - 1 - pick)) (TakesMany (step slots (ready_at block) (2 ^ 64 - 1 - pick) 0 none) (held w k, xs))
 takes_many shards slots id w k xs block pick inside low s h _ mine small =
     let n : ℕ = get_or s.words (ready_at block) 0 in let l : Notes = noted (ready_at block) n k in
-    let c = all shards id w block pick inside s h k l xs mine small (noting shards slots id w s h k mine xs (ready_at block) n) 64 0 refl in
+    let c = all shards id w block pick inside s h k l xs mine small (noting shards slots id w s h k mine xs (ready_at block)) 64 0 refl in
     let is = same_word (get_or s.words (ready_at block) 0) pick c.word small low c.below c.kept c.gone in (
       held w (gaining c.jobs l),
       c.act,

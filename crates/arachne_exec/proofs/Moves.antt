@@ -1,10 +1,10 @@
 -- What a seat may do: each kind of step is allowed, and tells what it says.
-use Rattle.std.proofs.Common.{◌≡◌, ◌≢◌, ℕ, ◌+◌, ◌-◌, ◌*◌, ◌/◌, ◌%◌, ◌^◌, ◌<◌, ◌≤◌, List, ◌∷◌, length, get_or, set, sym, refl, ap, ◌∙◌, subst, arith, eqb, get_or-set_other}
+use Rattle.std.proofs.Common.{◌≡◌, ◌≢◌, ℕ, ◌+◌, ◌-◌, ◌*◌, ◌/◌, ◌%◌, ◌^◌, ◌<◌, ◌≤◌, min, List, ◌∷◌, length, get_or, set, sym, refl, ap, ◌∙◌, subst, arith, eqb, get_or-set_other}
 use Rattle.std.specs.Int.{bit_at}
 use Rattle.std.specs.Int.RustNames.{bit_and, bit_or}
 use Rattle.std.proofs.lemmas.List.{set-get_or}
 use Rattle.std.proofs.lemmas.Grind.{get_or-set_at}
-use Rattle.std.proofs.lemmas.Nat.Bits.{bit_at_and, bit_at-lt, bit_at-suc, bit_at_lowest}
+use Rattle.std.proofs.lemmas.Nat.Bits.{bit_at_and, bit_at-lt, and_high_mask}
 use mathlib.Core.Logic.{dite}
 use mathlib.Core.Option.{some, none}
 use mathlib.Core.Option as maybe
@@ -17,14 +17,15 @@ use Rattle.arachne_weights.specs.declared.token.Token.{Token}
 use Rattle.arachne_weights.specs.Tokens.{held, learns}
 use Rattle.arachne_exec.specs.declared.view.Notes.{Notes}
 use Rattle.arachne_exec.specs.declared.view.Deed.{Deed}
-use Rattle.arachne_exec.specs.Layout.{idle_at, numbers_at, summary_at, ready_at, free_at, mark_at, retired, others, in_word}
-use Rattle.arachne_exec.specs.Board.{is_blocked, Board, HasOneKeeper, IsBalanced, IsShown, WakesSleepers, IsLawful}
-use Rattle.arachne_exec.specs.Changes.{older, newest_job, newest_place, gained, unblocking, readying, blocking, spawning, beginning, ending, marking, hearing, noted, unshowing}
+use Rattle.arachne_exec.specs.Layout.{idle_at, numbers_at, summary_at, ready_at, free_at, mark_at, last_generation, retired, others, in_word}
+use Rattle.arachne_exec.specs.Board.{is_blocked, Board, HasOneKeeper, IsBalanced, IsShown, FoundLast, CountsEnds, ends_at, places_in, WakesSleepers, IsLawful}
+use Rattle.arachne_exec.specs.Changes.{older, newest_job, newest_place, gained, unblocking, readying, blocking, spawning, beginning, ending, aging, marking, hearing, noted, unshowing}
 use Rattle.arachne_exec.specs.Steps.{Mine, with, knowing, Looks, Takes, Claims, Frees, Readies, Spawns, Begins, Blocks, Renews, Retires, Hears, Wakes, Marks}
-use Rattle.arachne_exec.proofs.Bits.{same_others, clear_le, unset, not_one}
-use Rattle.arachne_exec.proofs.Keeping.{ready_apart, free_apart, mark_apart, in-hand, home-of-ready, home-of-blocked, keeps-take, keeps-claim, keeps-ready, keeps-free, keeps-block, keeps-wake, keeps-mark, keeps-places, keeps-view, hands-renumbered}
+use Rattle.arachne_exec.proofs.Bits.{one-same, same_others, clear_le, unset, not_one}
+use Rattle.arachne_exec.proofs.Keeping.{ready_apart, free_apart, mark_apart, in-hand, home-of-ready, home-of-blocked, keeps-take, keeps-claim, keeps-ready, keeps-free, keeps-block, keeps-wake, keeps-mark, keeps-places, keeps-view, hands-renumbered, places-cons, no-more, no-other}
 use Rattle.arachne_exec.proofs.Balancing.{balanced-same, balanced-taken, balanced-put, balanced-spawned, balanced-begun, balanced-ended}
 use Rattle.arachne_exec.proofs.Hearing.{hears-on, as-marked, hears-mark, hears-clear}
+use Rattle.arachne_exec.proofs.Naming.{Knows, found-word, found-on, knows-less, names-on, found-new, mark-else, names-ended}
 use Rattle.arachne_exec.proofs.KeepsShown.{shows-on, shows-owing}
 use Rattle.arachne_exec.proofs.Sleeping.{Unmoved, sleeps-on}
 
@@ -62,21 +63,26 @@ module _ (shards slots id w : ℕ) where
     t = held w k
 
     -- what it has done is noted
-    pub telling : (ds : List Deed) → IsLawful shards (record { words = s.words; homes = s.homes; views = set s.views id (held w (record k { deeds = ds })) })
-    telling ds = let l : Notes = record k { deeds = ds } in record {
+    pub telling : (ds : List Deed) → Knows (64 * shards) s.words (record k { deeds = ds }) → IsLawful shards (record { words = s.words; homes = s.homes; views = set s.views id (held w (record k { deeds = ds })) })
+    telling ds knows = let l : Notes = record k { deeds = ds } in record {
       shared = learns h.shared id w k l mine;
       keeper = keeps-view (64 * shards) s h.keeper id (held w k) mine (held w l) refl;
       balance = balanced-same s h.balance id (held w k) (held w l) mine s.words refl refl refl;
       hears = hears-on (64 * shards) s h.hears id (held w k) (held w l) mine s.homes s.words (λ p inside. refl) refl refl;
+      names = names-on (64 * shards) s h.names id (held w k) (held w l) mine s.homes s.words (λ p inside. refl) refl knows;
       shows = shows-on (64 * shards) s h.shows id (held w k) (held w l) mine s.words s.homes (λ c r. r) (λ c. refl) refl;
       sleep = sleeps-on s h.sleep id (held w k) (held w l) mine s.words s.homes refl refl (λ c r. r) refl refl refl (refl, refl, refl);
     }
 
-    pub noting : (xs : List (ℕ × ℕ)) (i n : ℕ) → IsLawful shards (stepped s i (get_or s.words i 0) id xs (held w (noted i n k)) keeps)
-    noting xs i n = unchanged (noted i n k) xs i s (telling _)
+    pub noting : (xs : List (ℕ × ℕ)) (i : ℕ) → IsLawful shards (stepped s i (get_or s.words i 0) id xs (held w (noted i (get_or s.words i 0) k)) keeps)
+    noting xs i = unchanged (noted i (get_or s.words i 0) k) xs i s (telling _ (λ p inside has. found-word s.words p i k.deeds))
+
+    -- what it has found last
+    pub knowing-still : Knows (64 * shards) s.words k
+    knowing-still p inside has = h.names.found id (held w k) mine p inside has
 
     pub stays : (xs : List (ℕ × ℕ)) (i : ℕ) → IsLawful shards (stepped s i (get_or s.words i 0) id xs (held w k) keeps)
-    stays xs i = unchanged k xs i s (telling k.deeds)
+    stays xs i = unchanged k xs i s (telling k.deeds knowing-still)
 
     -- ---- what a word that is written leaves as it was
 
@@ -84,6 +90,9 @@ module _ (shards slots id w : ℕ) where
       -- a word that is no mark
       pub unmarked : ((p : ℕ) → mark_at p ≢ i) → (p : ℕ) → p < 64 * (64 * shards) → get_or (set s.words i now) (mark_at p) 0 % 2 ≡ get_or s.words (mark_at p) 0 % 2
       unmarked never p inside = ap (λ x. x % 2) (get_or-set_other s.words i (mark_at p) now 0 (never p))
+
+      pub ageless : ((p : ℕ) → mark_at p ≢ i) → (p : ℕ) → p < 64 * (64 * shards) → get_or (set s.words i now) (mark_at p) 0 / 4 ≡ get_or s.words (mark_at p) 0 / 4
+      ageless never p inside = ap (λ x. x / 4) (get_or-set_other s.words i (mark_at p) now 0 (never p))
 
       pub same_summary : ((c : ℕ) → summary_at c ≢ i) → (c : ℕ) → 0 < get_or (set s.words i now) (summary_at c) 0 → 0 < get_or s.words (summary_at c) 0
       same_summary never c some_there = let same = get_or-set_other s.words i (summary_at c) now 0 (never c) in omega (arith, some_there, same)
@@ -131,14 +140,15 @@ module _ (shards slots id w : ℕ) where
       ready-law : (now : ℕ) → now ≡ bit_or (get_or s.words (ready_at (q / 64)) 0) (2 ^ (q % 64)) → k.hand ≡ (q, x) ∷ l.hand
           → IsBalanced (record { words = set s.words (ready_at (q / 64)) now; homes = set s.homes q (some y); views = set s.views id (held w l) }) → l.woken ≡ k.woken → l.heard ≡ k.heard
           → IsShown (64 * shards) (record { words = set s.words (ready_at (q / 64)) now; homes = set s.homes q (some y); views = set s.views id (held w l) })
-          → l.owes ≡ k.owes → l.worker ≡ k.worker → l.seen ≡ k.seen → Unmoved k l
+          → l.owes ≡ k.owes → l.worker ≡ k.worker → l.seen ≡ k.seen → Unmoved k l → l.ended_at ≡ k.ended_at → Knows (64 * shards) s.words l
           → IsLawful shards (record { words = set s.words (ready_at (q / 64)) now; homes = set s.homes q (some y); views = set s.views id (held w l) })
-      ready-law now is hand balance woken heard shows owes worker seen unmoved = record {
+      ready-law now is hand balance woken heard shows owes worker seen unmoved ended knows = record {
         shared = learns h.shared id w k l mine;
         keeper = subst (λ n. HasOneKeeper (64 * shards) (record { words = set s.words (ready_at (q / 64)) n; homes = set s.homes q (some y); views = set s.views id (held w l) })) (sym is)
             (keeps-ready (64 * shards) s h.keeper id (held w k) mine q within (held w l) x y hand);
         balance = balance;
         hears = hears-on (64 * shards) s h.hears id (held w k) (held w l) mine (set s.homes q (some y)) (set s.words (ready_at (q / 64)) now) (unmarked (ready_at (q / 64)) now (λ p e. omega (arith, e))) woken heard;
+        names = names-on (64 * shards) s h.names id (held w k) (held w l) mine _ _ (ageless (ready_at (q / 64)) now (λ p e. omega (arith, e))) ended knows;
         shows = shows;
         sleep = quiet-sleep (ready_at (q / 64)) now l (set s.homes q (some y)) (λ e. omega (arith, e)) (λ e. omega (arith, e)) (λ c e. omega (arith, e)) owes worker seen unmoved;
       }
@@ -161,7 +171,7 @@ module _ (shards slots id w : ℕ) where
   -- ---- looks, and bits that are cleared
 
   pub looks : (k : Notes) (xs : List (ℕ × ℕ)) (i : ℕ) → Allows (IsLawful shards) slots id (held w k, xs) i (λ n. n) (Looks (step slots i 0 0 none) (held w k, xs))
-  looks k xs i s h _ mine _ = (held w (noted i (get_or s.words i 0) k), keeps, tt, noting s h k mine xs i (get_or s.words i 0), refl)
+  looks k xs i s h _ mine _ = (held w (noted i (get_or s.words i 0) k), keeps, tt, noting s h k mine xs i, refl)
 
   pub takes_ready : (k : Notes) (xs : List (ℕ × ℕ)) (q : ℕ) → q < 64 * (64 * shards)
       → Allows (IsLawful shards) slots id (held w k, xs) (ready_at (q / 64)) (λ n. bit_and n (others (q % 64))) (Takes (step slots (ready_at (q / 64)) (others (q % 64)) 0 none) (held w k, xs))
@@ -176,6 +186,7 @@ module _ (shards slots id w : ℕ) where
           keeper = keeps-take (64 * shards) s h.keeper id (held w k) mine q within (held w l) job.0 there refl;
           balance = balanced-taken s h.balance id (held w k) (held w l) mine _ q job.0 job.1 refl refl refl;
           hears = hears-on (64 * shards) s h.hears id (held w k) (held w l) mine _ _ (unmarked s h k mine i now (λ p e. omega (arith, e))) refl refl;
+          names = names-on (64 * shards) s h.names id (held w k) (held w l) mine _ _ (ageless s h k mine i now (λ p e. omega (arith, e))) refl (λ p inside has. tt);
           shows = shows-on (64 * shards) s h.shows id (held w k) (held w l) mine _ _ (fallen s h k mine (q / 64) (omega (arith, within)) now (clear_le n (q % 64) (omega arith)))
               (same_shown s h k mine i now (λ c e. omega (arith, e))) refl;
           sleep = quiet-sleep s h k mine i now l (set s.homes q none) (λ e. omega (arith, e)) (λ e. omega (arith, e)) (λ c e. omega (arith, e)) refl refl refl (refl, refl, refl);
@@ -189,7 +200,7 @@ module _ (shards slots id w : ℕ) where
         held w (noted i n k),
         keeps,
         tt,
-        subst (λ x. IsLawful shards (stepped s i x id xs (held w (noted i n k)) keeps)) (sym (unset n (q % 64) (omega arith) small clear)) (noting s h k mine xs i n),
+        subst (λ x. IsLawful shards (stepped s i x id xs (held w (noted i n k)) keeps)) (sym (unset n (q % 64) (omega arith) small clear)) (noting s h k mine xs i),
         λ p at first. let same = same_bits p q (ready_apart (q / 64) (p / 64) at) first in (
           λ there. absurd (clash n (q % 64) (subst (λ x. bit_at n (x % 64) ≡ 1) same there) clear),
           λ _. refl,
@@ -209,6 +220,7 @@ module _ (shards slots id w : ℕ) where
           keeper = keeps-claim (64 * shards) s h.keeper id (held w k) mine q within (held w l) 0 there refl;
           balance = balanced-taken s h.balance id (held w k) (held w l) mine _ q 0 empty refl refl refl;
           hears = hears-on (64 * shards) s h.hears id (held w k) (held w l) mine _ _ (unmarked s h k mine i now (λ p e. omega (arith, e))) refl refl;
+          names = names-on (64 * shards) s h.names id (held w k) (held w l) mine _ _ (ageless s h k mine i now (λ p e. omega (arith, e))) refl (λ p inside has. tt);
           shows = quiet-shows s h k mine i now l (set s.homes q none) (λ c e. omega (arith, e)) (λ c e. omega (arith, e)) refl;
           sleep = quiet-sleep s h k mine i now l (set s.homes q none) (λ e. omega (arith, e)) (λ e. omega (arith, e)) (λ c e. omega (arith, e)) refl refl refl (refl, refl, refl);
         },
@@ -221,7 +233,7 @@ module _ (shards slots id w : ℕ) where
         held w (noted i n k),
         keeps,
         tt,
-        subst (λ x. IsLawful shards (stepped s i x id xs (held w (noted i n k)) keeps)) (sym (unset n (q % 64) (omega arith) small clear)) (noting s h k mine xs i n),
+        subst (λ x. IsLawful shards (stepped s i x id xs (held w (noted i n k)) keeps)) (sym (unset n (q % 64) (omega arith) small clear)) (noting s h k mine xs i),
         λ p at first. let same = same_bits p q (free_apart (q / 64) (p / 64) at) first in (
           λ there. absurd (clash n (q % 64) (subst (λ x. bit_at n (x % 64) ≡ 1) same there) clear),
           λ _. refl,
@@ -241,6 +253,10 @@ module _ (shards slots id w : ℕ) where
       mark-room : mark_at q < length s.words
       mark-room = omega (arith, h.keeper.sized, within)
 
+    -- the hand without the newest place
+    older-less : (p : ℕ) → places_in p (older k.hand) ≤ places_in p k.hand
+    older-less p = let more = ap (places_in p) hand ∙ places-cons p q x (older k.hand) in omega (arith, more)
+
     pub frees : Allows (IsLawful shards) slots id (held w k, (q, 0) ∷ xs) (free_at (q / 64)) (λ n. bit_or n (2 ^ (q % 64))) (Frees (step slots (free_at (q / 64)) (2 ^ (q % 64)) 0 none) (held w k, (q, 0) ∷ xs))
     frees s h _ mine small =
         let i : ℕ = free_at (q / 64) in let now : ℕ = bit_or (get_or s.words i 0) (2 ^ (q % 64)) in let l : Notes = ending k in (
@@ -252,10 +268,11 @@ module _ (shards slots id w : ℕ) where
             keeper = keeps-free (64 * shards) s h.keeper id (held w k) mine q within (held w l) x 0 refl hand;
             balance = balanced-ended s h.balance id (held w k) (held w l) mine _ q x (out s h mine) refl (ap (λ j. j ∷ k.ended) (same_job k q x (older k.hand) hand)) hand;
             hears = hears-on (64 * shards) s h.hears id (held w k) (held w l) mine _ _ (unmarked s h k mine i now (λ p e. omega (arith, e))) refl refl;
+            names = names-on (64 * shards) s h.names id (held w k) (held w l) mine _ _ (ageless s h k mine i now (λ p e. omega (arith, e))) refl (knows-less (64 * shards) s h.names id (held w k) (held w l) mine refl older-less);
             shows = quiet-shows s h k mine i now l (set s.homes q (some 0)) (λ c e. omega (arith, e)) (λ c e. omega (arith, e)) refl;
             sleep = quiet-sleep s h k mine i now l (set s.homes q (some 0)) (λ e. omega (arith, e)) (λ e. omega (arith, e)) (λ c e. omega (arith, e)) refl refl refl (refl, refl, refl);
           },
-          refl,
+          (ap (λ zs. free_at (newest_place zs / 64)) (sym hand), refl),
         )
 
     pub readies : k.unshown ≡ 0 → Allows (IsLawful shards) slots id (held w k, (q, x) ∷ xs) (ready_at (q / 64)) (λ n. bit_or n (2 ^ (q % 64))) (Readies (step slots (ready_at (q / 64)) (2 ^ (q % 64)) 0 none) (held w k, (q, x) ∷ xs))
@@ -266,7 +283,7 @@ module _ (shards slots id w : ℕ) where
           gives,
           tt,
           ready-law s h k mine q x x within l now refl hand (balanced-put s h.balance id (held w k) (held w l) mine _ q x (out s h mine) refl refl hand) refl refl
-              (ready-first s h k mine q x x within l now shown refl) refl refl refl (refl, refl, refl),
+              (ready-first s h k mine q x x within l now shown refl) refl refl refl (refl, refl, refl) refl (λ p inside has. tt),
           λ p at. let same : d ≡ p / 64 = ready_apart d (p / 64) at in (
             λ _. ap (λ c. with m (unshowing (c + 1) (readying k)) xs) same,
             λ full. absurd (full empty),
@@ -277,7 +294,7 @@ module _ (shards slots id w : ℕ) where
           gives,
           tt,
           ready-law s h k mine q x x within l now refl hand (balanced-put s h.balance id (held w k) (held w l) mine _ q x (out s h mine) refl refl hand) refl refl
-              (ready-more s h k mine q x x within l now full refl) refl refl refl (refl, refl, refl),
+              (ready-more s h k mine q x x within l now full refl) refl refl refl (refl, refl, refl) refl (λ p inside has. tt),
           λ p at. ((λ empty. absurd (full empty)), λ _. refl),
         ))
 
@@ -294,77 +311,89 @@ module _ (shards slots id w : ℕ) where
             shared = learns h.shared id w k l mine;
             keeper = keeps-block (64 * shards) s h.keeper id (held w k) mine q within (held w l) x x new hand (omega (arith, unwoken, is));
             balance = balanced-put s h.balance id (held w k) (held w l) mine _ q x (out s h mine) refl refl hand;
-            hears = hears-on (64 * shards) s h.hears id (held w k) (held w l) mine _ _ (λ p inside. as-marked (64 * shards) s h.hears id (held w k) (held w l) mine s.homes q (mark-room s h mine) new (omega (arith, hit, is)) p) refl refl;
+            hears = hears-on (64 * shards) s h.hears id (held w k) (held w l) mine _ _ (λ p inside. as-marked (64 * shards) s h.hears id (held w k) (held w l) mine s.homes q (mark-room s h mine) new (λ z. z % 2) (omega (arith, hit, is)) p) refl refl;
+            names = names-on (64 * shards) s h.names id (held w k) (held w l) mine _ _ (λ p inside. as-marked (64 * shards) s h.hears id (held w k) (held w l) mine s.homes q (mark-room s h mine) new (λ z. z / 4) (omega (arith, hit, unwoken, is)) p) refl (λ p inside has. tt);
             shows = mark-shows s h k mine q new l (set s.homes q (some x)) refl;
             sleep = mark-sleep s h k mine q new l (set s.homes q (some x)) refl refl refl (refl, refl, refl);
           },
-          ((λ _. refl), (λ miss. absurd (miss hit)), omega (arith, unwoken, is)),
+          ((λ _. refl), λ miss. absurd (miss hit)),
         ))
-        (λ miss. (held w (noted i n k), keeps, tt, noting s h k mine m.1 i n, ((λ hit. absurd (miss hit)), (λ _. refl), omega (arith, unwoken, is))))
+        (λ miss. (held w (noted i n k), keeps, tt, noting s h k mine m.1 i, ((λ hit. absurd (miss hit)), λ _. refl)))
 
     -- a new mark, by who has the place
     module _ (new : ℕ) (clear : new % 2 ≡ 0) (s : Board) (h : IsLawful shards s) (mine : get_elem? s.views id ≡ some (held w k)) (l : Notes) where
       renewed : new / 2 % 2 ≡ 0 → l.hand ≡ k.hand → l.spawned ≡ k.spawned → l.ended ≡ k.ended → l.woken ≡ k.woken → l.heard ≡ (hearing (get_or s.words (mark_at q) 0 % 2) q k).heard → l.unshown ≡ k.unshown
-          → l.owes ≡ k.owes → l.worker ≡ k.worker → l.seen ≡ k.seen → Unmoved k l
+          → l.owes ≡ k.owes → l.worker ≡ k.worker → l.seen ≡ k.seen → Unmoved k l → CountsEnds (64 * shards) (record { words = set s.words (mark_at q) new; homes = s.homes; views = set s.views id (held w l) })
           → IsLawful shards (record { words = set s.words (mark_at q) new; homes = s.homes; views = set s.views id (held w l) })
-      renewed is_awake same spawned ended woken heard unshown owes worker seen unmoved = record {
+      renewed is_awake same spawned ended woken heard unshown owes worker seen unmoved names = record {
         shared = learns h.shared id w k l mine;
         keeper = keeps-mark (64 * shards) s h.keeper id (held w k) mine q within (held w l) new (is_awake ∙ sym (unblocked-here s h mine)) same;
         balance = balanced-same s h.balance id (held w k) (held w l) mine _ spawned ended same;
         hears = hears-clear (64 * shards) s h.hears id (held w k) (held w l) mine s.homes q (mark-room s h mine) new clear woken heard;
+        names = names;
         shows = mark-shows s h k mine q new l s.homes unshown;
         sleep = mark-sleep s h k mine q new l s.homes owes worker seen unmoved;
       }
 
-    module _ (y : ℕ) where
-      pub renews : (new : ℕ) → new % 4 ≡ 0 → Allows (IsLawful shards) slots id (held w k, (q, y) ∷ xs) (mark_at q) (λ _. new) (Renews (step slots (mark_at q) new 0 none) (held w k, (q, y) ∷ xs))
-      renews new clear s h _ mine small =
-          let n : ℕ = get_or s.words (mark_at q) 0 in let l : Notes = noted (mark_at q) new (hearing (n % 2) q k) in let m : Mine = (held w k, (q, y) ∷ xs) in (
+    -- the seat has found the mark last
+    module _ (m : ℕ) (before : Notes) (found : k ≡ noted (mark_at q) m before) (s : Board) (h : IsLawful shards s) (mine : get_elem? s.views id ≡ some (held w k)) where
+      generation : m / 4 ≡ min last_generation (ends_at q s.views)
+      generation =
+          let more = ap (places_in q) hand ∙ places-cons q q x (older k.hand) in let one_ = one-same q q refl in let has : 0 < places_in q k.hand = omega (arith, more, one_) in
+          subst (λ (z : Notes). FoundLast s.words q z.deeds) found (knowing-still s h k mine q within has) refl ∙ h.names.counted q within
+
+      -- a job more has ended there
+      ended-once : (new : ℕ) (l : Notes) (homes : List (maybe.Option ℕ)) → l.ended_at ≡ q ∷ k.ended_at → new / 4 ≡ min last_generation (m / 4 + 1) → Knows (64 * shards) (set s.words (mark_at q) new) l
+          → CountsEnds (64 * shards) (record { words = set s.words (mark_at q) new; homes = homes; views = set s.views id (held w l) })
+      ended-once new l homes ended now knows = names-ended (64 * shards) s h.names id (held w k) (held w l) mine homes q (mark-room s h mine) new ended (omega (arith, now, generation))
+          (no-other (64 * shards) s h.keeper id (held w k) mine q x (older k.hand) hand within) knows
+
+    module _ (m : ℕ) (before : Notes) (found : k ≡ noted (mark_at q) m before) where
+      pub renews : (y new : ℕ) → m / 4 + 1 < 2 ^ 44 → new ≡ 4 * (m / 4 + 1) → Allows (IsLawful shards) slots id (held w k, (q, y) ∷ xs) (mark_at q) (λ _. new) (Renews (step slots (mark_at q) new 0 none) (held w k, (q, y) ∷ xs))
+      renews y new named is s h _ mine small =
+          let n : ℕ = get_or s.words (mark_at q) 0 in let l : Notes = noted (mark_at q) new (aging q (hearing (n % 2) q k)) in (
             held w l,
             keeps,
             tt,
-            renewed new (omega (arith, clear)) s h mine l (omega (arith, clear)) refl refl refl refl refl refl refl refl refl (refl, refl, refl),
-            λ p at. ap (λ z. knowing m (noted (mark_at q) new (hearing (n % 2) z k))) (mark_apart q p at),
+            renewed new (omega (arith, is)) s h mine l (omega (arith, is)) refl refl refl refl refl refl refl refl refl (refl, refl, refl)
+                (ended-once m before found s h mine new l s.homes refl (omega (arith, is, named)) (λ p inside has. found-new (64 * shards) s h.names id (held w k) (held w l) mine s.homes q (mark-room s h mine) new p k.deeds)),
+            λ p at. ap (λ z. knowing (held w k, (q, y) ∷ xs) (noted (mark_at q) new (aging z (hearing (n % 2) z k)))) (mark_apart q p at),
           )
 
-    pub retires : (new : ℕ) → new % 4 ≡ 2 → new ≡ retired → Allows (IsLawful shards) slots id (held w k, (q, 0) ∷ xs) (mark_at q) (λ _. new) (Retires (step slots (mark_at q) new 0 none) (held w k, (q, 0) ∷ xs))
-    retires new is gone s h _ mine small =
-        let n : ℕ = get_or s.words (mark_at q) 0 in let l : Notes = ending (hearing (n % 2) q k) in let m : Mine = (held w k, (q, 0) ∷ xs) in (
+      pub retires : (new : ℕ) → last_generation ≤ m / 4 + 1 → new ≡ retired → Allows (IsLawful shards) slots id (held w k, (q, 0) ∷ xs) (mark_at q) (λ _. new) (Retires (step slots (mark_at q) new 0 none) (held w k, (q, 0) ∷ xs))
+      retires new last is s h _ mine small =
+          let n : ℕ = get_or s.words (mark_at q) 0 in let l : Notes = ending (aging q (hearing (n % 2) q k)) in (
+            held w l,
+            gives,
+            tt,
+            record {
+              shared = learns h.shared id w k l mine;
+              keeper = keeps-block (64 * shards) s h.keeper id (held w k) mine q within (held w l) x 0 new hand (omega (arith, is));
+              balance = balanced-ended s h.balance id (held w k) (held w l) mine _ q x (out s h mine) refl (ap (λ j. j ∷ k.ended) (same_job k q x (older k.hand) hand)) hand;
+              hears = hears-clear (64 * shards) s h.hears id (held w k) (held w l) mine (set s.homes q (some 0)) q (mark-room s h mine) new (omega (arith, is)) refl refl;
+              names = ended-once m before found s h mine new l (set s.homes q (some 0)) refl (omega (arith, is, last)) (λ p inside has. dite (ℕ_discrete q p)
+                  (λ e. let none_ = no-more (64 * shards) s h.keeper id (held w k) mine q x (older k.hand) hand within in let there = ap (λ z. places_in z (older k.hand)) e in absurd (omega (arith, has, none_, there)))
+                  (λ ne. found-on s.words (set s.words (mark_at q) new) p (ap (λ z. z / 4) (mark-else (64 * shards) s h.names id (held w k) (held w l) mine s.homes q (mark-room s h mine) new p ne)) k.deeds
+                  (knowing-still s h k mine p inside (let less = older-less p in omega (arith, has, less)))));
+              shows = mark-shows s h k mine q new l (set s.homes q (some 0)) refl;
+              sleep = mark-sleep s h k mine q new l (set s.homes q (some 0)) refl refl refl (refl, refl, refl);
+            },
+            λ p at. ap (λ z. with (held w k, (q, 0) ∷ xs) (ending (aging z (hearing (n % 2) z k))) xs) (mark_apart q p at),
+          )
+
+    -- all bits of the mark stay but the lowest two
+    pub hears_wake : (y : ℕ) → Allows (IsLawful shards) slots id (held w k, (q, y) ∷ xs) (mark_at q) (λ n. bit_and n (2 ^ 64 - 1 - 3)) (Hears (step slots (mark_at q) (2 ^ 64 - 1 - 3) 0 none) (held w k, (q, y) ∷ xs))
+    hears_wake y s h _ mine small =
+        let n : ℕ = get_or s.words (mark_at q) 0 in let now : ℕ = bit_and n (2 ^ 64 - 1 - 3) in let l : Notes = hearing (n % 2) q k in
+        let is : now ≡ n / 4 * 4 = and_high_mask 64 2 (omega arith) n small in (
           held w l,
-          gives,
+          keeps,
           tt,
-          record {
-            shared = learns h.shared id w k l mine;
-            keeper = keeps-block (64 * shards) s h.keeper id (held w k) mine q within (held w l) x 0 new hand (omega (arith, is));
-            balance = balanced-ended s h.balance id (held w k) (held w l) mine _ q x (out s h mine) refl (ap (λ j. j ∷ k.ended) (same_job k q x (older k.hand) hand)) hand;
-            hears = hears-clear (64 * shards) s h.hears id (held w k) (held w l) mine (set s.homes q (some 0)) q (mark-room s h mine) new (omega (arith, is)) refl refl;
-            shows = mark-shows s h k mine q new l (set s.homes q (some 0)) refl;
-            sleep = mark-sleep s h k mine q new l (set s.homes q (some 0)) refl refl refl (refl, refl, refl);
-          },
-          ((λ p at. ap (λ z. with m (ending (hearing (n % 2) z k)) xs) (mark_apart q p at)), gone),
+          renewed now (omega (arith, is)) s h mine l (omega (arith, is)) refl refl refl refl refl refl refl refl refl (refl, refl, refl)
+              (names-on (64 * shards) s h.names id (held w k) (held w l) mine s.homes _ (λ p inside. as-marked (64 * shards) s h.hears id (held w k) (held w l) mine s.homes q (mark-room s h mine) now (λ z. z / 4) (omega (arith, is)) p) refl
+              (knowing-still s h k mine)),
+          λ p at. ap (λ z. knowing (held w k, (q, y) ∷ xs) (hearing (n % 2) z k)) (mark_apart q p at),
         )
-
-    module _ (y : ℕ) where
-      -- all bits but the lowest two
-      abbrev kept_bits : ℕ
-      kept_bits = 2 ^ 64 - 1 - 3
-
-      low_clear : (n : ℕ) → bit_and n kept_bits % 2 ≡ 0
-      low_clear n = let e = bit_at_and n kept_bits 0 in let l = bit_at_lowest (bit_and n kept_bits) in let z : bit_at kept_bits 0 ≡ 0 = refl in omega (arith, e, l, z)
-
-      next_clear : (n : ℕ) → bit_and n kept_bits / 2 % 2 ≡ 0
-      next_clear n = let e = bit_at_and n kept_bits 1 in let z : bit_at kept_bits 1 ≡ 0 = refl in
-          let d : bit_at (bit_and n kept_bits) 1 ≡ bit_and n kept_bits / 2 % 2 = bit_at-suc (bit_and n kept_bits) 0 ∙ bit_at_lowest (bit_and n kept_bits / 2) in omega (arith, e, z, d)
-
-      pub hears_wake : Allows (IsLawful shards) slots id (held w k, (q, y) ∷ xs) (mark_at q) (λ n. bit_and n (2 ^ 64 - 1 - 3)) (Hears (step slots (mark_at q) (2 ^ 64 - 1 - 3) 0 none) (held w k, (q, y) ∷ xs))
-      hears_wake s h _ mine small =
-          let n : ℕ = get_or s.words (mark_at q) 0 in let l : Notes = hearing (n % 2) q k in let m : Mine = (held w k, (q, y) ∷ xs) in (
-            held w l,
-            keeps,
-            tt,
-            renewed (bit_and n kept_bits) (low_clear n) s h mine l (next_clear n) refl refl refl refl refl refl refl refl refl (refl, refl, refl),
-            ((λ p at. ap (λ z. knowing m (hearing (n % 2) z k)) (mark_apart q p at)), refl),
-          )
 
   -- a job that was laid into the slot of a place which had none
   pub spawns : (k : Notes) (q y : ℕ) (xs : List (ℕ × ℕ)) → k.hand ≡ (q, 0) ∷ older k.hand → q < 64 * (64 * shards) → k.unshown ≡ 0
@@ -377,7 +406,7 @@ module _ (shards slots id w : ℕ) where
         gives,
         tt,
         ready-law s h k mine q 0 y within l now refl hand (balanced-spawned s h.balance id (held w k) (held w l) mine _ q y away refl refl hand) refl refl
-            (ready-first s h k mine q 0 y within l now shown refl) refl refl refl (refl, refl, refl),
+            (ready-first s h k mine q 0 y within l now shown refl) refl refl refl (refl, refl, refl) refl (λ p inside has. tt),
         λ p at. let same : d ≡ p / 64 = ready_apart d (p / 64) at in (
           λ _. ap (λ c. with m (unshowing (c + 1) (spawning y k)) xs) same,
           λ full. absurd (full empty),
@@ -388,7 +417,7 @@ module _ (shards slots id w : ℕ) where
         gives,
         tt,
         ready-law s h k mine q 0 y within l now refl hand (balanced-spawned s h.balance id (held w k) (held w l) mine _ q y away refl refl hand) refl refl
-            (ready-more s h k mine q 0 y within l now full refl) refl refl refl (refl, refl, refl),
+            (ready-more s h k mine q 0 y within l now full refl) refl refl refl (refl, refl, refl) refl (λ p inside has. tt),
         λ p at. ((λ empty. absurd (full empty)), λ _. refl),
       ))
 
@@ -406,6 +435,7 @@ module _ (shards slots id w : ℕ) where
           keeper = keeps-places (64 * shards) s h.keeper id (held w k) mine (held w l) (hands-renumbered (64 * shards) s h.keeper id (held w k) mine (held w l) q 0 y (older k.hand) hand now);
           balance = balanced-begun s h.balance id (held w k) (held w l) mine s.words q y (older k.hand) refl refl hand now;
           hears = hears-on (64 * shards) s h.hears id (held w k) (held w l) mine s.homes s.words (λ p inside. refl) refl refl;
+          names = names-on (64 * shards) s h.names id (held w k) (held w l) mine s.homes s.words (λ p inside. refl) refl (λ p inside has. found-word s.words p i k.deeds);
           shows = shows-on (64 * shards) s h.shows id (held w k) (held w l) mine s.words s.homes (λ c r. r) (λ c. refl) refl;
           sleep = sleeps-on s h.sleep id (held w k) (held w l) mine s.words s.homes refl refl (λ c r. r) refl refl refl (refl, refl, refl);
         }),
@@ -420,7 +450,7 @@ module _ (shards slots id w : ℕ) where
         let i : ℕ = mark_at q in let n : ℕ = get_or s.words i 0 in let m : Mine = (held w k, xs) in
         exchanged n old new (λ y. (u : Token Notes) × (a : Act ℕ) × Valid s.homes m.1 a × IsLawful shards (stepped s i y id m.1 u a) × Wakes (step slots i old new none) m n (u, carried_after m.1 a))
         (λ hit. let is_there : is_blocked s.words q ≡ 1 = ap (λ z. z / 2 % 2) hit ∙ omega (arith, was) in
-        let job = home-of-blocked (64 * shards) s h.keeper id (held w k) mine q within is_there in let l : Notes = unblocking q job.0 k in (
+        let job = home-of-blocked (64 * shards) s h.keeper id (held w k) mine q within is_there in let l : Notes = unblocking q job.0 (noted i n k) in (
           held w l,
           takes q job.0,
           job.1,
@@ -429,20 +459,22 @@ module _ (shards slots id w : ℕ) where
             keeper = keeps-wake (64 * shards) s h.keeper id (held w k) mine q within (held w l) job.0 new is_there (omega (arith, was, now)) refl;
             balance = balanced-taken s h.balance id (held w k) (held w l) mine _ q job.0 job.1 refl refl refl;
             hears = hears-on (64 * shards) s h.hears id (held w k) (held w l) mine _ _
-                (λ p inside. as-marked (64 * shards) s h.hears id (held w k) (held w l) mine s.homes q (omega (arith, h.keeper.sized, within)) new (omega (arith, hit, was, now)) p) refl refl;
+                (λ p inside. as-marked (64 * shards) s h.hears id (held w k) (held w l) mine s.homes q (omega (arith, h.keeper.sized, within)) new (λ z. z % 2) (omega (arith, hit, was, now)) p) refl refl;
+            names = names-on (64 * shards) s h.names id (held w k) (held w l) mine _ _
+                (λ p inside. as-marked (64 * shards) s h.hears id (held w k) (held w l) mine s.homes q (omega (arith, h.keeper.sized, within)) new (λ z. z / 4) (omega (arith, hit, was, now)) p) refl (λ p inside has. tt);
             shows = mark-shows s h k mine q new l (set s.homes q none) refl;
             sleep = mark-sleep s h k mine q new l (set s.homes q none) refl refl refl (refl, refl, refl);
           },
-          λ p at. ((λ _. (job.0, ap (λ z. with m (unblocking z job.0 k) ((z, job.0) ∷ xs)) (mark_apart q p at))), (λ miss. absurd (miss hit)), omega (arith, was, now)),
+          λ p at. ((λ _. (job.0, ap (λ z. with m (unblocking z job.0 (noted i n k)) ((z, job.0) ∷ xs)) (mark_apart q p at))), λ miss. absurd (miss hit)),
         ))
-        (λ miss. (held w (noted i n k), keeps, tt, noting s h k mine xs i n, λ p at. ((λ hit. absurd (miss hit)), (λ _. refl), omega (arith, was, now))))
+        (λ miss. (held w (noted i n k), keeps, tt, noting s h k mine xs i, λ p at. ((λ hit. absurd (miss hit)), λ _. refl)))
 
     -- the mark of a job that isn't blocked says of a wake
     pub marks : old % 4 ≡ 0 → new ≡ old + 1 → Allows (IsLawful shards) slots id (held w k, xs) (mark_at q) (λ n. either (eqb n old) new n) (Marks (step slots (mark_at q) old new none) (held w k, xs))
     marks was now s h _ mine small =
         let i : ℕ = mark_at q in let n : ℕ = get_or s.words i 0 in let m : Mine = (held w k, xs) in
         exchanged n old new (λ y. (u : Token Notes) × (a : Act ℕ) × Valid s.homes m.1 a × IsLawful shards (stepped s i y id m.1 u a) × Marks (step slots i old new none) m n (u, carried_after m.1 a))
-        (λ hit. let l : Notes = marking q k in (
+        (λ hit. let l : Notes = marking q (noted i n k) in (
           held w l,
           keeps,
           tt,
@@ -451,9 +483,12 @@ module _ (shards slots id w : ℕ) where
             keeper = keeps-mark (64 * shards) s h.keeper id (held w k) mine q within (held w l) new (omega (arith, was, now) ∙ ap (λ z. z / 2 % 2) (sym hit)) refl;
             balance = balanced-same s h.balance id (held w k) (held w l) mine _ refl refl refl;
             hears = hears-mark (64 * shards) s h.hears id (held w k) (held w l) mine s.homes q (omega (arith, h.keeper.sized, within)) new (omega (arith, hit, was)) (omega (arith, was, now)) refl refl;
+            names = names-on (64 * shards) s h.names id (held w k) (held w l) mine s.homes _
+                (λ p inside. as-marked (64 * shards) s h.hears id (held w k) (held w l) mine s.homes q (omega (arith, h.keeper.sized, within)) new (λ z. z / 4) (omega (arith, hit, was, now)) p) refl
+                (λ p inside has. found-word s.words p i k.deeds);
             shows = mark-shows s h k mine q new l s.homes refl;
             sleep = mark-sleep s h k mine q new l s.homes refl refl refl (refl, refl, refl);
           },
-          λ p at. ((λ _. ap (λ z. knowing m (marking z k)) (mark_apart q p at)), (λ miss. absurd (miss hit)), omega (arith, was, now)),
+          λ p at. ((λ _. ap (λ z. knowing m (marking z (noted i n k))) (mark_apart q p at)), λ miss. absurd (miss hit)),
         ))
-        (λ miss. (held w (noted i n k), keeps, tt, noting s h k mine xs i n, λ p at. ((λ hit. absurd (miss hit)), (λ _. refl), omega (arith, was, now))))
+        (λ miss. (held w (noted i n k), keeps, tt, noting s h k mine xs i, λ p at. ((λ hit. absurd (miss hit)), λ _. refl)))

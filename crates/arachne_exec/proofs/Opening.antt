@@ -1,5 +1,5 @@
 -- The rule at first, and where seats are split and joined.
-use Rattle.std.proofs.Common.{◌≡◌, ◌≢◌, inl, inr, ⊎_elim, ℕ, zero, suc, ◌+◌, ◌-◌, ◌*◌, ◌/◌, ◌%◌, ◌^◌, ◌≤◌, ◌==◌, if◌then◌else◌, List, [], ◌∷◌, ◌++◌, length, get_or, set, sym, refl, ap, ◌∙◌, subst, arith, ◌<◌, map}
+use Rattle.std.proofs.Common.{◌≡◌, ◌≢◌, inl, inr, ⊎_elim, ℕ, zero, suc, ◌+◌, ◌-◌, ◌*◌, ◌/◌, ◌%◌, ◌^◌, ◌≤◌, ◌==◌, min, if◌then◌else◌, List, [], ◌∷◌, ◌++◌, length, get_or, set, sym, refl, ap, ◌∙◌, subst, arith, ◌<◌, map}
 use Rattle.std.proofs.lemmas.List.{length-map}
 use Rattle.std.proofs.lemmas.List.Sums.{sum_by-cons, sum_by-append}
 use Rattle.std.specs.Int.{bit_at}
@@ -14,11 +14,12 @@ use Rattle.arachne_weights.specs.declared.token.Token.{Token}
 use Rattle.arachne_weights.specs.Tokens.{held, spent, begins, splits, joins}
 use Rattle.arachne_weights.proofs.Totals.{total-set, total-snoc}
 use Rattle.arachne_exec.specs.declared.view.Notes.{Notes}
-use Rattle.arachne_exec.specs.Layout.{idle_at, ready_at, free_at, mark_at}
-use Rattle.arachne_exec.specs.Board.{is_free, is_ready, is_blocked, one, times, places_in, jobs_in, by_all, in_hands, seats_of, is_idle, lies, rises, rouses, Board, IsLawful, blank, first_view, is_number, at_home}
+use Rattle.arachne_exec.specs.Layout.{idle_at, ready_at, free_at, mark_at, last_generation}
+use Rattle.arachne_exec.specs.Board.{is_free, is_ready, is_blocked, one, times, places_in, jobs_in, by_all, in_hands, seats_of, is_idle, lies, rises, rouses, ends_at, FoundLast, Board, IsLawful, blank, first_view, is_number, at_home}
 use Rattle.arachne_exec.specs.Changes.{first_of, second_of, together, both_of}
 use Rattle.arachne_exec.specs.First.{first_word, AreFirstWords}
 use Rattle.arachne_exec.proofs.Bits.{one-apart}
+use Rattle.arachne_exec.proofs.Naming.{found-longer}
 
 full : first_word 8 ≡ 2 ^ 64 - 1
 full = refl
@@ -75,6 +76,12 @@ opens shards ws xs a slots clear = record {
         let m : get_or ws (mark_at p) 0 ≡ 0 = a.1 (mark_at p) (omega (arith, inside)) ∙ empty_at (mark_at p) (λ e. omega (arith, e)) (λ e. omega (arith, e)) in
         let w : by_all (λ (k : Notes). times p k.woken) (first_view ∷ []) ≡ 0 = refl in let d : by_all (λ (k : Notes). times p k.heard) (first_view ∷ []) ≡ 0 = refl in omega (arith, m, w, d);
   };
+  names = record {
+    counted = λ p inside.
+        let m : get_or ws (mark_at p) 0 ≡ 0 = a.1 (mark_at p) (omega (arith, inside)) ∙ empty_at (mark_at p) (λ e. omega (arith, e)) (λ e. omega (arith, e)) in
+        let n : ends_at p (first_view ∷ []) ≡ 0 = refl in omega (arith, m, n);
+    found = λ h v there p inside has. let none_has : places_in p v.known.hand ≡ 0 = ap (λ (x : Token Notes). places_in p x.known.hand) (sym (the_one h v there)) in absurd (omega (arith, has, none_has));
+  };
   shows = record {
     shown = λ c inside some_ready.
         let none_ready : get_or ws (ready_at c) 0 ≡ 0 = a.1 (ready_at c) (omega (arith, inside)) ∙ empty_at (ready_at c) (λ e. omega (arith, e)) (λ e. omega (arith, e)) in absurd (omega (arith, none_ready, some_ready));
@@ -129,6 +136,16 @@ deals-law shards id w k s h mine = record {
   hears = record {
     marks = λ p inside.
         let a = split-total (λ l. times p l.woken) refl s.views id w k mine in let b = split-total (λ l. times p l.heard) refl s.views id w k mine in let old = h.hears.marks p inside in omega (arith, a, b, old);
+  };
+  names = record {
+    counted = λ p inside. let same = split-total (λ l. times p l.ended_at) refl s.views id w k mine in h.names.counted p inside ∙ ap (min last_generation) (sym same);
+    found = λ j x there p inside has. ⊎_elim
+        (λ old. ⊎_elim
+        (λ t. subst (λ (y : Token Notes). FoundLast s.words p y.known.deeds) t.1 (h.names.found id (held w k) mine p inside (subst (λ (y : Token Notes). 0 < places_in p y.known.hand) (sym t.1) has)))
+        (λ t. h.names.found j x t.1 p inside has)
+        (at_set s.views id j (first_of (held w k)) x old))
+        (λ new. let none_has : places_in p x.known.hand ≡ 0 = ap (λ (y : Token Notes). places_in p y.known.hand) (sym new) in absurd (omega (arith, has, none_has)))
+        (at_snoc (set s.views id (first_of (held w k))) (second_of (held w k)) x j there);
   };
   shows = record {
     shown = λ c inside some_ready. ⊎_elim (λ set_. inl set_) (λ o. let same = split-total (λ l. one l.unshown (c + 1)) (one_zero c) s.views id w k mine in inr (omega (arith, o, same))) (h.shows.shown c inside some_ready);
@@ -185,6 +202,18 @@ module _ (shards id w other x : ℕ) (k l : Notes) (nothing : (l.hand ≡ []) ×
               let a = join-total (λ m. times p m.woken) refl s.views id w other x k l mine apart from (sum_by-append (λ (y : ℕ). one y p) k.woken l.woken) in
               let b = join-total (λ m. times p m.heard) refl s.views id w other x k l mine apart from (sum_by-append (λ (y : ℕ). one y p) k.heard l.heard) in
               let old = h.hears.marks p inside in omega (arith, a, b, old);
+        };
+        names = record {
+          counted = λ p inside.
+              let same = join-total (λ m. times p m.ended_at) refl s.views id w other x k l mine apart from (sum_by-append (λ (y : ℕ). one y p) k.ended_at l.ended_at) in h.names.counted p inside ∙ ap (min last_generation) (sym same);
+          found = λ j y there p inside has. ⊎_elim
+              (λ t. let none_has : places_in p y.known.hand ≡ 0 = ap (λ (z : Token Notes). places_in p z.known.hand) (sym t.1) in absurd (omega (arith, has, none_has)))
+              (λ t. ⊎_elim
+              (λ u. subst (λ (z : Token Notes). FoundLast s.words p z.known.deeds) u.1
+              (found-longer s.words p k.deeds l.deeds (h.names.found id (held w k) mine p inside (subst (λ (z : Token Notes). 0 < places_in p z.known.hand) (sym u.1) has))))
+              (λ u. h.names.found j y u.1 p inside has)
+              (at_set s.views id j (both_of (held w k) (held x l)) y t.1))
+              (at_set (set s.views id (both_of (held w k) (held x l))) other j (spent blank) y there);
         };
         shows = record {
           shown = λ c inside some_ready. ⊎_elim (λ set_. inl set_)

@@ -1,5 +1,5 @@
 -- What holds of the words, the slots and the seats of an executor between any two steps.
-use Rattle.std.specs.Prelude.{◌≡◌, ◌⊎◌, ℕ, ◌+◌, ◌*◌, ◌/◌, ◌%◌, ◌<◌, ◌≤◌, ◌==◌, List, [], length, slice_index, if◌then◌else◌}
+use Rattle.std.specs.Prelude.{◌≡◌, ◌⊎◌, ⊤, ℕ, ◌+◌, ◌*◌, ◌/◌, ◌%◌, ◌<◌, ◌≤◌, ◌==◌, min, List, [], ◌∷◌, length, slice_index, if◌then◌else◌}
 use Rattle.std.specs.Int.{bit_at}
 use Rattle.std.specs.List.{sum_by}
 use mathlib.Core.Option.{some, none}
@@ -10,7 +10,9 @@ use Rattle.arachne_weights.specs.declared.token.Token.{Token}
 use Rattle.arachne_weights.specs.Tokens.{IsReachable, held}
 use Rattle.arachne_weights.specs.Weight.{whole}
 use Rattle.arachne_exec.specs.declared.view.Notes.{Notes}
-use Rattle.arachne_exec.specs.Layout.{idle_at, numbers_at, summary_at, ready_at, free_at, mark_at, words_of, in_word}
+use Rattle.arachne_exec.specs.declared.view.Deed.{Deed}
+use Rattle.arachne_exec.specs.declared.view.Deed.TheVariants.{Looked, Gained, Readied, Blocked, Unblocked}
+use Rattle.arachne_exec.specs.Layout.{idle_at, numbers_at, summary_at, ready_at, free_at, mark_at, words_of, in_word, last_generation}
 
 -- the words, the jobs that are at home, and what seats know
 abbrev pub Board : Type 0
@@ -18,7 +20,7 @@ Board = State ℕ (Token Notes)
 
 -- a seat that has done nothing
 abbrev pub blank : Notes
-blank = record { hand = []; spawned = []; ended = []; woken = []; heard = []; lain = []; risen = []; roused = []; deeds = []; unshown = 0; owes = 0; worker = 0; seen = 0 }
+blank = record { hand = []; spawned = []; ended = []; ended_at = []; woken = []; heard = []; lain = []; risen = []; roused = []; deeds = []; unshown = 0; owes = 0; worker = 0; seen = 0 }
 
 -- the first seat has the whole weight
 abbrev pub first_view : Token Notes
@@ -90,6 +92,27 @@ pub record HearsWakes (blocks : ℕ) (b : Board) : Type 0 where
   pub marks : (place : ℕ) → place < 64 * blocks
       → by_all (λ (k : Notes). times place k.woken) b.views ≡ by_all (λ (k : Notes). times place k.heard) b.views + slice_index b.words (mark_at place) % 2
 
+-- ---- how many jobs a place has had
+
+-- how many jobs have ended at the place
+abbrev pub ends_at : ℕ → List (Token Notes) → ℕ
+ends_at place views = by_all (λ (k : Notes). times place k.ended_at) views
+
+-- If the newest deed of a seat that has the place in hand is to find its mark, the mark has that generation still.
+abbrev pub FoundLast : List ℕ → ℕ → List Deed → Type 0
+FoundLast words place [] = ⊥
+FoundLast words place (Looked word number ∷ deeds) = word ≡ mark_at place → number / 4 ≡ slice_index words (mark_at place) / 4
+FoundLast words place (Gained other ∷ deeds) = ⊤
+FoundLast words place (Readied other ∷ deeds) = ⊤
+FoundLast words place (Blocked other ∷ deeds) = ⊤
+FoundLast words place (Unblocked other ∷ deeds) = ⊤
+
+-- A mark's generation is how many jobs have ended at its place, up to the first that no name has. It is what who has the
+-- place in hand has found last.
+pub record CountsEnds (blocks : ℕ) (b : Board) : Type 0 where
+  pub counted : (place : ℕ) → place < 64 * blocks → slice_index b.words (mark_at place) / 4 ≡ min last_generation (ends_at place b.views)
+  pub found : (h : ℕ) (t : Token Notes) → get_elem? b.views h ≡ some t → (place : ℕ) → place < 64 * blocks → 0 < places_in place t.known.hand → FoundLast b.words place t.known.deeds
+
 -- ---- which blocks a shard shows
 
 -- how many seats owe the block its bit in the summary word
@@ -140,5 +163,6 @@ pub record IsLawful (shards : ℕ) (b : Board) : Type 0 where
   pub keeper : HasOneKeeper (64 * shards) b
   pub balance : IsBalanced b
   pub hears : HearsWakes (64 * shards) b
+  pub names : CountsEnds (64 * shards) b
   pub shows : IsShown (64 * shards) b
   pub sleep : WakesSleepers b

@@ -24,7 +24,7 @@ use Rattle.arachne_exec.specs.declared.turns.TakenJob.{TakenJob}
 use Rattle.arachne_exec.specs.Seats.{CallView}
 use Rattle.arachne_exec.specs.Turns.{IsFirstFrom}
 use Rattle.arachne_exec.specs.Layout.{summary_at, ready_at, free_at, mark_at, places_in_word, PicksLowest, worker_of, last_generation, name_of}
-use Rattle.arachne_exec.specs.Changes.{older, gained, gaining, unblocking, readying, blocking, spawning, beginning, ending, marking, hearing, noted, rousing, often, having_seen, lying, rising}
+use Rattle.arachne_exec.specs.Changes.{older, gained, gaining, unblocking, readying, blocking, spawning, beginning, ending, aging, marking, hearing, noted, rousing, often, having_seen, lying, rising}
 
 -- the worker of a place
 abbrev pub worker_at : ℕ → ℕ
@@ -131,8 +131,8 @@ HasRested (rested.Ready unpark) place k after = (mark : ℕ)
 pub record HasFinished (place : ℕ) (k after : Notes) : Type 0 where
   pub mark : ℕ
   pub heard : ℕ
-  pub known : ((mark / 4 + 1 < last_generation) × (after ≡ ending (noted (mark_at place) (4 * (mark / 4 + 1)) (hearing (heard % 2) place (noted (mark_at place) mark k)))))
-      ⊎ ((last_generation ≤ mark / 4 + 1) × (after ≡ ending (hearing (heard % 2) place (noted (mark_at place) mark k))))
+  pub known : ((mark / 4 + 1 < last_generation) × (after ≡ ending (noted (mark_at place) (4 * (mark / 4 + 1)) (aging place (hearing (heard % 2) place (noted (mark_at place) mark k))))))
+      ⊎ ((last_generation ≤ mark / 4 + 1) × (after ≡ ending (aging place (hearing (heard % 2) place (noted (mark_at place) mark k)))))
 
 -- the mark at the place was found not to be of this generation; or there is no such place, or no such generation
 abbrev pub IsGone : ℕ → ℕ → ℕ → Notes → Notes → Type 0
@@ -147,13 +147,17 @@ IsAlready place generation k after = (mark : ℕ) × (mark / 4 ≡ generation) �
 abbrev pub IsLost : ℕ → ℕ → Notes → Notes → Type 0
 IsLost place generation k after = (mark then : ℕ) × (mark / 4 ≡ generation) × (mark % 2 ≢ 1) × (then ≢ mark) × (after ≡ noted (mark_at place) then (noted (mark_at place) mark k))
 
--- the mark was found to be that of a blocked job of the generation, which came into the hand
-abbrev pub HasUnblocked : ℕ → ℕ → ℕ → Notes → Notes → Type 0
-HasUnblocked place generation job k after = (generation < last_generation) × (after ≡ unblocking place job (noted (mark_at place) (4 * generation + 2) k))
+-- a mark was found twice to be this, the second time by the step that wrote it
+abbrev pub twice : ℕ → ℕ → Notes → Notes
+twice place mark k = noted (mark_at place) mark (noted (mark_at place) mark k)
 
--- the mark was found to be that of a job of the generation that isn't blocked, and says of a wake now
+-- the mark was found to be that of a blocked job of the generation, also by the step by which it came into the hand
+abbrev pub HasUnblocked : ℕ → ℕ → ℕ → Notes → Notes → Type 0
+HasUnblocked place generation job k after = (generation < last_generation) × (after ≡ unblocking place job (twice place (4 * generation + 2) k))
+
+-- the mark was found to be that of a job of the generation that isn't blocked, also by the step by which it says of a wake
 abbrev pub HasMarked : ℕ → ℕ → Notes → Notes → Type 0
-HasMarked place generation k after = after ≡ marking place (noted (mark_at place) (4 * generation) k)
+HasMarked place generation k after = after ≡ marking place (twice place (4 * generation) k)
 
 -- of an executor with so many places
 abbrev pub HasWoken : JobWoken → ℕ → ℕ → ℕ → Notes → Notes → Type 0
@@ -201,7 +205,7 @@ HasAnswered next.Again shards worker k after = (looked : Notes) × HasLooked wor
 -- what a wake has found, within a call
 abbrev pub IsFound : RouseResult → ℕ → ℕ → ℕ → CallView → CallView → Type 0
 IsFound (found.Held at) places place generation v after = (at ≡ place) × (place < places) × (generation < last_generation)
-    × ((job : ℕ) × (after ≡ record v { known = unblocking place job (noted (mark_at place) (4 * generation + 2) v.known); slots = (place, job) ∷ v.slots }))
+    × ((job : ℕ) × (after ≡ record v { known = unblocking place job (twice place (4 * generation + 2) v.known); slots = (place, job) ∷ v.slots }))
 IsFound found.Marked places place generation v after = (after ≡ record v { known = after.known }) × HasMarked place generation v.known after.known
 IsFound found.Already places place generation v after = (after ≡ record v { known = after.known }) × IsAlready place generation v.known after.known
 IsFound found.Gone places place generation v after = (after ≡ record v { known = after.known }) × IsGone places place generation v.known after.known

@@ -1,11 +1,12 @@
 -- What a step adds to what a seat knows.
-use Rattle.std.specs.Prelude.{ℕ, zero, suc, Bool, true, false, List, [], ◌∷◌, ◌++◌}
+use Rattle.std.specs.Prelude.{ℕ, zero, suc, Bool, true, false, List, [], ◌∷◌, ◌++◌, map}
 use Rattle.std.specs.Int.{bit_at}
 use Rattle.arachne_weights.specs.declared.token.Token.{Token}
 use Rattle.arachne_weights.specs.Tokens.{held}
 use Rattle.arachne_weights.specs.Weight.{first_part, second_part, joined}
 use Rattle.arachne_exec.specs.declared.view.Notes.{Notes}
-use Rattle.arachne_exec.specs.declared.view.Deed.TheVariants.{Looked, Readied, Blocked, Unblocked}
+use Rattle.arachne_exec.specs.declared.view.Deed.{Deed}
+use Rattle.arachne_exec.specs.declared.view.Deed.TheVariants.{Looked, Gained, Readied, Blocked, Unblocked}
 use Rattle.arachne_exec.specs.Layout.{idle_at}
 use Rattle.arachne_exec.specs.Board.{blank}
 
@@ -23,11 +24,14 @@ newest_place (x ∷ xs) = x.0
 
 -- a place with its job comes into the hand; the second: it was blocked
 abbrev pub gained : ℕ → ℕ → Notes → Notes
-gained place job k = record k { hand = (place, job) ∷ k.hand }
+gained place job k = record k { hand = (place, job) ∷ k.hand; deeds = Gained place ∷ k.deeds }
 
 -- several places with their jobs
+abbrev pub gains : List (ℕ × ℕ) → List Deed
+gains jobs = map (λ (x : ℕ × ℕ). Gained x.0) jobs
+
 abbrev pub gaining : List (ℕ × ℕ) → Notes → Notes
-gaining jobs k = record k { hand = jobs ++ k.hand }
+gaining jobs k = record k { hand = jobs ++ k.hand; deeds = gains jobs ++ k.deeds }
 
 abbrev pub unblocking : ℕ → ℕ → Notes → Notes
 unblocking place job k = record k { hand = (place, job) ∷ k.hand; deeds = Unblocked place ∷ k.deeds }
@@ -50,6 +54,10 @@ beginning job k = record k { hand = (newest_place k.hand, job) ∷ older k.hand;
 -- the newest job has ended
 abbrev pub ending : Notes → Notes
 ending k = record k { hand = older k.hand; ended = newest_job k.hand ∷ k.ended }
+
+-- a job has ended at a place
+abbrev pub aging : ℕ → Notes → Notes
+aging place k = record k { ended_at = place ∷ k.ended_at }
 
 -- the job at a place was marked as woken
 abbrev pub marking : ℕ → Notes → Notes
@@ -127,6 +135,7 @@ abbrev pub together : Notes → Notes → Notes
 together k l = record k {
   spawned = k.spawned ++ l.spawned;
   ended = k.ended ++ l.ended;
+  ended_at = k.ended_at ++ l.ended_at;
   woken = k.woken ++ l.woken;
   heard = k.heard ++ l.heard;
   lain = k.lain ++ l.lain;

@@ -6,7 +6,7 @@ use lib.ListN.{get_elem?}
 use Rattle.arachne_weights.specs.declared.token.Token.{Token}
 use Rattle.arachne_exec.specs.declared.view.Notes.{Notes}
 use Rattle.arachne_exec.specs.Layout.{numbers_at, summary_at, ready_at, mark_at, in_word}
-use Rattle.arachne_exec.specs.Board.{Board, by_all, times, jobs_in, is_free, is_ready, is_blocked, is_idle, in_hands, unshown_by, owed, lies, rises, rouses}
+use Rattle.arachne_exec.specs.Board.{Board, by_all, times, jobs_in, is_free, is_ready, is_blocked, is_idle, in_hands, unshown_by, owed, ends_at, lies, rises, rouses}
 use Rattle.arachne_exec.specs.Calls.{HasSeenAll}
 
 -- the place's job is neither blocked nor in the hand of a seat, and the place isn't free
@@ -94,6 +94,14 @@ wakes_heard place b = by_all (λ (k : Notes). times place k.heard) b.views
 -- 1 where the mark at the place says of a wake
 abbrev pub is_marked : List ℕ → ℕ → ℕ
 is_marked words place = slice_index words (mark_at place) % 2
+
+-- the generation that the mark at the place says of
+abbrev pub generation_at : ℕ → Board → ℕ
+generation_at place b = slice_index b.words (mark_at place) / 4
+
+-- a job has ended at the place
+abbrev pub times_ended_at : ℕ → Board → ℕ
+times_ended_at place b = ends_at place b.views
 
 -- 1 where no seat has the worker number
 abbrev pub is_unused : List ℕ → ℕ → ℕ

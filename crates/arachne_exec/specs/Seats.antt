@@ -3,8 +3,8 @@ use Rattle.std.specs.Prelude.{◌≡◌, ℕ, ◌*◌, ◌≤◌, List, ◌∷�
 use Rattle.atomic_table.specs.Seated.{TableId}
 use Rattle.atomic_table.specs.Table.{rest}
 use Rattle.arachne_exec.specs.declared.view.Notes.{Notes}
-use Rattle.arachne_exec.specs.Layout.{words_of}
-use Rattle.arachne_exec.specs.Changes.{older}
+use Rattle.arachne_exec.specs.Layout.{words_of, mark_at}
+use Rattle.arachne_exec.specs.Changes.{older, noted}
 
 -- which table it is, and how many shards it has
 pub record Places : Type 0 where
@@ -45,3 +45,7 @@ pub record IsNewest (place : ℕ) (k : Notes) : Type 0 where
 pub record HasNewest (place job inside : ℕ) (v : CallView) : Type 0 where
   pub hand : v.known.hand ≡ (place, job) ∷ older v.known.hand
   pub slot : v.slots ≡ (place, inside) ∷ rest v.slots
+
+-- the last that it has done is to find the place's mark, of which this holds
+abbrev pub HasFoundMark : ℕ → (ℕ → Type 0) → Notes → Type 0
+HasFoundMark place Holds k = (mark : ℕ) × (before : Notes) × (k ≡ noted (mark_at place) mark before) × Holds mark

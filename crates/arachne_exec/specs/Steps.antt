@@ -6,8 +6,8 @@ use Rattle.atomic_table.specs.Table.{Me, Step, rest}
 use Rattle.arachne_weights.specs.declared.token.Token.{Token}
 use Rattle.arachne_weights.specs.Tokens.{held}
 use Rattle.arachne_exec.specs.declared.view.Notes.{Notes}
-use Rattle.arachne_exec.specs.Layout.{summary_at, ready_at, mark_at, retired, worker_of, others, places_in_word}
-use Rattle.arachne_exec.specs.Changes.{newest_job, gained, gaining, unblocking, readying, blocking, spawning, beginning, ending, marking, hearing, noted, rousing, unshowing, owing, having_seen, lying, rising, working}
+use Rattle.arachne_exec.specs.Layout.{idle_at, summary_at, ready_at, free_at, mark_at, worker_of, others, places_in_word}
+use Rattle.arachne_exec.specs.Changes.{newest_place, newest_job, gained, gaining, unblocking, readying, blocking, spawning, beginning, ending, aging, marking, hearing, noted, rousing, unshowing, owing, having_seen, lying, rising, working}
 
 -- a view, and the slots that are out with the seat: each a place with what is in it
 abbrev pub Mine : Type 0
@@ -46,9 +46,9 @@ Claims at step before found after = (place : ℕ) → step.word ≡ at (place / 
     → (bit_at found (place % 64) ≡ 1 → after ≡ with before (gained place 0 before.0.known) ((place, 0) ∷ before.1))
     × (bit_at found (place % 64) ≡ 0 → after ≡ knowing before (noted step.word found before.0.known))
 
--- the newest place is free: its job has ended
+-- the newest place is free, by its bit in the free word: its job has ended
 abbrev pub Frees : Step ℕ → Mine → ℕ → Mine → Type 0
-Frees step before found after = after ≡ with before (ending before.0.known) (rest before.1)
+Frees step before found after = (step.word ≡ free_at (newest_place before.0.known.hand / 64)) × (after ≡ with before (ending before.0.known) (rest before.1))
 
 -- the newest place is ready; where its block had no ready job, the bit in the summary word is owed
 abbrev pub Readies : Step ℕ → Mine → ℕ → Mine → Type 0
@@ -66,40 +66,33 @@ Spawns step before found after = (place : ℕ) → step.word ≡ ready_at (place
 abbrev pub Begins : Step ℕ → Mine → ℕ → Mine → Type 0
 Begins step before found after = after ≡ knowing before (beginning (newest_job before.1) (noted step.word found before.0.known))
 
--- where the mark was as expected, the newest place is blocked; the new mark says of the same generation
+-- where the mark was as expected, the newest place is blocked
 abbrev pub Blocks : Step ℕ → Mine → ℕ → Mine → Type 0
-Blocks step before found after = (found ≡ step.first → after ≡ with before (blocking before.0.known) (rest before.1))
-    × (found ≢ step.first → after ≡ knowing before (noted step.word found before.0.known))
-    × (step.second / 4 ≡ step.first / 4)
+Blocks step before found after = (found ≡ step.first → after ≡ with before (blocking before.0.known) (rest before.1)) × (found ≢ step.first → after ≡ knowing before (noted step.word found before.0.known))
 
--- the newest place gets a new mark, and a mark of a wake is used up
+-- a job has ended at the newest place, which gets a new mark, and a mark of a wake is used up
 abbrev pub Renews : Step ℕ → Mine → ℕ → Mine → Type 0
-Renews step before found after = (place : ℕ) → step.word ≡ mark_at place → after ≡ knowing before (noted step.word step.first (hearing (found % 2) place before.0.known))
+Renews step before found after = (place : ℕ) → step.word ≡ mark_at place → after ≡ knowing before (noted step.word step.first (aging place (hearing (found % 2) place before.0.known)))
 
--- the newest place is blocked for ever: its job has ended, and the mark says of a generation that no name has
+-- the newest place is blocked for ever: its job has ended
 abbrev pub Retires : Step ℕ → Mine → ℕ → Mine → Type 0
-Retires step before found after = ((place : ℕ) → step.word ≡ mark_at place → after ≡ with before (ending (hearing (found % 2) place before.0.known)) (rest before.1))
-    × (step.first ≡ retired)
+Retires step before found after = (place : ℕ) → step.word ≡ mark_at place → after ≡ with before (ending (aging place (hearing (found % 2) place before.0.known))) (rest before.1)
 
--- a mark of a wake is used up; all bits but the lowest two stay
+-- a mark of a wake is used up
 abbrev pub Hears : Step ℕ → Mine → ℕ → Mine → Type 0
-Hears step before found after = ((place : ℕ) → step.word ≡ mark_at place → after ≡ knowing before (hearing (found % 2) place before.0.known))
-    × (step.first ≡ 2 ^ 64 - 4)
+Hears step before found after = (place : ℕ) → step.word ≡ mark_at place → after ≡ knowing before (hearing (found % 2) place before.0.known)
 
--- where the mark was as expected, the place was blocked and is in the seat's hand; the new mark says of the same
--- generation
+-- what the mark was is noted: where it was as expected, the place was blocked and is in the seat's hand
 abbrev pub Wakes : Step ℕ → Mine → ℕ → Mine → Type 0
 Wakes step before found after = (place : ℕ) → step.word ≡ mark_at place
-    → (found ≡ step.first → (job : ℕ) × (after ≡ with before (unblocking place job before.0.known) ((place, job) ∷ before.1)))
+    → (found ≡ step.first → (job : ℕ) × (after ≡ with before (unblocking place job (noted step.word found before.0.known)) ((place, job) ∷ before.1)))
     × (found ≢ step.first → after ≡ knowing before (noted step.word found before.0.known))
-    × (step.second / 4 ≡ step.first / 4)
 
--- where the mark was as expected, it says of a wake; the new mark says of the same generation
+-- what the mark was is noted: where it was as expected, it says of a wake
 abbrev pub Marks : Step ℕ → Mine → ℕ → Mine → Type 0
 Marks step before found after = (place : ℕ) → step.word ≡ mark_at place
-    → (found ≡ step.first → after ≡ knowing before (marking place before.0.known))
+    → (found ≡ step.first → after ≡ knowing before (marking place (noted step.word found before.0.known)))
     × (found ≢ step.first → after ≡ knowing before (noted step.word found before.0.known))
-    × (step.second / 4 ≡ step.first / 4)
 
 -- ---- the summary word
 
@@ -131,19 +124,19 @@ LooksIdle step before found after = (shard : ℕ) → before.0.known.owes ≡ sh
 -- the worker's idle bit is cleared, and no other: where it was set, the worker is to be unparked
 abbrev pub Unparks : Step ℕ → Mine → ℕ → Mine → Type 0
 Unparks step before found after = (shard : ℕ) → before.0.known.owes ≡ shard + 1
-    → (step.first ≡ others (worker_of shard))
+    → (step.word ≡ idle_at) × (step.first ≡ others (worker_of shard))
     × (bit_at found (worker_of shard) ≡ 1 → after ≡ knowing before (rousing true (worker_of shard) (owing 0 before.0.known)))
     × (bit_at found (worker_of shard) ≡ 0 → after ≡ knowing before (owing 0 before.0.known))
 
 -- a worker clears its own idle bit, and no other: where it was set, the worker has risen
 abbrev pub Rises : Step ℕ → Mine → ℕ → Mine → Type 0
-Rises step before found after = (before.0.known.worker ≢ 0)
+Rises step before found after = (step.word ≡ idle_at) × (before.0.known.worker ≢ 0)
     × ((worker : ℕ) → before.0.known.worker ≡ worker + 1 → (step.first ≡ others worker) × (after ≡ knowing before (rising worker found before.0.known)))
 
 -- a worker sets its own idle bit, and no other, and has looked at none of its summary words since: where it was clear,
 -- the worker has lain down
 abbrev pub Rests : Step ℕ → Mine → ℕ → Mine → Type 0
-Rests step before found after = (before.0.known.worker ≢ 0)
+Rests step before found after = (step.word ≡ idle_at) × (before.0.known.worker ≢ 0)
     × ((worker : ℕ) → before.0.known.worker ≡ worker + 1 → (step.first ≡ 2 ^ worker) × (after ≡ knowing before (lying worker found before.0.known)))
 
 -- the next one of the worker's summary words: where it is empty, one more was seen

@@ -1,8 +1,9 @@
 //! What holds of an executor between any two steps. The functions do nothing: a law is their contract.
-ghost use Rattle.std.specs.Prelude.{◌≡◌, ◌⊎◌, ℕ, ◌+◌, ◌*◌, ◌<◌, ◌≤◌};
+ghost use Rattle.std.specs.Prelude.{◌≡◌, ◌⊎◌, ℕ, ◌+◌, ◌*◌, ◌<◌, ◌≤◌, min};
+ghost use Rattle.arachne_exec.specs.Layout.{last_generation};
 ghost use Rattle.arachne_exec.specs.Board.{Board, IsLawful, at_home, is_ready, is_free, is_idle, seats_of};
 ghost use Rattle.arachne_exec.specs.Promises.{IsReadyJob, IsEmptyPlace, keepers_of, HasReady, IsShownOrOwed, IsParked, IsDown, AreOwedTo};
-ghost use Rattle.arachne_exec.specs.Promises.{spawns, ends, times_in_hand, wakes, wakes_heard, is_marked, is_unused, times_lain, times_risen, times_roused, HasEndedAll};
+ghost use Rattle.arachne_exec.specs.Promises.{spawns, ends, times_in_hand, wakes, wakes_heard, is_marked, is_unused, times_lain, times_risen, times_roused, HasEndedAll, generation_at, times_ended_at};
 
 use crate::executor::Executor;
 use crate::seat::ExecSeat;
@@ -52,6 +53,14 @@ pub fn jobs_are_conserved()
 pub fn wakes_are_heard()
     ensures { (shards : ℕ) (b : Board) → IsLawful shards b → (place : ℕ) → place < 4096 * shards
         → wakes place b ≡ wakes_heard place b + is_marked b.words place }
+{}
+
+/// A mark's generation is how many jobs have ended at its place, up to the first that no name has. A name has the
+/// generation that its place's mark had when its job came. So it is of that job for good: once the job has ended no mark
+/// has that generation again, and a wake by the name does nothing.
+pub fn names_are_of_one_job()
+    ensures { (shards : ℕ) (b : Board) → IsLawful shards b → (place : ℕ) → place < 4096 * shards
+        → generation_at place b ≡ min last_generation (times_ended_at place b) }
 {}
 
 /// No two seats are one worker, and a number whose bit isn't set has a seat.

@@ -6,6 +6,8 @@ use std::collections::LinkedList;
 pub enum Deed {
     /// It has found a number in a word, or put it there.
     Looked(usize, u64),
+    /// It has taken the place, which was ready or free.
+    Gained(usize),
     /// It has made the job at a place ready, blocked it, or found it blocked and got it.
     Readied(usize),
     Blocked(usize),
@@ -19,6 +21,8 @@ pub struct Notes {
     /// The jobs that were spawned through it, and those that have ended in its hand.
     pub spawned: LinkedList<u64>,
     pub ended: LinkedList<u64>,
+    /// The places where jobs have ended in its hand.
+    pub ended_at: LinkedList<u64>,
     /// The places whose jobs it has marked as woken, and those where it has used up such a mark.
     pub woken: LinkedList<u64>,
     pub heard: LinkedList<u64>,

@@ -1,10 +1,10 @@
 //! One function for each kind of step on a place's words. What the seat has and knows after it is what each says.
-ghost use Rattle.std.specs.Prelude.{◌≡◌, ◌≢◌, ℕ, ◌+◌, ◌-◌, ◌*◌, ◌/◌, ◌%◌, ◌^◌, ◌<◌, ◌∷◌, IsTrue, IsFalse};
+ghost use Rattle.std.specs.Prelude.{◌≡◌, ◌≢◌, ℕ, ◌+◌, ◌-◌, ◌*◌, ◌/◌, ◌%◌, ◌^◌, ◌<◌, ◌≤◌, ◌∷◌, IsTrue, IsFalse};
 ghost use Rattle.std.specs.Int.{bit_at};
 ghost use Rattle.atomic_table.specs.Table.{rest};
-ghost use Rattle.arachne_exec.specs.Layout.{ready_at, free_at, mark_at, words_of};
-ghost use Rattle.arachne_exec.specs.Changes.{gained, unblocking, readying, blocking, spawning, beginning, ending, marking, hearing, noted, unshowing};
-ghost use Rattle.arachne_exec.specs.Seats.{HasNewest};
+ghost use Rattle.arachne_exec.specs.Layout.{ready_at, free_at, mark_at, words_of, last_generation};
+ghost use Rattle.arachne_exec.specs.Changes.{gained, unblocking, readying, blocking, spawning, beginning, ending, aging, marking, hearing, noted, unshowing};
+ghost use Rattle.arachne_exec.specs.Seats.{HasNewest, HasFoundMark};
 ghost use Rattle.arachne_exec.specs.Calls.{HasTakenBits};
 
 use crate::executor::Executor;
@@ -188,8 +188,8 @@ impl Executor {
         requires own { seat.old.table ≡ self.now.table }
         requires place { place < 4096 * self.now.shards }
         requires newest { (job : ℕ) × (inside : ℕ) × HasNewest place job inside seat.old }
-        requires generation { generation < 2 ^ 44 }
-        ensures seat { (n : ℕ) × (seat.new ≡ record seat.old { known = noted (mark_at place) (4 * generation) (hearing (n % 2) place seat.old.known) }) }
+        requires generation { (generation < 2 ^ 44) × HasFoundMark place (λ mark. generation ≡ mark / 4 + 1) seat.old.known }
+        ensures seat { (n : ℕ) × (seat.new ≡ record seat.old { known = noted (mark_at place) (4 * generation) (aging place (hearing (n % 2) place seat.old.known)) }) }
     {
         let _ = self.shards;
         let shared = &self.table.shared;
@@ -201,7 +201,8 @@ impl Executor {
         requires own { seat.old.table ≡ self.now.table }
         requires place { place < 4096 * self.now.shards }
         requires newest { (job : ℕ) × HasNewest place job 0 seat.old }
-        ensures seat { (n : ℕ) × (seat.new ≡ record seat.old { known = ending (hearing (n % 2) place seat.old.known); slots = rest seat.old.slots }) }
+        requires last { HasFoundMark place (λ mark. last_generation ≤ mark / 4 + 1) seat.old.known }
+        ensures seat { (n : ℕ) × (seat.new ≡ record seat.old { known = ending (aging place (hearing (n % 2) place seat.old.known)); slots = rest seat.old.slots }) }
     {
         let _ = self.shards;
         let shared = &self.table.shared;
@@ -213,7 +214,7 @@ impl Executor {
         requires own { seat.old.table ≡ self.now.table }
         requires place { place < 4096 * self.now.shards }
         requires blocked { old % 4 ≡ 2 }
-        ensures took { IsTrue result → (job : ℕ) × (seat.new ≡ record seat.old { known = unblocking place job seat.old.known; slots = (place, job) ∷ seat.old.slots }) }
+        ensures took { IsTrue result → (job : ℕ) × (seat.new ≡ record seat.old { known = unblocking place job (noted (mark_at place) old seat.old.known); slots = (place, job) ∷ seat.old.slots }) }
         ensures missed { IsFalse result → (n : ℕ) × (n ≢ old) × (seat.new ≡ record seat.old { known = noted (mark_at place) n seat.old.known }) }
     {
         let _ = self.shards;
@@ -227,7 +228,7 @@ impl Executor {
         requires own { seat.old.table ≡ self.now.table }
         requires place { place < 4096 * self.now.shards }
         requires unwoken { old % 4 ≡ 0 }
-        ensures marked { IsTrue result → seat.new ≡ record seat.old { known = marking place seat.old.known } }
+        ensures marked { IsTrue result → seat.new ≡ record seat.old { known = marking place (noted (mark_at place) old seat.old.known) } }
         ensures missed { IsFalse result → (n : ℕ) × (n ≢ old) × (seat.new ≡ record seat.old { known = noted (mark_at place) n seat.old.known }) }
     {
         let _ = self.shards;
