@@ -10,7 +10,7 @@ use Rattle.arachne_sleep.specs.History.{IsSound}
 use Rattle.arachne_weights.specs.declared.token.Token.{Token}
 use Rattle.arachne_weights.specs.Tokens.{held, spent, IsReachable}
 use Rattle.arachne_weights.specs.Weight.{whole, first_part, second_part, joined}
-use Rattle.arachne_sleep.specs.Views.{Guarded}
+use Rattle.arachne_sleep.specs.Views.{Guarded, SeatView}
 use Rattle.arachne_sleep.specs.declared.view.Known.{Known}
 use Rattle.arachne_sleep.specs.declared.view.SeatLog.{SeatLog}
 use Rattle.arachne_sleep.specs.Histories.{BeginsWith, StandsIn, IsGrantedIn, times_at, once_below}
@@ -89,3 +89,10 @@ spent_seat = spent blank
 -- the slots of a new lock
 abbrev pub IsFirstSlot : ℕ → List Guarded → Type 0
 IsFirstSlot number slots = (guarded : Guarded) × (slots ≡ guarded ∷ []) × (guarded.state ≡ record { number = number; history = [] })
+
+-- the rule allows a board where the seat with the whole weight has done and seen what this one has
+pub record IsLawfulEnd (number : ℕ) (seat : SeatView) : Type 0 where
+  pub board : Board
+  pub kept : IsKept number board
+  pub place : ℕ
+  pub there : get_elem? board.views place ≡ some (held whole (idle_known seat.log))

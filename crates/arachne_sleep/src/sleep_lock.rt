@@ -4,7 +4,7 @@ ghost use Rattle.arachne_sleep.specs.declared.event.LockEvent.{LockEvent};
 ghost use Rattle.arachne_sleep.specs.History.{IsSound};
 ghost use Rattle.arachne_sleep.specs.OneHolder.{HasOneHolderAtATime};
 ghost use Rattle.arachne_sleep.specs.Logs.{contended_log, given_back_log};
-ghost use Rattle.arachne_sleep.specs.Rule.{IsFirstSlot};
+ghost use Rattle.arachne_sleep.specs.Rule.{IsFirstSlot, IsLawfulEnd};
 ghost use Rattle.arachne_sleep.specs.Steps.{idle, HasTaken, HasSlot, HasVisited, IsReturnable};
 ghost use Rattle.arachne_sleep.specs.Views.{Guarded, IsSeatOf, IsWhole, whole_seat, first_half, second_half, joined_with};
 ghost use Rattle.arachne_sleep.specs.Calls.{IsAsked, IsFreed, IsChecked, pass_asked, AskAnswer, FreeAnswer, CheckAnswer, IsToldBy};
@@ -202,6 +202,7 @@ impl SleepLock {
         ensures sound { IfOk result (λ history. IsSound history.items) }
         ensures one_holder { IfOk result (λ history. HasOneHolderAtATime history.items) }
         ensures told { IfOk result (λ history. IsToldBy seat.log history.items) }
+        ensures lawful { IfOk result (λ history. IsLawfulEnd self.number seat) }
     {
         Ok(self.into_history(seat))
     }
@@ -211,6 +212,7 @@ impl SleepLock {
         requires whole { IsWhole seat }
         ensures sound { IsSound result.items }
         ensures told { IsToldBy seat.log result.items }
+        ensures lawful { IsLawfulEnd self.number seat }
     {
         let SleepLock { table, number: _ } = self;
         let LockSeat { seat, weight: _ } = seat;
