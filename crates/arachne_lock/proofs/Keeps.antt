@@ -23,7 +23,7 @@ use Rattle.arachne_lock.specs.State.{IsLeftBy}
 use Rattle.arachne_lock.specs.Placed.{BeginsWith, placed, StandsIn, times_at, once_below}
 use Rattle.arachne_lock.specs.Logs.{sight, contended_log, taken_log, given_back_log}
 use Rattle.arachne_lock.specs.Views.{Guarded, word_of}
-use Rattle.arachne_lock.specs.Rule.{Board, Histories, idle_known, taken_known, is_of, guards, IsSeenIn, Fits, IsHome, IsKept, blank, first_view, second_view, joined_view, AreFirstSlots}
+use Rattle.arachne_lock.specs.Rule.{Board, Histories, idle_known, taken_known, is_of, guards, IsSeenIn, Fits, IsHome, IsKept, IsLawfulSeat, blank, first_view, second_view, joined_view, AreFirstSlots}
 use Rattle.arachne_lock.specs.Steps.{Mine, idle, with_guard, HasTaken, Takes, GivesBack}
 use Rattle.arachne_lock.proofs.Growing.{begins-refl, GoOn, seen-more, made-more, stands-placed, times-placed, times-elsewhere, times-append}
 
@@ -140,11 +140,20 @@ opens locks words slots sized clear first = record {
   home = λ lock below e. home-first (λ (g : Guarded). IsLeftBy [] g.lock) slots first.1 lock (omega (arith, below, first.0));
 }
 
+-- a seat that made a step
+stepped-there : (views : List KnownLocks) (id : ℕ) (k k' : KnownLocks) → get_elem? views id ≡ some k → get_elem? (set views id k') id ≡ some k'
+stepped-there [] id k k' e = absurd (some-ne-none k (sym e))
+stepped-there (v ∷ vs) zero k k' e = refl
+stepped-there (v ∷ vs) (suc id) k k' e = stepped-there vs id k k' e
+
+lawful-seat : (locks slots : ℕ) → slots ≡ locks → (board : Board) → IsKept locks board → (id : ℕ) (log : EventLog) → get_elem? board.views id ≡ some (idle_known log) → IsLawfulSeat slots log
+lawful-seat locks slots one board kept id log there = record { board = board; kept = subst (λ (c : ℕ). IsKept c board) (sym one) kept; place = id; there = there }
+
 -- ---- a guard is tried
 
-pub takes-allowed : (locks slots id lock : ℕ) (l : EventLog) → lock < locks
+pub takes-allowed : (locks slots id lock : ℕ) (l : EventLog) → lock < locks → slots ≡ locks
     → Allows (IsKept locks) slots id (idle l) (word_of lock) (λ n. either (eqb n 0) 1 n) (Takes (step slots (word_of lock) 0 1 none) (idle l))
-takes-allowed locks slots id lock l inside s kept long at wide =
+takes-allowed locks slots id lock l inside one s kept long at wide =
     let n = get_or s.words (word_of lock) 0 in
     let h = kept.histories lock in
     let f = kept.fits id (idle_known l) at in
@@ -166,7 +175,7 @@ takes-allowed locks slots id lock l inside s kept long at wide =
           (λ j k. refl) 1 (set s.homes lock none) (omega (arith, kept.guard lock inside, home, if-one lock)) (λ j apart. sym (if-none lock j (λ e. apart (sym e)))) (omega arith)
           (λ e. absurd (omega (arith, e))) (λ j apart. set_else s.homes lock j none apart),
       λ other elsewhere. let same : lock ≡ other = omega (arith, elsewhere) in
-          subst (λ (x : ℕ). (n ≡ 0 → HasTaken x l (taken_known (sight lock h) log, (lock, g) ∷ [])) × (n ≢ 0 → ◌≡◌ {A = Mine} (taken_known (sight lock h) log, (lock, g) ∷ []) (idle (contended_log l x)))) same (
+          subst (λ (x : ℕ). (n ≡ 0 → HasTaken x l (taken_known (sight lock h) log, (lock, g) ∷ [])) × (n ≢ 0 → ◌≡◌ {A = Mine} (taken_known (sight lock h) log, (lock, g) ∷ []) (idle (contended_log l x)) × IsLawfulSeat slots (contended_log l x))) same (
             (λ _. (
               h,
               g,
@@ -180,16 +189,17 @@ takes-allowed locks slots id lock l inside s kept long at wide =
             (λ ne. absurd (ne home)),
           ),
     ))
-    (λ away. let seen : n ≡ 1 = omega (arith, away, kept.guard lock inside, kept.one_guard lock inside) in (
+    (λ away. let seen : n ≡ 1 = omega (arith, away, kept.guard lock inside, kept.one_guard lock inside) in
+    let next = one-seat-stepped locks s kept lock inside id (idle_known l) (idle_known (contended_log l lock)) at kept.histories (λ j. begins-refl (kept.histories j)) (λ j _. refl) kept.sound (λ i v _ _ o _. refl)
+    (record { seen = f.seen; made = f.made; at_guard = λ o e. absurd (none-some _ e) })
+    (λ j k. refl) n s.homes (omega (arith, kept.guard lock inside)) (λ j apart. refl) (omega (arith, seen)) (λ e. absurd (away e)) (λ j apart. refl) in (
       idle_known (contended_log l lock),
       keeps,
       tt,
-      one-seat-stepped locks s kept lock inside id (idle_known l) (idle_known (contended_log l lock)) at kept.histories (λ j. begins-refl (kept.histories j)) (λ j _. refl) kept.sound (λ i v _ _ o _. refl)
-          (record { seen = f.seen; made = f.made; at_guard = λ o e. absurd (none-some _ e) })
-          (λ j k. refl) n s.homes (omega (arith, kept.guard lock inside)) (λ j apart. refl) (omega (arith, seen)) (λ e. absurd (away e)) (λ j apart. refl),
+      next,
       λ other elsewhere. let same : lock ≡ other = omega (arith, elsewhere) in
-          subst (λ (x : ℕ). (n ≡ 0 → HasTaken x l (idle (contended_log l lock))) × (n ≢ 0 → ◌≡◌ {A = Mine} (idle (contended_log l lock)) (idle (contended_log l x)))) same
-          ((λ e. absurd (away e)), (λ _. refl)),
+          subst (λ (x : ℕ). (n ≡ 0 → HasTaken x l (idle (contended_log l lock))) × (n ≢ 0 → ◌≡◌ {A = Mine} (idle (contended_log l lock)) (idle (contended_log l x)) × IsLawfulSeat slots (contended_log l x))) same
+          ((λ e. absurd (away e)), (λ _. (refl, lawful-seat locks slots one (stepped s (word_of lock) n id [] (idle_known (contended_log l lock)) keeps) next id (contended_log l lock) (stepped-there s.views id (idle_known l) (idle_known (contended_log l lock)) at)))),
     ))
 
 -- ---- a guard is given back
@@ -247,27 +257,31 @@ gives-allowed locks slots id lock h l g inside one sound left s kept long at wid
     let more : GoOn kept.histories later = goes-on kept.histories lock h g.events is in
     let else_same = λ (j : ℕ) (apart : j ≢ lock). history-else kept.histories lock (h ++ g.events) j apart in
     let log : EventLog = given_back_log l lock h g.events in
-    let in_it : guard_of lock v ≤ guards lock s.views = at-le-total (guard_of lock) s.views id v at in (
+    let in_it : guard_of lock v ≤ guards lock s.views = at-le-total (guard_of lock) s.views id v at in
+    let next = one-seat-stepped locks s kept lock inside id v (idle_known log) at later more else_same (all-sound kept.histories lock h g.events is kept.sound sound)
+    (λ i u apart there o e. dite (ℕ_discrete o.lock lock)
+    (λ same. absurd (no-other locks s kept lock inside id v (idle_known log) at (sight lock h) refl inside i u apart there o e same))
+    (λ ne. sym (else_same o.lock ne)))
+    (record {
+      seen = All-cons (IsSeenIn later) (sight lock (h ++ g.events)) l.seen (subst (λ (x : List QueueEvent). BeginsWith x (h ++ g.events)) (sym at_it) (begins-refl (h ++ g.events))) (seen-more kept.histories later more l.seen f.seen);
+      made = All-append (StandsIn later) l.made (placed lock (length h) g.events) (made-more kept.histories later more l.made f.made) (stands-placed later lock h g.events (length h) at_it refl);
+      at_guard = λ o e. absurd (none-some _ e);
+    })
+    (each-once kept.histories lock h g.events is l.made)
+    0 (set s.homes lock (some g)) (omega (arith, in_it, kept.one_guard lock inside, if-one lock)) (λ j apart. if-none lock j (λ e. apart (sym e))) (omega arith)
+    (λ _. (g, set_here s.homes lock (some g) (omega (arith, long, one, inside)), subst (λ (x : List QueueEvent). IsLeftBy x g.lock) (sym at_it) left))
+    (λ j apart. set_else s.homes lock j (some g) apart) in (
       idle_known log,
       gives,
       tt,
-      one-seat-stepped locks s kept lock inside id v (idle_known log) at later more else_same (all-sound kept.histories lock h g.events is kept.sound sound)
-          (λ i u apart there o e. dite (ℕ_discrete o.lock lock)
-          (λ same. absurd (no-other locks s kept lock inside id v (idle_known log) at (sight lock h) refl inside i u apart there o e same))
-          (λ ne. sym (else_same o.lock ne)))
-          (record {
-            seen = All-cons (IsSeenIn later) (sight lock (h ++ g.events)) l.seen (subst (λ (x : List QueueEvent). BeginsWith x (h ++ g.events)) (sym at_it) (begins-refl (h ++ g.events))) (seen-more kept.histories later more l.seen f.seen);
-            made = All-append (StandsIn later) l.made (placed lock (length h) g.events) (made-more kept.histories later more l.made f.made) (stands-placed later lock h g.events (length h) at_it refl);
-            at_guard = λ o e. absurd (none-some _ e);
-          })
-          (each-once kept.histories lock h g.events is l.made)
-          0 (set s.homes lock (some g)) (omega (arith, in_it, kept.one_guard lock inside, if-one lock)) (λ j apart. if-none lock j (λ e. apart (sym e))) (omega arith)
-          (λ _. (g, set_here s.homes lock (some g) (omega (arith, long, one, inside)), subst (λ (x : List QueueEvent). IsLeftBy x g.lock) (sym at_it) left))
-          (λ j apart. set_else s.homes lock j (some g) apart),
+      next,
       λ lock' h' g' e.
           let out : sight lock h ≡ sight lock' h' = same_Some _ _ (ap (λ (m : Mine). m.0.out) e) in
-          let slot : g ≡ g' = ap (λ (m : Mine). (get_or m.1 0 (0, g)).1) e in
-          λ i. idle (given_back_log l (out i).lock (out i).history (slot i).events),
+          let slot : g ≡ g' = ap (λ (m : Mine). (get_or m.1 0 (0, g)).1) e in (
+            λ i. idle (given_back_log l (out i).lock (out i).history (slot i).events),
+            subst (λ (z : Sight × Guarded). IsLawfulSeat slots (given_back_log l z.0.lock z.0.history z.1.events)) (λ i. (out i, slot i))
+                (lawful-seat locks slots one (stepped s (word_of lock) 0 id ((lock, g) ∷ []) (idle_known log) gives) next id log (stepped-there s.views id v (idle_known log) at)),
+          ),
     )
 
 -- ---- a split and a join

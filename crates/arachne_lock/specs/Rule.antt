@@ -87,3 +87,10 @@ joined_view v u = idle_known (joined_log v.log u.log)
 -- the slots of new locks
 abbrev pub AreFirstSlots : ℕ → List Guarded → Type 0
 AreFirstSlots locks slots = (length slots ≡ locks) × All (λ (g : Guarded). IsLeftBy [] g.lock) slots
+
+-- the rule of that number of locks allows a board where a seat has done and seen this
+pub record IsLawfulSeat (locks : ℕ) (log : EventLog) : Type 0 where
+  pub board : Board
+  pub kept : IsKept locks board
+  pub place : ℕ
+  pub there : get_elem? board.views place ≡ some (idle_known log)

@@ -11,7 +11,7 @@ use Rattle.arachne_lock.specs.State.{Lock, IsLeftBy}
 use Rattle.arachne_lock.specs.Placed.{BeginsWith}
 use Rattle.arachne_lock.specs.Logs.{sight, contended_log, taken_log, given_back_log}
 use Rattle.arachne_lock.specs.Views.{Guarded, LocksView, word_of}
-use Rattle.arachne_lock.specs.Rule.{idle_known, taken_known}
+use Rattle.arachne_lock.specs.Rule.{idle_known, taken_known, IsLawfulSeat}
 
 -- a seat's view, and the slots that it has
 abbrev pub Mine : Type 0
@@ -39,15 +39,16 @@ pub record Comes (lock : ℕ) (log : EventLog) (history : List QueueEvent) (guar
 abbrev pub HasTaken : ℕ → EventLog → Mine → Type 0
 HasTaken lock log me = (history : List QueueEvent) × (guarded : Guarded) × (me ≡ with_guard lock history (taken_log log lock history) guarded) × Comes lock log history guarded
 
--- Where the guard was at home the state came to the seat. Else the guard was found taken.
+-- Where the guard was at home the state came to the seat. Else the guard was found taken, and the seat is one of the
+-- rule's, of as many locks as slots.
 abbrev pub Takes : Step Guarded → Mine → ℕ → Mine → Type 0
 Takes step before found after = (lock : ℕ) → step.word ≡ word_of lock
-    → (found ≡ 0 → HasTaken lock before.0.log after) × (found ≢ 0 → after ≡ idle (contended_log before.0.log lock))
+    → (found ≡ 0 → HasTaken lock before.0.log after) × (found ≢ 0 → (after ≡ idle (contended_log before.0.log lock)) × IsLawfulSeat step.slots (contended_log before.0.log lock))
 
--- the state goes home as it is in the seat's slot, with the events that were added
+-- the state goes home as it is in the seat's slot, with the events that were added, and the seat is one of the rule's
 abbrev pub GivesBack : Step Guarded → Mine → Mine → Type 0
 GivesBack step before after = (lock : ℕ) (history : List QueueEvent) (guarded : Guarded) → before ≡ with_guard lock history before.0.log guarded
-    → after ≡ idle (given_back_log before.0.log lock history guarded.events)
+    → (after ≡ idle (given_back_log before.0.log lock history guarded.events)) × IsLawfulSeat step.slots (given_back_log before.0.log lock history guarded.events)
 
 -- the state may go home
 pub record IsReturnable (lock : ℕ) (history : List QueueEvent) (me : Mine) (guarded : Guarded) : Type 0 where

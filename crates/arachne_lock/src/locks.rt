@@ -1,11 +1,11 @@
 //! A set of locks that kernel threads share, and in whose calls none of them waits.
-ghost use Rattle.std.specs.Prelude.{◌≡◌, ◌<◌, ℕ, List, MatchBool, IfOk, Option, [], ◌∷◌, ◌^◌, vec_len, slice_index};
+ghost use Rattle.std.specs.Prelude.{◌≡◌, ◌<◌, ℕ, List, MatchBool, IsFalse, IfOk, Option, [], ◌∷◌, ◌^◌, vec_len, slice_index};
 ghost use Rattle.arachne_lock.specs.declared.event.QueueEvent.{QueueEvent};
 ghost use Rattle.arachne_lock.specs.State.{IsAsked, IsFreed, IsWithdrawn, IsChecked};
 ghost use Rattle.arachne_lock.specs.Deeds.{asked_events, freed_events, withdrawn_events};
 ghost use Rattle.arachne_lock.specs.Logs.{contended_log};
 ghost use Rattle.arachne_lock.specs.Views.{Guarded, IsSeatOf, IsLockAt, first_seat, second_half, joined_with, word_of};
-ghost use Rattle.arachne_lock.specs.Rule.{AreFirstSlots};
+ghost use Rattle.arachne_lock.specs.Rule.{AreFirstSlots, IsLawfulSeat};
 ghost use Rattle.arachne_lock.specs.Steps.{idle, HasTaken, HasSlot, HasVisited, IsReturnable, IsReturned};
 ghost use Rattle.arachne_lock.specs.Calls.{AskAnswer, FreeAnswer, WithdrawAnswer, CheckAnswer};
 
@@ -116,6 +116,7 @@ impl Locks {
         requires { IsLockAt self.now seat.old.table lock }
         ensures own { IsSeatOf self.now seat.new }
         ensures answer { AskAnswer lock who seat.old result seat.new }
+        ensures lawful { IsLawfulSeat self.now.count seat.new.log }
     {
         if !self.take(&mut seat.seat, lock) {
             return Attempt::Contended;
@@ -135,6 +136,7 @@ impl Locks {
         requires { IsLockAt self.now seat.old.table lock }
         ensures own { IsSeatOf self.now seat.new }
         ensures answer { FreeAnswer lock who seat.old result seat.new }
+        ensures lawful { IsLawfulSeat self.now.count seat.new.log }
     {
         if !self.take(&mut seat.seat, lock) {
             return Attempt::Contended;
@@ -150,6 +152,7 @@ impl Locks {
         requires { IsLockAt self.now seat.old.table lock }
         ensures own { IsSeatOf self.now seat.new }
         ensures answer { WithdrawAnswer lock who seat.old result seat.new }
+        ensures lawful { IsLawfulSeat self.now.count seat.new.log }
     {
         if !self.take(&mut seat.seat, lock) {
             return Attempt::Contended;
@@ -164,6 +167,7 @@ impl Locks {
         requires { IsLockAt self.now seat.old.table lock }
         ensures own { IsSeatOf self.now seat.new }
         ensures answer { CheckAnswer lock who seat.old result seat.new }
+        ensures lawful { IsLawfulSeat self.now.count seat.new.log }
     {
         if !self.take(&mut seat.seat, lock) {
             return Attempt::Contended;
@@ -201,6 +205,7 @@ impl Locks {
         ensures told { MatchBool result
             (HasTaken lock seat.old.me.0.log seat.new.me)
             (seat.new.me ≡ idle (contended_log seat.old.me.0.log lock)) }
+        ensures lawful { IsFalse result → IsLawfulSeat self.now.count (contended_log seat.old.me.0.log lock) }
     {
         let shared = &self.table.shared;
         shared.compare_exchange::<TakeGuard>(seat, guard_word(lock), HOME, TAKEN) == HOME
@@ -212,6 +217,7 @@ impl Locks {
         requires guarded { (history : List QueueEvent) × (guarded : Guarded) × IsReturnable lock history seat.old.me guarded }
         ensures own { seat.new.table_id ≡ seat.old.table_id }
         ensures told { IsReturned lock seat.old.me seat.new.me }
+        ensures lawful { IsLawfulSeat self.now.count seat.new.me.0.log }
     {
         let shared = &self.table.shared;
         shared.store::<ReturnGuard>(seat, guard_word(lock), HOME);

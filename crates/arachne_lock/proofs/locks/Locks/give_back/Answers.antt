@@ -2,7 +2,8 @@ use Rattle.std.proofs.Common.{ℕ, ap, sym, subst, ◌∙◌, ◌<◌, arith}
 use mathlib.Core.Option.{none}
 use Rattle.atomic_table.specs.Table.{Allows, step}
 use Rattle.arachne_lock.specs.Views.{word_of}
-use Rattle.arachne_lock.specs.Rule.{IsKept}
+use Rattle.arachne_lock.specs.declared.view.EventLog.{EventLog}
+use Rattle.arachne_lock.specs.Rule.{IsKept, IsLawfulSeat}
 use Rattle.arachne_lock.specs.Steps.{Mine, GivesBack}
 use Rattle.arachne_lock.proofs.Keeps.{gives-allowed}
 use Rattle.arachne_lock.proofs.locks.Locks.give_back.Goals as goal
@@ -24,4 +25,9 @@ store-requires c =
     )
 
 pub returns-clause-told : goal.returns-clause-told
-returns-clause-told c = λ history guarded r. c.store.ensures.2 c.args.lock history guarded r.mine
+returns-clause-told c = λ history guarded r. (c.store.ensures.2 c.args.lock history guarded r.mine).0
+
+pub returns-clause-lawful : goal.returns-clause-lawful
+returns-clause-lawful c =
+    let r = c.requires.guarded in let then = c.store.ensures.2 c.args.lock r.0 r.1 r.2.mine in
+    subst (λ (z : ℕ × EventLog). IsLawfulSeat z.0 z.1) (λ i. ((c.self.invariant.slots ∙ ap (λ v. v.count) c.self.view_is) i, (sym then.0 i).0.log)) then.1

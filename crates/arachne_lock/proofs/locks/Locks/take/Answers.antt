@@ -5,7 +5,8 @@ use prog.Atomic.{either}
 use mathlib.Core.Option.{none}
 use Rattle.atomic_table.specs.Table.{Allows, step}
 use Rattle.arachne_lock.specs.Views.{word_of}
-use Rattle.arachne_lock.specs.Rule.{IsKept}
+use Rattle.arachne_lock.specs.Logs.{contended_log}
+use Rattle.arachne_lock.specs.Rule.{IsKept, IsLawfulSeat}
 use Rattle.arachne_lock.specs.Steps.{Mine, Takes}
 use Rattle.arachne_lock.proofs.Keeps.{takes-allowed}
 use Rattle.arachne_lock.proofs.locks.Locks.take.Goals as goal
@@ -20,7 +21,7 @@ compare_exchange-requires c =
       omega (arith, inside, c.self.invariant.words, c.guard_word.ensures),
       subst (λ (w : ℕ). Allows (IsKept t.key) t.table_id.slots it.id it.me w (λ n. either (eqb n 0) 1 n) (Takes (step t.table_id.slots w 0 1 none) it.me)) (sym c.guard_word.ensures)
           (subst (λ (m : Mine). Allows (IsKept t.key) t.table_id.slots it.id m (word_of c.args.lock) (λ n. either (eqb n 0) 1 n) (Takes (step t.table_id.slots (word_of c.args.lock) 0 1 none) m)) (sym c.requires.idle)
-          (takes-allowed t.key t.table_id.slots it.id c.args.lock it.me.0.log below)),
+          (takes-allowed t.key t.table_id.slots it.id c.args.lock it.me.0.log below (c.self.invariant.slots ∙ sym c.self.invariant.keyed))),
     )
 
 -- by whether a number is 0
@@ -32,4 +33,9 @@ decided n A B f =
     ]
 
 pub returns-clause-told : goal.returns-clause-told
-returns-clause-told c = decided c.compare_exchange.result _ _ (c.compare_exchange.ensures.2 c.args.lock c.guard_word.ensures)
+returns-clause-told c = let then = c.compare_exchange.ensures.2 c.args.lock c.guard_word.ensures in decided c.compare_exchange.result _ _ (then.0, λ ne. (then.1 ne).0)
+
+pub returns-clause-lawful : goal.returns-clause-lawful
+returns-clause-lawful c = λ no.
+    let lawful = ((c.compare_exchange.ensures.2 c.args.lock c.guard_word.ensures).1 (λ e. true≢false (sym (eq-eqb c.compare_exchange.result 0 e) ∙ no))).1 in
+    subst (λ (n : ℕ). IsLawfulSeat n (contended_log c.args.seat.now.me.0.log c.args.lock)) (c.self.invariant.slots ∙ ap (λ v. v.count) c.self.view_is) lawful
