@@ -10,7 +10,7 @@ owed-to shards b h worker is block inside mine some_ready = ⊎_elim
     (λ shown.
     let k : ℕ = block / 64 / 64 in let at : worker + 64 * k ≡ block / 64 = omega (arith, mine) in
     let there = subst (λ n. 0 < get_or b.words (summary_at n) 0) (sym at) (bit-some (get_or b.words (summary_at (block / 64)) 0) (block % 64) shown) in
-    let seen = is.has_seen worker k is.is_worker (omega (arith, at, inside)) in
-    inr (subst (λ n. 0 < owed n b.views) at (h.sleep.awake is.seat is.view is.there worker k is.is_worker seen is.idle there)))
+    let seen = is.0.has_seen worker k is.0.is_worker (omega (arith, at, inside)) in
+    inr (subst (λ n. 0 < owed n b.views) at (h.sleep.awake is.0.seat is.0.view is.0.there worker k is.0.is_worker seen is.1 there)))
     (λ owes. inl owes)
     (h.shows.shown block inside some_ready)

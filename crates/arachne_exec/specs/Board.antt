@@ -133,14 +133,15 @@ owed shard views = by_all (λ (k : Notes). one k.owes (shard + 1)) views
 abbrev pub seats_of : ℕ → List (Token Notes) → ℕ
 seats_of worker views = by_all (λ (k : Notes). one k.worker (worker + 1)) views
 
--- how often a worker's seat has set its idle bit where it was clear, and cleared it where it was set; and how often a seat
--- has found it set, and cleared it to wake the worker
+-- how often a worker's seat has set its idle bit where it was clear: the worker lies down
 abbrev pub lies : ℕ → List (Token Notes) → ℕ
 lies worker views = by_all (λ (k : Notes). times worker k.lain) views
 
+-- how often its seat has cleared the bit where it was set: the worker rises by itself
 abbrev pub rises : ℕ → List (Token Notes) → ℕ
 rises worker views = by_all (λ (k : Notes). times worker k.risen) views
 
+-- how often a seat has found the bit set, and cleared it to wake the worker, which its call says
 abbrev pub rouses : ℕ → List (Token Notes) → ℕ
 rouses worker views = by_all (λ (k : Notes). times worker k.roused) views
 

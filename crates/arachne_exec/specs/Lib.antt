@@ -8,3 +8,4 @@ pub mod Turns
 pub mod Calls
 pub mod Ending
 pub mod Promises
+pub mod Sleeps

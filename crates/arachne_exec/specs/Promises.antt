@@ -31,15 +31,6 @@ HasReady block b = 0 < slice_index b.words (ready_at block)
 abbrev pub IsShownOrOwed : ℕ → Board → Type 0
 IsShownOrOwed block b = (in_word summary_at b.words block ≡ 1) ⊎ (0 < unshown_by block b.views)
 
--- a worker whose idle bit is set, and whose seat has found all of its summary words empty since it set that bit
-pub record IsParked (shards worker : ℕ) (b : Board) : Type 0 where
-  pub seat : ℕ
-  pub view : Token Notes
-  pub there : get_elem? b.views seat ≡ some view
-  pub is_worker : view.known.worker ≡ worker + 1
-  pub has_seen : HasSeenAll shards view.known
-  pub idle : is_idle b.words worker ≡ 1
-
 -- a worker whose seat has set its idle bit, hasn't cleared it since, and has then found all of its summary words empty
 pub record IsDown (shards worker : ℕ) (b : Board) : Type 0 where
   pub seat : ℕ
@@ -47,6 +38,10 @@ pub record IsDown (shards worker : ℕ) (b : Board) : Type 0 where
   pub there : get_elem? b.views seat ≡ some view
   pub is_worker : view.known.worker ≡ worker + 1
   pub has_seen : HasSeenAll shards view.known
+
+-- the same, and its idle bit is set
+abbrev pub IsParked : (shards worker : ℕ) → Board → Type 0
+IsParked shards worker b = IsDown shards worker b × (is_idle b.words worker ≡ 1)
 
 -- a seat in the midst of a call will set the block's bit in the summary word, or look whether its worker sleeps
 abbrev pub IsOwedTo : ℕ → Board → Type 0
@@ -68,21 +63,9 @@ ends job b = by_all (λ (k : Notes). times job k.ended) b.views
 abbrev pub times_in_hand : ℕ → Board → ℕ
 times_in_hand job b = by_all (λ (k : Notes). jobs_in job k.hand) b.views
 
--- the worker has lain down: its seat has set its idle bit, which was clear
-abbrev pub times_lain : ℕ → Board → ℕ
-times_lain worker b = lies worker b.views
-
--- it has risen by itself: its seat has cleared the bit, which was set
-abbrev pub times_risen : ℕ → Board → ℕ
-times_risen worker b = rises worker b.views
-
--- it was roused: a seat has found the bit set, and cleared it to wake the worker, which its call tells
-abbrev pub times_roused : ℕ → Board → ℕ
-times_roused worker b = rouses worker b.views
-
--- as often as it lay down it has risen or was roused
+-- as often as a worker lay down it has risen or was roused
 abbrev pub HasEndedAll : ℕ → Board → Type 0
-HasEndedAll worker b = times_lain worker b ≡ times_risen worker b + times_roused worker b
+HasEndedAll worker b = lies worker b.views ≡ rises worker b.views + rouses worker b.views
 
 -- a wake has set the mark at the place, or who had the place in hand has used it up
 abbrev pub wakes : ℕ → Board → ℕ

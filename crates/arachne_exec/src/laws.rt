@@ -1,9 +1,20 @@
 //! What holds of an executor between any two steps. The functions do nothing: a law is their contract.
-ghost use Rattle.std.specs.Prelude.{◌≡◌, ◌⊎◌, ℕ, ◌+◌, ◌*◌, ◌<◌, ◌≤◌, min};
-ghost use Rattle.arachne_exec.specs.Layout.{last_generation};
-ghost use Rattle.arachne_exec.specs.Board.{Board, IsLawful, at_home, is_ready, is_free, is_idle, seats_of};
+ghost use Rattle.std.specs.Prelude.{◌≡◌, ◌⊎◌, Bool, ℕ, ◌+◌, ◌*◌, ◌/◌, ◌<◌, ◌≤◌, min};
+ghost use Rattle.arachne_exec.specs.declared.view.Notes.{Notes};
+ghost use Rattle.arachne_exec.specs.declared.answers.JobRested.{JobRested};
+ghost use Rattle.arachne_exec.specs.declared.answers.JobSpawned.{JobSpawned};
+ghost use Rattle.arachne_exec.specs.declared.answers.JobWoken.{JobWoken};
+ghost use Rattle.arachne_exec.specs.declared.answers.Next.{Next};
+ghost use Rattle.arachne_exec.specs.declared.answers.HeldJob.{HeldJob};
+ghost use Rattle.arachne_exec.specs.declared.answers.SpawnedHere.{SpawnedHere};
+ghost use Rattle.arachne_exec.specs.declared.answers.WokenHere.{WokenHere};
+ghost use Rattle.arachne_exec.specs.Layout.{last_generation, worker_of};
+ghost use Rattle.arachne_exec.specs.Changes.{readying, rousing};
+ghost use Rattle.arachne_exec.specs.Calls.{worker_at, HasSpawned, HasSpawnedHere, HasTaken, HasTakenNone, HasTakenMany, HasStarted, HasRested, HasFinished, HasWoken, HasWokenHere, HasAnswered};
+ghost use Rattle.arachne_exec.specs.Sleeps.{spawn_unparks, rest_unparks, wake_unparks, Rouses, RousesNobody, Sleeps};
+ghost use Rattle.arachne_exec.specs.Board.{Board, IsLawful, at_home, is_ready, is_free, is_idle, seats_of, lies, rises, rouses};
 ghost use Rattle.arachne_exec.specs.Promises.{IsReadyJob, IsEmptyPlace, keepers_of, HasReady, IsShownOrOwed, IsParked, IsDown, AreOwedTo};
-ghost use Rattle.arachne_exec.specs.Promises.{spawns, ends, times_in_hand, wakes, wakes_heard, is_marked, is_unused, times_lain, times_risen, times_roused, HasEndedAll, generation_at, times_ended_at};
+ghost use Rattle.arachne_exec.specs.Promises.{spawns, ends, times_in_hand, wakes, wakes_heard, is_marked, is_unused, HasEndedAll, generation_at, times_ended_at};
 
 use crate::executor::Executor;
 use crate::seat::ExecSeat;
@@ -38,9 +49,26 @@ pub fn sleepers_are_woken()
 /// often as it lay down it has risen or was roused.
 pub fn sleepers_are_told()
     ensures once { (shards : ℕ) (b : Board) → IsLawful shards b → (worker : ℕ) → worker < 64
-        → times_lain worker b ≡ times_risen worker b + times_roused worker b + is_idle b.words worker }
+        → lies worker b.views ≡ rises worker b.views + rouses worker b.views + is_idle b.words worker }
     ensures down { (shards : ℕ) (b : Board) → IsLawful shards b → (worker : ℕ) → IsDown shards worker b
         → (IsParked shards worker b × AreOwedTo shards worker b) ⊎ HasEndedAll worker b }
+{}
+
+/// What the answers of calls say of these sleeps, by the clauses of the calls: a worker is roused exactly where an answer
+/// says to unpark it, once, but for its own `next`, which tells nobody; and none but its own `next` lets it lie down.
+pub fn calls_say_whom_they_rouse()
+    ensures spawn { (answer : JobSpawned) (block job : ℕ) (k after : Notes) → HasSpawned answer block job k after → Rouses (spawn_unparks answer) (worker_of (block / 64)) k after }
+    ensures rest_ready { (unpark : Bool) (place : ℕ) (k : Notes) → Rouses unpark (worker_at place) k (rousing unpark (worker_at place) (readying k)) }
+    ensures rest_blocked { (answer : JobRested) (place : ℕ) (k after : Notes) → HasRested answer place k after → Rouses (rest_unparks answer) (worker_at place) k after }
+    ensures wake { (answer : JobWoken) (places place generation : ℕ) (k after : Notes) → HasWoken answer places place generation k after → Rouses (wake_unparks answer) (worker_at place) k after }
+    ensures next { (answer : Next) (shards worker : ℕ) (k after : Notes) → HasAnswered answer shards worker k after → Sleeps answer shards worker k after }
+    ensures spawn_here { (answer : SpawnedHere) (block job : ℕ) (k after : Notes) → HasSpawnedHere answer block job k after → RousesNobody k after }
+    ensures wake_here { (answer : WokenHere) (places place generation : ℕ) (k after : Notes) → HasWokenHere answer places place generation k after → RousesNobody k after }
+    ensures take { (job : HeldJob) (block : ℕ) (k after : Notes) → HasTaken job block k after → RousesNobody k after }
+    ensures take_none { (block : ℕ) (k after : Notes) → HasTakenNone block k after → RousesNobody k after }
+    ensures take_many { (bits block most : ℕ) (k after : Notes) → HasTakenMany bits block most k after → RousesNobody k after }
+    ensures start { (job : HeldJob) (place : ℕ) (k after : Notes) → HasStarted job place k after → RousesNobody k after }
+    ensures finish { (place : ℕ) (k after : Notes) → HasFinished place k after → RousesNobody k after }
 {}
 
 /// Each job number but 0 was spawned as often as it has ended, is in a hand, and lies in a slot.
