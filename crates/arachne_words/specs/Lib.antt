@@ -7,3 +7,4 @@ pub mod Moves
 pub mod AfterSteps
 pub mod Out
 pub mod Swapped
+pub mod Ending

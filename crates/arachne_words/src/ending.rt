@@ -6,6 +6,7 @@ ghost use Rattle.arachne_weights.specs.Weight.{whole};
 ghost use Rattle.arachne_core.specs.declared.layout.TheConstants.{CORE_BITS};
 ghost use Rattle.arachne_core.specs.Marked.{marked_of};
 ghost use Rattle.arachne_words.specs.Seats.{HasNothingOut};
+ghost use Rattle.arachne_words.specs.Ending.{IsLawfulEnd};
 
 use crate::call_seat::CallSeat;
 use crate::seat::WordSeat;
@@ -33,6 +34,7 @@ impl<T: Tagged + Drop> WordContexts<T> {
         requires nothing_out { HasNothingOut seat.known }
         ensures settled { IfOk result (λ left. IsSettled T.tag_of seat.known left.items) }
         ensures order { IfOk result (λ left. IsByContext left.items) }
+        ensures lawful { IfOk result (λ left. IsLawfulEnd T.tag_of self.shape seat.known) }
         ensures handed_back { IfErr result (λ back. back ≡ (self, seat)) }
     {
         let contexts = self.table.slot_count();

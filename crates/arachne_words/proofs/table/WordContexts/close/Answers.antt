@@ -123,3 +123,6 @@ returns-clause-settled g c =
 pub returns-clause-order : goal.returns-clause-order
 returns-clause-order g c =
     all-by-context c.loop-context.left.items c.loop-context.context (slots_items c.loop-context.closed.words) (slots_items c.loop-context.closed.slots) (all-seen g (goal.at.returns-clause-order g c).After-free) c.loop-context.invariant.so_far
+
+pub returns-clause-lawful : goal.returns-clause-lawful
+returns-clause-lawful g c = let ends = c.loop-context.invariant.ends in record { table = ends.1.0; lawful = ends.1.1.0; seat = ends.0; there = ends.1.1.1 }

@@ -1,0 +1,17 @@
+-- Of which table the rule is, at the end.
+use Rattle.std.specs.Prelude.{◌≡◌, ℕ}
+use mathlib.Core.Option.{some}
+use lib.ListN.{get_elem?}
+use Rattle.arachne_core.specs.declared.layout.TheConstants.{CORE_BITS}
+use Rattle.arachne_weights.specs.Tokens.{held}
+use Rattle.arachne_weights.specs.Weight.{whole}
+use Rattle.arachne_rule.specs.declared.view.Known.{Known}
+use Rattle.arachne_rule.specs.declared.view.Shape.{Shape}
+use Rattle.arachne_rule.specs.Table.{Table, Holds}
+
+-- the rule allows a table of that shape where the seat with the whole weight knows this
+pub record IsLawfulEnd {T : Type 0} (tag_in : T → ℕ) (shape : Shape) (k : Known) : Type 0 where
+  pub table : Table T
+  pub lawful : Holds tag_in CORE_BITS shape table
+  pub seat : ℕ
+  pub there : get_elem? table.views seat ≡ some (held whole k)
