@@ -106,7 +106,8 @@ uint32_t arachne_exec_split(arachne_exec *exec, arachne_exec *other);
 
 /* Joins the second handle's seat into the first's, so that the second holds nothing then. DONE; REFUSED, where
  * one of them holds nothing, or the second has a job in hand or is a worker. Both have to be of the same
- * executor. */
+ * executor, which is not tested: else the second's can't be ended any more, and what the end of the first hands
+ * back may lack jobs. */
 uint32_t arachne_exec_join(arachne_exec *exec, arachne_exec *other);
 
 /* Ends the executor, and writes the jobs that were spawned and haven't ended, but for jobs 0, over the begin of
@@ -211,7 +212,8 @@ uint32_t arachne_locks_new(arachne_locks *locks, size_t count);
 uint32_t arachne_locks_split(arachne_locks *locks, arachne_locks *other);
 
 /* Joins the second handle's seat into the first's, so that the second holds nothing then. DONE; REFUSED, where
- * one of them holds nothing. Both have to be of the same locks. */
+ * one of them holds nothing. Both have to be of the same locks, which is not tested: else the second's are only
+ * let go. */
 uint32_t arachne_locks_join(arachne_locks *locks, arachne_locks *other);
 
 /* Frees what a handle holds. The locks are freed with the last of their handles. */
@@ -256,7 +258,8 @@ bool arachne_ledger_total(arachne_adder *adder, size_t ledger, uint64_t *total);
 uint32_t arachne_ledger_split(arachne_adder *adder, arachne_adder *other);
 
 /* Joins the second handle's share into the first's, so that the second holds nothing then. False, with nothing
- * changed, where one of them holds nothing. Both have to be of the same ledgers. */
+ * changed, where one of them holds nothing. Both have to be of the same ledgers, which is not tested: else the
+ * first's sums may be returned before all of its handles are back, and the second's never are. */
 bool arachne_ledger_join(arachne_adder *adder, arachne_adder *other);
 
 /* Frees what a handle holds. The weight of its share is lost, so that no total can be told any more; the ledgers

@@ -71,7 +71,8 @@ pub extern "C" fn arachne_exec_split(
 }
 
 /// Joins the second handle's seat into the first's, so that the second holds nothing then. DONE; REFUSED, where one of
-/// them holds nothing, or the second has a job in hand or is a worker. Both have to be of the same executor.
+/// them holds nothing, or the second has a job in hand or is a worker. Both have to be of the same executor, which is
+/// not tested: else the second's can't be ended any more, and what the end of the first hands back may lack jobs.
 #[unsafe(no_mangle)]
 pub extern "C" fn arachne_exec_join(
     alloc: Global,

@@ -116,7 +116,8 @@ pub extern "C" fn arachne_ledger_split(
 }
 
 /// Joins the second handle's share into the first's, so that the second holds nothing then. False, with nothing
-/// changed, where one of them holds nothing. Both have to be of the same ledgers.
+/// changed, where one of them holds nothing. Both have to be of the same ledgers, which is not tested: else the first's
+/// sums may be returned before all of its handles are back, and the second's never are.
 #[unsafe(no_mangle)]
 pub extern "C" fn arachne_ledger_join(
     alloc: Global,

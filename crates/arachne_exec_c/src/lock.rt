@@ -61,7 +61,7 @@ pub extern "C" fn arachne_locks_split(
 }
 
 /// Joins the second handle's seat into the first's, so that the second holds nothing then. DONE; REFUSED, where one of
-/// them holds nothing. Both have to be of the same locks.
+/// them holds nothing. Both have to be of the same locks, which is not tested: else the second's are only let go.
 #[unsafe(no_mangle)]
 pub extern "C" fn arachne_locks_join(
     alloc: Global,

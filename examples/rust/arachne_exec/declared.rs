@@ -181,7 +181,8 @@ unsafe extern "C" {
 
     /// Joins the second handle's seat into the first's, so that the second holds nothing then. DONE; REFUSED, where
     /// one of them holds nothing, or the second has a job in hand or is a worker. Both have to be of the same
-    /// executor.
+    /// executor, which is not tested: else the second's can't be ended any more, and what the end of the first
+    /// hands back may lack jobs.
     pub fn arachne_exec_join(exec: *mut ArachneExec, other: *mut ArachneExec) -> u32;
 
     /// Ends the executor, and writes the jobs that were spawned and haven't ended, but for jobs 0, over the begin
@@ -269,7 +270,8 @@ unsafe extern "C" {
     pub fn arachne_locks_split(locks: *mut ArachneLocks, other: *mut ArachneLocks) -> u32;
 
     /// Joins the second handle's seat into the first's, so that the second holds nothing then. DONE; REFUSED, where
-    /// one of them holds nothing. Both have to be of the same locks.
+    /// one of them holds nothing. Both have to be of the same locks, which is not tested: else the second's are
+    /// only let go.
     pub fn arachne_locks_join(locks: *mut ArachneLocks, other: *mut ArachneLocks) -> u32;
 
     /// Frees what a handle holds. The locks are freed with the last of their handles.
@@ -305,7 +307,8 @@ unsafe extern "C" {
     pub fn arachne_ledger_split(adder: *mut ArachneAdder, other: *mut ArachneAdder) -> u32;
 
     /// Joins the second handle's share into the first's, so that the second holds nothing then. False, with nothing
-    /// changed, where one of them holds nothing. Both have to be of the same ledgers.
+    /// changed, where one of them holds nothing. Both have to be of the same ledgers, which is not tested: else the
+    /// first's sums may be returned before all of its handles are back, and the second's never are.
     pub fn arachne_ledger_join(adder: *mut ArachneAdder, other: *mut ArachneAdder) -> bool;
 
     /// Frees what a handle holds. The weight of its share is lost, so that no total can be told any more; the
