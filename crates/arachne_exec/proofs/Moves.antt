@@ -24,7 +24,7 @@ use Rattle.arachne_exec.specs.Steps.{Mine, with, knowing, Looks, Takes, Claims, 
 use Rattle.arachne_exec.proofs.Bits.{one-same, same_others, clear_le, unset, not_one}
 use Rattle.arachne_exec.proofs.Keeping.{ready_apart, free_apart, mark_apart, in-hand, home-of-ready, home-of-blocked, keeps-take, keeps-claim, keeps-ready, keeps-free, keeps-block, keeps-wake, keeps-mark, keeps-places, keeps-view, hands-renumbered, places-cons, no-more, no-other}
 use Rattle.arachne_exec.proofs.Balancing.{balanced-same, balanced-taken, balanced-put, balanced-spawned, balanced-begun, balanced-ended}
-use Rattle.arachne_exec.proofs.Hearing.{hears-on, as-marked, hears-mark, hears-clear}
+use Rattle.arachne_exec.proofs.Hearing.{MarksOn, marks-same, hears-on, as-marked, marked-on, hears-mark, hears-clear}
 use Rattle.arachne_exec.proofs.Naming.{Knows, found-word, found-on, knows-less, names-on, found-new, mark-else, names-ended}
 use Rattle.arachne_exec.proofs.KeepsShown.{shows-on, shows-owing}
 use Rattle.arachne_exec.proofs.Sleeping.{Unmoved, sleeps-on}
@@ -68,7 +68,7 @@ module _ (shards slots id w : ℕ) where
       shared = learns h.shared id w k l mine;
       keeper = keeps-view (64 * shards) s h.keeper id (held w k) mine (held w l) refl;
       balance = balanced-same s h.balance id (held w k) (held w l) mine s.words refl refl refl;
-      hears = hears-on (64 * shards) s h.hears id (held w k) (held w l) mine s.homes s.words (λ p inside. refl) refl refl;
+      hears = hears-on (64 * shards) s h.hears id (held w k) (held w l) mine s.homes s.words (λ p inside. (refl, λ low. low)) refl refl;
       names = names-on (64 * shards) s h.names id (held w k) (held w l) mine s.homes s.words (λ p inside. refl) refl knows;
       shows = shows-on (64 * shards) s h.shows id (held w k) (held w l) mine s.words s.homes (λ c r. r) (λ c. refl) refl;
       sleep = sleeps-on s h.sleep id (held w k) (held w l) mine s.words s.homes refl refl (λ c r. r) refl refl refl (refl, refl, refl);
@@ -88,8 +88,8 @@ module _ (shards slots id w : ℕ) where
 
     module _ (i now : ℕ) where
       -- a word that is no mark
-      pub unmarked : ((p : ℕ) → mark_at p ≢ i) → (p : ℕ) → p < 64 * (64 * shards) → get_or (set s.words i now) (mark_at p) 0 % 2 ≡ get_or s.words (mark_at p) 0 % 2
-      unmarked never p inside = ap (λ x. x % 2) (get_or-set_other s.words i (mark_at p) now 0 (never p))
+      pub unmarked : ((p : ℕ) → mark_at p ≢ i) → (p : ℕ) → p < 64 * (64 * shards) → MarksOn (get_or s.words (mark_at p) 0) (get_or (set s.words i now) (mark_at p) 0)
+      unmarked never p inside = marks-same (get_or s.words (mark_at p) 0) (get_or (set s.words i now) (mark_at p) 0) (get_or-set_other s.words i (mark_at p) now 0 (never p))
 
       pub ageless : ((p : ℕ) → mark_at p ≢ i) → (p : ℕ) → p < 64 * (64 * shards) → get_or (set s.words i now) (mark_at p) 0 / 4 ≡ get_or s.words (mark_at p) 0 / 4
       ageless never p inside = ap (λ x. x / 4) (get_or-set_other s.words i (mark_at p) now 0 (never p))
@@ -311,7 +311,7 @@ module _ (shards slots id w : ℕ) where
             shared = learns h.shared id w k l mine;
             keeper = keeps-block (64 * shards) s h.keeper id (held w k) mine q within (held w l) x x new hand (omega (arith, unwoken, is));
             balance = balanced-put s h.balance id (held w k) (held w l) mine _ q x (out s h mine) refl refl hand;
-            hears = hears-on (64 * shards) s h.hears id (held w k) (held w l) mine _ _ (λ p inside. as-marked (64 * shards) s h.hears id (held w k) (held w l) mine s.homes q (mark-room s h mine) new (λ z. z % 2) (omega (arith, hit, is)) p) refl refl;
+            hears = hears-on (64 * shards) s h.hears id (held w k) (held w l) mine _ _ (λ p inside. marked-on (64 * shards) s h.hears id (held w k) (held w l) mine s.homes q (mark-room s h mine) new (omega (arith, hit, is), λ low. omega (arith, unwoken, is)) p) refl refl;
             names = names-on (64 * shards) s h.names id (held w k) (held w l) mine _ _ (λ p inside. as-marked (64 * shards) s h.hears id (held w k) (held w l) mine s.homes q (mark-room s h mine) new (λ z. z / 4) (omega (arith, hit, unwoken, is)) p) refl (λ p inside has. tt);
             shows = mark-shows s h k mine q new l (set s.homes q (some x)) refl;
             sleep = mark-sleep s h k mine q new l (set s.homes q (some x)) refl refl refl (refl, refl, refl);
@@ -434,7 +434,7 @@ module _ (shards slots id w : ℕ) where
           shared = learns h.shared id w k l mine;
           keeper = keeps-places (64 * shards) s h.keeper id (held w k) mine (held w l) (hands-renumbered (64 * shards) s h.keeper id (held w k) mine (held w l) q 0 y (older k.hand) hand now);
           balance = balanced-begun s h.balance id (held w k) (held w l) mine s.words q y (older k.hand) refl refl hand now;
-          hears = hears-on (64 * shards) s h.hears id (held w k) (held w l) mine s.homes s.words (λ p inside. refl) refl refl;
+          hears = hears-on (64 * shards) s h.hears id (held w k) (held w l) mine s.homes s.words (λ p inside. (refl, λ low. low)) refl refl;
           names = names-on (64 * shards) s h.names id (held w k) (held w l) mine s.homes s.words (λ p inside. refl) refl (λ p inside has. found-word s.words p i k.deeds);
           shows = shows-on (64 * shards) s h.shows id (held w k) (held w l) mine s.words s.homes (λ c r. r) (λ c. refl) refl;
           sleep = sleeps-on s h.sleep id (held w k) (held w l) mine s.words s.homes refl refl (λ c r. r) refl refl refl (refl, refl, refl);
@@ -459,7 +459,7 @@ module _ (shards slots id w : ℕ) where
             keeper = keeps-wake (64 * shards) s h.keeper id (held w k) mine q within (held w l) job.0 new is_there (omega (arith, was, now)) refl;
             balance = balanced-taken s h.balance id (held w k) (held w l) mine _ q job.0 job.1 refl refl refl;
             hears = hears-on (64 * shards) s h.hears id (held w k) (held w l) mine _ _
-                (λ p inside. as-marked (64 * shards) s h.hears id (held w k) (held w l) mine s.homes q (omega (arith, h.keeper.sized, within)) new (λ z. z % 2) (omega (arith, hit, was, now)) p) refl refl;
+                (λ p inside. marked-on (64 * shards) s h.hears id (held w k) (held w l) mine s.homes q (omega (arith, h.keeper.sized, within)) new (omega (arith, hit, was, now), λ low. omega (arith, was, now)) p) refl refl;
             names = names-on (64 * shards) s h.names id (held w k) (held w l) mine _ _
                 (λ p inside. as-marked (64 * shards) s h.hears id (held w k) (held w l) mine s.homes q (omega (arith, h.keeper.sized, within)) new (λ z. z / 4) (omega (arith, hit, was, now)) p) refl (λ p inside has. tt);
             shows = mark-shows s h k mine q new l (set s.homes q none) refl;

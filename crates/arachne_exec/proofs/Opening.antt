@@ -75,6 +75,8 @@ opens shards ws xs a slots clear = record {
     marks = λ p inside.
         let m : get_or ws (mark_at p) 0 ≡ 0 = a.1 (mark_at p) (omega (arith, inside)) ∙ empty_at (mark_at p) (λ e. omega (arith, e)) (λ e. omega (arith, e)) in
         let w : by_all (λ (k : Notes). times p k.woken) (first_view ∷ []) ≡ 0 = refl in let d : by_all (λ (k : Notes). times p k.heard) (first_view ∷ []) ≡ 0 = refl in omega (arith, m, w, d);
+    unheard = λ p inside.
+        let m : get_or ws (mark_at p) 0 ≡ 0 = a.1 (mark_at p) (omega (arith, inside)) ∙ empty_at (mark_at p) (λ e. omega (arith, e)) (λ e. omega (arith, e)) in omega (arith, m);
   };
   names = record {
     counted = λ p inside.
@@ -136,6 +138,7 @@ deals-law shards id w k s h mine = record {
   hears = record {
     marks = λ p inside.
         let a = split-total (λ l. times p l.woken) refl s.views id w k mine in let b = split-total (λ l. times p l.heard) refl s.views id w k mine in let old = h.hears.marks p inside in omega (arith, a, b, old);
+    unheard = h.hears.unheard;
   };
   names = record {
     counted = λ p inside. let same = split-total (λ l. times p l.ended_at) refl s.views id w k mine in h.names.counted p inside ∙ ap (min last_generation) (sym same);
@@ -202,6 +205,7 @@ module _ (shards id w other x : ℕ) (k l : Notes) (nothing : (l.hand ≡ []) ×
               let a = join-total (λ m. times p m.woken) refl s.views id w other x k l mine apart from (sum_by-append (λ (y : ℕ). one y p) k.woken l.woken) in
               let b = join-total (λ m. times p m.heard) refl s.views id w other x k l mine apart from (sum_by-append (λ (y : ℕ). one y p) k.heard l.heard) in
               let old = h.hears.marks p inside in omega (arith, a, b, old);
+          unheard = h.hears.unheard;
         };
         names = record {
           counted = λ p inside.

@@ -35,7 +35,7 @@ module _ (shards slots id w : ℕ) where
       shared = learns h.shared id w k l mine;
       keeper = keeps-view (64 * shards) s h.keeper id (held w k) mine (held w l) hand;
       balance = balanced-same s h.balance id (held w k) (held w l) mine s.words spawned ended hand;
-      hears = hears-on (64 * shards) s h.hears id (held w k) (held w l) mine s.homes s.words (λ p inside. refl) woken heard;
+      hears = hears-on (64 * shards) s h.hears id (held w k) (held w l) mine s.homes s.words (λ p inside. (refl, λ low. low)) woken heard;
       names = names-on (64 * shards) s h.names id (held w k) (held w l) mine s.homes s.words (λ p inside. refl) aged knows;
       shows = shows;
       sleep = sleep;

@@ -87,10 +87,11 @@ pub record IsBalanced (b : Board) : Type 0 where
 
 -- ---- wakes of a job that isn't blocked
 
--- each mark that a wake has set was heard by who had the place in hand, or is there
+-- each mark that a wake has set was heard by who had the place in hand, or is there; and where the job is blocked none is
 pub record HearsWakes (blocks : ℕ) (b : Board) : Type 0 where
   pub marks : (place : ℕ) → place < 64 * blocks
       → by_all (λ (k : Notes). times place k.woken) b.views ≡ by_all (λ (k : Notes). times place k.heard) b.views + slice_index b.words (mark_at place) % 2
+  pub unheard : (place : ℕ) → place < 64 * blocks → slice_index b.words (mark_at place) % 4 < 3
 
 -- ---- how many jobs a place has had
 

@@ -12,7 +12,7 @@ ghost use Rattle.arachne_exec.specs.Layout.{last_generation, worker_of};
 ghost use Rattle.arachne_exec.specs.Changes.{readying, rousing};
 ghost use Rattle.arachne_exec.specs.Calls.{worker_at, HasSpawned, HasSpawnedHere, HasTaken, HasTakenNone, HasTakenMany, HasStarted, HasRested, HasFinished, HasWoken, HasWokenHere, HasAnswered};
 ghost use Rattle.arachne_exec.specs.Sleeps.{spawn_unparks, rest_unparks, wake_unparks, Rouses, RousesNobody, Sleeps};
-ghost use Rattle.arachne_exec.specs.Board.{Board, IsLawful, at_home, is_ready, is_free, is_idle, seats_of, lies, rises, rouses};
+ghost use Rattle.arachne_exec.specs.Board.{Board, IsLawful, at_home, is_ready, is_free, is_blocked, is_idle, seats_of, lies, rises, rouses};
 ghost use Rattle.arachne_exec.specs.Promises.{IsReadyJob, IsEmptyPlace, keepers_of, HasReady, IsShownOrOwed, IsParked, IsDown, AreOwedTo};
 ghost use Rattle.arachne_exec.specs.Promises.{spawns, ends, times_in_hand, wakes, wakes_heard, is_marked, is_unused, HasEndedAll, generation_at, times_ended_at};
 
@@ -77,9 +77,11 @@ pub fn jobs_are_conserved()
         → spawns job b ≡ ends job b + times_in_hand job b + at_home job b.homes }
 {}
 
-/// Each mark that a wake has set at a place was used up by who had the place in hand, or is there.
+/// Each mark that a wake has set at a place was used up by who had the place in hand, or is there; and none is there
+/// where the job is blocked. So a job that blocks has heard each wake that it was marked with.
 pub fn wakes_are_heard()
-    ensures { (shards : ℕ) (b : Board) → IsLawful shards b → (place : ℕ) → place < 4096 * shards
+    ensures blocked { (shards : ℕ) (b : Board) → IsLawful shards b → (place : ℕ) → place < 4096 * shards → is_blocked b.words place ≡ 1 → is_marked b.words place ≡ 0 }
+    ensures heard { (shards : ℕ) (b : Board) → IsLawful shards b → (place : ℕ) → place < 4096 * shards
         → wakes place b ≡ wakes_heard place b + is_marked b.words place }
 {}
 
