@@ -87,7 +87,7 @@ pub record IsBalanced (b : Board) : Type 0 where
 
 -- ---- wakes of a job that isn't blocked
 
--- each mark that a wake has set was heard by who had the place in hand, or is there; and where the job is blocked none is
+-- each mark that a wake has set was heard by who had the place in hand, or is there; and none is where a job is blocked
 pub record HearsWakes (blocks : ℕ) (b : Board) : Type 0 where
   pub marks : (place : ℕ) → place < 64 * blocks
       → by_all (λ (k : Notes). times place k.woken) b.views ≡ by_all (λ (k : Notes). times place k.heard) b.views + slice_index b.words (mark_at place) % 2
@@ -108,8 +108,8 @@ FoundLast words place (Readied other ∷ deeds) = ⊤
 FoundLast words place (Blocked other ∷ deeds) = ⊤
 FoundLast words place (Unblocked other ∷ deeds) = ⊤
 
--- A mark's generation is how many jobs have ended at its place, up to the first that no name has. It is what who has the
--- place in hand has found last.
+-- A mark's generation is how many jobs have ended at its place, up to the first that no name has. It is what a seat
+-- with the place in hand has found last.
 pub record CountsEnds (blocks : ℕ) (b : Board) : Type 0 where
   pub counted : (place : ℕ) → place < 64 * blocks → slice_index b.words (mark_at place) / 4 ≡ min last_generation (ends_at place b.views)
   pub found : (h : ℕ) (t : Token Notes) → get_elem? b.views h ≡ some t → (place : ℕ) → place < 64 * blocks → 0 < places_in place t.known.hand → FoundLast b.words place t.known.deeds
@@ -150,8 +150,8 @@ abbrev pub is_idle : List ℕ → ℕ → ℕ
 is_idle words worker = bit_at (slice_index words idle_at) worker
 
 -- A worker number is free or has one seat. If a worker's idle bit is set, then each of its summary words that it has
--- found empty since it set that bit is empty, or a seat owes the look at the idle word. Each time that a worker lay down
--- it has risen, or was woken, once, or its idle bit is set.
+-- found empty since it set that bit is empty, or a seat owes the look at the idle word. Each time that a worker lay
+-- down it has risen, or was woken, once, or its idle bit is set.
 pub record WakesSleepers (b : Board) : Type 0 where
   pub single : (worker : ℕ) → worker < 64 → bit_at (slice_index b.words numbers_at) worker + seats_of worker b.views ≡ 1
   pub near : (h : ℕ) (t : Token Notes) → get_elem? b.views h ≡ some t → t.known.worker ≤ 64

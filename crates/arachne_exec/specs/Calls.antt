@@ -155,7 +155,7 @@ twice place mark k = noted (mark_at place) mark (noted (mark_at place) mark k)
 abbrev pub HasUnblocked : ℕ → ℕ → ℕ → Notes → Notes → Type 0
 HasUnblocked place generation job k after = (generation < last_generation) × (after ≡ unblocking place job (twice place (4 * generation + 2) k))
 
--- the mark was found to be that of a job of the generation that isn't blocked, also by the step by which it says of a wake
+-- the mark was found to be that of a job of the generation that isn't blocked, also by the step that marked it as woken
 abbrev pub HasMarked : ℕ → ℕ → Notes → Notes → Type 0
 HasMarked place generation k after = after ≡ marking place (twice place (4 * generation) k)
 
@@ -195,8 +195,8 @@ abbrev pub HasFoundSome : ℕ → ℕ → Notes → Notes → Type 0
 HasFoundSome shards worker k after = (found shard shown then : ℕ) × (shard < shards) × (worker_of shard ≡ worker) × (shown ≢ 0)
     × (after ≡ rising worker then (noted (summary_at shard) shown (lying worker found k)))
 
--- Before each answer it may have cleared the worker's own idle bit to wake it, and that of no other. Run: a job of a
--- block of the worker's. Park: it has set its idle bit, and then found all of its summary words empty. Again: one wasn't
+-- Before each answer it may have cleared the worker's own idle bit to wake it, and no other. Run: a job of a block of
+-- the worker's. Park: it has set its idle bit, and then found all of its summary words empty. Again: one wasn't
 abbrev pub HasAnswered : Next → ℕ → ℕ → Notes → Notes → Type 0
 HasAnswered (next.Run job) shards worker k after = (block : ℕ) × (looked : Notes) × (block < 64 * shards) × (worker_of (block / 64) ≡ worker) × HasLooked worker k looked × HasTaken job block looked after
 HasAnswered next.Park shards worker k after = (looked : Notes) × HasLooked worker k looked × HasFoundNone shards worker looked after

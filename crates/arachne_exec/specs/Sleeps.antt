@@ -12,7 +12,7 @@ use Rattle.arachne_exec.specs.declared.answers.Next.TheVariants as next
 use Rattle.arachne_exec.specs.Changes.{roused_more, often, lain_more, risen_more}
 use Rattle.arachne_exec.specs.Calls.{HasSeenAll}
 
--- whether an answer says to unpark the worker of its place
+-- an answer says to unpark the worker of its place
 abbrev pub spawn_unparks : JobSpawned → Bool
 spawn_unparks (spawned.Placed at) = at.unpark
 spawn_unparks spawned.Full = false
@@ -38,14 +38,14 @@ pub record Rouses (unpark : Bool) (worker : ℕ) (k after : Notes) : Type 0 wher
 abbrev pub RousesNobody : Notes → Notes → Type 0
 RousesNobody k after = Rouses false 0 k after
 
--- Run: the worker has neither lain down nor risen. Park: it lies, newly (0) or as it did before (1), and has found all of
--- its summary words empty since. Again: it lay, and has risen, unless it was roused meanwhile (0).
+-- Run: the worker has neither lain down nor risen. Park: it lies, newly (0) or as it did before (1), and has found all
+-- of its summary words empty since. Again: it lay, and has risen, unless it was roused meanwhile (0).
 abbrev pub HasSlept : Next → ℕ → ℕ → Notes → Notes → Type 0
 HasSlept (next.Run job) shards worker k after = (after.lain ≡ k.lain) × (after.risen ≡ k.risen)
 HasSlept next.Park shards worker k after = (was : ℕ) × (after.lain ≡ lain_more was worker k.lain) × (after.risen ≡ k.risen) × HasSeenAll shards after
 HasSlept next.Again shards worker k after = (was then : ℕ) × (after.lain ≡ lain_more was worker k.lain) × (after.risen ≡ risen_more then worker k.risen)
 
--- the same, and before it the worker may have roused itself, so often, and nobody else
+-- the same, and before it the worker may have roused itself, and nobody else
 pub record Sleeps (answer : Next) (shards worker : ℕ) (k after : Notes) : Type 0 where
   pub own : (n : ℕ) × (after.roused ≡ often n worker k.roused)
   pub slept : HasSlept answer shards worker k after

@@ -45,8 +45,8 @@ pub fn sleepers_are_woken()
 {}
 
 /// Each time that a worker lay down it has risen by itself, or a seat has found its idle bit set and cleared it to wake
-/// it, once; or the bit is set. So a worker that is down is parked, and what is ready of its blocks is owed to it, or as
-/// often as it lay down it has risen or was roused.
+/// it, once; or the bit is set. So a worker that is down is parked, and what is ready of its blocks is owed to it, or
+/// it has risen or was roused as often as it lay down.
 pub fn sleepers_are_told()
     ensures once { (shards : ℕ) (b : Board) → IsLawful shards b → (worker : ℕ) → worker < 64
         → lies worker b.views ≡ rises worker b.views + rouses worker b.views + is_idle b.words worker }
@@ -54,8 +54,9 @@ pub fn sleepers_are_told()
         → (IsParked shards worker b × AreOwedTo shards worker b) ⊎ HasEndedAll worker b }
 {}
 
-/// What the answers of calls say of these sleeps, by the clauses of the calls: a worker is roused exactly where an answer
-/// says to unpark it, once, but for its own `next`, which tells nobody; and none but its own `next` lets it lie down.
+/// The answers of calls in the words of that law, by the clauses of the calls: a worker is roused exactly where an
+/// answer says to unpark it, once, but for its own `next`, which says it to nobody; and only its own `next` and
+/// `may_park` let it lie down.
 pub fn calls_say_whom_they_rouse()
     ensures spawn { (answer : JobSpawned) (block job : ℕ) (k after : Notes) → HasSpawned answer block job k after → Rouses (spawn_unparks answer) (worker_of (block / 64)) k after }
     ensures rest_ready { (unpark : Bool) (place : ℕ) (k : Notes) → Rouses unpark (worker_at place) k (rousing unpark (worker_at place) (readying k)) }
@@ -86,8 +87,8 @@ pub fn wakes_are_heard()
 {}
 
 /// A mark's generation is how many jobs have ended at its place, up to the first that no name has. A name has the
-/// generation that its place's mark had when its job came. So it is of that job for good: once the job has ended no mark
-/// has that generation again, and a wake by the name does nothing.
+/// generation that its place's mark had when its job came. So it is of that job for good: once the job has ended no
+/// mark has that generation again, and a wake by the name does nothing.
 pub fn names_are_of_one_job()
     ensures { (shards : ℕ) (b : Board) → IsLawful shards b → (place : ℕ) → place < 4096 * shards
         → generation_at place b ≡ min last_generation (times_ended_at place b) }

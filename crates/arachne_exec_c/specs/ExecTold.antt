@@ -169,8 +169,8 @@ IsToldOf Does refusal None new told = (new ≡ None) × (told ≡ refusal)
 IsToldOf Does refusal (Some old) new told = MatchOption old.hand ((new ≡ Some old) × (told ≡ refusal))
     (λ place. (after : Exec) × (new ≡ Some after) × Does place old after told)
 
--- Park: the worker has set its idle bit, and then found all of its summary words empty. Again: one wasn't, and the bit was
--- cleared again
+-- Park: the worker has set its idle bit, and then found all of its summary words empty. Again: one wasn't, and the bit
+-- was cleared again
 abbrev pub ParksOrNot : Exec → Exec → ℕ → Type 0
 ParksOrNot old new told = (new ≡ now old new.seat.known old.hand)
     × (((told ≡ code.park) × ((worker : ℕ) → old.worker ≡ worker + 1 → HasFoundNone old.executor.shards worker old.seat.known new.seat.known))
