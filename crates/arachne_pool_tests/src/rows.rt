@@ -3,7 +3,7 @@ use crate::board::Board;
 use crate::crew::{Crew, Share};
 use crate::orders::{GRANT, Order, RELEASE};
 use crate::rounds::{Act, Comes, Is, On, Row, begin, end};
-use crate::spells::Spell;
+use crate::spells::{Spell, Until};
 use crate::tasks::{Joins, LEAF, PARENT, Sort, Task};
 use arachne_pool::Spawned;
 use arachne_team::work_together;
@@ -42,6 +42,13 @@ const TREE: Sort = Sort {
 /// One that goes on for longer than any test.
 const ENDLESS: Sort = Sort {
     steps: u32::MAX,
+    ..LEAF
+};
+
+/// One that goes on for so long that a kernel thread which has nothing to do meanwhile is parked before its end.
+const LONG: Sort = Sort {
+    steps: 2_000_000,
+    bound: 1_000,
     ..LEAF
 };
 
@@ -540,11 +547,7 @@ const ROWS: &[Row] = &[
         acts: &[
             Act::Turns(0, false),
             Act::Has(1, 0, Is::Closed),
-            Act::Spawns(Sort {
-                steps: 2_000_000,
-                bound: 1_000,
-                ..LEAF
-            }),
+            Act::Spawns(LONG),
         ],
         spells: TO_THE_END,
         then: &[Act::Lives(0)],
@@ -558,14 +561,23 @@ const ROWS: &[Row] = &[
         acts: &[
             Act::Turns(0, false),
             Act::Has(1, 0, Is::Closed),
-            Act::Spawns(Sort {
-                steps: 2_000_000,
-                bound: 1_000,
-                ..LEAF
-            }),
+            Act::Spawns(LONG),
         ],
         spells: (Spell::TurnsOut, Spell::ToTheEnd),
         then: &[Act::Lives(0)],
+        ..NOTHING
+    },
+    Row {
+        shows: "the last end wakes a kernel thread that is parked, where it comes in a join",
+        cores: 2,
+        slots: 1,
+        orders: &[(0, RELEASE, 1)],
+        acts: &[Act::Turns(0, false), Act::Has(1, 0, Is::Closed)],
+        spells: (
+            Spell::JoinsThere(1, LONG, Until::WorkReturns),
+            Spell::ToTheStop,
+        ),
+        then: &[Act::Answered(1), Act::Lives(0)],
         ..NOTHING
     },
     Row {

@@ -465,7 +465,10 @@ const ROWS: &[Row] = &[
         slots: 2,
         orders: &[(0, RELEASE, 1)],
         acts: &[Act::Turns(0, false), Act::KeepsOpen],
-        spells: (Spell::ToTheEnd, Spell::JoinsThere(3, LONG)),
+        spells: (
+            Spell::ToTheEnd,
+            Spell::JoinsThere(3, LONG, Until::NoneLives),
+        ),
         then: &[Act::Answered(3), Act::Lives(0)],
         ..NOTHING
     },

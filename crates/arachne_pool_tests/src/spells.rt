@@ -9,11 +9,14 @@ use arachne_pool::{Pool, PoolFault, Spawned, Worker};
 use arachne_shortage::Hoard;
 use std::sync::atomic::{AtomicU64, Ordering};
 use std::sync::{Arc, Wait};
-use std::thread::yield_now;
-use std::time::Clock;
+use std::thread::{sleep, yield_now};
+use std::time::{Clock, Duration};
 
 /// How often a kernel thread looks again at once before it yields its processor.
 const LOOKS: u32 = 1_000;
+
+/// How often it looks, every 5 ms, for what comes at once or never.
+const GLANCES: u32 = 200;
 
 /// What a kernel thread does.
 #[derive(Clone, Copy)]
@@ -49,8 +52,9 @@ pub(crate) enum Spell {
     /// answer has come. One more comes where a round has found something, and the leaf has not begun. Then an answer
     /// comes, and it works to the end.
     Fetches(u8),
-    /// So many times it spawns a job on core 0 and joins it on its own core, as an answer. Then no more come.
-    JoinsThere(u32, Sort),
+    /// So many times it spawns a job on core 0, passes the turn and joins the job on its own core. That is an answer,
+    /// or that the other kernel thread comes back from its work then. At last it stops the pool.
+    JoinsThere(u32, Sort, Until),
     /// It comes to rounds of its core until one job alone lives, which sleeps, and wakes it with an answer.
     WakesLast,
 }
@@ -109,8 +113,8 @@ pub(crate) fn work<C: Contexts<Spawned<Task>>, R: Wait + Clock>(
             until_one::<C, R>(rt, pool, &mut worker, core);
             return wakes::<C, R>(rt, pool, board, worker, 1, false);
         }
-        Spell::JoinsThere(times, sort) if core < pool.cores => {
-            joins_there::<C, R>(rt, pool, board, &mut worker, core, times, sort);
+        Spell::JoinsThere(times, sort, until) if core < pool.cores => {
+            joins_there::<C, R>(rt, pool, board, &mut worker, core, times, sort, until);
         }
         _ => pool.stop(),
     }
@@ -366,23 +370,41 @@ fn joins_there<C: Contexts<Spawned<Task>>, R: Wait + Clock>(
     core: u8,
     times: u32,
     sort: Sort,
+    until: Until,
 )
     requires worker { IsWorkerOf C.sits C.idle pool.now.table pool.now.cores worker.old }
     requires core { core < pool.now.cores }
     ensures worker { IsWorkerOf C.sits C.idle pool.now.table pool.now.cores worker.new }
 {
-    for _ in 0..times {
+    for time in 0..times {
         let Some(task) = Task::new(sort, board) else {
             break;
         };
         let Ok((handle, _)) = pool.try_spawn_on(rt, worker, 0, task) else {
             break;
         };
-        if pool.join(rt, worker, core, handle).is_ok() {
-            board.answer();
+        board.pass_turn();
+        if pool.join(rt, worker, core, handle).is_err() {
+            break;
         }
+        if until == Until::WorkReturns && !has_returned(rt, board, time) {
+            break;
+        }
+        board.answer();
     }
-    pool.finish();
+    pool.stop();
+    board.pass_turn();
+}
+
+/// Whether a kernel thread has come back from its work more often than this, by now or within a second.
+fn has_returned<R: Clock>(rt: &R, board: &Board, than: u32) -> bool {
+    for _ in 0..GLANCES {
+        if board.returns.load(Ordering::SeqCst) > u64::from(than) {
+            return true;
+        }
+        sleep(rt, Duration::from_millis(5));
+    }
+    false
 }
 
 /// Waits until a count of the board is over this, or the pool is stopped.
