@@ -11,6 +11,13 @@ use std::test::Fail;
 /// One that sleeps until an answer has come.
 const SLEEPER: Sort = Sort { answers: 1, ..LEAF };
 
+/// One that forks another and sleeps then, as that does.
+const BESIDE: Sort = Sort {
+    joins: Joins::Never,
+    answers: 9,
+    ..PARENT
+};
+
 /// One that goes on for so long that a kernel thread which waits for it sleeps.
 const LONG: Sort = Sort {
     steps: 50_000,
@@ -128,31 +135,31 @@ const ROWS: &[Row] = &[
         ..NOTHING
     },
     Row {
-        shows: "a job that sleeps beside a child that waits goes on, so that the child gets a place once one is free",
+        shows: "a job that sleeps beside a child makes a step a slice, so that the child gets a place once one is free",
         cores: 1,
-        slots: 2,
+        slots: 3,
         acts: &[
             Act::Spawns(SLEEPER),
-            Act::Spawns(Sort {
-                joins: Joins::Never,
-                answers: 9,
-                ..PARENT
-            }),
+            Act::Spawns(BESIDE),
+            Act::Spawns(Sort { bound: 4, ..BESIDE }),
+            Act::Turns(0, true),
+            Act::Did(0, 3, 4, 0, 0),
             Act::Turns(0, true),
             Act::Turns(0, true),
-            Act::Turns(0, true),
-            Act::Has(0, 2, Is::Open),
-            Act::Lives(3),
+            Act::Did(0, 7, 8, 0, 0),
+            Act::Has(0, 3, Is::Open),
+            Act::Lives(5),
             Act::Answers,
             Act::Wakes(0, 0, Wakes::It),
             Act::Turns(0, true),
-            Act::Has(0, 2, Is::Open),
-            Act::Lives(2),
+            Act::Has(0, 3, Is::Open),
+            Act::Lives(4),
             Act::Turns(0, true),
-            Act::Turns(0, false),
+            Act::Turns(0, true),
+            Act::Did(0, 14, 15, 1, 0),
         ],
-        left: (2, 0),
-        alive: 2,
+        left: (3, 0),
+        alive: 4,
         ..NOTHING
     },
     Row {
