@@ -1,6 +1,6 @@
 //! Rows of what a server wants of a pool: sleeps and wakes, refusals, statistics, and kernel threads that are woken at
 //! once.
-use crate::orders::RELEASE;
+use crate::orders::{GRANT, RELEASE};
 use crate::rounds::{Act, Comes, Is, On, Row, Wakes};
 use crate::rows::{ALONE, ALONE_PARENT, ELEVEN, NOTHING, TO_THE_END, holds};
 use crate::spells::{Spell, Until};
@@ -160,6 +160,27 @@ const ROWS: &[Row] = &[
         ],
         left: (3, 0),
         alive: 4,
+        ..NOTHING
+    },
+    Row {
+        shows: "a job without a place gets the one of a core that is granted, though no job has ended",
+        cores: 2,
+        slots: 1,
+        orders: &[(0, RELEASE, 1)],
+        acts: &[
+            Act::Turns(0, false),
+            Act::Spawns(SLEEPER),
+            Act::Spawns(LEAF),
+            Act::Turns(0, true),
+            Act::Has(1, 0, Is::Closed),
+            Act::Orders(&[(0, GRANT, 1)]),
+            Act::Turns(0, false),
+            Act::Turns(1, false),
+            Act::Turns(1, true),
+            Act::Lives(1),
+        ],
+        left: (1, 0),
+        alive: 1,
         ..NOTHING
     },
     Row {
