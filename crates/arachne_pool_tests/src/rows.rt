@@ -389,6 +389,24 @@ const ROWS: &[Row] = &[
         ..NOTHING
     },
     Row {
+        shows: "jobs are moved from a closed core while another one keeps the job that is alone there",
+        cores: 3,
+        slots: 2,
+        orders: &[(0, RELEASE, 1), (0, RELEASE, 2)],
+        acts: &[
+            Act::Tries(On::Core(0), LEAF, Comes::Begins),
+            Act::Tries(On::Core(2), LEAF, Comes::Begins),
+            Act::Spawns(ALONE),
+            Act::Has(1, 1, Is::Alone),
+            Act::Turns(0, true),
+            Act::Has(2, 0, Is::Closed),
+            Act::Lives(1),
+        ],
+        left: (1, 0),
+        alive: 1,
+        ..NOTHING
+    },
+    Row {
         shows: "new orders can grant each of many cores that were closed",
         cores: 20,
         slots: 1,
