@@ -473,6 +473,21 @@ const ROWS: &[Row] = &[
         ..NOTHING
     },
     Row {
+        shows: "a round takes over a job of the last core, of which the worker that has left that core tells",
+        cores: CORES,
+        slots: 1,
+        acts: &[
+            Act::Works(63),
+            Act::Tries(On::Core(63), ELEVEN, Comes::Begins),
+            Act::Turns(63, true),
+            Act::Turns(0, true),
+            Act::Has(63, 0, Is::Open),
+            Act::Works(0),
+            Act::Lives(0),
+        ],
+        ..NOTHING
+    },
+    Row {
         shows: "a sleep that ends by its time is counted, where a job gets a place that came free untold",
         cores: 2,
         slots: 1,
