@@ -1,0 +1,7 @@
+pub mod ClaimOrder
+pub mod Counts
+pub mod Least
+pub mod Next
+pub mod Order
+pub mod Promises
+pub mod Stays

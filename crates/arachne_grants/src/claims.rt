@@ -1,0 +1,67 @@
+//! A client, and its claim to one core more.
+ghost use Rattle.std.specs.Prelude.{◌≡◌};
+ghost use Rattle.arachne_grants.specs.Claims.{claim_of, goes_before, reserve_of};
+
+/// What is known of a client of the machine.
+#[derive(Clone, Copy, Debug, PartialEq, Eq)]
+pub struct Client {
+    /// 0 goes first.
+    pub priority: u8,
+    /// Cores that it gets before others get more than theirs of this kind.
+    pub reserved: u32,
+    /// Cores that it asks for.
+    pub asks: u32,
+    /// Cores that it holds.
+    pub held: u32,
+}
+
+/// What decides who gets the next core.
+#[derive(Clone, Copy, Debug, PartialEq, Eq)]
+pub(crate) struct Claim {
+    /// Whether it has its reserve.
+    pub beyond: bool,
+    pub priority: u8,
+    /// Cores that it gets already.
+    pub gets: u32,
+    /// Whether the next core would be one that it doesn't hold.
+    pub moves: bool,
+}
+
+impl Client {
+    /// Returns the cores that it gets before others get more than theirs of this kind: no more than it asks for.
+    fn reserve(&self) -> u32
+        ensures { result ≡ reserve_of self.now }
+    {
+        self.reserved.min(self.asks)
+    }
+
+    /// Returns its claim to one core more, if it gets so many.
+    pub(crate) fn claim(&self, gets: u32) -> Claim
+        ensures { result ≡ claim_of self.now gets }
+    {
+        Claim {
+            beyond: self.reserve() <= gets,
+            priority: self.priority,
+            gets,
+            moves: self.held <= gets,
+        }
+    }
+}
+
+impl Claim {
+    /// Whether this claim goes before the other: first who has less than its reserve, then the higher priority, then
+    /// who gets fewer, then who holds the core already.
+    pub(crate) fn goes_before(&self, other: &Claim) -> bool
+        ensures { result ≡ goes_before self.now other.now }
+    {
+        if self.beyond != other.beyond {
+            other.beyond
+        } else if self.priority != other.priority {
+            self.priority < other.priority
+        } else if self.gets != other.gets {
+            self.gets < other.gets
+        } else {
+            !self.moves && other.moves
+        }
+    }
+}

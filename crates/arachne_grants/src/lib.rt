@@ -1,0 +1,12 @@
+//! How many cores each client of a machine gets, and which cores change hands for that.
+//!
+//! Every call is a pure function over numbers: none takes memory, none waits, and none knows a process or a thread.
+#![tactic(auto)]
+
+mod claims;
+mod grants;
+mod owners;
+
+pub use claims::Client;
+pub use grants::targets;
+pub use owners::{MAX_OWNERS, give_free, moves, take_back};
