@@ -97,6 +97,61 @@ goes_before-trans a b c first second =
       ]
     ]
 
+level-cotrans : (x y z first second third : Bool) → (first ≡ true → second ≡ false → third ≡ true)
+    → by_level x z first ≡ true → by_level y z second ≡ false → by_level x y third ≡ true
+level-cotrans true true true first second third alike is is_not = alike is is_not
+level-cotrans true true false first second third alike is is_not = absurd (cc)
+level-cotrans true false true first second third alike is is_not = absurd (cc)
+level-cotrans true false false first second third alike is is_not = absurd (cc)
+level-cotrans false true true first second third alike is is_not = refl
+level-cotrans false true false first second third alike is is_not = refl
+level-cotrans false false true first second third alike is is_not = absurd (cc)
+level-cotrans false false false first second third alike is is_not = alike is is_not
+
+not_both : (t : Bool) → t ≡ true → t ≡ false → ⊥
+not_both t is is_not = false≢true (sym is_not ∙ is)
+
+alike-cotrans_cases : (a b c : Claim) → IsAlikeBefore a c → goes_before_alike b c ≡ false → a.priority ≡ b.priority
+    → (a.gets ≡ b.gets) ⊎ (b.gets < a.gets) → goes_before_alike a b ≡ true
+alike-cotrans_cases a b c (inl x) is_not same gets = absurd (not_both _ (alike-higher b c (omega arith)) is_not)
+alike-cotrans_cases a b c (inr (inl x)) is_not same (inl gets) = absurd (not_both _ (alike-fewer b c (sym same ∙ x.0) (let e = x.1 in omega arith)) is_not)
+alike-cotrans_cases a b c (inr (inl x)) is_not same (inr gets) = absurd (not_both _ (alike-fewer b c (sym same ∙ x.0) (let e = x.1 in omega arith)) is_not)
+alike-cotrans_cases a b c (inr (inr x)) is_not same (inr gets) = absurd (not_both _ (alike-fewer b c (sym same ∙ x.0) (let e = x.1 in omega arith)) is_not)
+alike-cotrans_cases a b c (inr (inr x)) is_not same (inl gets) =
+    elim (cases_Bool b.moves) [
+      | inl moves ↦ alike-holds a b same gets x.2 moves
+      | inr holds ↦ absurd (not_both _ (alike-holds b c (sym same ∙ x.0) (sym gets ∙ x.1) holds x.3) is_not)
+    ]
+
+-- no lower, as it is before c
+alike-priority : (a c : Claim) → IsAlikeBefore a c → a.priority ≤ c.priority
+alike-priority a c (inl x) = omega arith
+alike-priority a c (inr (inl x)) = (let e = x.0 in omega arith)
+alike-priority a c (inr (inr x)) = (let e = x.0 in omega arith)
+
+alike-cotrans : (a b c : Claim) → goes_before_alike a c ≡ true → goes_before_alike b c ≡ false → goes_before_alike a b ≡ true
+alike-cotrans a b c is is_not =
+    let before : IsAlikeBefore a c = alike-cases a c is in
+    elim (cases_order a.priority b.priority) [
+      | inl same ↦ elim (cases_order a.gets b.gets) [
+        | inl equal ↦ alike-cotrans_cases a b c before is_not same (inl equal)
+        | inr other ↦ elim other [
+          | inl fewer ↦ alike-fewer a b same fewer
+          | inr more ↦ alike-cotrans_cases a b c before is_not same (inr more)
+        ]
+      ]
+      | inr other ↦ elim other [
+        | inl higher ↦ alike-higher a b higher
+        | inr lower ↦ (let le : a.priority ≤ c.priority = alike-priority a c before in absurd (not_both _ (alike-higher b c (omega arith)) is_not))
+      ]
+    ]
+
+-- what goes before a claim, goes before each that doesn't
+pub goes_before-cotrans : (a b c : Claim) → goes_before a c ≡ true → goes_before b c ≡ false → goes_before a b ≡ true
+goes_before-cotrans a b c is is_not =
+    level-cotrans a.beyond b.beyond c.beyond (goes_before_alike a c) (goes_before_alike b c) (goes_before_alike a b)
+    (alike-cotrans a b c) is is_not
+
 pub goes_before-same : (a : Claim) → goes_before a a ≡ false
 goes_before-same a = grind (arith, common_steps)
 

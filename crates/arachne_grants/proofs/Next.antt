@@ -3,7 +3,7 @@ use Rattle.std.proofs.Common.{◌≡◌, ℕ, ◌+◌, ◌≤◌, true, false, L
 use Rattle.arachne_grants.specs.declared.claims.Client.{Client}
 use Rattle.arachne_grants.specs.Claims.{goes_before}
 use Rattle.arachne_grants.specs.Grants.{client_at, target_at, claim_at, AsksForMore, IsFirst, IsServed}
-use Rattle.arachne_grants.proofs.ClaimOrder.{goes_before-earlier, goes_before-same}
+use Rattle.arachne_grants.proofs.ClaimOrder.{goes_before-cotrans, goes_before-earlier, goes_before-same}
 
 pub IsServed-skip : (clients : List Client) (targets : List ℕ) (n : ℕ) → IsServed clients targets n
     → (client_at clients n).asks ≤ target_at targets n → IsServed clients targets (n + 1)
@@ -15,6 +15,7 @@ IsFirst-only clients targets n served asks = record {
   within = omega arith;
   asks = asks;
   first = below_more _ n (λ place h more. absurd (served place h more)) (λ more. goes_before-same (claim_at clients targets n));
+  earlier = λ place h more. absurd (served place h more);
 }
 
 pub IsFirst-skip : (clients : List Client) (targets : List ℕ) (n next : ℕ) → IsFirst clients targets n next
@@ -23,6 +24,7 @@ IsFirst-skip clients targets n next is enough = record {
   within = let h = is.within in omega arith;
   asks = is.asks;
   first = below_more _ n is.first (λ more. absurd (omega (arith, more.1)));
+  earlier = is.earlier;
 }
 
 pub IsFirst-keep : (clients : List Client) (targets : List ℕ) (n next : ℕ) → IsFirst clients targets n next
@@ -31,6 +33,7 @@ IsFirst-keep clients targets n next is later = record {
   within = let h = is.within in omega arith;
   asks = is.asks;
   first = below_more _ n is.first (λ more. later);
+  earlier = is.earlier;
 }
 
 pub IsFirst-take : (clients : List Client) (targets : List ℕ) (n next : ℕ) → IsFirst clients targets n next
@@ -42,4 +45,7 @@ IsFirst-take clients targets n next is asks before = record {
   first = below_more _ n
       (λ place h more. goes_before-earlier (claim_at clients targets place) (claim_at clients targets n) (claim_at clients targets next) before (is.first place h more))
       (λ more. goes_before-same (claim_at clients targets n));
+  earlier = λ place h more.
+      goes_before-cotrans (claim_at clients targets n) (claim_at clients targets place) (claim_at clients targets next) before
+      (is.first place h more);
 }

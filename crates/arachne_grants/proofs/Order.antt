@@ -1,13 +1,13 @@
 -- One core more for who has the first claim to it.
-use Rattle.std.proofs.Common.{zero, [], ◌∷◌, refl, ◌≡◌, ◌≢◌, ℕ, suc, ◌+◌, ◌<◌, ◌≤◌, false, List, length, get_or, set, arith, inl, inr, sym, ◌∙◌, sum, subst}
+use Rattle.std.proofs.Common.{true, zero, [], ◌∷◌, refl, ◌≡◌, ◌≢◌, ℕ, suc, ◌+◌, ◌<◌, ◌≤◌, false, List, length, get_or, set, arith, inl, inr, sym, ◌∙◌, sum, subst}
 use Rattle.std.proofs.lemmas.Bool.{cases_eq}
 use Rattle.std.proofs.lemmas.List.{get_or-set_same, get_or-set_other, length-set}
 use Rattle.std.proofs.lemmas.List.Sums.{sum_by-set, sum_by-cons}
 use Rattle.arachne_grants.specs.declared.claims.Client.{Client}
 use Rattle.arachne_grants.specs.declared.claims.Claim.{Claim}
 use Rattle.arachne_grants.specs.Claims.{claim_of, goes_before}
-use Rattle.arachne_grants.specs.Grants.{client_at, target_at, claim_at, AsksForMore, IsFirst, IsServed, IsInOrder, IsBounded, IsUsed}
-use Rattle.arachne_grants.proofs.ClaimOrder.{goes_before-later, goes_before-more}
+use Rattle.arachne_grants.specs.Grants.{client_at, target_at, claim_at, AsksForMore, IsFirst, IsServed, IsInOrder, IsInTurn, IsBounded, IsUsed}
+use Rattle.arachne_grants.proofs.ClaimOrder.{goes_before-later, goes_before-more, goes_before-trans}
 
 -- the numbers with one core more for the client there
 abbrev pub with_one : List ℕ → ℕ → List ℕ
@@ -69,12 +69,42 @@ IsInOrder-with_one clients targets next h order first place other before more wi
       | inr ne ↦ order place other before was within (sym (with_one-other targets next other ne) ∙ is)
     ])
 
+-- a claim that is later than another is so with one core more
+later-with_one : (clients : List Client) (targets : List ℕ) (next place : ℕ) (claim : Claim) → next < length targets
+    → goes_before claim (claim_at clients targets place) ≡ true
+    → goes_before claim (claim_at clients (with_one targets next) place) ≡ true
+later-with_one clients targets next place claim h is =
+    elim (cases_eq place next) [
+      | inl same ↦
+          let e : target_at (with_one targets next) place ≡ target_at targets place + 1 = subst (λ (p : ℕ). target_at (with_one targets next) p ≡ target_at targets p + 1) (sym same) (with_one-same targets next h) in
+          subst (λ (t : ℕ). goes_before claim (claim_of (client_at clients place) t) ≡ true) (sym e)
+          (goes_before-trans claim (claim_at clients targets place) (claim_of (client_at clients place) (target_at targets place + 1)) is
+          (goes_before-more (client_at clients place) (target_at targets place)))
+      | inr ne ↦
+          subst (λ (t : ℕ). goes_before claim (claim_of (client_at clients place) t) ≡ true) (sym (with_one-other targets next place ne)) is
+    ]
+
+IsInTurn-with_one : (clients : List Client) (targets : List ℕ) (next : ℕ) → next < length targets
+    → IsInTurn clients targets → IsFirst clients targets (length clients) next → IsInTurn clients (with_one targets next)
+IsInTurn-with_one clients targets next h turn first place other before more after within is =
+    let was : AsksForMore clients targets place = AsksForMore-before clients targets next place h more in
+    later-with_one clients targets next place _ h
+    (elim (cases_eq other next) [
+      | inl same ↦
+          let e : before ≡ target_at targets other = (let now : target_at (with_one targets next) other ≡ target_at targets other + 1 = subst (λ (p : ℕ). target_at (with_one targets next) p ≡ target_at targets p + 1) (sym same) (with_one-same targets next h) in omega arith) in
+          subst (λ (t : ℕ). goes_before (claim_of (client_at clients other) t) (claim_at clients targets place) ≡ true) (sym e)
+          (subst (λ (p : ℕ). goes_before (claim_at clients targets p) (claim_at clients targets place) ≡ true) (sym same)
+          (first.earlier place (omega arith) was))
+      | inr ne ↦ turn place other before was after within (sym (with_one-other targets next other ne) ∙ is)
+    ])
+
 -- what holds of the numbers once so many cores are given
 pub record AreSoFar (clients : List Client) (given : ℕ) (targets : List ℕ) : Type 0 where
   pub sized : length targets ≡ length clients
   pub total : sum targets ≡ given
   pub each : (place : ℕ) → place < length clients → target_at targets place ≤ (client_at clients place).asks
   pub order : IsInOrder clients targets
+  pub turn : IsInTurn clients targets
 
 sum-zero : (xs : List ℕ) → ((k : ℕ) → k < length xs → get_or xs k 0 ≡ 0) → sum xs ≡ 0
 sum-zero [] none = refl
@@ -91,6 +121,7 @@ AreSoFar-none clients targets sized none = record {
   total = sum-zero targets none;
   each = λ place h. (let e = none place (omega arith) in omega arith);
   order = λ place other before more within is. absurd (let e = none other (omega arith) in omega arith);
+  turn = λ place other before more after within is. absurd (let e = none other (omega arith) in omega arith);
 }
 
 pub AreSoFar-more : (clients : List Client) (given : ℕ) (targets : List ℕ) (next : ℕ) → AreSoFar clients given targets
@@ -102,6 +133,7 @@ AreSoFar-more clients given targets next so_far first =
       total = (let e = with_one-sum targets next h in let t = so_far.total in omega arith);
       each = each-with_one clients targets next h so_far.each first.asks.1;
       order = IsInOrder-with_one clients targets next h so_far.order first;
+      turn = IsInTurn-with_one clients targets next h so_far.turn first;
     }
 
 pub AreSoFar-bounded : (clients : List Client) (given cores : ℕ) (targets : List ℕ) → AreSoFar clients given targets → given ≤ cores

@@ -1,5 +1,5 @@
 -- How many cores each client gets.
-use Rattle.std.specs.Prelude.{◌≡◌, ℕ, ◌+◌, ◌<◌, ◌≤◌, false, Option, MatchOption, List, [], ◌∷◌, length, min, slice_index, slice_index_or, sum}
+use Rattle.std.specs.Prelude.{true, ◌≡◌, ℕ, ◌+◌, ◌<◌, ◌≤◌, false, Option, MatchOption, List, [], ◌∷◌, length, min, slice_index, slice_index_or, sum}
 use Rattle.arachne_grants.specs.declared.claims.Client.{Client}
 use Rattle.arachne_grants.specs.declared.claims.Claim.{Claim}
 use Rattle.arachne_grants.specs.Claims.{claim_of, goes_before, reserve_of}
@@ -40,6 +40,8 @@ pub record IsFirst (clients : List Client) (targets : List ℕ) (n : ℕ) (next 
   pub asks : AsksForMore clients targets next
   pub first : (place : ℕ) → place < n → AsksForMore clients targets place
       → goes_before (claim_at clients targets place) (claim_at clients targets next) ≡ false
+  pub earlier : (place : ℕ) → place < next → AsksForMore clients targets place
+      → goes_before (claim_at clients targets next) (claim_at clients targets place) ≡ true
 
 -- none of the first n asks for more
 abbrev pub IsServed : List Client → List ℕ → ℕ → Type 0
@@ -55,6 +57,14 @@ IsInOrder clients targets =
     (place other before : ℕ) → AsksForMore clients targets place → other < length clients
     → target_at targets other ≡ before + 1
     → goes_before (claim_at clients targets place) (claim_of (client_at clients other) before) ≡ false
+
+-- of equal claims the client's went first that came first: whoever asks for more had a later claim than the one by which
+-- another that came after it got its last core
+abbrev pub IsInTurn : List Client → List ℕ → Type 0
+IsInTurn clients targets =
+    (place other before : ℕ) → AsksForMore clients targets place → place < other → other < length clients
+    → target_at targets other ≡ before + 1
+    → goes_before (claim_of (client_at clients other) before) (claim_at clients targets place) ≡ true
 
 -- nobody gets more than it asks for, and all together no more than there are
 pub record IsBounded (clients : List Client) (cores : ℕ) (targets : List ℕ) : Type 0 where

@@ -1,6 +1,6 @@
 //! How many cores each client gets.
 ghost use Rattle.std.specs.Prelude.{◌≡◌, ◌+◌, ◌<◌, length, IfSome};
-ghost use Rattle.arachne_grants.specs.Grants.{AreGrants, IsBounded, IsByPriority, IsFair, IsInOrder, IsLeast, IsNext, IsReserved, IsUsed};
+ghost use Rattle.arachne_grants.specs.Grants.{AreGrants, IsBounded, IsByPriority, IsFair, IsInOrder, IsInTurn, IsLeast, IsNext, IsReserved, IsUsed};
 
 use crate::claims::Client;
 
@@ -9,6 +9,8 @@ use crate::claims::Client;
 /// One core at a time goes to who asks for more and has the first claim; of equal claims, the client that came first.
 pub fn targets(clients: &[Client], cores: u32, targets: &mut [u32])
     requires { length targets.old ≡ length clients.now }
+    ensures order { IsInOrder clients.now targets.new }
+    ensures turn { IsInTurn clients.now targets.new }
     ensures bounded { IsBounded clients.now cores targets.new }
     ensures used { IsUsed clients.now cores targets.new }
     ensures reserved { IsReserved clients.now targets.new }
