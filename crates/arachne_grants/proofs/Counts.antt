@@ -275,7 +275,7 @@ sum-le (x ∷ xs) (y ∷ ys) each =
     let f = sum_by-cons (λ n. n) y ys in
     omega arith
 
-sum-less : (xs ys : List ℕ) (k : ℕ) → ((j : ℕ) → j < length xs → get_or xs j 0 ≤ get_or ys j 0) → k < length xs
+pub sum-less : (xs ys : List ℕ) (k : ℕ) → ((j : ℕ) → j < length xs → get_or xs j 0 ≤ get_or ys j 0) → k < length xs
     → get_or xs k 0 < get_or ys k 0 → sum xs < sum ys
 sum-less [] ys k each within less = absurd (omega arith)
 sum-less (x ∷ xs) [] k each within less = absurd (omega arith)

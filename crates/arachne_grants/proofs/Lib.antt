@@ -1,5 +1,6 @@
 pub mod ClaimOrder
 pub mod Counts
+pub mod Decided
 pub mod Least
 pub mod Next
 pub mod Order

@@ -116,3 +116,17 @@ kept (client ∷ clients) (target ∷ targets) = min target client.held + kept c
 abbrev pub IsLeast : List Client → ℕ → List ℕ → Type 0
 IsLeast clients cores targets =
     (other : List ℕ) → AreGrants clients cores other → kept clients other ≤ kept clients targets
+
+-- an answer in the order of claims
+pub record IsAnswer (clients : List Client) (cores : ℕ) (targets : List ℕ) : Type 0 where
+  pub sized : length targets ≡ length clients
+  pub bounded : IsBounded clients cores targets
+  pub used : IsUsed clients cores targets
+  pub order : IsInOrder clients targets
+  pub turn : IsInTurn clients targets
+
+-- any two such answers give each client as many cores
+abbrev pub IsDecided : List Client → ℕ → Type 0
+IsDecided clients cores =
+    (targets other : List ℕ) → IsAnswer clients cores targets → IsAnswer clients cores other
+    → (place : ℕ) → place < length clients → target_at targets place ≡ target_at other place

@@ -1,6 +1,6 @@
 //! How many cores each client gets.
 ghost use Rattle.std.specs.Prelude.{◌≡◌, ◌+◌, ◌<◌, length, IfSome};
-ghost use Rattle.arachne_grants.specs.Grants.{AreGrants, IsBounded, IsByPriority, IsFair, IsInOrder, IsInTurn, IsLeast, IsNext, IsReserved, IsUsed};
+ghost use Rattle.arachne_grants.specs.Grants.{AreGrants, IsBounded, IsByPriority, IsDecided, IsFair, IsInOrder, IsInTurn, IsLeast, IsNext, IsReserved, IsUsed};
 
 use crate::claims::Client;
 
@@ -28,6 +28,12 @@ pub fn targets(clients: &[Client], cores: u32, targets: &mut [u32])
         targets[next] += 1;
     }
 }
+
+/// The law that the promises decide the answer: any two that are bounded, used, in order and in turn give each client the
+/// same number of cores.
+pub fn targets_are_decided(clients: &[Client], cores: u32)
+    ensures { IsDecided clients.now cores }
+{}
 
 /// Returns who gets the next core, or None if nobody asks for more.
 fn next_client(clients: &[Client], targets: &[u32]) -> Option<usize>

@@ -8,5 +8,5 @@ mod grants;
 mod owners;
 
 pub use claims::Client;
-pub use grants::targets;
+pub use grants::{targets, targets_are_decided};
 pub use owners::{MAX_OWNERS, give_free, moves, take_back};
