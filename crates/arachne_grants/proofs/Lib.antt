@@ -1,6 +1,7 @@
 pub mod ClaimOrder
 pub mod Counts
 pub mod Decided
+pub mod Held
 pub mod Least
 pub mod Next
 pub mod Order

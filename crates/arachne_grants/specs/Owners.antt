@@ -1,7 +1,7 @@
 -- Which client has which core.
 use Rattle.std.specs.Prelude.{◌≡◌, ℕ, ◌+◌, ◌<◌, ◌≤◌, ◌⊎◌, ◌==◌, ◌&&◌, Bool, true, false, if◌then◌else◌, Option, Some, None, is_some, MatchOption, List, [], ◌∷◌, length, min, slice_index_or, slice_index, count_by}
 use Rattle.arachne_grants.specs.declared.claims.Client.{Client}
-use Rattle.arachne_grants.specs.Grants.{target_at, IsHigher}
+use Rattle.arachne_grants.specs.Grants.{client_at, target_at, IsHigher}
 
 -- whose a core is
 abbrev pub owner_at : List (Option ℕ) → ℕ → Option ℕ
@@ -80,3 +80,8 @@ IsNextShort clients targets held n next =
 -- each core that has an owner has one of so many clients
 abbrev pub AreAmong : List (Option ℕ) → ℕ → Type 0
 AreAmong owners clients = (core client : ℕ) → client < 256 → owner_at owners core ≡ Some client → client < clients
+
+-- each of the first n clients holds as many cores as it has, and the others are as they were
+pub record AreHeld (old new : List Client) (owners : List (Option ℕ)) (n : ℕ) : Type 0 where
+  pub held : (client : ℕ) → client < n → client_at new client ≡ record (client_at old client) { held = held_by owners client }
+  pub rest : (client : ℕ) → n ≤ client → client_at new client ≡ client_at old client

@@ -9,4 +9,4 @@ mod owners;
 
 pub use claims::Client;
 pub use grants::{targets, targets_are_decided};
-pub use owners::{MAX_OWNERS, give_free, moves, take_back};
+pub use owners::{MAX_OWNERS, count_held, give_free, moves, take_back};

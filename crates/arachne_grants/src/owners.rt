@@ -1,7 +1,7 @@
 //! Which cores change hands.
 ghost use Rattle.std.specs.Prelude.{◌≡◌, ℕ, ◌+◌, ◌^◌, ◌<◌, ◌≤◌, ◌⊎◌, true, if◌then◌else◌, is_some, None, length, max, slice_index, sum};
 ghost use Rattle.arachne_grants.specs.Grants.{target_at, IsHigher};
-ghost use Rattle.arachne_grants.specs.Owners.{is_of, held_by, owned, owner_at, AreAmong, GivesOnly, IsGiven, IsGivenByPriority, IsNextShort, IsSettled, IsShort, IsWithin, KeepsTargets, MovesLeast, TakesOnly};
+ghost use Rattle.arachne_grants.specs.Owners.{is_of, held_by, owned, owner_at, AreAmong, AreHeld, GivesOnly, IsGiven, IsGivenByPriority, IsNextShort, IsSettled, IsShort, IsWithin, KeepsTargets, MovesLeast, TakesOnly};
 
 use crate::claims::Client;
 
@@ -48,6 +48,19 @@ pub fn give_free(owners: &mut [Option<u8>], clients: &[Client], targets: &[u32])
     count_all(owners, &mut held);
     'hand: for core in 0..owners.len() {
         owners[core] = give(owners[core], clients, targets, &mut held);
+    }
+}
+
+/// Counts the cores that each client holds, which `targets` goes by.
+pub fn count_held(clients: &mut [Client], owners: &[Option<u8>])
+    requires cores { length owners.now < 2 ^ 32 }
+    requires clients { length clients.old ≤ 256 }
+    ensures { AreHeld clients.old clients.new owners.now (length clients.old) }
+{
+    let mut held = [0; MAX_OWNERS];
+    count_all(owners, &mut held);
+    'fill: for client in 0..clients.len() {
+        clients[client].held = held[client];
     }
 }
 
@@ -130,7 +143,7 @@ fn give(owner: Option<u8>, clients: &[Client], targets: &[u32], held: &mut [u32]
 /// Returns who gets a free core, by the counts so far: of the clients that have less than their targets, the first of
 /// the highest priority. None if there is no such client.
 fn next_short(clients: &[Client], targets: &[u32], held: &[u32]) -> Option<u8>
-    requires sized { length held.now ≡ 256 }
+    requires sized { length clients.now ≤ length held.now }
     requires targets { length targets.now ≡ length clients.now }
     requires clients { length clients.now ≤ 256 }
     ensures { IsNextShort clients.now targets.now held.now (length clients.now) result }
@@ -150,7 +163,7 @@ fn next_short_of(
     next: Option<u8>,
     place: usize,
 ) -> Option<u8>
-    requires sized { length held.now ≡ 256 }
+    requires sized { length clients.now ≤ length held.now }
     requires targets { length targets.now ≡ length clients.now }
     requires clients { length clients.now ≤ 256 }
     requires within { place < length clients.now }
