@@ -61,7 +61,7 @@ not_both_more clients cores targets other a b first second within_a within_b bef
     let none = second.order b a (target_at other a - 1) asks_b within_a (omega arith) in
     let claim_b = claim_of (client_at clients b) (target_at other b) in
     let is = before-more claim_b (client_at clients a) (target_at targets a) (target_at other a - 1) (omega arith)
-        (before-fewer (claim_at clients targets a) (client_at clients b) (target_at other b) (target_at targets b - 1) (omega arith) turn) in
+    (before-fewer (claim_at clients targets a) (client_at clients b) (target_at other b) (target_at targets b - 1) (omega arith) turn) in
     false≢true (sym none ∙ is)
 
 -- either one of the first n gets more by the second, or none does
