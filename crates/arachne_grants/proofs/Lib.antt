@@ -1,9 +1,13 @@
 pub mod ClaimOrder
 pub mod Counts
 pub mod Decided
+pub mod Giving
 pub mod Held
 pub mod Least
+pub mod Marks
 pub mod Next
 pub mod Order
 pub mod Promises
+pub mod Sound
 pub mod Stays
+pub mod Taking

@@ -1,3 +1,5 @@
 pub mod Claims
 pub mod Grants
 pub mod Owners
+pub mod Sessions
+pub mod Steps

@@ -28,6 +28,14 @@ pub(crate) struct Claim {
 }
 
 impl Client {
+    /// No client.
+    pub(crate) const NONE: Client = Client {
+        priority: 0,
+        reserved: 0,
+        asks: 0,
+        held: 0,
+    };
+
     /// Returns the cores that it gets before others get more than theirs of this kind: no more than it asks for.
     fn reserve(&self) -> u32
         ensures { result ≡ reserve_of self.now }

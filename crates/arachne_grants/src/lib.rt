@@ -6,7 +6,11 @@
 mod claims;
 mod grants;
 mod owners;
+mod sessions;
+mod state;
 
 pub use claims::Client;
 pub use grants::{targets, targets_are_decided};
 pub use owners::{MAX_OWNERS, count_held, give_free, moves, take_back};
+pub use sessions::{MAX_THREADS, Thread};
+pub use state::{Arbiter, Grant, MAX_CLIENTS, MAX_CORES, Refused, Taken};

@@ -142,7 +142,7 @@ fn give(owner: Option<u8>, clients: &[Client], targets: &[u32], held: &mut [u32]
 
 /// Returns who gets a free core, by the counts so far: of the clients that have less than their targets, the first of
 /// the highest priority. None if there is no such client.
-fn next_short(clients: &[Client], targets: &[u32], held: &[u32]) -> Option<u8>
+pub(crate) fn next_short(clients: &[Client], targets: &[u32], held: &[u32]) -> Option<u8>
     requires sized { length clients.now ≤ length held.now }
     requires targets { length targets.now ≡ length clients.now }
     requires clients { length clients.now ≤ 256 }

@@ -1,0 +1,50 @@
+-- What a step of the daemon's state changes.
+use Rattle.std.specs.Prelude.{◌≡◌, ◌≢◌, ◌⊎◌, ℕ, ◌<◌, ◌≤◌, Bool, true, false, Option, Some, None, List, length, map, MatchOption, replicate, count_by, slice_index, slice_set}
+use Rattle.arachne_grants.specs.declared.sessions.Session.{Session}
+use Rattle.arachne_grants.specs.declared.sessions.Thread.{Thread}
+use Rattle.arachne_grants.specs.declared.sessions.Thread.TheVariants.{Absent, Waits}
+use Rattle.arachne_grants.specs.Sessions.{core_at, gives_way, has_core, held_in, is_ready, is_usable, placed, session_at, thread_at, unplaced, with_thread, IsFree, IsTaken}
+use Rattle.arachne_grants.specs.declared.state.Grant.{Grant}
+use Rattle.arachne_grants.specs.declared.state.Taken.{Taken}
+
+-- a place with no threads
+abbrev pub new_session : Bool → ℕ → ℕ → ℕ → Session
+new_session taken priority reserved most = record {
+  taken = taken;
+  priority = priority;
+  reserved = reserved;
+  most = most;
+  asks = 0;
+  threads = replicate 64 Absent;
+}
+
+-- a client has less than it is allowed
+abbrev pub HasFewer : List Session → List ℕ → ℕ → Type 0
+HasFewer sessions allowed client = held_in (session_at sessions client) < slice_index allowed client
+
+-- a free core went to the first thread that can take one, of a client that had less than it is allowed and that no
+-- other such client has the priority over
+pub record IsGrant (old new : List Session) (allowed : List ℕ) (cores : ℕ) (grant : Grant) : Type 0 where
+  pub fewer : HasFewer old allowed grant.client
+  pub free : IsFree old grant.core
+  pub core : grant.core < cores
+  pub ready : is_ready (thread_at old grant.client grant.place) ≡ true
+  pub waited : grant.waited ≡ true → thread_at old grant.client grant.place ≡ Waits
+  pub unasked : grant.waited ≡ false → thread_at old grant.client grant.place ≢ Waits
+  pub first : (other : ℕ) → HasFewer old allowed other
+      → (session_at old other).priority < (session_at old grant.client).priority → ⊥
+  pub placed : new ≡ with_thread old grant.client grant.place (placed (thread_at old grant.client grant.place) grant.core)
+
+-- the last of a client's threads that has a core has none now, as the client has more than it is allowed
+pub record IsTake (old new : List Session) (allowed : List ℕ) (client : ℕ) (late : Bool) (taken : Taken) : Type 0 where
+  pub more : slice_index allowed client < held_in (session_at old client)
+  pub core : core_at old client taken.place ≡ Some taken.core
+  pub later : (place : ℕ) → taken.place < place → place < 64 → has_core (thread_at old client place) ≡ false
+  pub way : gives_way (thread_at old client taken.place) late ≡ true
+  pub unplaced : new ≡ with_thread old client taken.place (unplaced (thread_at old client taken.place))
+
+-- no core is free while a client has less than it is allowed, if each is allowed what it has threads for
+abbrev pub AllGiven : List Session → List ℕ → ℕ → Type 0
+AllGiven sessions allowed cores =
+    ((client : ℕ) → slice_index allowed client ≤ count_by is_usable (session_at sessions client).threads)
+    → (client core : ℕ) → HasFewer sessions allowed client → core < cores → IsTaken sessions core

@@ -1,0 +1,215 @@
+//! What a client of the daemon asked for, and what its threads do.
+ghost use Rattle.std.specs.Prelude.{◌≡◌, ◌+◌, ◌<◌, IfSome, None, count_by, length, position};
+ghost use Rattle.arachne_grants.specs.Sessions.{can_wait, core_of, gives_way, has_core, is_ready, is_usable, is_waiting, placed, unplaced, wants_of, with_mark, AreMarked, IsLastPlaced};
+
+use crate::claims::Client;
+
+/// The most threads that a client may have.
+pub const MAX_THREADS: usize = 64;
+
+/// What the thread at a place of a client does. One that floats never waits: it is moved to a core and back as it runs.
+#[derive(Clone, Copy, Debug, PartialEq, Eq)]
+pub enum Thread {
+    /// There is no thread at this place.
+    Absent,
+    /// Runs without a core of its own.
+    Runs,
+    /// Waits until it is granted a core.
+    Waits,
+    /// Runs on this core.
+    On(u16),
+    /// Floats, without a core of its own.
+    Floats,
+    /// Floats, on this core.
+    FloatsOn(u16),
+}
+
+/// A client's place in the daemon.
+#[derive(Clone, Copy)]
+pub(crate) struct Session {
+    /// Whether a client has this place.
+    pub taken: bool,
+    /// 0 goes first.
+    pub priority: u8,
+    /// Cores that it gets before others get more than theirs of this kind.
+    pub reserved: u32,
+    /// The most cores that it may ask for.
+    pub most: u32,
+    /// Cores that it asks for.
+    pub asks: u32,
+    /// By place.
+    pub threads: [Thread; MAX_THREADS],
+}
+
+impl Thread {
+    /// Returns the core that it has.
+    pub fn core(self) -> Option<u16>
+        ensures { result ≡ core_of self }
+    {
+        match self {
+            Thread::On(core) | Thread::FloatsOn(core) => Some(core),
+            _ => None,
+        }
+    }
+
+    /// Returns true if it has a core.
+    pub(crate) fn has_core(self) -> bool
+        ensures { result ≡ has_core self }
+    {
+        self.core().is_some()
+    }
+
+    /// Returns true if it has no core and can take one.
+    pub(crate) fn is_ready(self) -> bool
+        ensures { result ≡ is_ready self }
+    {
+        matches!(self, Thread::Waits | Thread::Floats)
+    }
+
+    /// Returns true if it waits for a core.
+    pub(crate) fn is_waiting(self) -> bool
+        ensures { result ≡ is_waiting self }
+    {
+        matches!(self, Thread::Waits)
+    }
+
+    /// Returns true if it is one that may wait, and doesn't.
+    pub(crate) fn can_wait(self) -> bool
+        ensures { result ≡ can_wait self }
+    {
+        matches!(self, Thread::Runs | Thread::On(_))
+    }
+
+    /// Returns true if it has a core or can take one.
+    pub(crate) fn is_usable(self) -> bool
+        ensures { result ≡ is_usable self }
+    {
+        self.has_core() || self.is_ready()
+    }
+
+    /// Returns true if its core may be taken from it: at once if it floats, else if its client is late.
+    pub(crate) fn gives_way(self, late: bool) -> bool
+        ensures { result ≡ gives_way self late }
+    {
+        late || matches!(self, Thread::FloatsOn(_))
+    }
+
+    /// Returns what it does once it has this core.
+    pub(crate) fn placed(self, core: u16) -> Thread
+        ensures { result ≡ placed self core }
+    {
+        match self {
+            Thread::Floats => Thread::FloatsOn(core),
+            _ => Thread::On(core),
+        }
+    }
+
+    /// Returns what it does once its core is taken from it.
+    pub(crate) fn unplaced(self) -> Thread
+        ensures { result ≡ unplaced self }
+    {
+        match self {
+            Thread::On(_) => Thread::Runs,
+            Thread::FloatsOn(_) => Thread::Floats,
+            _ => self,
+        }
+    }
+}
+
+impl Session {
+    /// The place of no client.
+    pub(crate) const NONE: Session = Session {
+        taken: false,
+        priority: 0,
+        reserved: 0,
+        most: 0,
+        asks: 0,
+        threads: [Thread::Absent; MAX_THREADS],
+    };
+
+    /// Returns how many of its threads have a core.
+    pub(crate) fn held(&self) -> u32
+        ensures { result ≡ count_by has_core self.now.threads }
+    {
+        self.threads
+            .iter()
+            .filter(|thread| thread.has_core())
+            .count() as u32
+    }
+
+    /// Returns how many of its threads have a core or can take one.
+    fn usable(&self) -> u32
+        ensures { result ≡ count_by is_usable self.now.threads }
+    {
+        self.threads
+            .iter()
+            .filter(|thread| thread.is_usable())
+            .count() as u32
+    }
+
+    /// Returns what is known of it as a client: it asks for no more than it may, and than it has threads for.
+    pub(crate) fn wants(&self) -> Client
+        ensures { result ≡ wants_of self.now }
+    {
+        Client {
+            priority: self.priority,
+            reserved: self.reserved,
+            asks: self.asks.min(self.most).min(self.usable()),
+            held: self.held(),
+        }
+    }
+
+    /// Returns the place of its first thread that can take a core.
+    pub(crate) fn first_ready(&self) -> Option<usize>
+        ensures first { result ≡ position is_ready self.now.threads }
+        ensures within { IfSome result (λ place. place < 64) }
+    {
+        self.threads.iter().position(|thread| thread.is_ready())
+    }
+
+    /// Returns the place of its last thread that has a core.
+    pub(crate) fn last_placed(&self) -> Option<usize>
+        ensures last { IsLastPlaced self.now.threads 64 result }
+        ensures none { result ≡ None → count_by has_core self.now.threads ≡ 0 }
+    {
+        let mut last = None;
+        'look: for place in 0..MAX_THREADS {
+            last = self.last_of(last, place);
+        }
+        last
+    }
+
+    /// Returns the last place with a core: this one, or the last of those before it.
+    fn last_of(&self, last: Option<usize>, place: usize) -> Option<usize>
+        requires within { place < 64 }
+        requires last { IsLastPlaced self.now.threads place last }
+        ensures { IsLastPlaced self.now.threads (place + 1) result }
+    {
+        if self.threads[place].has_core() {
+            Some(place)
+        } else {
+            last
+        }
+    }
+
+    /// Marks the cores that its threads have.
+    pub(crate) fn mark(&self, marks: &mut [bool])
+        ensures { AreMarked marks.old marks.new self.now.threads (length self.now.threads) }
+    {
+        'each: for thread in &self.threads {
+            mark_core(thread.core(), marks);
+        }
+    }
+}
+
+/// Marks a core, if there is one.
+fn mark_core(core: Option<u16>, marks: &mut [bool])
+    ensures { marks.new ≡ with_mark core marks.old }
+{
+    let Some(core) = core else {
+        return;
+    };
+    if usize::from(core) < marks.len() {
+        marks[usize::from(core)] = true;
+    }
+}

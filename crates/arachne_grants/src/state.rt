@@ -1,0 +1,338 @@
+//! The daemon's state: its clients, their threads, and how many cores each client is allowed.
+ghost use Rattle.std.specs.Prelude.{◌≡◌, ◌⊎◌, ℕ, ◌+◌, ◌<◌, ◌≤◌, IsOk, MatchOption, MatchResult, Some, None, length, map, slice_index, slice_set, true, false, ⊤, if◌then◌else◌};
+ghost use Rattle.arachne_grants.specs.Sessions.{IsSound};
+
+use crate::claims::Client;
+use crate::grants::targets;
+use crate::owners;
+use crate::sessions::{MAX_THREADS, Session, Thread};
+
+/// The most clients that a daemon may have.
+pub const MAX_CLIENTS: usize = 64;
+
+/// The most cores that a daemon may grant.
+pub const MAX_CORES: usize = 1024;
+
+/// An event that is out of place. It changed nothing.
+#[derive(Clone, Copy, Debug, PartialEq, Eq)]
+pub struct Refused;
+
+/// A core that was given to a thread.
+#[derive(Clone, Copy, Debug, PartialEq, Eq)]
+pub struct Grant {
+    pub client: usize,
+    pub place: usize,
+    pub core: u16,
+    /// Whether the thread waited for it.
+    pub waited: bool,
+}
+
+/// A core that was taken from a thread.
+#[derive(Clone, Copy, Debug, PartialEq, Eq)]
+pub struct Taken {
+    pub place: usize,
+    pub core: u16,
+}
+
+/// The clients of a daemon that grants whole cores to programs.
+pub struct Arbiter {
+    cores: u16,
+    sessions: [Session; MAX_CLIENTS],
+    allowed: [u32; MAX_CLIENTS],
+    ghost few: { cores ≤ 1024 },
+    ghost sound: { IsSound sessions },
+}
+
+impl Arbiter {
+    ghost use Rattle.arachne_grants.specs.Grants.{AreGrants, IsAnswer, IsLeast};
+    ghost use Rattle.arachne_grants.specs.Owners.{IsNextShort};
+    ghost use Rattle.arachne_grants.specs.Sessions.{core_of, core_at, held_in, can_wait, session_at, slice_thread, thread_at, wants_of, with_thread, IsFree, IsTaken};
+    ghost use Rattle.arachne_grants.specs.Steps.{new_session, AllGiven, IsGrant, IsTake};
+    ghost use Rattle.arachne_grants.specs.declared.sessions.Thread.TheVariants.{Absent, Runs, Waits, On, Floats, FloatsOn};
+
+    /// Begins without a client.
+    pub fn new(cores: u16) -> Arbiter
+        requires { cores ≤ 1024 }
+        ensures { result.cores ≡ cores }
+    {
+        Arbiter {
+            cores,
+            sessions: [Session::NONE; MAX_CLIENTS],
+            allowed: [0; MAX_CLIENTS],
+        }
+    }
+
+    /// A client comes, at a place that no other has.
+    pub fn hello(
+        &mut self,
+        client: usize,
+        priority: u8,
+        reserved: u32,
+        most: u32,
+    ) -> Result<(), Refused>
+        ensures sessions { MatchResult result
+            (λ _. self.new.sessions ≡ slice_set self.old.sessions client (new_session true priority reserved most))
+            (λ _. self.new.sessions ≡ self.old.sessions) }
+        ensures accepts { client < 64 → (session_at self.old.sessions client).taken ≡ false → IsOk result }
+        ensures allowed { self.new.allowed ≡ self.old.allowed }
+    {
+        if client >= MAX_CLIENTS {
+            return Err(Refused);
+        }
+        if self.sessions[client].taken {
+            return Err(Refused);
+        }
+        self.set(
+            client,
+            Session {
+                taken: true,
+                priority,
+                reserved,
+                most,
+                ..Session::NONE
+            },
+        );
+        Ok(())
+    }
+
+    /// A client asks for cores.
+    pub fn ask(&mut self, client: usize, cores: u32) -> Result<(), Refused>
+        ensures sessions { MatchResult result
+            (λ _. self.new.sessions ≡ slice_set self.old.sessions client (record (session_at self.old.sessions client) { asks = cores }))
+            (λ _. self.new.sessions ≡ self.old.sessions) }
+        ensures accepts { client < 64 → (session_at self.old.sessions client).taken ≡ true → IsOk result }
+        ensures allowed { self.new.allowed ≡ self.old.allowed }
+    {
+        if client >= MAX_CLIENTS {
+            return Err(Refused);
+        }
+        if !self.sessions[client].taken {
+            return Err(Refused);
+        }
+        let session = self.sessions[client];
+        self.set(
+            client,
+            Session {
+                asks: cores,
+                ..session
+            },
+        );
+        Ok(())
+    }
+
+    /// A client goes, with all of its threads.
+    pub fn leave(&mut self, client: usize)
+        ensures sessions { client < 64 → self.new.sessions ≡ slice_set self.old.sessions client (new_session false 0 0 0) }
+        ensures allowed { self.new.allowed ≡ self.old.allowed }
+    {
+        if client < MAX_CLIENTS {
+            self.set(client, Session::NONE);
+        }
+    }
+
+    /// A thread comes, at a place that has none.
+    pub fn join(&mut self, client: usize, place: usize, floats: bool) -> Result<(), Refused>
+        ensures joins { MatchResult result
+            (λ _. self.new.sessions ≡ with_thread self.old.sessions client place (if floats then Floats else Runs))
+            (λ _. self.new.sessions ≡ self.old.sessions) }
+        ensures absent { MatchResult result (λ _. thread_at self.old.sessions client place ≡ Absent) (λ _. ⊤) }
+        ensures accepts { client < 64 → place < 64 → (session_at self.old.sessions client).taken ≡ true
+            → thread_at self.old.sessions client place ≡ Absent → IsOk result }
+        ensures allowed { self.new.allowed ≡ self.old.allowed }
+    {
+        if client >= MAX_CLIENTS {
+            return Err(Refused);
+        }
+        if place >= MAX_THREADS {
+            return Err(Refused);
+        }
+        if !self.sessions[client].taken {
+            return Err(Refused);
+        }
+        if self.thread(client, place) != Thread::Absent {
+            return Err(Refused);
+        }
+        let thread = if floats { Thread::Floats } else { Thread::Runs };
+        self.set_thread(client, place, thread);
+        Ok(())
+    }
+
+    /// A thread gives its core back, if it has one, and waits until it is granted one.
+    pub fn wait(&mut self, client: usize, place: usize) -> Result<(), Refused>
+        ensures waits { MatchResult result
+            (λ _. self.new.sessions ≡ with_thread self.old.sessions client place Waits)
+            (λ _. self.new.sessions ≡ self.old.sessions) }
+        ensures can { MatchResult result (λ _. can_wait (thread_at self.old.sessions client place) ≡ true) (λ _. ⊤) }
+        ensures accepts { client < 64 → place < 64 → can_wait (thread_at self.old.sessions client place) ≡ true → IsOk result }
+        ensures allowed { self.new.allowed ≡ self.old.allowed }
+    {
+        if client >= MAX_CLIENTS {
+            return Err(Refused);
+        }
+        if place >= MAX_THREADS {
+            return Err(Refused);
+        }
+        if !self.thread(client, place).can_wait() {
+            return Err(Refused);
+        }
+        self.set_thread(client, place, Thread::Waits);
+        Ok(())
+    }
+
+    /// A thread ends.
+    pub fn end(&mut self, client: usize, place: usize)
+        ensures ends { client < 64 → place < 64 → self.new.sessions ≡ with_thread self.old.sessions client place Absent }
+        ensures allowed { self.new.allowed ≡ self.old.allowed }
+    {
+        if client < MAX_CLIENTS && place < MAX_THREADS {
+            self.set_thread(client, place, Thread::Absent);
+        }
+    }
+
+    /// Decides anew how many cores each client is allowed.
+    pub fn decide(&mut self)
+        ensures promises { AreGrants (map wants_of self.new.sessions) self.new.cores self.new.allowed }
+        ensures answer { IsAnswer (map wants_of self.new.sessions) self.new.cores self.new.allowed }
+        ensures least { IsLeast (map wants_of self.new.sessions) self.new.cores self.new.allowed }
+        ensures sessions { self.new.sessions ≡ self.old.sessions }
+        ensures cores { self.new.cores ≡ self.old.cores }
+    {
+        let clients = self.clients();
+        targets(&clients, u32::from(self.cores), &mut self.allowed);
+    }
+
+    /// Gives a free core to a thread that can take one, of a client that has less than it is allowed; the higher priority
+    /// first.
+    pub fn give(&mut self) -> Option<Grant>
+        ensures gives { MatchOption result (self.new.sessions ≡ self.old.sessions)
+            (λ grant. IsGrant self.old.sessions self.new.sessions self.old.allowed self.old.cores grant) }
+        ensures all { result ≡ None → AllGiven self.old.sessions self.old.allowed self.old.cores }
+        ensures allowed { self.new.allowed ≡ self.old.allowed }
+        ensures cores { self.new.cores ≡ self.old.cores }
+    {
+        let short = self.next_short()?;
+        let core = self.first_free()?;
+        let client = usize::from(short);
+        let session = self.sessions[client];
+        let place = session.first_ready()?;
+        let thread = session.threads[place];
+        self.set_thread(client, place, thread.placed(core));
+        Some(Grant {
+            client,
+            place,
+            core,
+            waited: thread.is_waiting(),
+        })
+    }
+
+    /// Takes its core from the last thread of a client that has one, if the client has more than it is allowed: at once if
+    /// that thread floats, else only if the client is late.
+    pub fn take_back(&mut self, client: usize, late: bool) -> Option<Taken>
+        ensures takes { MatchOption result (self.new.sessions ≡ self.old.sessions)
+            (λ taken. IsTake self.old.sessions self.new.sessions self.old.allowed client late taken) }
+        ensures enough { result ≡ None → late ≡ true → client < 64
+            → held_in (session_at self.old.sessions client) ≤ slice_index self.old.allowed client }
+        ensures allowed { self.new.allowed ≡ self.old.allowed }
+    {
+        if client >= MAX_CLIENTS {
+            return None;
+        }
+        let session = self.sessions[client];
+        if session.held() <= self.allowed[client] {
+            return None;
+        }
+        let place = session.last_placed()?;
+        let thread = session.threads[place];
+        let core = thread.core()?;
+        if !thread.gives_way(late) {
+            return None;
+        }
+        self.set_thread(client, place, thread.unplaced());
+        Some(Taken { place, core })
+    }
+
+    /// Returns what a thread does.
+    pub fn thread(&self, client: usize, place: usize) -> Thread
+        ensures { result ≡ thread_at self.now.sessions client place }
+    {
+        if client >= MAX_CLIENTS {
+            return Thread::Absent;
+        }
+        self.sessions[client]
+            .threads
+            .get(place)
+            .copied()
+            .unwrap_or(Thread::Absent)
+    }
+
+    /// Puts a client in the place of another.
+    fn set(&mut self, client: usize, session: Session)
+        requires within { client < 64 }
+        requires sound { (place core : ℕ) → core_of (slice_thread session.threads place) ≡ Some core
+            → core_at self.old.sessions client place ≡ Some core }
+        ensures sessions { self.new.sessions ≡ slice_set self.old.sessions client session }
+        ensures allowed { self.new.allowed ≡ self.old.allowed }
+        ensures cores { self.new.cores ≡ self.old.cores }
+    {
+        self.sessions[client] = session;
+    }
+
+    /// Changes what a thread does.
+    fn set_thread(&mut self, client: usize, place: usize, thread: Thread)
+        requires client { client < 64 }
+        requires place { place < 64 }
+        requires sound { (core : ℕ) → core_of thread ≡ Some core → IsFree self.old.sessions core }
+        ensures sessions { self.new.sessions ≡ with_thread self.old.sessions client place thread }
+        ensures allowed { self.new.allowed ≡ self.old.allowed }
+        ensures cores { self.new.cores ≡ self.old.cores }
+    {
+        self.sessions[client].threads[place] = thread;
+    }
+
+    /// Returns what is known of each client.
+    fn clients(&self) -> [Client; MAX_CLIENTS]
+        ensures { result ≡ map wants_of self.now.sessions }
+    {
+        let mut clients = [Client::NONE; MAX_CLIENTS];
+        'each: for client in 0..MAX_CLIENTS {
+            clients[client] = self.sessions[client].wants();
+        }
+        clients
+    }
+
+    /// Returns how many cores each client has.
+    fn held(&self) -> [u32; MAX_CLIENTS]
+        ensures { result ≡ map held_in self.now.sessions }
+    {
+        let mut held = [0; MAX_CLIENTS];
+        'each: for client in 0..MAX_CLIENTS {
+            held[client] = self.sessions[client].held();
+        }
+        held
+    }
+
+    /// Returns who gets a free core: of the clients that have less than they are allowed, the first of the highest priority.
+    fn next_short(&self) -> Option<u8>
+        ensures { IsNextShort (map wants_of self.now.sessions) self.now.allowed (map held_in self.now.sessions) 64 result }
+    {
+        owners::next_short(&self.clients(), &self.allowed, &self.held())
+    }
+
+    /// Returns the first core that no thread has.
+    fn first_free(&self) -> Option<u16>
+        ensures { MatchOption result ((core : ℕ) → core < self.now.cores → IsTaken self.now.sessions core)
+            (λ core. (core < self.now.cores) × IsFree self.now.sessions core) }
+    {
+        let mut marks = [false; MAX_CORES];
+        'each: for session in &self.sessions {
+            session.mark(&mut marks);
+        }
+        'look: for core in 0..self.cores {
+            let marked = marks[usize::from(core)];
+            if !marked {
+                return Some(core);
+            }
+        }
+        None
+    }
+}
