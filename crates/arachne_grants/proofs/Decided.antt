@@ -1,13 +1,13 @@
--- Any two answers in the order of claims, each to its turn, are the same. The idea: where one client gets more by the
--- first and another by the second, each asks for more by the answer in which it gets fewer, so neither's claim was before
--- the other's: the claims are equal, and then the turn decides.
-use Rattle.std.proofs.Common.{◌≡◌, ℕ, zero, suc, ◌+◌, ◌-◌, ◌<◌, ◌≤◌, ◌⊎◌, true, false, List, length, sum, arith, inl, inr, sym, ◌∙◌, ap, subst, below_more}
-use Rattle.std.proofs.lemmas.Bool.{cases_lt, cases_order, cases_Bool, false≢true}
+-- Any two answers in the order of claims are the same. The idea: if one client gets more by the first and another by
+-- the second, each asks for more by the answer in which it gets fewer, so neither's claim was before the other's: the
+-- claims are equal, and then the turn decides.
+use Rattle.std.proofs.Common.{◌≡◌, ℕ, zero, suc, ◌+◌, ◌-◌, ◌<◌, ◌≤◌, ◌⊎◌, true, List, length, sum, arith, inl, inr, sym, ◌∙◌, subst, below_more}
+use Rattle.std.proofs.lemmas.Bool.{cases_lt, cases_order, false≢true}
 use Rattle.arachne_grants.specs.declared.claims.Client.{Client}
 use Rattle.arachne_grants.specs.declared.claims.Claim.{Claim}
 use Rattle.arachne_grants.specs.Claims.{claim_of, goes_before}
-use Rattle.arachne_grants.specs.Grants.{client_at, target_at, claim_at, AsksForMore, IsInOrder, IsInTurn, IsAnswer, IsDecided}
-use Rattle.arachne_grants.proofs.ClaimOrder.{goes_before-trans, goes_before-more, goes_before-later, goes_before-earlier}
+use Rattle.arachne_grants.specs.Grants.{client_at, target_at, claim_at, AsksForMore, IsAnswer, IsDecided}
+use Rattle.arachne_grants.proofs.ClaimOrder.{goes_before-trans, goes_before-more}
 use Rattle.arachne_grants.proofs.Counts.{sum-less}
 
 -- with more cores a client's claim is a later one

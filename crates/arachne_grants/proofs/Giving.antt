@@ -1,5 +1,5 @@
 -- A free core is given to a thread that can take one.
-use Rattle.std.proofs.Common.{◌≡◌, ◌≢◌, ◌⊎◌, ℕ, zero, suc, ◌+◌, ◌<◌, ◌≤◌, Bool, true, false, cond, ltb, Option, Some, None, List, [], ◌∷◌, length, map, get_or, refl, ap, sym, ◌∙◌, subst, inl, inr, arith, count_by, position}
+use Rattle.std.proofs.Common.{◌≡◌, ◌≢◌, ℕ, zero, suc, ◌<◌, ◌≤◌, Bool, true, false, cond, Option, Some, None, List, [], ◌∷◌, length, map, get_or, refl, ap, sym, ◌∙◌, inl, inr, arith, count_by, position}
 use Rattle.std.specs.List.{position_or_len}
 use Rattle.std.proofs.Math.ListN.{get_or-map}
 use Rattle.std.proofs.lemmas.Bool.{cases_lt, lt-ltb, false≢true}
@@ -13,7 +13,7 @@ use Rattle.arachne_grants.specs.declared.sessions.Thread.{Thread}
 use Rattle.arachne_grants.specs.declared.sessions.Thread.TheVariants.{Absent, Runs, Waits, On, Floats, FloatsOn}
 use Rattle.arachne_grants.specs.Grants.{client_at, target_at}
 use Rattle.arachne_grants.specs.Owners.{IsHighestShort, IsShort}
-use Rattle.arachne_grants.specs.Sessions.{core_of, core_at, has_core, held_in, is_ready, is_usable, is_waiting, placed, session_at, slice_thread, thread_at, wants_of, with_thread, IsFree, IsTaken}
+use Rattle.arachne_grants.specs.Sessions.{core_of, has_core, held_in, is_ready, is_usable, is_waiting, placed, session_at, slice_thread, thread_at, wants_of, with_thread, IsFree}
 use Rattle.arachne_grants.specs.Steps.{AllGiven, HasFewer, IsGrant}
 
 client_at-wants : (sessions : List Session) (client : ℕ) → client_at (map wants_of sessions) client ≡ wants_of (session_at sessions client)

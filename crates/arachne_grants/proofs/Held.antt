@@ -1,5 +1,5 @@
 -- What clients hold is counted.
-use Rattle.std.proofs.Common.{◌≡◌, ℕ, ◌+◌, ◌<◌, ◌≤◌, Option, List, length, get_or, set, refl, ap, sym, ◌∙◌, subst, inl, inr, arith, below_more}
+use Rattle.std.proofs.Common.{◌≡◌, ℕ, ◌+◌, ◌<◌, Option, List, length, set, refl, ap, ◌∙◌, arith, below_more}
 use Rattle.std.proofs.lemmas.List.{get_or-set_same, get_or-set_other}
 use Rattle.arachne_grants.specs.declared.claims.Client.{Client}
 use Rattle.arachne_grants.specs.Grants.{client_at}

@@ -1,5 +1,5 @@
 -- The marks of the cores that threads have.
-use Rattle.std.proofs.Common.{◌≡◌, ◌≢◌, ◌⊎◌, ℕ, ◌+◌, ◌<◌, ◌≤◌, Bool, true, false, Option, Some, None, List, [], length, get_or, set, replicate, refl, ap, sym, ◌∙◌, subst, inl, inr, arith, below_more}
+use Rattle.std.proofs.Common.{◌≡◌, ℕ, ◌+◌, ◌<◌, Bool, true, false, Option, Some, None, List, [], length, get_or, set, replicate, refl, ap, sym, ◌∙◌, subst, inl, inr, arith, below_more}
 use Rattle.std.proofs.lemmas.Bool.{cases_eq, cases_lt, false≢true}
 use Rattle.std.proofs.lemmas.List.{get_or-set_same, get_or-set_other, length-set, get_or_past, set_past, get_or-replicate, length-replicate}
 use Rattle.arachne_grants.specs.declared.sessions.Session.{Session}

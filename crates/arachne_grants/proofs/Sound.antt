@@ -1,11 +1,11 @@
 -- A core has one thread, whatever a step changes.
-use Rattle.std.proofs.Common.{◌≡◌, ◌≢◌, ◌⊎◌, ℕ, ◌+◌, ◌<◌, ◌≤◌, Bool, true, false, Option, Some, None, List, [], length, get_or, set, replicate, refl, ap, sym, ◌∙◌, subst, inl, inr, arith}
+use Rattle.std.proofs.Common.{◌≡◌, ◌≢◌, ◌⊎◌, ℕ, ◌<◌, ◌≤◌, Some, None, List, [], length, set, replicate, ap, sym, ◌∙◌, subst, inl, inr, arith}
 use Rattle.std.proofs.lemmas.Bool.{cases_eq, cases_lt}
 use Rattle.std.proofs.lemmas.List.{get_or-set_same, get_or-set_other, get_or_past, set_past, get_or-replicate, length-replicate}
 use Rattle.arachne_grants.specs.declared.sessions.Session.{Session}
 use Rattle.arachne_grants.specs.declared.sessions.Thread.{Thread}
 use Rattle.arachne_grants.specs.declared.sessions.Thread.TheVariants.{Absent}
-use Rattle.arachne_grants.specs.Sessions.{core_of, core_at, session_at, slice_thread, thread_at, with_thread, with_thread_in, IsSound, IsFree}
+use Rattle.arachne_grants.specs.Sessions.{core_of, core_at, session_at, slice_thread, thread_at, with_thread, IsSound, IsFree}
 
 session_at-same : (sessions : List Session) (client : ℕ) (session : Session) → client < length sessions
     → session_at (set sessions client session) client ≡ session

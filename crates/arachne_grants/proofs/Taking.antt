@@ -1,10 +1,10 @@
 -- The last thread that has a core.
-use Rattle.std.proofs.Common.{◌≡◌, ℕ, zero, suc, ◌+◌, ◌<◌, Bool, true, false, cond, Option, Some, None, is_some, List, [], ◌∷◌, length, refl, ap, sym, ◌∙◌, arith, below_more, count_by}
+use Rattle.std.proofs.Common.{◌≡◌, ℕ, zero, suc, ◌+◌, ◌<◌, Bool, true, false, cond, Option, Some, None, is_some, List, [], ◌∷◌, length, refl, ap, ◌∙◌, arith, below_more, count_by}
 use Rattle.std.proofs.lemmas.Bool.{false≢true}
 use Rattle.std.proofs.lemmas.List.Sums.{sum_by-cons}
 use Rattle.arachne_grants.specs.declared.sessions.Thread.{Thread}
 use Rattle.arachne_grants.specs.declared.sessions.Thread.TheVariants.{Absent, Runs, Waits, On, Floats, FloatsOn}
-use Rattle.arachne_grants.specs.Sessions.{core_of, gives_way, has_core, slice_thread, unplaced, IsLast, IsLastPlaced}
+use Rattle.arachne_grants.specs.Sessions.{core_of, gives_way, has_core, slice_thread, unplaced, IsLastPlaced}
 
 pub IsLastPlaced-keep : (threads : List Thread) (n : ℕ) (last : Option ℕ) → IsLastPlaced threads n last
     → has_core (slice_thread threads n) ≡ false → IsLastPlaced threads (n + 1) last

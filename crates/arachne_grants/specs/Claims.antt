@@ -7,7 +7,7 @@ use Rattle.arachne_grants.specs.declared.claims.Claim.{Claim}
 abbrev pub reserve_of : Client → ℕ
 reserve_of client = min client.reserved client.asks
 
--- the claim of a client that gets so many
+-- the claim of a client that gets this many
 abbrev pub claim_of : Client → ℕ → Claim
 claim_of client gets = record {
   beyond = nat_le (reserve_of client) gets;

@@ -77,7 +77,7 @@ abbrev pub IsNextShort : List Client → List ℕ → List ℕ → ℕ → Optio
 IsNextShort clients targets held n next =
     MatchOption next ((client : ℕ) → client < n → IsShort clients targets held client → ⊥) (IsHighestShort clients targets held n)
 
--- each core that has an owner has one of so many clients
+-- each owner of a core is one of the first clients
 abbrev pub AreAmong : List (Option ℕ) → ℕ → Type 0
 AreAmong owners clients = (core client : ℕ) → client < 256 → owner_at owners core ≡ Some client → client < clients
 

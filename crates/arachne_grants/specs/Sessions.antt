@@ -1,5 +1,5 @@
 -- What the threads of the daemon's clients do.
-use Rattle.std.specs.Prelude.{◌≡◌, ◌⊎◌, ℕ, ◌+◌, ◌<◌, ◌≤◌, Bool, true, false, ◌||◌, Option, Some, None, is_some, MatchOption, List, [], length, map, min, count_by, slice_index_or, slice_set}
+use Rattle.std.specs.Prelude.{◌≡◌, ◌⊎◌, ℕ, ◌<◌, Bool, true, false, ◌||◌, Option, Some, None, is_some, MatchOption, List, [], length, min, count_by, slice_index_or, slice_set}
 use Rattle.arachne_grants.specs.declared.claims.Client.{Client}
 use Rattle.arachne_grants.specs.declared.sessions.Session.{Session}
 use Rattle.arachne_grants.specs.declared.sessions.Thread.{Thread}

@@ -1,7 +1,6 @@
 -- What a step of the daemon's state changes.
-use Rattle.std.specs.Prelude.{◌≡◌, ◌≢◌, ◌⊎◌, ℕ, ◌<◌, ◌≤◌, Bool, true, false, Option, Some, None, List, length, map, MatchOption, replicate, count_by, slice_index, slice_set}
+use Rattle.std.specs.Prelude.{◌≡◌, ◌≢◌, ℕ, ◌<◌, ◌≤◌, Bool, true, false, Some, List, replicate, count_by, slice_index}
 use Rattle.arachne_grants.specs.declared.sessions.Session.{Session}
-use Rattle.arachne_grants.specs.declared.sessions.Thread.{Thread}
 use Rattle.arachne_grants.specs.declared.sessions.Thread.TheVariants.{Absent, Waits}
 use Rattle.arachne_grants.specs.Sessions.{core_at, gives_way, has_core, held_in, is_ready, is_usable, placed, session_at, thread_at, unplaced, with_thread, IsFree, IsTaken}
 use Rattle.arachne_grants.specs.declared.state.Grant.{Grant}

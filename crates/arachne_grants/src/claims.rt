@@ -18,12 +18,12 @@ pub struct Client {
 /// What decides who gets the next core.
 #[derive(Clone, Copy, Debug, PartialEq, Eq)]
 pub(crate) struct Claim {
-    /// Whether it has its reserve.
+    /// True if it has its reserve.
     pub beyond: bool,
     pub priority: u8,
     /// Cores that it gets already.
     pub gets: u32,
-    /// Whether the next core would be one that it doesn't hold.
+    /// True if the next core would be one that it doesn't hold.
     pub moves: bool,
 }
 
@@ -43,7 +43,7 @@ impl Client {
         self.reserved.min(self.asks)
     }
 
-    /// Returns its claim to one core more, if it gets so many.
+    /// Returns its claim to one core more, if it gets `gets` cores.
     pub(crate) fn claim(&self, gets: u32) -> Claim
         ensures { result ≡ claim_of self.now gets }
     {
@@ -57,8 +57,8 @@ impl Client {
 }
 
 impl Claim {
-    /// Whether this claim goes before the other: first who has less than its reserve, then the higher priority, then
-    /// who gets fewer, then who holds the core already.
+    /// Returns true if this claim goes before the other: first who has less than its reserve, then the higher priority,
+    /// then who gets fewer, then who holds the core already.
     pub(crate) fn goes_before(&self, other: &Claim) -> bool
         ensures { result ≡ goes_before self.now other.now }
     {

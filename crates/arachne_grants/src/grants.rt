@@ -29,8 +29,8 @@ pub fn targets(clients: &[Client], cores: u32, targets: &mut [u32])
     }
 }
 
-/// The law that the promises decide the answer: any two that are bounded, used, in order and in turn give each client the
-/// same number of cores.
+/// The law that the promises decide the answer: any two that are bounded, used, in order and in turn give each client
+/// the same number of cores.
 pub fn targets_are_decided(clients: &[Client], cores: u32)
     ensures { IsDecided clients.now cores }
 {}

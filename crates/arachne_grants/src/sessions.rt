@@ -27,7 +27,7 @@ pub enum Thread {
 /// A client's place in the daemon.
 #[derive(Clone, Copy)]
 pub(crate) struct Session {
-    /// Whether a client has this place.
+    /// True if a client has this place.
     pub taken: bool,
     /// 0 goes first.
     pub priority: u8,

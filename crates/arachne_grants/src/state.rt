@@ -23,7 +23,7 @@ pub struct Grant {
     pub client: usize,
     pub place: usize,
     pub core: u16,
-    /// Whether the thread waited for it.
+    /// True if the thread waited for it, and is to hear of it.
     pub waited: bool,
 }
 
@@ -50,7 +50,7 @@ impl Arbiter {
     ghost use Rattle.arachne_grants.specs.Steps.{new_session, AllGiven, IsGrant, IsTake};
     ghost use Rattle.arachne_grants.specs.declared.sessions.Thread.TheVariants.{Absent, Runs, Waits, On, Floats, FloatsOn};
 
-    /// Begins without a client.
+    /// Returns an arbiter of `cores` cores, without clients.
     pub fn new(cores: u16) -> Arbiter
         requires { cores ≤ 1024 }
         ensures { result.cores ≡ cores }
@@ -62,7 +62,7 @@ impl Arbiter {
         }
     }
 
-    /// A client comes, at a place that no other has.
+    /// Gives a client a place that no other has.
     pub fn hello(
         &mut self,
         client: usize,
@@ -73,6 +73,7 @@ impl Arbiter {
         ensures sessions { MatchResult result
             (λ _. self.new.sessions ≡ slice_set self.old.sessions client (new_session true priority reserved most))
             (λ _. self.new.sessions ≡ self.old.sessions) }
+        ensures free { IsOk result → (session_at self.old.sessions client).taken ≡ false }
         ensures accepts { client < 64 → (session_at self.old.sessions client).taken ≡ false → IsOk result }
         ensures allowed { self.new.allowed ≡ self.old.allowed }
     {
@@ -95,7 +96,7 @@ impl Arbiter {
         Ok(())
     }
 
-    /// A client asks for cores.
+    /// Sets how many cores a client asks for.
     pub fn ask(&mut self, client: usize, cores: u32) -> Result<(), Refused>
         ensures sessions { MatchResult result
             (λ _. self.new.sessions ≡ slice_set self.old.sessions client (record (session_at self.old.sessions client) { asks = cores }))
@@ -120,7 +121,7 @@ impl Arbiter {
         Ok(())
     }
 
-    /// A client goes, with all of its threads.
+    /// Removes a client, with all of its threads.
     pub fn leave(&mut self, client: usize)
         ensures sessions { client < 64 → self.new.sessions ≡ slice_set self.old.sessions client (new_session false 0 0 0) }
         ensures allowed { self.new.allowed ≡ self.old.allowed }
@@ -130,7 +131,7 @@ impl Arbiter {
         }
     }
 
-    /// A thread comes, at a place that has none.
+    /// Adds a thread at a place of its client that has none.
     pub fn join(&mut self, client: usize, place: usize, floats: bool) -> Result<(), Refused>
         ensures joins { MatchResult result
             (λ _. self.new.sessions ≡ with_thread self.old.sessions client place (if floats then Floats else Runs))
@@ -157,7 +158,7 @@ impl Arbiter {
         Ok(())
     }
 
-    /// A thread gives its core back, if it has one, and waits until it is granted one.
+    /// Takes its core from a thread, if it has one, and lets the thread wait until it is granted one.
     pub fn wait(&mut self, client: usize, place: usize) -> Result<(), Refused>
         ensures waits { MatchResult result
             (λ _. self.new.sessions ≡ with_thread self.old.sessions client place Waits)
@@ -179,7 +180,7 @@ impl Arbiter {
         Ok(())
     }
 
-    /// A thread ends.
+    /// Removes a thread.
     pub fn end(&mut self, client: usize, place: usize)
         ensures ends { client < 64 → place < 64 → self.new.sessions ≡ with_thread self.old.sessions client place Absent }
         ensures allowed { self.new.allowed ≡ self.old.allowed }
@@ -201,8 +202,8 @@ impl Arbiter {
         targets(&clients, u32::from(self.cores), &mut self.allowed);
     }
 
-    /// Gives a free core to a thread that can take one, of a client that has less than it is allowed; the higher priority
-    /// first.
+    /// Gives a free core to a thread that can take one, of a client that has less than it is allowed: the higher
+    /// priority first.
     pub fn give(&mut self) -> Option<Grant>
         ensures gives { MatchOption result (self.new.sessions ≡ self.old.sessions)
             (λ grant. IsGrant self.old.sessions self.new.sessions self.old.allowed self.old.cores grant) }
@@ -225,8 +226,8 @@ impl Arbiter {
         })
     }
 
-    /// Takes its core from the last thread of a client that has one, if the client has more than it is allowed: at once if
-    /// that thread floats, else only if the client is late.
+    /// Takes its core from the last thread of a client that has one, if the client has more than it is allowed: at once
+    /// if that thread floats, else only if the client is late.
     pub fn take_back(&mut self, client: usize, late: bool) -> Option<Taken>
         ensures takes { MatchOption result (self.new.sessions ≡ self.old.sessions)
             (λ taken. IsTake self.old.sessions self.new.sessions self.old.allowed client late taken) }
@@ -249,6 +250,13 @@ impl Arbiter {
         }
         self.set_thread(client, place, thread.unplaced());
         Some(Taken { place, core })
+    }
+
+    /// Returns how many cores a client is allowed.
+    pub fn allowed_to(&self, client: usize) -> u32
+        ensures { result ≡ slice_index self.now.allowed client }
+    {
+        self.allowed.get(client).copied().unwrap_or(0)
     }
 
     /// Returns what a thread does.
@@ -311,7 +319,8 @@ impl Arbiter {
         held
     }
 
-    /// Returns who gets a free core: of the clients that have less than they are allowed, the first of the highest priority.
+    /// Returns who gets a free core: of the clients that have less than they are allowed, the first of the highest
+    /// priority.
     fn next_short(&self) -> Option<u8>
         ensures { IsNextShort (map wants_of self.now.sessions) self.now.allowed (map held_in self.now.sessions) 64 result }
     {

@@ -1,5 +1,4 @@
-use Rattle.std.proofs.Common.{ℕ, ◌<◌, length, ◌∙◌, arith}
-use Rattle.std.proofs.lemmas.List.{length-replicate}
+use Rattle.std.proofs.Common.{◌<◌, length, arith}
 use Rattle.arachne_grants.proofs.Held.{AreHeld-none, AreHeld-more}
 use Rattle.arachne_grants.proofs.owners.count_held.Goals as goal
 

@@ -1,4 +1,4 @@
-use Rattle.std.proofs.Common.{◌≡◌, ℕ, Option, None, length, subst, arith}
+use Rattle.std.proofs.Common.{◌≡◌, ℕ, Option, None, subst, arith}
 use Rattle.arachne_grants.specs.Sessions.{IsLastPlaced}
 use Rattle.arachne_grants.proofs.Taking.{count-none}
 use Rattle.arachne_grants.proofs.sessions.Session.last_placed.Goals as goal

@@ -1,6 +1,6 @@
-use Rattle.std.proofs.Common.{◌≡◌, ℕ, ◌<◌, length, get_or}
+use Rattle.std.proofs.Common.{◌≡◌, ℕ, ◌<◌, length}
 use Rattle.arachne_grants.specs.Grants.{client_at}
-use Rattle.arachne_grants.specs.Sessions.{held_in, session_at, wants_of}
+use Rattle.arachne_grants.specs.Sessions.{session_at, wants_of}
 use Rattle.arachne_grants.proofs.state.Arbiter.clients.Given as goal
 
 -- those of the clients so far are there

@@ -1,4 +1,4 @@
-use Rattle.std.proofs.Common.{◌≡◌, ℕ, List, length, map, ap, subst, arith}
+use Rattle.std.proofs.Common.{ℕ, List, length, ap, subst, arith}
 use Rattle.std.proofs.lemmas.List.{length-map}
 use Rattle.arachne_grants.specs.declared.claims.Client.{Client}
 use Rattle.arachne_grants.specs.Grants.{AreGrants, IsAnswer, IsLeast}

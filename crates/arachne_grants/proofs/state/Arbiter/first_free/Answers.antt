@@ -1,4 +1,4 @@
-use Rattle.std.proofs.Common.{◌≡◌, ℕ, ◌<◌, Bool, true, false, length, get_or, replicate, subst, below_more, arith}
+use Rattle.std.proofs.Common.{◌≡◌, ℕ, Bool, true, false, length, get_or, replicate, subst, below_more, arith}
 use Rattle.std.proofs.lemmas.List.{length-replicate}
 use Rattle.arachne_grants.specs.Sessions.{IsTaken}
 use Rattle.arachne_grants.proofs.Marks.{AreAllMarked, AreAllMarked-none, AreAllMarked-more, IsFree-unmarked, unmarked}

@@ -1,6 +1,6 @@
-use Rattle.std.proofs.Common.{◌≡◌, ℕ, ◌<◌, Some, length, map, sym, ◌∙◌, ap, subst, arith}
+use Rattle.std.proofs.Common.{◌≡◌, ℕ, map, sym, ◌∙◌, ap, subst, arith}
 use Rattle.arachne_grants.specs.Owners.{IsHighestShort}
-use Rattle.arachne_grants.specs.Sessions.{core_of, held_in, session_at, slice_thread, thread_at, wants_of, IsFree}
+use Rattle.arachne_grants.specs.Sessions.{core_of, held_in, thread_at, wants_of, IsFree}
 use Rattle.arachne_grants.proofs.Giving.{AllGiven-none, AllGiven-ready, IsGrant-give, core-placed}
 use Rattle.arachne_grants.proofs.state.Arbiter.give.Goals as goal
 

@@ -1,8 +1,7 @@
-use Rattle.std.proofs.Common.{◌≡◌, ℕ, ◌<◌, set, get_or, ◌∙◌, length, below_more, arith}
+use Rattle.std.proofs.Common.{◌≡◌, ℕ, set, get_or, ◌∙◌, length, below_more, arith}
 use Rattle.std.proofs.lemmas.List.{get_or-set_same, get_or-set_other, length-replicate, length-set}
-use Rattle.arachne_grants.specs.Grants.{client_at}
-use Rattle.arachne_grants.specs.Sessions.{held_in, session_at, wants_of}
-use Rattle.arachne_grants.proofs.Giving.{wants-all, held-all}
+use Rattle.arachne_grants.specs.Sessions.{held_in, session_at}
+use Rattle.arachne_grants.proofs.Giving.{held-all}
 use Rattle.arachne_grants.proofs.state.Arbiter.held.Goals as goal
 
 pub each-init : goal.each-init

@@ -1,6 +1,5 @@
 use Rattle.std.proofs.Common.{◌≡◌, ℕ, ◌<◌, length, get_or}
-use Rattle.arachne_grants.specs.Grants.{client_at}
-use Rattle.arachne_grants.specs.Sessions.{held_in, session_at, wants_of}
+use Rattle.arachne_grants.specs.Sessions.{held_in, session_at}
 use Rattle.arachne_grants.proofs.state.Arbiter.held.Given as goal
 
 -- those of the clients so far are there

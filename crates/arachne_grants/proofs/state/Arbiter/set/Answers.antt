@@ -1,4 +1,4 @@
-use Rattle.std.proofs.Common.{◌<◌, length, arith}
+use Rattle.std.proofs.Common.{arith}
 use Rattle.arachne_grants.proofs.Sound.{IsSound-set}
 use Rattle.arachne_grants.proofs.state.Arbiter.set.Goals as goal
 

@@ -1,7 +1,7 @@
-use Rattle.std.proofs.Common.{◌≡◌, ℕ, ◌<◌, ◌≤◌, Bool, true, false, Some, None, sym, ◌∙◌, ap, subst, arith}
+use Rattle.std.proofs.Common.{Bool, sym, ◌∙◌, ap, arith}
 use Rattle.std.proofs.lemmas.Bool.{false≢true}
 use Rattle.arachne_grants.specs.declared.sessions.Thread.{Thread}
-use Rattle.arachne_grants.specs.Sessions.{core_of, gives_way, thread_at, unplaced, with_thread}
+use Rattle.arachne_grants.specs.Sessions.{core_of, gives_way, thread_at, with_thread}
 use Rattle.arachne_grants.proofs.Taking.{core-unplaced, gives_way-late, not-none}
 use Rattle.arachne_grants.proofs.state.Arbiter.take_back.Goals as goal
 
