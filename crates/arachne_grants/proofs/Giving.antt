@@ -9,8 +9,8 @@ use Rattle.std.proofs.lemmas.List.Sums.{sum_by-cons, fails_before_first}
 use Rattle.std.proofs.lemmas.List.Quantifiers.{position-Some}
 use Rattle.arachne_grants.specs.declared.claims.Client.{Client}
 use Rattle.arachne_grants.specs.declared.sessions.Session.{Session}
-use Rattle.arachne_grants.specs.declared.sessions.Thread.{Thread}
-use Rattle.arachne_grants.specs.declared.sessions.Thread.TheVariants.{Absent, Runs, Waits, On, Floats, FloatsOn}
+use Rattle.arachne_grants.specs.declared.sessions.ClientThread.{ClientThread}
+use Rattle.arachne_grants.specs.declared.sessions.ClientThread.TheVariants.{Absent, Runs, Waits, On, Floats, FloatsOn}
 use Rattle.arachne_grants.specs.Grants.{client_at, target_at}
 use Rattle.arachne_grants.specs.Owners.{IsHighestShort, IsShort}
 use Rattle.arachne_grants.specs.Sessions.{core_of, has_core, held_in, is_ready, is_usable, is_waiting, placed, session_at, slice_thread, thread_at, wants_of, with_thread, IsFree}
@@ -54,7 +54,7 @@ AllGiven-none sessions allowed cores sized none within client core fewer below =
     let short = IsShort-fewer sessions allowed client sized fewer in
     absurd (none client short.0 short.1)
 
-count-no_ready : (threads : List Thread) → ((k : ℕ) → k < length threads → is_ready (slice_thread threads k) ≡ false)
+count-no_ready : (threads : List ClientThread) → ((k : ℕ) → k < length threads → is_ready (slice_thread threads k) ≡ false)
     → count_by is_usable threads ≡ count_by has_core threads
 count-no_ready [] none = refl
 count-no_ready (thread ∷ threads) none =
@@ -62,11 +62,11 @@ count-no_ready (thread ∷ threads) none =
     let rest : count_by is_usable threads ≡ count_by has_core threads = count-no_ready threads (λ k h. none (suc k) (omega arith)) in
     let first : is_ready thread ≡ false = none zero (omega arith) in
     let here : one (is_usable thread) ≡ one (has_core thread) = ap one (usable-no_ready thread first) in
-    let e = sum_by-cons (λ (t : Thread). cond (is_usable t) 1 0) thread threads in
-    let f = sum_by-cons (λ (t : Thread). cond (has_core t) 1 0) thread threads in
+    let e = sum_by-cons (λ (t : ClientThread). cond (is_usable t) 1 0) thread threads in
+    let f = sum_by-cons (λ (t : ClientThread). cond (has_core t) 1 0) thread threads in
     omega arith
   where
-    usable-no_ready : (t : Thread) → is_ready t ≡ false → is_usable t ≡ has_core t
+    usable-no_ready : (t : ClientThread) → is_ready t ≡ false → is_usable t ≡ has_core t
     usable-no_ready Absent none = refl
     usable-no_ready Runs none = refl
     usable-no_ready Waits none = absurd (cc)
@@ -74,7 +74,7 @@ count-no_ready (thread ∷ threads) none =
     usable-no_ready Floats none = absurd (cc)
     usable-no_ready (FloatsOn core) none = refl
 
-count-position : (threads : List Thread) → position is_ready threads ≡ None → count_by is_usable threads ≡ count_by has_core threads
+count-position : (threads : List ClientThread) → position is_ready threads ≡ None → count_by is_usable threads ≡ count_by has_core threads
 count-position threads none =
     elim (cases_lt (position_or_len is_ready threads) (length threads)) [
       | inl found ↦ absurd (
@@ -94,7 +94,7 @@ AllGiven-ready sessions allowed cores client short none within =
     let same = count-position (session_at sessions client).threads none in
     absurd (omega arith)
 
-waits-is : (thread : Thread) → is_waiting thread ≡ true → thread ≡ Waits
+waits-is : (thread : ClientThread) → is_waiting thread ≡ true → thread ≡ Waits
 waits-is Absent is = absurd (cc)
 waits-is Runs is = absurd (cc)
 waits-is Waits is = refl
@@ -102,10 +102,10 @@ waits-is (On core) is = absurd (cc)
 waits-is Floats is = absurd (cc)
 waits-is (FloatsOn core) is = absurd (cc)
 
-waits-not : (thread : Thread) → is_waiting thread ≡ false → thread ≢ Waits
+waits-not : (thread : ClientThread) → is_waiting thread ≡ false → thread ≢ Waits
 waits-not thread idle same = false≢true (sym idle ∙ ap is_waiting same)
 
-pub core-placed : (thread : Thread) (core other : ℕ) → core_of (placed thread core) ≡ Some other → core ≡ other
+pub core-placed : (thread : ClientThread) (core other : ℕ) → core_of (placed thread core) ≡ Some other → core ≡ other
 core-placed Absent core other is = cc
 core-placed Runs core other is = cc
 core-placed Waits core other is = cc
@@ -113,7 +113,7 @@ core-placed (On k) core other is = cc
 core-placed Floats core other is = cc
 core-placed (FloatsOn k) core other is = cc
 
-pub IsGrant-give : (sessions new : List Session) (allowed : List ℕ) (cores client place core : ℕ) (thread : Thread) (waited : Bool)
+pub IsGrant-give : (sessions new : List Session) (allowed : List ℕ) (cores client place core : ℕ) (thread : ClientThread) (waited : Bool)
     → length allowed ≡ length sessions → length sessions ≡ 64
     → IsHighestShort (map wants_of sessions) allowed (map held_in sessions) 64 client
     → (core < cores) × IsFree sessions core
@@ -132,5 +132,5 @@ IsGrant-give sessions new allowed cores client place core thread waited sized al
       let is_short = IsShort-fewer sessions allowed other sized fewer in
       short.highest other (let w = is_short.0 in omega arith) is_short.1
       (let e = ap (λ (c : Client). c.priority) (client_at-wants sessions other) in let f = ap (λ (c : Client). c.priority) (client_at-wants sessions client) in omega arith);
-  placed = is ∙ ap (λ (t : Thread). with_thread sessions client place t) same;
+  placed = is ∙ ap (λ (t : ClientThread). with_thread sessions client place t) same;
 }

@@ -3,11 +3,11 @@ use Rattle.std.proofs.Common.{◌≡◌, ℕ, ◌+◌, ◌<◌, Bool, true, fals
 use Rattle.std.proofs.lemmas.Bool.{cases_eq, cases_lt, false≢true}
 use Rattle.std.proofs.lemmas.List.{get_or-set_same, get_or-set_other, length-set, get_or_past, set_past, get_or-replicate, length-replicate}
 use Rattle.arachne_grants.specs.declared.sessions.Session.{Session}
-use Rattle.arachne_grants.specs.declared.sessions.Thread.{Thread}
-use Rattle.arachne_grants.specs.declared.sessions.Thread.TheVariants.{Absent}
+use Rattle.arachne_grants.specs.declared.sessions.ClientThread.{ClientThread}
+use Rattle.arachne_grants.specs.declared.sessions.ClientThread.TheVariants.{Absent}
 use Rattle.arachne_grants.specs.Sessions.{core_of, core_at, session_at, slice_thread, with_mark, AreMarked, IsFree, IsTaken}
 
-pub AreMarked-none : (marks : List Bool) (threads : List Thread) → AreMarked marks marks threads 0
+pub AreMarked-none : (marks : List Bool) (threads : List ClientThread) → AreMarked marks marks threads 0
 AreMarked-none marks threads = record {
   same = refl;
   marked = λ place core h within is. absurd (omega arith);
@@ -16,7 +16,7 @@ AreMarked-none marks threads = record {
 }
 
 -- a thread without a core
-AreMarked-skip : (old new : List Bool) (threads : List Thread) (n : ℕ) → AreMarked old new threads n
+AreMarked-skip : (old new : List Bool) (threads : List ClientThread) (n : ℕ) → AreMarked old new threads n
     → core_of (slice_thread threads n) ≡ None → AreMarked old new threads (n + 1)
 AreMarked-skip old new threads n was none = record {
   same = was.same;
@@ -27,7 +27,7 @@ AreMarked-skip old new threads n was none = record {
 }
 
 -- a thread's core
-AreMarked-core : (old new : List Bool) (threads : List Thread) (n core : ℕ) → AreMarked old new threads n
+AreMarked-core : (old new : List Bool) (threads : List ClientThread) (n core : ℕ) → AreMarked old new threads n
     → core_of (slice_thread threads n) ≡ Some core → AreMarked old (set new core true) threads (n + 1)
 AreMarked-core old new threads n core was has =
     let other : (k : ℕ) → get_or new k false ≡ true → get_or (set new core true) k false ≡ true = λ k is. elim (cases_eq k core) [
@@ -54,12 +54,12 @@ AreMarked-core old new threads n core was has =
       ];
     }
 
-AreMarked-option : (old new : List Bool) (threads : List Thread) (n : ℕ) (core : Option ℕ) → AreMarked old new threads n
+AreMarked-option : (old new : List Bool) (threads : List ClientThread) (n : ℕ) (core : Option ℕ) → AreMarked old new threads n
     → core_of (slice_thread threads n) ≡ core → AreMarked old (with_mark core new) threads (n + 1)
 AreMarked-option old new threads n None was is = AreMarked-skip old new threads n was is
 AreMarked-option old new threads n (Some core) was is = AreMarked-core old new threads n core was is
 
-pub AreMarked-more : (old new : List Bool) (threads : List Thread) (n : ℕ) → AreMarked old new threads n
+pub AreMarked-more : (old new : List Bool) (threads : List ClientThread) (n : ℕ) → AreMarked old new threads n
     → AreMarked old (with_mark (core_of (slice_thread threads n)) new) threads (n + 1)
 AreMarked-more old new threads n was = AreMarked-option old new threads n _ was refl
 
@@ -78,7 +78,7 @@ AreAllMarked-none sessions marks sized none = record {
 }
 
 -- a thread that has a core is one of the client's
-has-within : (threads : List Thread) (place core : ℕ) → core_of (slice_thread threads place) ≡ Some core → place < length threads
+has-within : (threads : List ClientThread) (place core : ℕ) → core_of (slice_thread threads place) ≡ Some core → place < length threads
 has-within threads place core is =
     elim (cases_lt place (length threads)) [
       | inl within ↦ within

@@ -3,8 +3,8 @@ use Rattle.std.proofs.Common.{◌≡◌, ◌≢◌, ◌⊎◌, ℕ, ◌<◌, ◌
 use Rattle.std.proofs.lemmas.Bool.{cases_eq, cases_lt}
 use Rattle.std.proofs.lemmas.List.{get_or-set_same, get_or-set_other, get_or_past, set_past, get_or-replicate, length-replicate}
 use Rattle.arachne_grants.specs.declared.sessions.Session.{Session}
-use Rattle.arachne_grants.specs.declared.sessions.Thread.{Thread}
-use Rattle.arachne_grants.specs.declared.sessions.Thread.TheVariants.{Absent}
+use Rattle.arachne_grants.specs.declared.sessions.ClientThread.{ClientThread}
+use Rattle.arachne_grants.specs.declared.sessions.ClientThread.TheVariants.{Absent}
 use Rattle.arachne_grants.specs.Sessions.{core_of, core_at, session_at, slice_thread, thread_at, with_thread, IsSound, IsFree}
 
 session_at-same : (sessions : List Session) (client : ℕ) (session : Session) → client < length sessions
@@ -45,26 +45,26 @@ IsSound-set sessions client session h sound keeps =
       | inr ne ↦ sym (ap (λ (s : Session). core_of (slice_thread s.threads p)) (session_at-other sessions client c session ne)) ∙ is
     ]))
 
-thread_at-here : (sessions : List Session) (client place : ℕ) (thread : Thread) → client < length sessions
+thread_at-here : (sessions : List Session) (client place : ℕ) (thread : ClientThread) → client < length sessions
     → place < length (session_at sessions client).threads → thread_at (with_thread sessions client place thread) client place ≡ thread
 thread_at-here sessions client place thread h within =
     ap (λ (s : Session). slice_thread s.threads place) (session_at-same sessions client _ h)
     ∙ get_or-set_same (session_at sessions client).threads place thread Absent within
 
-thread_at-there : (sessions : List Session) (client place other : ℕ) (thread : Thread) → client < length sessions
+thread_at-there : (sessions : List Session) (client place other : ℕ) (thread : ClientThread) → client < length sessions
     → other ≢ place → thread_at (with_thread sessions client place thread) client other ≡ thread_at sessions client other
 thread_at-there sessions client place other thread h ne =
     ap (λ (s : Session). slice_thread s.threads other) (session_at-same sessions client _ h)
     ∙ get_or-set_other (session_at sessions client).threads place other thread Absent ne
 
-thread_at-past_threads : (sessions : List Session) (client place : ℕ) (thread : Thread) → client < length sessions
+thread_at-past_threads : (sessions : List Session) (client place : ℕ) (thread : ClientThread) → client < length sessions
     → length (session_at sessions client).threads ≤ place → thread_at (with_thread sessions client place thread) client place ≡ thread_at sessions client place
 thread_at-past_threads sessions client place thread h past =
     ap (λ (s : Session). slice_thread s.threads place) (session_at-same sessions client _ h)
-    ∙ ap (λ (ts : List Thread). slice_thread ts place) (set_past (session_at sessions client).threads place thread past)
+    ∙ ap (λ (ts : List ClientThread). slice_thread ts place) (set_past (session_at sessions client).threads place thread past)
 
 -- a thread takes a core that was free, or none
-pub IsSound-with_thread : (sessions : List Session) (client place : ℕ) (thread : Thread) → client < length sessions
+pub IsSound-with_thread : (sessions : List Session) (client place : ℕ) (thread : ClientThread) → client < length sessions
     → IsSound sessions
     → ((core : ℕ) → core_of thread ≡ Some core → IsFree sessions core)
     → IsSound (with_thread sessions client place thread)
@@ -94,7 +94,7 @@ pub none-in : (n place core : ℕ) → core_of (slice_thread (replicate n Absent
 none-in n place core is =
     elim (cases_lt place n) [
       | inl within ↦ (let e : core_of (slice_thread (replicate n Absent) place) ≡ None = ap core_of (get_or-replicate n place Absent Absent within) in let both : None ≡ Some core = sym e ∙ is in cc)
-      | inr past ↦ (let e : core_of (slice_thread (replicate n Absent) place) ≡ None = ap core_of (get_or_past (replicate n Absent) place Absent (let s = length-replicate {A = Thread} n Absent in omega arith)) in let both : None ≡ Some core = sym e ∙ is in cc)
+      | inr past ↦ (let e : core_of (slice_thread (replicate n Absent) place) ≡ None = ap core_of (get_or_past (replicate n Absent) place Absent (let s = length-replicate {A = ClientThread} n Absent in omega arith)) in let both : None ≡ Some core = sym e ∙ is in cc)
     ]
 
 -- a client past the last has no threads
@@ -114,4 +114,4 @@ pub IsSound-same : (n m : ℕ) (session : Session) → session.threads ≡ repli
 IsSound-same n m session empty =
     IsSound-none (replicate n session) (λ client place core within is.
     let here : core_at (replicate n session) client place ≡ core_of (slice_thread session.threads place) = ap (λ (s : Session). core_of (slice_thread s.threads place)) (get_or-replicate n client session _ (let s = length-replicate {A = Session} n session in omega arith)) in
-    none-in m place core (sym (ap (λ (ts : List Thread). core_of (slice_thread ts place)) empty) ∙ sym here ∙ is))
+    none-in m place core (sym (ap (λ (ts : List ClientThread). core_of (slice_thread ts place)) empty) ∙ sym here ∙ is))

@@ -2,11 +2,11 @@
 use Rattle.std.specs.Prelude.{◌≡◌, ◌⊎◌, ℕ, ◌<◌, Bool, true, false, ◌||◌, Option, Some, None, is_some, MatchOption, List, [], length, min, count_by, slice_index_or, slice_set}
 use Rattle.arachne_grants.specs.declared.claims.Client.{Client}
 use Rattle.arachne_grants.specs.declared.sessions.Session.{Session}
-use Rattle.arachne_grants.specs.declared.sessions.Thread.{Thread}
-use Rattle.arachne_grants.specs.declared.sessions.Thread.TheVariants.{Absent, Runs, Waits, On, Floats, FloatsOn}
+use Rattle.arachne_grants.specs.declared.sessions.ClientThread.{ClientThread}
+use Rattle.arachne_grants.specs.declared.sessions.ClientThread.TheVariants.{Absent, Runs, Waits, On, Floats, FloatsOn}
 
 -- the core that a thread has
-abbrev pub core_of : Thread → Option ℕ
+abbrev pub core_of : ClientThread → Option ℕ
 core_of Absent = None
 core_of Runs = None
 core_of Waits = None
@@ -15,11 +15,11 @@ core_of Floats = None
 core_of (FloatsOn core) = Some core
 
 -- it has a core
-abbrev pub has_core : Thread → Bool
+abbrev pub has_core : ClientThread → Bool
 has_core thread = is_some (core_of thread)
 
 -- it has no core and can take one
-abbrev pub is_ready : Thread → Bool
+abbrev pub is_ready : ClientThread → Bool
 is_ready Absent = false
 is_ready Runs = false
 is_ready Waits = true
@@ -28,7 +28,7 @@ is_ready Floats = true
 is_ready (FloatsOn core) = false
 
 -- it waits for a core
-abbrev pub is_waiting : Thread → Bool
+abbrev pub is_waiting : ClientThread → Bool
 is_waiting Absent = false
 is_waiting Runs = false
 is_waiting Waits = true
@@ -37,7 +37,7 @@ is_waiting Floats = false
 is_waiting (FloatsOn core) = false
 
 -- it is one that may wait, and doesn't
-abbrev pub can_wait : Thread → Bool
+abbrev pub can_wait : ClientThread → Bool
 can_wait Absent = false
 can_wait Runs = true
 can_wait Waits = false
@@ -46,11 +46,11 @@ can_wait Floats = false
 can_wait (FloatsOn core) = false
 
 -- it has a core or can take one
-abbrev pub is_usable : Thread → Bool
+abbrev pub is_usable : ClientThread → Bool
 is_usable thread = has_core thread || is_ready thread
 
 -- its core may be taken from it: at once if it floats, else if its client is late
-abbrev pub gives_way : Thread → Bool → Bool
+abbrev pub gives_way : ClientThread → Bool → Bool
 gives_way Absent late = late || false
 gives_way Runs late = late || false
 gives_way Waits late = late || false
@@ -59,7 +59,7 @@ gives_way Floats late = late || false
 gives_way (FloatsOn core) late = late || true
 
 -- what it does once it has this core
-abbrev pub placed : Thread → ℕ → Thread
+abbrev pub placed : ClientThread → ℕ → ClientThread
 placed Absent core = On core
 placed Runs core = On core
 placed Waits core = On core
@@ -68,7 +68,7 @@ placed Floats core = FloatsOn core
 placed (FloatsOn other) core = On core
 
 -- what it does once its core is taken from it
-abbrev pub unplaced : Thread → Thread
+abbrev pub unplaced : ClientThread → ClientThread
 unplaced Absent = Absent
 unplaced Runs = Runs
 unplaced Waits = Waits
@@ -95,11 +95,11 @@ session_at sessions client =
     slice_index_or sessions client (record { taken = false; priority = 0; reserved = 0; most = 0; asks = 0; threads = [] })
 
 -- the thread at a place
-abbrev pub slice_thread : List Thread → ℕ → Thread
+abbrev pub slice_thread : List ClientThread → ℕ → ClientThread
 slice_thread threads place = slice_index_or threads place Absent
 
 -- what a client's thread does
-abbrev pub thread_at : List Session → ℕ → ℕ → Thread
+abbrev pub thread_at : List Session → ℕ → ℕ → ClientThread
 thread_at sessions client place = slice_thread (session_at sessions client).threads place
 
 -- the core that a client's thread has
@@ -121,11 +121,11 @@ abbrev pub IsTaken : List Session → ℕ → Type 0
 IsTaken sessions core = (client : ℕ) × ((place : ℕ) × (core_at sessions client place ≡ Some core))
 
 -- a session whose thread at a place does this
-abbrev pub with_thread_in : Session → ℕ → Thread → Session
+abbrev pub with_thread_in : Session → ℕ → ClientThread → Session
 with_thread_in session place thread = record session { threads = slice_set session.threads place thread }
 
 -- a client's thread does this, and all else is as it was
-abbrev pub with_thread : List Session → ℕ → ℕ → Thread → List Session
+abbrev pub with_thread : List Session → ℕ → ℕ → ClientThread → List Session
 with_thread sessions client place thread = slice_set sessions client (with_thread_in (session_at sessions client) place thread)
 
 -- the marks with one for a core, if there is one
@@ -134,7 +134,7 @@ with_mark None marks = marks
 with_mark (Some core) marks = slice_set marks core true
 
 -- the marks of the cores that the first n threads have are added
-pub record AreMarked (old new : List Bool) (threads : List Thread) (n : ℕ) : Type 0 where
+pub record AreMarked (old new : List Bool) (threads : List ClientThread) (n : ℕ) : Type 0 where
   pub same : length new ≡ length old
   pub marked : (place core : ℕ) → place < n → core < length old → core_of (slice_thread threads place) ≡ Some core
       → slice_index_or new core false ≡ true
@@ -143,11 +143,11 @@ pub record AreMarked (old new : List Bool) (threads : List Thread) (n : ℕ) : T
       → (slice_index_or old core false ≡ true) ⊎ ((place : ℕ) × (core_of (slice_thread threads place) ≡ Some core))
 
 -- of the first n threads this one is the last that has a core
-pub record IsLast (threads : List Thread) (n : ℕ) (place : ℕ) : Type 0 where
+pub record IsLast (threads : List ClientThread) (n : ℕ) (place : ℕ) : Type 0 where
   pub within : place < n
   pub has : has_core (slice_thread threads place) ≡ true
   pub later : (k : ℕ) → place < k → k < n → has_core (slice_thread threads k) ≡ false
 
 -- the last of the first n threads that has a core, if one has
-abbrev pub IsLastPlaced : List Thread → ℕ → Option ℕ → Type 0
+abbrev pub IsLastPlaced : List ClientThread → ℕ → Option ℕ → Type 0
 IsLastPlaced threads n last = MatchOption last ((k : ℕ) → k < n → has_core (slice_thread threads k) ≡ false) (IsLast threads n)

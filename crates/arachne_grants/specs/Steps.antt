@@ -1,10 +1,10 @@
 -- What a step of the daemon's state changes.
 use Rattle.std.specs.Prelude.{◌≡◌, ◌≢◌, ℕ, ◌<◌, ◌≤◌, Bool, true, false, Some, List, replicate, count_by, slice_index}
 use Rattle.arachne_grants.specs.declared.sessions.Session.{Session}
-use Rattle.arachne_grants.specs.declared.sessions.Thread.TheVariants.{Absent, Waits}
+use Rattle.arachne_grants.specs.declared.sessions.ClientThread.TheVariants.{Absent, Waits}
 use Rattle.arachne_grants.specs.Sessions.{core_at, gives_way, has_core, held_in, is_ready, is_usable, placed, session_at, thread_at, unplaced, with_thread, IsFree, IsTaken}
 use Rattle.arachne_grants.specs.declared.state.Grant.{Grant}
-use Rattle.arachne_grants.specs.declared.state.Taken.{Taken}
+use Rattle.arachne_grants.specs.declared.state.TakenCore.{TakenCore}
 
 -- a place with no threads
 abbrev pub new_session : Bool → ℕ → ℕ → ℕ → Session
@@ -35,7 +35,7 @@ pub record IsGrant (old new : List Session) (allowed : List ℕ) (cores : ℕ) (
   pub placed : new ≡ with_thread old grant.client grant.place (placed (thread_at old grant.client grant.place) grant.core)
 
 -- the last of a client's threads that has a core has none now, as the client has more than it is allowed
-pub record IsTake (old new : List Session) (allowed : List ℕ) (client : ℕ) (late : Bool) (taken : Taken) : Type 0 where
+pub record IsTake (old new : List Session) (allowed : List ℕ) (client : ℕ) (late : Bool) (taken : TakenCore) : Type 0 where
   pub more : slice_index allowed client < held_in (session_at old client)
   pub core : core_at old client taken.place ≡ Some taken.core
   pub later : (place : ℕ) → taken.place < place → place < 64 → has_core (thread_at old client place) ≡ false

@@ -12,5 +12,5 @@ mod state;
 pub use claims::Client;
 pub use grants::{targets, targets_are_decided};
 pub use owners::{MAX_OWNERS, count_held, give_free, moves, take_back};
-pub use sessions::{MAX_THREADS, Thread};
-pub use state::{Arbiter, Grant, MAX_CLIENTS, MAX_CORES, Refused, Taken};
+pub use sessions::{ClientThread, MAX_THREADS};
+pub use state::{CoreArbiter, Grant, MAX_CLIENTS, MAX_CORES, Refused, TakenCore};

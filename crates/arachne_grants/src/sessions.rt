@@ -9,7 +9,7 @@ pub const MAX_THREADS: usize = 64;
 
 /// What the thread at a place of a client does. One that floats never waits: it is moved to a core and back as it runs.
 #[derive(Clone, Copy, Debug, PartialEq, Eq)]
-pub enum Thread {
+pub enum ClientThread {
     /// There is no thread at this place.
     Absent,
     /// Runs without a core of its own.
@@ -38,16 +38,16 @@ pub(crate) struct Session {
     /// Cores that it asks for.
     pub asks: u32,
     /// By place.
-    pub threads: [Thread; MAX_THREADS],
+    pub threads: [ClientThread; MAX_THREADS],
 }
 
-impl Thread {
+impl ClientThread {
     /// Returns the core that it has.
     pub fn core(self) -> Option<u16>
         ensures { result ≡ core_of self }
     {
         match self {
-            Thread::On(core) | Thread::FloatsOn(core) => Some(core),
+            ClientThread::On(core) | ClientThread::FloatsOn(core) => Some(core),
             _ => None,
         }
     }
@@ -63,21 +63,21 @@ impl Thread {
     pub(crate) fn is_ready(self) -> bool
         ensures { result ≡ is_ready self }
     {
-        matches!(self, Thread::Waits | Thread::Floats)
+        matches!(self, ClientThread::Waits | ClientThread::Floats)
     }
 
     /// Returns true if it waits for a core.
     pub(crate) fn is_waiting(self) -> bool
         ensures { result ≡ is_waiting self }
     {
-        matches!(self, Thread::Waits)
+        matches!(self, ClientThread::Waits)
     }
 
     /// Returns true if it is one that may wait, and doesn't.
     pub(crate) fn can_wait(self) -> bool
         ensures { result ≡ can_wait self }
     {
-        matches!(self, Thread::Runs | Thread::On(_))
+        matches!(self, ClientThread::Runs | ClientThread::On(_))
     }
 
     /// Returns true if it has a core or can take one.
@@ -91,26 +91,26 @@ impl Thread {
     pub(crate) fn gives_way(self, late: bool) -> bool
         ensures { result ≡ gives_way self late }
     {
-        late || matches!(self, Thread::FloatsOn(_))
+        late || matches!(self, ClientThread::FloatsOn(_))
     }
 
     /// Returns what it does once it has this core.
-    pub(crate) fn placed(self, core: u16) -> Thread
+    pub(crate) fn placed(self, core: u16) -> ClientThread
         ensures { result ≡ placed self core }
     {
         match self {
-            Thread::Floats => Thread::FloatsOn(core),
-            _ => Thread::On(core),
+            ClientThread::Floats => ClientThread::FloatsOn(core),
+            _ => ClientThread::On(core),
         }
     }
 
     /// Returns what it does once its core is taken from it.
-    pub(crate) fn unplaced(self) -> Thread
+    pub(crate) fn unplaced(self) -> ClientThread
         ensures { result ≡ unplaced self }
     {
         match self {
-            Thread::On(_) => Thread::Runs,
-            Thread::FloatsOn(_) => Thread::Floats,
+            ClientThread::On(_) => ClientThread::Runs,
+            ClientThread::FloatsOn(_) => ClientThread::Floats,
             _ => self,
         }
     }
@@ -124,7 +124,7 @@ impl Session {
         reserved: 0,
         most: 0,
         asks: 0,
-        threads: [Thread::Absent; MAX_THREADS],
+        threads: [ClientThread::Absent; MAX_THREADS],
     };
 
     /// Returns how many of its threads have a core.

@@ -5,7 +5,7 @@ ghost use Rattle.arachne_grants.specs.Sessions.{IsSound};
 use crate::claims::Client;
 use crate::grants::targets;
 use crate::owners;
-use crate::sessions::{MAX_THREADS, Session, Thread};
+use crate::sessions::{ClientThread, MAX_THREADS, Session};
 
 /// The most clients that a daemon may have.
 pub const MAX_CLIENTS: usize = 64;
@@ -29,13 +29,13 @@ pub struct Grant {
 
 /// A core that was taken from a thread.
 #[derive(Clone, Copy, Debug, PartialEq, Eq)]
-pub struct Taken {
+pub struct TakenCore {
     pub place: usize,
     pub core: u16,
 }
 
 /// The clients of a daemon that grants whole cores to programs.
-pub struct Arbiter {
+pub struct CoreArbiter {
     cores: u16,
     sessions: [Session; MAX_CLIENTS],
     allowed: [u32; MAX_CLIENTS],
@@ -43,19 +43,19 @@ pub struct Arbiter {
     ghost sound: { IsSound sessions },
 }
 
-impl Arbiter {
+impl CoreArbiter {
     ghost use Rattle.arachne_grants.specs.Grants.{AreGrants, IsAnswer, IsLeast};
     ghost use Rattle.arachne_grants.specs.Owners.{IsNextShort};
     ghost use Rattle.arachne_grants.specs.Sessions.{core_of, core_at, held_in, can_wait, session_at, slice_thread, thread_at, wants_of, with_thread, IsFree, IsTaken};
     ghost use Rattle.arachne_grants.specs.Steps.{new_session, AllGiven, IsGrant, IsTake};
-    ghost use Rattle.arachne_grants.specs.declared.sessions.Thread.TheVariants.{Absent, Runs, Waits, On, Floats, FloatsOn};
+    ghost use Rattle.arachne_grants.specs.declared.sessions.ClientThread.TheVariants.{Absent, Runs, Waits, On, Floats, FloatsOn};
 
     /// Returns an arbiter of `cores` cores, without clients.
-    pub fn new(cores: u16) -> Arbiter
+    pub fn new(cores: u16) -> CoreArbiter
         requires { cores ≤ 1024 }
         ensures { result.cores ≡ cores }
     {
-        Arbiter {
+        CoreArbiter {
             cores,
             sessions: [Session::NONE; MAX_CLIENTS],
             allowed: [0; MAX_CLIENTS],
@@ -150,10 +150,14 @@ impl Arbiter {
         if !self.sessions[client].taken {
             return Err(Refused);
         }
-        if self.thread(client, place) != Thread::Absent {
+        if self.thread(client, place) != ClientThread::Absent {
             return Err(Refused);
         }
-        let thread = if floats { Thread::Floats } else { Thread::Runs };
+        let thread = if floats {
+            ClientThread::Floats
+        } else {
+            ClientThread::Runs
+        };
         self.set_thread(client, place, thread);
         Ok(())
     }
@@ -176,7 +180,7 @@ impl Arbiter {
         if !self.thread(client, place).can_wait() {
             return Err(Refused);
         }
-        self.set_thread(client, place, Thread::Waits);
+        self.set_thread(client, place, ClientThread::Waits);
         Ok(())
     }
 
@@ -186,7 +190,7 @@ impl Arbiter {
         ensures allowed { self.new.allowed ≡ self.old.allowed }
     {
         if client < MAX_CLIENTS && place < MAX_THREADS {
-            self.set_thread(client, place, Thread::Absent);
+            self.set_thread(client, place, ClientThread::Absent);
         }
     }
 
@@ -228,7 +232,7 @@ impl Arbiter {
 
     /// Takes its core from the last thread of a client that has one, if the client has more than it is allowed: at once
     /// if that thread floats, else only if the client is late.
-    pub fn take_back(&mut self, client: usize, late: bool) -> Option<Taken>
+    pub fn take_back(&mut self, client: usize, late: bool) -> Option<TakenCore>
         ensures takes { MatchOption result (self.new.sessions ≡ self.old.sessions)
             (λ taken. IsTake self.old.sessions self.new.sessions self.old.allowed client late taken) }
         ensures enough { result ≡ None → late ≡ true → client < 64
@@ -249,7 +253,7 @@ impl Arbiter {
             return None;
         }
         self.set_thread(client, place, thread.unplaced());
-        Some(Taken { place, core })
+        Some(TakenCore { place, core })
     }
 
     /// Returns how many cores a client is allowed.
@@ -260,17 +264,17 @@ impl Arbiter {
     }
 
     /// Returns what a thread does.
-    pub fn thread(&self, client: usize, place: usize) -> Thread
+    pub fn thread(&self, client: usize, place: usize) -> ClientThread
         ensures { result ≡ thread_at self.now.sessions client place }
     {
         if client >= MAX_CLIENTS {
-            return Thread::Absent;
+            return ClientThread::Absent;
         }
         self.sessions[client]
             .threads
             .get(place)
             .copied()
-            .unwrap_or(Thread::Absent)
+            .unwrap_or(ClientThread::Absent)
     }
 
     /// Puts a client in the place of another.
@@ -286,7 +290,7 @@ impl Arbiter {
     }
 
     /// Changes what a thread does.
-    fn set_thread(&mut self, client: usize, place: usize, thread: Thread)
+    fn set_thread(&mut self, client: usize, place: usize, thread: ClientThread)
         requires client { client < 64 }
         requires place { place < 64 }
         requires sound { (core : ℕ) → core_of thread ≡ Some core → IsFree self.old.sessions core }

@@ -1,8 +1,0 @@
-use Rattle.std.proofs.Common.{arith}
-use Rattle.arachne_grants.proofs.Sound.{IsSound-set}
-use Rattle.arachne_grants.proofs.state.Arbiter.set.Goals as goal
-
-pub invariant_of-self-clause-sound : goal.invariant_of-self-clause-sound
-invariant_of-self-clause-sound c =
-    let state = c.args.self.now in
-    IsSound-set state.sessions c.args.client c.args.session (omega arith) state.sound c.requires.sound

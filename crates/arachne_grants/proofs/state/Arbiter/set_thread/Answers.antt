@@ -1,8 +1,0 @@
-use Rattle.std.proofs.Common.{arith}
-use Rattle.arachne_grants.proofs.Sound.{IsSound-with_thread}
-use Rattle.arachne_grants.proofs.state.Arbiter.set_thread.Goals as goal
-
-pub invariant_of-self-clause-sound : goal.invariant_of-self-clause-sound
-invariant_of-self-clause-sound c =
-    let state = c.args.self.now in
-    IsSound-with_thread state.sessions c.args.client c.args.place c.args.thread (omega arith) state.sound c.requires.sound
