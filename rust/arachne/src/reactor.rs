@@ -18,8 +18,8 @@ const TICK: u64 = 256;
 const OTHER: u64 = NOBODY - 1;
 /// The number of the event that ends a wait.
 const WOKEN: u64 = 0;
-/// Events of one look.
-const EVENTS: usize = 64;
+/// Events of one look at most.
+pub(crate) const EVENTS: usize = 64;
 
 /// Who is to be woken. A task of the runtime is one word, and needs no lock; any other waker has one.
 pub(crate) struct Slot {
@@ -111,14 +111,26 @@ struct Sources {
     free: Vec<u32>,
 }
 
-/// What one look at the epoll has found.
+/// What one look at the epoll has found. What is beyond the number that was asked for stays with the kernel, in order.
 pub(crate) struct Found {
     events: [Event; EVENTS],
     count: usize,
+    asked: usize,
 }
 
 impl Found {
-    pub(crate) const NOTHING: Found = Found { events: [Event { events: 0, data: 0 }; EVENTS], count: 0 };
+    pub(crate) const NOTHING: Found = Found { events: [Event { events: 0, data: 0 }; EVENTS], count: 0, asked: EVENTS };
+
+    fn of(epoll: RawFd, timeout: i32, most: usize) -> Found {
+        let mut found = Found { asked: most.clamp(1, EVENTS), ..Found::NOTHING };
+        found.count = sys::wait(epoll, &mut found.events[..found.asked], timeout);
+        found
+    }
+
+    /// There may be more.
+    pub(crate) fn is_full(&self) -> bool {
+        self.count == self.asked
+    }
 
     pub(crate) fn is_empty(&self) -> bool {
         self.count == 0
@@ -193,17 +205,15 @@ impl Reactor {
         io.as_ref().filter(|_| *uses as u64 == data >> 32).cloned()
     }
 
-    /// What there is now.
-    pub(crate) fn look(&self) -> Found {
-        let mut found = Found::NOTHING;
-        found.count = sys::wait(self.epoll, &mut found.events, 0);
-        found
+    /// What there is now, at most so many.
+    pub(crate) fn look(&self, most: usize) -> Found {
+        Found::of(self.epoll, 0, most)
     }
 
-    /// Waits so many milliseconds (-1: for ever) for something, or for `notify`. One worker at a time waits.
-    pub(crate) fn wait(&self, timeout: i32) -> Found {
-        let mut found = Found::NOTHING;
-        found.count = sys::wait(self.epoll, &mut found.events, timeout);
+    /// Waits so many milliseconds (-1: for ever) for something, or for `notify`. One worker at a time waits. Where the
+    /// event of `notify` is beyond what was asked for, it ends the next wait too.
+    pub(crate) fn wait(&self, timeout: i32, most: usize) -> Found {
+        let found = Found::of(self.epoll, timeout, most);
         if found.events[..found.count].iter().any(|event| event.data == WOKEN) {
             sys::lower(self.event);
         }

@@ -1,6 +1,7 @@
 //! The watcher of slow polls: names them, and looks after the ready tasks, sockets and timers of a worker that is in one.
 
 use crate::core::{Hands, Job, Rested, SHARD};
+use crate::reactor::EVENTS;
 use crate::shared::Shared;
 use crate::task;
 use crate::timer::now;
@@ -80,7 +81,7 @@ fn rescue(shared: &'static Shared, hands: &Hands, stuck: u64) {
     let all = u64::MAX >> (64 - shared.active.0.load(Relaxed));
     let (mut left, until) = (stuck, now() + TURN);
     while left != 0 && now() < until && !shared.stop.load(SeqCst) {
-        let mut found = shared.reactor.tell(&shared.reactor.look());
+        let mut found = shared.reactor.tell(&shared.reactor.look(EVENTS));
         for worker in 0..polls.len() {
             if left >> worker & 1 == 0 {
                 continue;

@@ -5,7 +5,7 @@
 
 use crate::core::{place_of, Hands, Job, Rested, Spawned, BLOCK, SHARD};
 use crate::cores::Judge;
-use crate::reactor::Found;
+use crate::reactor::{Found, EVENTS};
 use crate::shared::{add, Context, Shared, NO_ONE};
 use crate::task::{self, Raw};
 use crate::timer::now;
@@ -38,7 +38,8 @@ pub(crate) const FEW: usize = 8;
 /// alone.
 const KEPT: usize = 16;
 pub(crate) const HAND: usize = 48;
-/// From so many events of one look on, that are left for others, another worker is woken to help.
+/// From so many events and timers of one look on, that are left for others, another worker is woken to help; so it is
+/// where there may be more events.
 const MANY: usize = 4;
 
 /// The policy asks for no more cores for more ready jobs at a worker than that.
@@ -543,6 +544,17 @@ impl Shared {
         most.saturating_sub(turn.hand.len())
     }
 
+    /// For how many events a worker asks: for as many as stay in its hand. The others stay with the kernel, whose order
+    /// is that of their coming, for whoever looks next: they would wait for one that has lost its processor, had they been
+    /// made ready at its places. Where none stays, it asks for some that are left for others.
+    fn asks(&self, room: usize) -> usize {
+        match room {
+            _ if self.is_alone() => EVENTS,
+            0 => FEW,
+            room => room,
+        }
+    }
+
     #[inline]
     fn is_alone(&self) -> bool {
         self.active.0.load(Relaxed) == 1
@@ -550,7 +562,7 @@ impl Shared {
 
     /// Looks at the epoll, and fires timers; how many there were.
     fn look_at_events(&self, context: &Context, turn: &mut Turn, room: usize) -> usize {
-        let found = if self.reactor.is_used() { self.reactor.look() } else { Found::NOTHING };
+        let found = if self.reactor.is_used() { self.reactor.look(self.asks(room)) } else { Found::NOTHING };
         self.hear(context, turn, &found, room)
     }
 
@@ -566,7 +578,7 @@ impl Shared {
         context.room.set(0);
         context.keeps.set(true);
         turn.hand.extend(context.told.borrow_mut().drain(..));
-        if heard >= room + MANY {
+        if found.is_full() || heard >= room + MANY {
             self.rouse_any();
         }
         heard

@@ -104,7 +104,7 @@ impl Shared {
             timeout = sooner(timeout, judge.millis());
         }
         if waits {
-            return self.reactor.wait(timeout);
+            return self.reactor.wait(timeout, self.asks(self.room(turn)));
         }
         if self.deputy.0.compare_exchange(NO_ONE, context.me, SeqCst, SeqCst).is_err() {
             self.workers[context.me].0.bell.wait(timeout);
@@ -137,7 +137,7 @@ impl Shared {
             if stuck && !self.stands_anybody(turn) {
                 continue;
             }
-            let found = self.reactor.look();
+            let found = self.reactor.look(self.asks(self.room(turn)));
             if stuck || !found.is_empty() {
                 return found;
             }
