@@ -116,10 +116,12 @@ fn main() -> io::Result<()> {
     runtime.spawn(accept(listener, Arc::new(Store::default())));
     let (ended, start) = (end()?, Instant::now());
     println!("ready");
-    while ended.recv_timeout(Duration::from_millis(10)).is_err() {
-        if arguments.follows {
+    if arguments.follows {
+        while ended.recv_timeout(Duration::from_millis(10)).is_err() {
             show_cores(&runtime, start);
         }
+    } else {
+        let _ = ended.recv();
     }
     eprintln!("{:?}", runtime.stats());
     let ended = runtime.shutdown_within(Duration::from_secs(1));
