@@ -165,14 +165,22 @@ impl<S: AsRawFd> Drop for Source<S> {
     }
 }
 
+/// How many connections may wait to be accepted. std asks for 128; one beyond that tries again after a second.
+const BACKLOG: i32 = 4096;
+
 /// A socket that listens.
 pub struct TcpListener(Source<std::net::TcpListener>);
 
 impl TcpListener {
+    /// Listens at the first of these addresses that is free. Up to 4,096 connections may wait to be accepted, if the
+    /// system's `somaxconn` allows so many.
     pub fn bind(at: impl ToSocketAddrs) -> io::Result<TcpListener> {
-        TcpListener::from_std(std::net::TcpListener::bind(at)?)
+        let listener = std::net::TcpListener::bind(at)?;
+        sys::listen(listener.as_raw_fd(), BACKLOG)?;
+        TcpListener::from_std(listener)
     }
 
+    /// Takes a socket that listens already. How many connections may wait at it stays as it is.
     pub fn from_std(listener: std::net::TcpListener) -> io::Result<TcpListener> {
         listener.set_nonblocking(true)?;
         Ok(TcpListener(Source::new(listener)))

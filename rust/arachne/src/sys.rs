@@ -24,6 +24,8 @@ extern "C" {
     fn read(fd: i32, bytes: *mut u8, count: usize) -> isize;
     fn write(fd: i32, bytes: *const u8, count: usize) -> isize;
     fn socket(domain: i32, kind: i32, protocol: i32) -> i32;
+    #[link_name = "listen"]
+    fn listen_call(fd: i32, backlog: i32) -> i32;
     fn connect(fd: i32, address: *const u8, len: u32) -> i32;
     fn sched_getaffinity(thread: i32, len: usize, mask: *mut u64) -> i32;
     fn sched_setaffinity(thread: i32, len: usize, mask: *const u64) -> i32;
@@ -87,6 +89,12 @@ pub(crate) fn raise(event: RawFd) {
 pub(crate) fn lower(event: RawFd) {
     let mut count = [0; 8];
     unsafe { read(event, count.as_mut_ptr(), 8) };
+}
+
+/// How many connections may wait at a socket that listens already.
+pub(crate) fn listen(fd: RawFd, backlog: i32) -> io::Result<()> {
+    // SAFETY: a call with numbers alone.
+    checked(unsafe { listen_call(fd, backlog) }).map(drop)
 }
 
 /// A socket that doesn't block, and whose connection may still be in progress.

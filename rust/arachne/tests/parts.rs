@@ -698,3 +698,24 @@ fn sockets_are_heard_in_the_order_in_which_they_were_told_of() {
     tasks.into_iter().for_each(|task| block_on(task).unwrap());
     assert_eq!(*order.lock().unwrap(), (0..8).collect::<Vec<_>>());
 }
+
+#[test]
+fn a_burst_of_connections_waits_to_be_accepted() {
+    let most = std::fs::read_to_string("/proc/sys/net/core/somaxconn").unwrap().trim().parse::<usize>().unwrap();
+    let count = most.min(500);
+    let runtime = Runtime::new(2);
+    let listener = net::TcpListener::bind("127.0.0.1:0").unwrap();
+    let to = listener.local_addr().unwrap();
+    // Nobody accepts yet: one for whom there is no room would not be connected at all.
+    let connect = |_| std::net::TcpStream::connect_timeout(&to, 10_000 * MS).expect("there is no room for it");
+    let begun: Vec<_> = (0..count).map(connect).collect();
+    let accepts = runtime.spawn(async move {
+        for _ in 0..count {
+            listener.accept().await.unwrap().0.write_all(b"+").await.unwrap();
+        }
+    });
+    for mut stream in begun {
+        stream.read_exact(&mut [0]).unwrap();
+    }
+    runtime.block_on(accepts).unwrap();
+}
