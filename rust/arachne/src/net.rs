@@ -355,9 +355,13 @@ mod tokio_traits {
             cx: &mut Context<'_>,
             buffer: &mut tokio::io::ReadBuf<'_>,
         ) -> Poll<io::Result<()>> {
-            let room = buffer.initialize_unfilled();
+            // Not `initialize_unfilled`, which writes zeros to all of the room at each read.
+            // SAFETY: the read writes to these bytes alone, and reads none of them.
+            let room = unsafe { &mut *(buffer.unfilled_mut() as *mut [std::mem::MaybeUninit<u8>] as *mut [u8]) };
             match TcpStream::poll_read(&self, cx, room) {
                 Poll::Ready(Ok(n)) => {
+                    // SAFETY: the read has written so many.
+                    unsafe { buffer.assume_init(n) };
                     buffer.advance(n);
                     Poll::Ready(Ok(()))
                 }
