@@ -24,6 +24,9 @@ use std::time::Duration;
 /// hand with what it took of another.
 const HANDS: usize = 3 + crate::worker::HAND + crate::worker::FEW;
 
+/// What a kernel thread calls before its first task.
+type Starts = Arc<dyn Fn() + Send + Sync>;
+
 /// How a runtime is to be.
 pub struct Builder {
     cores: usize,
@@ -34,6 +37,7 @@ pub struct Builder {
     blocking: usize,
     observed: bool,
     hooks: Option<Arc<dyn Hooks>>,
+    starts: Option<Starts>,
     slow: Option<Duration>,
     log: bool,
 }
@@ -50,6 +54,7 @@ impl Builder {
             blocking: 64,
             observed: false,
             hooks: None,
+            starts: None,
             slow: None,
             log: true,
         }
@@ -101,6 +106,14 @@ impl Builder {
         self
     }
 
+    /// Called on each kernel thread that polls tasks, before the first: on the workers, and on the watcher of
+    /// `watch_polls`. For what tasks look up in their kernel thread, as crates do that ask for a runtime of tokio:
+    /// `std::mem::forget(handle.enter())` of one that runs beside this one. A panic there ends the process.
+    pub fn on_worker_start(mut self, starts: impl Fn() + Send + Sync + 'static) -> Builder {
+        self.starts = Some(Arc::new(starts));
+        self
+    }
+
     /// A watcher names each poll that takes longer than that on the standard error stream (unless `log` is false), and
     /// looks after the ready tasks, sockets and timers of a worker that is in one.
     pub fn watch_polls(mut self, longer: Duration, log: bool) -> Builder {
@@ -123,6 +136,7 @@ impl Builder {
             let cpu = cpus.get(me % cpus.len().max(1)).copied();
             let slice = self.slice.map(|slice| slice.as_nanos() as u64);
             let hands = shared.root.lock().unwrap().hands(HANDS).ok_or(io::ErrorKind::OutOfMemory)?;
+            let starts = self.starts.clone();
             let work = move || {
                 cpu.map(sys::pin);
                 slice.map(sys::ask_for_slices);
@@ -130,6 +144,7 @@ impl Builder {
                 let context = Context::new(shared, me, hands);
                 let judge = policy.and_then(|policy| Judge::new(policy, shared));
                 let end = EndsTheProcess;
+                starts.iter().for_each(|starts| starts());
                 context.enter(|| shared.work(&context, judge, counts));
                 std::mem::forget(end);
                 shared.root.lock().unwrap().join(context.hands);
@@ -138,8 +153,14 @@ impl Builder {
         }
         if let Some(longer) = self.slow {
             let log = self.log;
-            let name = "arachne-watch".to_string();
-            runtime.threads.push(thread::Builder::new().name(name).spawn(move || watch::run(shared, longer, log))?);
+            let starts = self.starts;
+            let work = move || {
+                let end = EndsTheProcess;
+                starts.iter().for_each(|starts| starts());
+                std::mem::forget(end);
+                watch::run(shared, longer, log);
+            };
+            runtime.threads.push(thread::Builder::new().name("arachne-watch".into()).spawn(work)?);
         }
         Ok(runtime)
     }

@@ -719,3 +719,42 @@ fn a_burst_of_connections_waits_to_be_accepted() {
     }
     runtime.block_on(accepts).unwrap();
 }
+
+thread_local! {
+    static STARTED: std::cell::Cell<usize> = const { std::cell::Cell::new(0) };
+}
+
+#[test]
+fn each_kernel_thread_is_started_before_its_first_task() {
+    let count = Arc::new(AtomicUsize::new(0));
+    let counts = count.clone();
+    let starts = move || {
+        counts.fetch_add(1, SeqCst);
+        STARTED.with(|started| started.set(started.get() + 1));
+    };
+    let runtime = Builder::new(3).on_worker_start(starts.clone()).build().unwrap();
+    let tasks: Vec<_> = (0..1000).map(|_| runtime.spawn(async { STARTED.with(|started| started.get()) })).collect();
+    assert!(tasks.into_iter().all(|task| block_on(task).unwrap() == 1));
+    drop(runtime);
+    assert_eq!(count.swap(0, SeqCst), 3);
+    // The watcher polls too, where no worker is free.
+    let runtime = Builder::new(1).watch_polls(5 * MS, false).on_worker_start(starts).build().unwrap();
+    let (runs, ends) = (Arc::new(AtomicBool::new(false)), Arc::new(AtomicBool::new(false)));
+    let (told, end) = (runs.clone(), ends.clone());
+    let slow = runtime.spawn(async move {
+        told.store(true, SeqCst);
+        while !end.load(SeqCst) {
+            thread::sleep(MS);
+        }
+    });
+    while !runs.load(SeqCst) {
+        thread::sleep(MS);
+    }
+    let task = runtime.spawn(async { STARTED.with(|started| started.get()) });
+    assert_eq!(block_on(task).unwrap(), 1);
+    assert!(!slow.is_finished());
+    ends.store(true, SeqCst);
+    block_on(slow).unwrap();
+    drop(runtime);
+    assert_eq!(count.load(SeqCst), 2);
+}
