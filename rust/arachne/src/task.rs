@@ -25,10 +25,38 @@ const SETTLED: u32 = 8;
 /// It is to end at its next turn.
 const ABORTED: u32 = 16;
 
+/// What a task panicked with.
+pub struct Panic(Box<dyn Any + Send>);
+// SAFETY: by a shared one its text alone is seen, and both types of text are `Sync`.
+unsafe impl Sync for Panic {}
+
+impl Panic {
+    /// Returns its text, if it has one.
+    #[must_use]
+    pub fn message(&self) -> Option<&str> {
+        self.0.downcast_ref::<&str>().copied().or(self.0.downcast_ref::<String>().map(|s| &**s))
+    }
+
+    /// Returns the payload, for `std::panic::resume_unwind`.
+    #[must_use]
+    pub fn into_inner(self) -> Box<dyn Any + Send> {
+        self.0
+    }
+}
+
+impl fmt::Debug for Panic {
+    fn fmt(&self, f: &mut fmt::Formatter<'_>) -> fmt::Result {
+        match self.message() {
+            Some(message) => write!(f, "Panic({message:?})"),
+            None => f.write_str("Panic(..)"),
+        }
+    }
+}
+
 /// Why a task has no output.
 pub enum JoinError {
     /// It panicked with this.
-    Panicked(Box<dyn Any + Send>),
+    Panicked(Panic),
     /// `JoinHandle::abort` ended it.
     Aborted,
     /// The runtime ended before it did.
@@ -36,16 +64,43 @@ pub enum JoinError {
 }
 
 impl JoinError {
+    /// Returns true if the task panicked.
+    #[must_use]
     pub fn is_panic(&self) -> bool {
         matches!(self, JoinError::Panicked(_))
+    }
+
+    /// Returns true if the task was aborted, or the runtime ended before it did.
+    #[must_use]
+    pub fn is_cancelled(&self) -> bool {
+        !self.is_panic()
+    }
+
+    /// Returns what the task panicked with, for `std::panic::resume_unwind`.
+    ///
+    /// # Panics
+    /// If the task didn't panic; see `try_into_panic`.
+    #[must_use]
+    #[track_caller]
+    pub fn into_panic(self) -> Box<dyn Any + Send> {
+        match self.try_into_panic() {
+            Ok(payload) => payload,
+            Err(error) => panic!("no panic: {error}"),
+        }
+    }
+
+    /// Returns what the task panicked with, or this error if it didn't panic.
+    pub fn try_into_panic(self) -> Result<Box<dyn Any + Send>, JoinError> {
+        match self {
+            JoinError::Panicked(panic) => Ok(panic.into_inner()),
+            other => Err(other),
+        }
     }
 
     /// What it panicked with, where that is a text.
     fn message(&self) -> Option<&str> {
         match self {
-            JoinError::Panicked(with) => {
-                with.downcast_ref::<&str>().copied().or(with.downcast_ref::<String>().map(|s| &**s))
-            }
+            JoinError::Panicked(panic) => panic.message(),
             _ => None,
         }
     }
@@ -251,7 +306,7 @@ unsafe fn poll<F: Future>(header: *mut Header, cx: &mut Context<'_>) -> bool {
     let output = match polled {
         Ok(Poll::Pending) => return false,
         Ok(Poll::Ready(output)) => Ok(output),
-        Err(payload) => Err(JoinError::Panicked(payload)),
+        Err(payload) => Err(JoinError::Panicked(Panic(payload))),
     };
     lay(stage, output);
     true
@@ -268,7 +323,7 @@ unsafe fn lay<F: Future>(stage: *mut Stage<F>, output: Result<F::Output, JoinErr
     let output = match (dropped, output) {
         (Err(payload), Ok(output)) => {
             let _ = catch_unwind(AssertUnwindSafe(|| drop(output)));
-            Err(JoinError::Panicked(payload))
+            Err(JoinError::Panicked(Panic(payload)))
         }
         (_, output) => output,
     };

@@ -758,3 +758,36 @@ fn each_kernel_thread_is_started_before_its_first_task() {
     drop(runtime);
     assert_eq!(count.load(SeqCst), 2);
 }
+
+/// As a caller has it whose errors are boxed.
+async fn boxed(task: arachne::JoinHandle<u8>) -> Result<u8, Box<dyn std::error::Error + Send + Sync>> {
+    Ok(task.await?)
+}
+
+#[test]
+fn a_panic_is_an_error_and_can_go_on() {
+    let runtime = Runtime::new(1);
+    let panics = || {
+        runtime.spawn(async {
+            if true {
+                std::panic::panic_any(7u32);
+            }
+            0
+        })
+    };
+    let error = block_on(boxed(panics())).unwrap_err();
+    assert!(error.downcast_ref::<JoinError>().unwrap().is_panic());
+    let error = block_on(panics()).unwrap_err();
+    assert!(!error.is_cancelled() && format!("{error:?}, {error}") == "Panicked(..), the task panicked");
+    assert_eq!(*error.into_panic().downcast::<u32>().unwrap(), 7);
+    // One that was aborted has nothing to go on with.
+    let waits = runtime.spawn(std::future::pending::<u8>());
+    waits.abort();
+    let error = block_on(boxed(waits)).unwrap_err().downcast::<JoinError>().unwrap();
+    assert!(error.is_cancelled() && matches!(error.try_into_panic(), Err(JoinError::Aborted)));
+    // A text is told.
+    match block_on(runtime.spawn(async { panic!("on {}", "purpose") })) {
+        Err::<(), _>(JoinError::Panicked(panic)) => assert_eq!(panic.message(), Some("on purpose")),
+        _ => unreachable!(),
+    }
+}
