@@ -157,6 +157,12 @@ impl fmt::Display for Elapsed {
 }
 impl std::error::Error for Elapsed {}
 
+impl From<Elapsed> for std::io::Error {
+    fn from(elapsed: Elapsed) -> std::io::Error {
+        std::io::Error::new(std::io::ErrorKind::TimedOut, elapsed)
+    }
+}
+
 /// See `timeout`.
 #[must_use = "a timeout does nothing unless it is awaited"]
 pub struct Timeout<F> {

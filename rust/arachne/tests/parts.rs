@@ -120,6 +120,9 @@ fn a_timeout_gives_the_output_or_elapsed() {
     assert_eq!(runtime.block_on(timeout(5 * MS, std::future::pending::<()>())), Err(Elapsed));
     let task = runtime.spawn(async { timeout(5 * MS, sleep(LONG)).await });
     assert_eq!(block_on(task).unwrap(), Err(Elapsed));
+    // As an error of a read or write that took too long.
+    let late = async { std::io::Result::Ok(timeout(MS, std::future::pending::<()>()).await?) };
+    assert_eq!(runtime.block_on(late).unwrap_err().kind(), std::io::ErrorKind::TimedOut);
 }
 
 #[test]
