@@ -1,6 +1,7 @@
 //! Sleeping and time limits: each worker has its timers, which it looks at when it looks at the epoll.
 
 use crate::shared::{here, Context as Worker, Shared};
+use crate::waker::{name_in, NOBODY};
 use std::collections::BTreeMap;
 use std::fmt;
 use std::future::Future;
@@ -93,11 +94,19 @@ impl Timers {
     }
 }
 
+/// Where a sleep waits, and the name of the task whose waker it left there: `NOBODY` where it is no task's of that runtime.
+struct Waits {
+    timers: &'static Timers,
+    key: Key,
+    table: usize,
+    name: u64,
+}
+
 /// A future that is ready at its time; see `sleep`.
 #[must_use = "a sleep does nothing unless it is awaited"]
 pub struct Sleep {
     at: u64,
-    waits: Option<(&'static Timers, Key)>,
+    waits: Option<Waits>,
 }
 
 /// Waits for at least so long; a worker looks at its timers once a millisecond at best.
@@ -120,7 +129,8 @@ impl Sleep {
         if first && me.is_none() {
             shared.ring(0);
         }
-        self.waits = Some((&worker.timers, key));
+        let (table, name) = (shared.table, name_in(waker, shared.table).unwrap_or(NOBODY));
+        self.waits = Some(Waits { timers: &worker.timers, key, table, name });
     }
 }
 
@@ -130,8 +140,12 @@ impl Future for Sleep {
         if now() >= self.at {
             return Poll::Ready(());
         }
-        match self.waits {
-            Some((timers, key)) if timers.renew(key, cx.waker()) => {}
+        match &mut self.waits {
+            // Without a look at the timers: whoever has fired this one since its time came has woken this task.
+            Some(waits) if name_in(cx.waker(), waits.table) == Some(waits.name) => {}
+            Some(waits) if waits.timers.renew(waits.key, cx.waker()) => {
+                waits.name = name_in(cx.waker(), waits.table).unwrap_or(NOBODY);
+            }
             _ => self.start(cx.waker()),
         }
         Poll::Pending
@@ -140,8 +154,8 @@ impl Future for Sleep {
 
 impl Drop for Sleep {
     fn drop(&mut self) {
-        if let Some((timers, key)) = self.waits {
-            timers.remove(key);
+        if let Some(waits) = &self.waits {
+            waits.timers.remove(waits.key);
         }
     }
 }

@@ -201,6 +201,43 @@ fn a_timer_wakes_once() {
 }
 
 #[test]
+fn a_sleep_wakes_whoever_polled_it_last() {
+    let runtime = Runtime::new(2);
+    let (sender, receiver) = channel(1);
+    let (back, comes) = channel(1);
+    // In one task, twice with its waker; then in another, which takes it on to this thread and back to a third.
+    runtime.spawn(async move {
+        let mut sleeps = sleep(150 * MS);
+        for _ in 0..2 {
+            arachne::poll_fn(|cx| Poll::Ready(Pin::new(&mut sleeps).poll(cx).is_ready())).await;
+        }
+        assert!(sender.send(sleeps).await.is_ok());
+        std::future::pending::<()>().await
+    });
+    let second = runtime.spawn(async move {
+        let mut sleeps = receiver.recv().await.unwrap();
+        arachne::poll_fn(|cx| Poll::Ready(Pin::new(&mut sleeps).poll(cx).is_ready())).await;
+        assert!(back.send(sleeps).await.is_ok());
+    });
+    let mut sleeps = runtime.block_on(comes.recv()).unwrap();
+    block_on(second).unwrap();
+    runtime.block_on(arachne::poll_fn(|cx| Poll::Ready(Pin::new(&mut sleeps).poll(cx).is_ready())));
+    let third = runtime.spawn(async move { sleeps.await });
+    block_on(runtime.spawn(arachne::timeout(LONG, third))).unwrap().unwrap().unwrap();
+    // Two tasks, one after the other, without a poll of anyone else between.
+    let (sender, receiver) = channel(1);
+    let first = runtime.spawn(async move {
+        let mut sleeps = sleep(100 * MS);
+        arachne::poll_fn(|cx| Poll::Ready(Pin::new(&mut sleeps).poll(cx).is_ready())).await;
+        assert!(sender.send(sleeps).await.is_ok());
+        std::future::pending::<()>().await
+    });
+    let second = runtime.spawn(async move { receiver.recv().await.unwrap().await });
+    block_on(runtime.spawn(arachne::timeout(LONG, second))).unwrap().unwrap().unwrap();
+    first.abort();
+}
+
+#[test]
 fn the_end_waits_for_work_that_blocks() {
     let runtime = Builder::new(1).blocking_threads(1).build().unwrap();
     let done = Arc::new(AtomicUsize::new(0));
