@@ -1,4 +1,4 @@
-//! TCP over the runtime's reactor. A socket belongs to the runtime in which it first has to wait.
+//! TCP, and other descriptors, over the runtime's reactor. A socket belongs to the runtime in which it first has to wait.
 
 use crate::block_on::poll_fn;
 use crate::drain::is_stopping;
@@ -320,6 +320,55 @@ impl TcpStream {
             }
         }
         Ok(())
+    }
+}
+
+/// Any descriptor that epoll can watch: a socket of Unix or of UDP, a pipe, an eventfd. Its reads and writes are calls of
+/// `S` that return `WouldBlock` where they would wait.
+///
+///     let socket = Async::new(std::net::UdpSocket::bind("127.0.0.1:0")?)?;
+///     let (len, from) = socket.read_with(|socket| socket.recv_from(&mut buffer)).await?;
+pub struct Async<S: AsRawFd>(Source<S>);
+
+impl<S: AsRawFd> Async<S> {
+    /// Takes a descriptor, which doesn't block from then on. It is to stay the same for as long as this has it.
+    pub fn new(source: S) -> io::Result<Async<S>> {
+        sys::set_nonblocking(source.as_raw_fd())?;
+        Ok(Async(Source::new(source)))
+    }
+
+    /// Returns what was taken, for calls that don't wait.
+    pub fn get_ref(&self) -> &S {
+        &self.0.socket
+    }
+
+    /// Calls this until it returns something other than `WouldBlock`, each time once there is something to read.
+    pub async fn read_with<T>(&self, mut attempt: impl FnMut(&S) -> io::Result<T>) -> io::Result<T> {
+        poll_fn(|cx: &mut Context<'_>| self.poll_read_with(cx, &mut attempt)).await
+    }
+
+    /// As `read_with`, each time once there is room to write.
+    pub async fn write_with<T>(&self, mut attempt: impl FnMut(&S) -> io::Result<T>) -> io::Result<T> {
+        poll_fn(|cx: &mut Context<'_>| self.poll_write_with(cx, &mut attempt)).await
+    }
+
+    /// As `read_with`, by a poll. The task that polled last is woken.
+    pub fn poll_read_with<T>(
+        &self,
+        cx: &mut Context<'_>,
+        attempt: impl FnMut(&S) -> io::Result<T>,
+    ) -> Poll<io::Result<T>> {
+        // How much a call moved isn't known, so the descriptor counts as ready until one returns `WouldBlock`.
+        self.0.poll(cx, true, 0, attempt, |_| 0)
+    }
+
+    /// As `write_with`, by a poll. The task that polled last is woken.
+    pub fn poll_write_with<T>(
+        &self,
+        cx: &mut Context<'_>,
+        attempt: impl FnMut(&S) -> io::Result<T>,
+    ) -> Poll<io::Result<T>> {
+        self.0.poll(cx, false, 0, attempt, |_| 0)
     }
 }
 

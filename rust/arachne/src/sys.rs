@@ -24,6 +24,7 @@ extern "C" {
     fn read(fd: i32, bytes: *mut u8, count: usize) -> isize;
     fn write(fd: i32, bytes: *const u8, count: usize) -> isize;
     fn socket(domain: i32, kind: i32, protocol: i32) -> i32;
+    fn fcntl(fd: i32, command: i32, ...) -> i32;
     #[link_name = "listen"]
     fn listen_call(fd: i32, backlog: i32) -> i32;
     fn connect(fd: i32, address: *const u8, len: u32) -> i32;
@@ -89,6 +90,16 @@ pub(crate) fn raise(event: RawFd) {
 pub(crate) fn lower(event: RawFd) {
     let mut count = [0; 8];
     unsafe { read(event, count.as_mut_ptr(), 8) };
+}
+
+/// Lets reads and writes of a descriptor return `WouldBlock`.
+pub(crate) fn set_nonblocking(fd: RawFd) -> io::Result<()> {
+    const GET_FLAGS: i32 = 3;
+    const SET_FLAGS: i32 = 4;
+    // SAFETY: calls with numbers alone.
+    let flags = checked(unsafe { fcntl(fd, GET_FLAGS) })?;
+    // SAFETY: the same.
+    checked(unsafe { fcntl(fd, SET_FLAGS, flags | NON_BLOCKING) }).map(drop)
 }
 
 /// How many connections may wait at a socket that listens already.

@@ -794,3 +794,66 @@ fn a_panic_is_an_error_and_can_go_on() {
         _ => unreachable!(),
     }
 }
+
+#[test]
+fn other_descriptors_are_awaited() {
+    use std::os::unix::net::UnixStream;
+    let runtime = Runtime::new(2);
+    // A megabyte through a socket of Unix that has room for less, there and back.
+    let (near, far) = UnixStream::pair().unwrap();
+    let bytes: Vec<u8> = (0..1_000_000u32).map(|i| (i % 251) as u8).collect();
+    let echoes = runtime.spawn(async move {
+        let (far, mut buffer) = (net::Async::new(far).unwrap(), [0; 7000]);
+        loop {
+            let len = far.read_with(|mut far| far.read(&mut buffer)).await.unwrap();
+            let mut at = 0;
+            while at != len {
+                at += far.write_with(|mut far| far.write(&buffer[at..len])).await.unwrap();
+            }
+            if len == 0 {
+                return;
+            }
+        }
+    });
+    let near = Arc::new(net::Async::new(near).unwrap());
+    let (writes, sent) = (near.clone(), bytes.clone());
+    let writer = runtime.spawn(async move {
+        let mut at = 0;
+        while at != sent.len() {
+            at += writes.write_with(|mut near| near.write(&sent[at..])).await.unwrap();
+        }
+        writes.get_ref().shutdown(std::net::Shutdown::Write).unwrap();
+    });
+    let reader = runtime.spawn(async move {
+        let (mut got, mut buffer) = (Vec::new(), [0; 9000]);
+        loop {
+            match near.read_with(|mut near| near.read(&mut buffer)).await.unwrap() {
+                0 => return got,
+                len => got.extend_from_slice(&buffer[..len]),
+            }
+        }
+    });
+    block_on(writer).unwrap();
+    block_on(echoes).unwrap();
+    assert!(block_on(reader).unwrap() == bytes);
+    // Datagrams of UDP.
+    let socket = || net::Async::new(std::net::UdpSocket::bind("127.0.0.1:0").unwrap()).unwrap();
+    let (near, far) = (socket(), socket());
+    let to = far.get_ref().local_addr().unwrap();
+    runtime.spawn(async move {
+        let mut buffer = [0; 16];
+        loop {
+            let (len, from) = far.read_with(|far| far.recv_from(&mut buffer)).await.unwrap();
+            far.write_with(|far| far.send_to(&buffer[..len], from)).await.unwrap();
+        }
+    });
+    let asks = runtime.spawn(async move {
+        let mut buffer = [0; 16];
+        for i in 0..500u64 {
+            near.write_with(|near| near.send_to(&i.to_le_bytes(), to)).await.unwrap();
+            let (len, _) = near.read_with(|near| near.recv_from(&mut buffer)).await.unwrap();
+            assert_eq!(buffer[..len], i.to_le_bytes());
+        }
+    });
+    block_on(asks).unwrap();
+}
