@@ -1,0 +1,36 @@
+//! "Five minutes" of docs/rust.md as a whole program: what a connection sends comes back. echo [CORES PORT], on 127.0.0.1.
+//! It ends at SIGTERM, once each connection has ended or a second is over.
+use arachne::net::{TcpListener, TcpStream};
+use std::io;
+use std::time::Duration;
+
+async fn serve(stream: TcpStream) -> io::Result<()> {
+    let mut buffer = [0; 4096];
+    loop {
+        match stream.read(&mut buffer).await? {
+            0 => return Ok(()),
+            len => stream.write_all(&buffer[..len]).await?,
+        }
+    }
+}
+
+fn main() -> io::Result<()> {
+    let mut words = std::env::args().skip(1).map(|word| word.parse::<u16>().expect("echo [CORES PORT]"));
+    let cores = words.next().map_or(arachne::available_cores(), usize::from);
+    let end = arachne::Signal::heard(15)?; // SIGTERM
+    let runtime = arachne::Builder::new(cores).build()?;
+    let listener = TcpListener::bind(("127.0.0.1", words.next().unwrap_or(7000)))?;
+    runtime.spawn(async move {
+        loop {
+            match listener.accept().await {
+                Ok((stream, _)) => drop(arachne::spawn_balanced(serve(stream))),
+                Err(_) if arachne::is_stopping() => break, // all who had connected before were accepted
+                Err(_) => arachne::sleep(Duration::from_millis(10)).await, // no descriptor is free, say
+            }
+        }
+    });
+    println!("ready");
+    end.wait();
+    runtime.shutdown_within(Duration::from_secs(1));
+    Ok(())
+}
