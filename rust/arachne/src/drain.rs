@@ -95,7 +95,7 @@ impl Drop for Stopping {
 /// What `Runtime::shutdown_within` found.
 #[derive(Clone, Copy, PartialEq, Eq, Debug)]
 pub struct Ended {
-    /// Tasks that had not ended by the deadline, and were dropped.
+    /// Tasks that had not ended by the deadline, and were dropped; without those of `spawn_background`.
     pub aborted: u64,
 }
 
@@ -106,16 +106,17 @@ impl Runtime {
     }
 
     /// Stops accepting (once nobody waits to be accepted `TcpListener::accept` answers an error), `stopping` is ready,
-    /// waits until every task has ended, and at the deadline drops those that have not. Returns once all kernel threads
+    /// waits until every task has ended but for those of `spawn_background`, and then, or at the deadline, drops those
+    /// that have not. Returns once all kernel threads
     /// are joined: a poll, or work on the blocking pool, that runs at the deadline is waited for.
     pub fn shutdown_within(self, deadline: Duration) -> Ended {
         let until = Instant::now() + deadline;
         self.shared().draining.begin();
-        let busy = || self.live() != 0 || self.shared().blocking.is_busy();
+        let busy = || self.shared().awaited() != 0 || self.shared().blocking.is_busy();
         while busy() && Instant::now() < until {
             thread::sleep(Duration::from_micros(500));
         }
-        let aborted = self.live();
+        let aborted = self.shared().awaited();
         self.shutdown();
         Ended { aborted }
     }

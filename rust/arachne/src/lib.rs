@@ -40,6 +40,6 @@ pub use lock::{Guard, Lock, Locking};
 pub use observe::{Doing, Hooks, TaskInfo, HISTOGRAM};
 pub use runtime::{Builder, Runtime, Stats, WorkerStats};
 pub use semaphore::{Acquire, Permit, Semaphore};
-pub use spawn::{spawn, spawn_balanced, spawn_named, Refused};
+pub use spawn::{spawn, spawn_background, spawn_balanced, spawn_named, Refused};
 pub use task::{About, JoinError, JoinHandle, Label, Panic};
 pub use timer::{sleep, sleep_until, timeout, Elapsed, Sleep, Timeout};

@@ -234,6 +234,16 @@ impl Runtime {
         self.shared.spawn_task(future, About { spawned: Location::caller(), name: Some(Label::of(name)) }, false)
     }
 
+    /// As `spawn`, for a task that `shutdown_within` doesn't wait for; see the function of this name.
+    #[track_caller]
+    pub fn spawn_background<F>(&self, future: F) -> JoinHandle<F::Output>
+    where
+        F: Future + Send + 'static,
+        F::Output: Send + 'static,
+    {
+        self.shared.spawn_background(future, About { spawned: Location::caller(), name: None })
+    }
+
     /// As `spawn`, unless no place is free, or tasks wait for one: the future comes back.
     #[track_caller]
     pub fn try_spawn<F>(&self, future: F) -> Result<JoinHandle<F::Output>, Refused<F>>

@@ -64,6 +64,8 @@ pub(crate) struct Shared {
     pub(crate) draining: Draining,
     /// Tasks spawned from outside.
     pub(crate) spawned: Line<AtomicU64>,
+    /// Tasks that a drain doesn't wait for: how many were spawned, and how many of their futures are dropped.
+    pub(crate) background: (AtomicU64, AtomicU64),
     pub(crate) counts: Counts,
 }
 
@@ -252,6 +254,7 @@ impl Shared {
             observer: Observer::new(if observed { places } else { 0 }),
             draining: Draining::default(),
             spawned: Line::default(),
+            background: Default::default(),
             counts: Counts::default(),
         }))))
     }
@@ -273,13 +276,34 @@ impl Shared {
         self.observer.reset();
         self.draining.reset();
         self.spawned.0.store(0, SeqCst);
+        self.background.0.store(0, SeqCst);
+        self.background.1.store(0, SeqCst);
+    }
+
+    fn sum(&self, count: fn(&Worker) -> &AtomicU64) -> u64 {
+        self.workers.iter().map(|worker| count(&worker.0).load(SeqCst)).sum()
+    }
+
+    fn ended(&self) -> i64 {
+        (self.sum(|worker| &worker.ended) + self.counts.ended_elsewhere.load(SeqCst)) as i64
+    }
+
+    fn spawned(&self) -> i64 {
+        (self.spawned.0.load(SeqCst) + self.sum(|worker| &worker.spawned)) as i64
     }
 
     /// Tasks that were spawned and have not ended.
     pub(crate) fn live(&self) -> u64 {
-        let sum = |count: fn(&Worker) -> &AtomicU64| self.workers.iter().map(|w| count(&w.0).load(SeqCst)).sum::<u64>();
-        let ended = sum(|w| &w.ended) + self.counts.ended_elsewhere.load(SeqCst);
-        (self.spawned.0.load(SeqCst) + sum(|w| &w.spawned)).saturating_sub(ended)
+        let ended = self.ended();
+        (self.spawned() - ended).max(0) as u64
+    }
+
+    /// Those of them for which a drain waits; never too few, whatever happens meanwhile. A task in the background is
+    /// counted as such after it is counted as spawned, and no longer before it is counted as ended.
+    pub(crate) fn awaited(&self) -> u64 {
+        let ended = self.ended() - self.background.1.load(SeqCst) as i64;
+        let background = self.background.0.load(SeqCst) as i64;
+        (self.spawned() - background - ended).max(0) as u64
     }
 
     /// A worker has woken a task that waited.

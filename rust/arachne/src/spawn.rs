@@ -6,7 +6,9 @@ use crate::task::{self, About, JoinHandle, Label, Raw};
 use std::fmt;
 use std::future::Future;
 use std::panic::Location;
+use std::pin::Pin;
 use std::sync::atomic::Ordering::*;
+use std::task::{self as std_task, Poll};
 
 /// Tasks from outside that go to one worker before the next one gets some.
 const IN_A_ROW: usize = 16;
@@ -17,6 +19,28 @@ pub struct Refused<F>(pub F);
 impl<F> fmt::Debug for Refused<F> {
     fn fmt(&self, f: &mut fmt::Formatter<'_>) -> fmt::Result {
         f.write_str("Refused")
+    }
+}
+
+/// A future that is counted for as long as it isn't dropped.
+struct Background<F> {
+    future: F,
+    _counted: Counted,
+}
+
+struct Counted(&'static Shared);
+impl Drop for Counted {
+    fn drop(&mut self) {
+        self.0.background.1.fetch_add(1, SeqCst);
+    }
+}
+
+impl<F: Future> Future for Background<F> {
+    type Output = F::Output;
+    #[inline]
+    fn poll(self: Pin<&mut Self>, cx: &mut std_task::Context<'_>) -> Poll<F::Output> {
+        // SAFETY: the future is not moved out of `self`, which has no Drop of its own.
+        unsafe { self.map_unchecked_mut(|this| &mut this.future) }.poll(cx)
     }
 }
 
@@ -151,6 +175,16 @@ impl Shared {
         handle
     }
 
+    pub(crate) fn spawn_background<F>(&'static self, future: F, about: About) -> JoinHandle<F::Output>
+    where
+        F: Future + Send + 'static,
+        F::Output: Send + 'static,
+    {
+        let handle = self.spawn_task(Background { future, _counted: Counted(self) }, about, false);
+        self.background.0.fetch_add(1, SeqCst);
+        handle
+    }
+
     /// As `spawn_task`, or the future back.
     pub(crate) fn try_spawn_task<F>(&'static self, future: F, about: About) -> Result<JoinHandle<F::Output>, Refused<F>>
     where
@@ -213,4 +247,20 @@ where
 {
     let about = About { spawned: Location::caller(), name: None };
     here().expect("spawn outside of a runtime").spawn_task(future, about, true)
+}
+
+/// As `spawn`, for a task that serves the others and doesn't end, such as one that sweeps a store: `Runtime::shutdown_within`
+/// doesn't wait for it. It is dropped once the others have ended, or at the deadline. What it spawns itself is waited
+/// for, unless it is spawned so too.
+///
+/// # Panics
+/// Outside of a runtime.
+#[track_caller]
+pub fn spawn_background<F>(future: F) -> JoinHandle<F::Output>
+where
+    F: Future + Send + 'static,
+    F::Output: Send + 'static,
+{
+    let about = About { spawned: Location::caller(), name: None };
+    here().expect("spawn outside of a runtime").spawn_background(future, about)
 }

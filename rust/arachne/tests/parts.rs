@@ -1,7 +1,7 @@
 //! Each part of the crate on its own: abort, time, channel, semaphore, limits, the end, blocking work, what is observed.
 use arachne::{
-    block_on, channel, net, sleep, spawn, spawn_blocking, spawn_named, stopping, timeout, yield_now, Builder, Doing,
-    Elapsed, Hooks, JoinError, Limit, Lock, Policy, Runtime, Semaphore, SendError, Signal,
+    block_on, channel, net, sleep, spawn, spawn_background, spawn_blocking, spawn_named, stopping, timeout, yield_now,
+    Builder, Doing, Elapsed, Hooks, JoinError, Limit, Lock, Policy, Runtime, Semaphore, SendError, Signal,
 };
 use std::future::Future;
 use std::io::{Read, Write};
@@ -339,6 +339,44 @@ fn what_has_not_ended_by_the_deadline_is_dropped() {
     assert_eq!(runtime.shutdown_within(50 * MS).aborted, 1);
     assert!(start.elapsed() >= 50 * MS);
     assert!(matches!(block_on(stuck), Err(JoinError::Cancelled)));
+}
+
+#[test]
+fn the_end_waits_for_nothing_in_the_background() {
+    let runtime = Runtime::new(2);
+    let (dropped, ended) = (Arc::new(AtomicUsize::new(0)), Arc::new(AtomicUsize::new(0)));
+    let sweeps = |at: OnDrop| async move {
+        loop {
+            sleep(MS).await;
+            let _ = &at;
+        }
+    };
+    let first = runtime.spawn_background(sweeps(OnDrop(dropped.clone())));
+    let (at, ends) = (OnDrop(dropped.clone()), ended.clone());
+    // A task that takes a while to end, and spawns in the background meanwhile; of those some end too.
+    runtime.spawn(async move {
+        drop(spawn_background(sweeps(at)));
+        for _ in 0..300 {
+            spawn_background(yield_now());
+            spawn_background(yield_now()).await.unwrap();
+        }
+        sleep(100 * MS).await;
+        ends.fetch_add(1, SeqCst);
+    });
+    let start = Instant::now();
+    assert_eq!(runtime.shutdown_within(LONG), arachne::Ended { aborted: 0 });
+    assert!(start.elapsed() < LONG);
+    assert_eq!((ended.load(SeqCst), dropped.load(SeqCst)), (1, 2));
+    assert!(matches!(block_on(first), Err(JoinError::Cancelled)));
+    // One that isn't in the background is still counted.
+    let runtime = Runtime::new(2);
+    runtime.spawn_background(std::future::pending::<()>());
+    runtime.spawn(std::future::pending::<()>());
+    while runtime.stats().polls < 2 {
+        thread::yield_now();
+    }
+    assert_eq!(runtime.live(), 2);
+    assert_eq!(runtime.shutdown_within(20 * MS), arachne::Ended { aborted: 1 });
 }
 
 #[test]
