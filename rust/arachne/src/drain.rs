@@ -1,8 +1,9 @@
 //! An orderly end, and a limit of what is accepted.
 
 use crate::runtime::Runtime;
-use crate::shared::{here, Shared};
+use crate::shared::{here, Context as Worker, Shared};
 use crate::sys;
+use crate::waker::is_of_running;
 use std::collections::BTreeMap;
 use std::future::Future;
 use std::io;
@@ -48,11 +49,19 @@ pub struct Stopping {
     shared: Option<&'static Shared>,
     /// Where it waits, and the waker that it left there.
     waits: Option<(u64, Waker)>,
+    /// Polls since the end began in which its task had not looked at a socket before.
+    blind: u32,
 }
 
+/// Such polls at most: a task that chooses by chance what to poll first looks at its socket before in one of them.
+const BLIND: u32 = 4;
+
 /// Waits until `Runtime::shutdown_within` is called: a connection that has nothing in flight ends then.
+///
+/// A task that also waits for a socket is told once it has tried to read in the same poll, in whatever order it polls
+/// the two, so that a request that has come by then is read and is in flight. (It is told after a few polls at most.)
 pub fn stopping() -> Stopping {
-    Stopping { shared: None, waits: None }
+    Stopping { shared: None, waits: None, blind: 0 }
 }
 
 impl Future for Stopping {
@@ -64,6 +73,11 @@ impl Future for Stopping {
         };
         self.shared = Some(shared);
         if shared.draining.has_begun() {
+            if self.waits.is_some() && self.blind < BLIND && is_blind(cx.waker()) {
+                self.blind += 1;
+                cx.waker().wake_by_ref();
+                return Poll::Pending;
+            }
             return Poll::Ready(());
         }
         if self.waits.as_ref().map_or(false, |(_, waker)| waker.will_wake(cx.waker())) {
@@ -82,6 +96,11 @@ impl Future for Stopping {
         }
         Poll::Pending
     }
+}
+
+/// True in a poll of a task, by the task's own waker, that has not tried to read yet.
+fn is_blind(waker: &Waker) -> bool {
+    Worker::with(|worker| worker.map_or(false, |worker| is_of_running(waker, worker) && worker.reads.get() == 0))
 }
 
 impl Drop for Stopping {

@@ -114,11 +114,11 @@ impl<S: AsRawFd> Source<S> {
         moved: impl Fn(&T) -> usize,
     ) -> Poll<io::Result<T>> {
         let may_read = || !reads || may_read(cx.waker());
-        let io = match self.at.get() {
-            Some(at) => &at.io,
-            None if !may_read() => &self.registered()?.io,
+        let at = match self.at.get() {
+            Some(at) => at,
+            None if !may_read() => self.registered()?,
             None => match attempt(&self.socket) {
-                Err(error) if error.kind() == WouldBlock => &self.registered()?.io,
+                Err(error) if error.kind() == WouldBlock => self.registered()?,
                 Err(error) if error.kind() == io::ErrorKind::Interrupted => {
                     cx.waker().wake_by_ref();
                     return Poll::Pending;
@@ -126,15 +126,21 @@ impl<S: AsRawFd> Source<S> {
                 done => return Poll::Ready(done),
             },
         };
+        let io = &at.io;
         let (ready, closed, slot) =
             if reads { (READ, READ_CLOSED, &io.reader) } else { (WRITE, WRITE_CLOSED, &io.writer) };
         let mut state = io.state.load(Acquire);
+        let mut untold = false;
         loop {
             if state & (ready | closed) == 0 {
                 slot.set(cx.waker());
                 state = io.state.load(SeqCst);
                 if state & (ready | closed) == 0 {
-                    return Poll::Pending;
+                    // Once the end has begun, what has come and nobody was told of yet is read too.
+                    if untold || !reads || !at.shared.draining.has_begun() {
+                        return Poll::Pending;
+                    }
+                    untold = true;
                 }
             }
             if !may_read() {

@@ -342,6 +342,68 @@ fn what_has_not_ended_by_the_deadline_is_dropped() {
 }
 
 #[test]
+fn what_has_come_when_the_end_begins_is_read() {
+    const COUNT: usize = 50;
+    let runtime = Runtime::new(1);
+    let listener = net::TcpListener::bind("127.0.0.1:0").unwrap();
+    let to = listener.local_addr().unwrap();
+    runtime.spawn(async move {
+        for i in 0..COUNT {
+            let (stream, _) = listener.accept().await.unwrap();
+            spawn(async move {
+                let (mut end, mut buffer) = (stopping(), [0; 16]);
+                loop {
+                    // Half of them look whether the end has begun before they look at the socket.
+                    let next = arachne::poll_fn(|cx| {
+                        let ends = i % 2 == 0 && std::pin::Pin::new(&mut end).poll(cx).is_ready();
+                        match stream.poll_read(cx, &mut buffer) {
+                            _ if ends => Poll::Ready(0),
+                            Poll::Ready(len) => Poll::Ready(len.unwrap()),
+                            Poll::Pending => std::pin::Pin::new(&mut end).poll(cx).map(|()| 0),
+                        }
+                    });
+                    match next.await {
+                        0 => return,
+                        len => stream.write_all(&buffer[..len]).await.unwrap(),
+                    }
+                }
+            });
+        }
+    });
+    let ask = |mut stream: &std::net::TcpStream, byte| stream.write_all(&[byte]).unwrap();
+    let answer = |mut stream: &std::net::TcpStream| {
+        let mut byte = [0];
+        stream.read_exact(&mut byte).map(|()| byte[0])
+    };
+    let streams: Vec<_> = (0..COUNT).map(|_| std::net::TcpStream::connect(to).unwrap()).collect();
+    streams.iter().for_each(|stream| ask(stream, 1));
+    streams.iter().for_each(|stream| assert_eq!(answer(stream).unwrap(), 1));
+    // The one worker looks at no socket until the end has begun, and reads then what nobody was told of.
+    let near = std::net::TcpListener::bind("127.0.0.1:0").unwrap();
+    let far = std::net::TcpStream::connect(near.local_addr().unwrap()).unwrap();
+    let near = net::TcpStream::from_std(near.accept().unwrap().0).unwrap();
+    let (runs, told) = (Arc::new(AtomicBool::new(false)), Arc::new(AtomicBool::new(false)));
+    let (begun, may_end) = (runs.clone(), told.clone());
+    let reads = runtime.spawn(arachne::poll_fn(move |cx| {
+        assert!(near.poll_read(cx, &mut [0]).is_pending());
+        begun.store(true, SeqCst);
+        while !arachne::is_stopping() || !may_end.load(SeqCst) {
+            thread::yield_now();
+        }
+        Poll::Ready(near.poll_read(cx, &mut [0]).is_ready())
+    }));
+    while !runs.load(SeqCst) {
+        thread::yield_now();
+    }
+    streams.iter().chain([&far]).for_each(|stream| ask(stream, 2));
+    told.store(true, SeqCst);
+    assert_eq!(runtime.shutdown_within(LONG), arachne::Ended { aborted: 0 });
+    let lost = streams.iter().filter(|stream| answer(stream).ok() != Some(2)).count();
+    assert_eq!(lost, 0, "of {COUNT}");
+    assert!(block_on(reads).unwrap());
+}
+
+#[test]
 fn the_end_waits_for_nothing_in_the_background() {
     let runtime = Runtime::new(2);
     let (dropped, ended) = (Arc::new(AtomicUsize::new(0)), Arc::new(AtomicUsize::new(0)));
