@@ -51,7 +51,7 @@ impl Builder {
             policy: None,
             pin: false,
             slice: Some(Duration::from_micros(100)),
-            blocking: 64,
+            blocking: 512,
             observed: false,
             hooks: None,
             starts: None,
@@ -87,7 +87,8 @@ impl Builder {
         self
     }
 
-    /// Kernel threads for `spawn_blocking` at most.
+    /// Kernel threads for `spawn_blocking` at most: 512 unless it is said here. One is begun where none is idle, and ends
+    /// after five seconds without work.
     pub fn blocking_threads(mut self, most: usize) -> Builder {
         self.blocking = most;
         self

@@ -275,6 +275,19 @@ fn work_that_blocks_has_threads_of_its_own() {
 }
 
 #[test]
+fn two_hundred_block_at_once() {
+    let runtime = Runtime::new(1);
+    // None of them ends before all have begun.
+    let all = Arc::new(std::sync::Barrier::new(200));
+    let work = |_| {
+        let all = all.clone();
+        runtime.enter(|| spawn_blocking(move || all.wait().is_leader()))
+    };
+    let tasks: Vec<_> = (0..200).map(work).collect();
+    assert_eq!(tasks.into_iter().map(|task| block_on(task).unwrap() as usize).sum::<usize>(), 1);
+}
+
+#[test]
 fn what_has_no_place_is_refused_or_waits() {
     let runtime = Builder::new(1).places(1).build().unwrap();
     let gate = Arc::new(Semaphore::new(0));
