@@ -1,6 +1,7 @@
 //! A future on the kernel thread that calls, and a task's yield.
 
 use std::cell::RefCell;
+use std::fmt;
 use std::future::Future;
 use std::pin::Pin;
 use std::sync::atomic::{AtomicBool, Ordering::*};
@@ -75,6 +76,12 @@ impl Future for Yield {
 /// A future from a function that polls. It may be moved between polls.
 pub struct PollFn<F>(F);
 impl<F> Unpin for PollFn<F> {}
+
+impl<F> fmt::Debug for PollFn<F> {
+    fn fmt(&self, f: &mut fmt::Formatter<'_>) -> fmt::Result {
+        f.write_str("PollFn")
+    }
+}
 
 /// As std's, which rustc 1.63 lacks.
 pub fn poll_fn<T, F: FnMut(&mut Context<'_>) -> Poll<T>>(poll: F) -> PollFn<F> {

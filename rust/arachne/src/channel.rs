@@ -178,6 +178,12 @@ pub struct Send<'a, T> {
 }
 impl<T> Unpin for Send<'_, T> {}
 
+impl<T> fmt::Debug for Send<'_, T> {
+    fn fmt(&self, f: &mut fmt::Formatter<'_>) -> fmt::Result {
+        f.write_str("Send")
+    }
+}
+
 impl<T> Future for Send<'_, T> {
     type Output = Result<(), T>;
     fn poll(mut self: Pin<&mut Self>, cx: &mut Context<'_>) -> Poll<Result<(), T>> {
@@ -227,6 +233,12 @@ impl<T> Drop for Send<'_, T> {
 pub struct Recv<'a, T> {
     channel: &'a Mutex<State<T>>,
     node: Option<Arc<Node>>,
+}
+
+impl<T> fmt::Debug for Recv<'_, T> {
+    fn fmt(&self, f: &mut fmt::Formatter<'_>) -> fmt::Result {
+        f.write_str("Recv")
+    }
 }
 
 impl<T> Future for Recv<'_, T> {

@@ -5,6 +5,7 @@ use crate::shared::{here, Context as Worker, Shared};
 use crate::sys;
 use crate::waker::is_of_running;
 use std::collections::BTreeMap;
+use std::fmt;
 use std::future::Future;
 use std::io;
 use std::pin::Pin;
@@ -62,6 +63,12 @@ const BLIND: u32 = 4;
 /// the two, so that a request that has come by then is read and is in flight. (It is told after a few polls at most.)
 pub fn stopping() -> Stopping {
     Stopping { shared: None, waits: None, blind: 0 }
+}
+
+impl fmt::Debug for Stopping {
+    fn fmt(&self, f: &mut fmt::Formatter<'_>) -> fmt::Result {
+        f.write_str("Stopping")
+    }
 }
 
 impl Future for Stopping {
@@ -142,6 +149,7 @@ impl Runtime {
 }
 
 /// A signal that this process hears from now on, in place of what it did at it.
+#[derive(Debug)]
 pub struct Signal(i32);
 
 impl Signal {
@@ -159,10 +167,11 @@ impl Signal {
 }
 
 /// So many of something at once, and no more: the next one is told at once.
-#[derive(Clone)]
+#[derive(Clone, Debug)]
 pub struct Limit(Arc<(AtomicUsize, usize)>);
 
 /// A place under a limit, given back when this is dropped.
+#[derive(Debug)]
 pub struct Ticket(Limit);
 
 impl Limit {

@@ -87,6 +87,12 @@ pub struct Locking<'a, T: ?Sized> {
     node: Option<Arc<Node>>,
 }
 
+impl<T: ?Sized> fmt::Debug for Locking<'_, T> {
+    fn fmt(&self, f: &mut fmt::Formatter<'_>) -> fmt::Result {
+        f.write_str("Locking")
+    }
+}
+
 impl<'a, T: ?Sized> Future for Locking<'a, T> {
     type Output = Guard<'a, T>;
     fn poll(mut self: Pin<&mut Self>, cx: &mut Context<'_>) -> Poll<Guard<'a, T>> {
@@ -148,6 +154,12 @@ pub struct Guard<'a, T: ?Sized> {
 unsafe impl<T: ?Sized + Send> Send for Guard<'_, T> {}
 // SAFETY: a shared guard gives shared access to the value alone.
 unsafe impl<T: ?Sized + Sync> Sync for Guard<'_, T> {}
+
+impl<T: ?Sized + fmt::Debug> fmt::Debug for Guard<'_, T> {
+    fn fmt(&self, f: &mut fmt::Formatter<'_>) -> fmt::Result {
+        (**self).fmt(f)
+    }
+}
 
 impl<T: ?Sized> Deref for Guard<'_, T> {
     type Target = T;

@@ -6,10 +6,11 @@ use crate::reactor::{Io, Key, READ, READ_CLOSED, WRITE, WRITE_CLOSED};
 use crate::shared::{here, Context as Worker, Shared};
 use crate::sys;
 use crate::waker::is_of_running;
+use std::fmt;
 use std::future::Future;
 use std::io::{self, ErrorKind::WouldBlock, IoSlice, Read, Write};
 use std::net::{Shutdown, SocketAddr, ToSocketAddrs};
-use std::os::unix::io::{AsRawFd, FromRawFd};
+use std::os::unix::io::{AsFd, AsRawFd, BorrowedFd, FromRawFd, RawFd};
 use std::pin::Pin;
 use std::sync::atomic::Ordering::*;
 use std::sync::{Arc, Mutex};
@@ -375,6 +376,52 @@ impl<S: AsRawFd> Async<S> {
         attempt: impl FnMut(&S) -> io::Result<T>,
     ) -> Poll<io::Result<T>> {
         self.0.poll(cx, false, 0, attempt, |_| 0)
+    }
+}
+
+impl fmt::Debug for TcpListener {
+    fn fmt(&self, f: &mut fmt::Formatter<'_>) -> fmt::Result {
+        self.0.socket.fmt(f)
+    }
+}
+
+/// For options that this crate has no call for. What is read or written by the descriptor the runtime doesn't see.
+impl AsRawFd for TcpListener {
+    fn as_raw_fd(&self) -> RawFd {
+        self.0.socket.as_raw_fd()
+    }
+}
+
+/// As `AsRawFd`.
+impl AsFd for TcpListener {
+    fn as_fd(&self) -> BorrowedFd<'_> {
+        self.0.socket.as_fd()
+    }
+}
+
+impl fmt::Debug for TcpStream {
+    fn fmt(&self, f: &mut fmt::Formatter<'_>) -> fmt::Result {
+        self.0.socket.fmt(f)
+    }
+}
+
+/// For options that this crate has no call for. What is read or written by the descriptor the runtime doesn't see.
+impl AsRawFd for TcpStream {
+    fn as_raw_fd(&self) -> RawFd {
+        self.0.socket.as_raw_fd()
+    }
+}
+
+/// As `AsRawFd`.
+impl AsFd for TcpStream {
+    fn as_fd(&self) -> BorrowedFd<'_> {
+        self.0.socket.as_fd()
+    }
+}
+
+impl<S: AsRawFd + fmt::Debug> fmt::Debug for Async<S> {
+    fn fmt(&self, f: &mut fmt::Formatter<'_>) -> fmt::Result {
+        f.debug_tuple("Async").field(&self.0.socket).finish()
     }
 }
 

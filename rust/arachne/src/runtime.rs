@@ -11,6 +11,7 @@ use crate::task::{self, About, JoinHandle, Label};
 use crate::timer::now;
 use crate::waker::NOBODY;
 use crate::{sys, watch};
+use std::fmt;
 use std::future::Future;
 use std::io;
 use std::mem::ManuallyDrop;
@@ -40,6 +41,12 @@ pub struct Builder {
     starts: Option<Starts>,
     slow: Option<Duration>,
     log: bool,
+}
+
+impl fmt::Debug for Builder {
+    fn fmt(&self, f: &mut fmt::Formatter<'_>) -> fmt::Result {
+        write!(f, "Builder({} cores, {} places)", self.cores, self.places)
+    }
 }
 
 impl Builder {
@@ -208,6 +215,12 @@ pub struct Runtime {
     shared: &'static Shared,
     threads: Vec<thread::JoinHandle<()>>,
     ended: bool,
+}
+
+impl fmt::Debug for Runtime {
+    fn fmt(&self, f: &mut fmt::Formatter<'_>) -> fmt::Result {
+        write!(f, "Runtime({} workers, {} tasks)", self.shared.workers.len(), self.shared.live())
+    }
 }
 
 impl Runtime {

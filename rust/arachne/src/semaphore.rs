@@ -3,6 +3,7 @@
 use crate::reactor::Slot;
 use crate::shared::here;
 use std::collections::VecDeque;
+use std::fmt;
 use std::future::Future;
 use std::pin::Pin;
 use std::sync::atomic::{AtomicBool, Ordering::*};
@@ -25,6 +26,12 @@ struct State {
 #[derive(Default)]
 pub struct Semaphore {
     state: Mutex<State>,
+}
+
+impl fmt::Debug for Semaphore {
+    fn fmt(&self, f: &mut fmt::Formatter<'_>) -> fmt::Result {
+        write!(f, "Semaphore({} available)", self.available())
+    }
 }
 
 impl Semaphore {
@@ -86,6 +93,12 @@ pub struct Acquire<'a> {
     node: Option<Arc<Node>>,
 }
 
+impl fmt::Debug for Acquire<'_> {
+    fn fmt(&self, f: &mut fmt::Formatter<'_>) -> fmt::Result {
+        write!(f, "Acquire({})", self.wants)
+    }
+}
+
 impl<'a> Future for Acquire<'a> {
     type Output = Permit<'a>;
     fn poll(mut self: Pin<&mut Self>, cx: &mut Context<'_>) -> Poll<Permit<'a>> {
@@ -132,6 +145,12 @@ impl Drop for Acquire<'_> {
 pub struct Permit<'a> {
     semaphore: &'a Semaphore,
     count: usize,
+}
+
+impl fmt::Debug for Permit<'_> {
+    fn fmt(&self, f: &mut fmt::Formatter<'_>) -> fmt::Result {
+        write!(f, "Permit({})", self.count)
+    }
 }
 
 impl Permit<'_> {

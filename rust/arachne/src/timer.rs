@@ -120,6 +120,12 @@ pub fn sleep_until(moment: Instant) -> Sleep {
     sleep(moment.saturating_duration_since(Instant::now()))
 }
 
+impl fmt::Debug for Sleep {
+    fn fmt(&self, f: &mut fmt::Formatter<'_>) -> fmt::Result {
+        write!(f, "Sleep({:?} to go)", Duration::from_nanos(self.at.saturating_sub(now())))
+    }
+}
+
 impl Sleep {
     fn start(&mut self, waker: &Waker) {
         let shared = here().expect("a sleep outside of a runtime");
@@ -179,6 +185,7 @@ impl From<Elapsed> for std::io::Error {
 
 /// See `timeout`.
 #[must_use = "a timeout does nothing unless it is awaited"]
+#[derive(Debug)]
 pub struct Timeout<F> {
     future: F,
     sleep: Sleep,

@@ -970,3 +970,62 @@ fn other_descriptors_are_awaited() {
     });
     block_on(asks).unwrap();
 }
+
+/// As a program has them that derives Debug for what contains them.
+#[derive(Debug)]
+#[allow(dead_code)]
+struct Shown<'a> {
+    runtime: Runtime,
+    builder: Builder,
+    lock: arachne::Guard<'a, u8>,
+    locking: arachne::Locking<'a, u8>,
+    semaphore: &'a Semaphore,
+    permit: arachne::Permit<'a>,
+    acquire: arachne::Acquire<'a>,
+    send: arachne::Send<'a, u8>,
+    recv: arachne::Recv<'a, u8>,
+    limit: Limit,
+    ticket: arachne::Ticket,
+    stopping: arachne::Stopping,
+    sleep: arachne::Timeout<arachne::Sleep>,
+    listener: net::TcpListener,
+    stream: net::TcpStream,
+    pair: net::Async<std::os::unix::net::UnixStream>,
+}
+
+#[test]
+fn what_is_public_is_shown_and_sockets_have_descriptors() {
+    use std::os::unix::io::{AsFd, AsRawFd};
+    let (lock, semaphore, (sender, receiver)) = (Lock::new(7), Semaphore::new(2), channel(1));
+    let listener = net::TcpListener::bind("127.0.0.1:0").unwrap();
+    let limit = Limit::new(1);
+    let runtime = Runtime::new(1);
+    let stream = runtime.block_on(net::TcpStream::connect(listener.local_addr().unwrap())).unwrap();
+    // Options are set by the descriptor.
+    let options = std::net::TcpStream::from(stream.as_fd().try_clone_to_owned().unwrap());
+    options.set_ttl(17).unwrap();
+    assert_eq!(options.ttl().unwrap(), 17);
+    assert!(stream.as_raw_fd() != listener.as_raw_fd());
+    let shown = Shown {
+        runtime,
+        builder: Builder::new(3),
+        lock: lock.try_lock().unwrap(),
+        locking: lock.lock(),
+        semaphore: &semaphore,
+        permit: semaphore.try_acquire(1).unwrap(),
+        acquire: semaphore.acquire(1),
+        send: sender.send(1),
+        recv: receiver.recv(),
+        ticket: limit.enter().unwrap(),
+        limit,
+        stopping: stopping(),
+        sleep: timeout(MS, sleep(MS)),
+        listener,
+        stream,
+        pair: net::Async::new(std::os::unix::net::UnixStream::pair().unwrap().0).unwrap(),
+    };
+    let text = format!("{shown:?}");
+    let parts =
+        ["Builder(3 cores, 65536 places)", "lock: 7", "Semaphore(1 available)", "TcpListener {", "Async(UnixStream"];
+    parts.iter().for_each(|part| assert!(text.contains(part), "{text} hasn't {part}"));
+}
