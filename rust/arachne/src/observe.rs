@@ -176,7 +176,7 @@ impl Record {
             (Doing::Waits, waits)
         };
         let age = Duration::from_nanos(now.saturating_sub(since));
-        (self.name.load(Acquire) == id + 1).then(|| TaskInfo { id, about: About { spawned, name }, doing, age })
+        (self.name.load(Acquire) == id + 1).then_some(TaskInfo { id, about: About { spawned, name }, doing, age })
     }
 }
 
@@ -189,6 +189,6 @@ impl Shared {
         let spawned: &'static Location<'static> = unsafe { worker.site.load(Relaxed).as_ref()? };
         // SAFETY: the same.
         let label: Option<&'static Label> = unsafe { worker.label.load(Relaxed).as_ref() };
-        (name != crate::waker::NOBODY).then(|| (name, About { spawned, name: label }))
+        (name != crate::waker::NOBODY).then_some((name, About { spawned, name: label }))
     }
 }

@@ -24,6 +24,7 @@ pub(crate) const TABLES: usize = 32;
 /// No worker's number.
 pub(crate) const NO_ONE: usize = usize::MAX;
 
+#[allow(clippy::declare_interior_mutable_const)]
 const NO_TABLE: AtomicPtr<Shared> = AtomicPtr::new(ptr::null_mut());
 static ALL: [AtomicPtr<Shared>; TABLES] = [NO_TABLE; TABLES];
 /// How many of them were made, and those that no runtime has now. They are never freed: a waker may be kept for ever.
@@ -197,7 +198,7 @@ impl Shared {
         let mut pool = POOL.lock().unwrap();
         let alike =
             |s: &&Shared| s.workers.len() == workers && s.roomy.len() == shards && s.observer.is_on() == observed;
-        if let Some(at) = pool.1.iter().position(|s| alike(s)) {
+        if let Some(at) = pool.1.iter().position(alike) {
             let shared = pool.1.swap_remove(at);
             shared.reset();
             return Ok(shared);

@@ -160,6 +160,8 @@ pub(crate) fn pin(cpu: usize) -> bool {
     unsafe { sched_setaffinity(0, 128, mask.as_ptr()) == 0 }
 }
 
+/// To begin with, as rustc 1.63 can't say it within the array.
+#[allow(clippy::declare_interior_mutable_const)]
 const NO_EVENT: AtomicI32 = AtomicI32::new(-1);
 /// By signal, the event to raise.
 static SIGNALLED: [AtomicI32; 65] = [NO_EVENT; 65];
@@ -211,5 +213,5 @@ pub(crate) fn ask_for_slices(nanos: u64) -> Option<()> {
         return None;
     }
     attributes[3] = nanos;
-    (unsafe { syscall(set, 0i32, attributes.as_ptr(), 0u32) } == 0).then(|| ())
+    (unsafe { syscall(set, 0i32, attributes.as_ptr(), 0u32) } == 0).then_some(())
 }

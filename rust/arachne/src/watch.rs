@@ -82,13 +82,13 @@ fn rescue(shared: &'static Shared, hands: &Hands, stuck: u64) {
     let (mut left, until) = (stuck, now() + TURN);
     while left != 0 && now() < until && !shared.stop.load(SeqCst) {
         let mut found = shared.reactor.tell(&shared.reactor.look(EVENTS));
-        for worker in 0..polls.len() {
+        for (worker, before) in polls.iter().enumerate() {
             if left >> worker & 1 == 0 {
                 continue;
             }
             let at = &shared.workers[worker].0;
             found += shared.fire(worker);
-            if at.polls.load(Relaxed) != polls[worker] || at.running.load(Relaxed) == NOBODY {
+            if at.polls.load(Relaxed) != *before || at.running.load(Relaxed) == NOBODY {
                 left &= !(1 << worker);
             }
         }

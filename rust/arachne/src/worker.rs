@@ -507,7 +507,8 @@ impl Shared {
             let stands = other >= active || polls == turn.seen[other];
             turn.seen[other] = polls;
             turn.stood[other] = if other == context.me || !stands { 0 } else { (turn.stood[other] + 1) % LONG };
-            if other == context.me || !stands && !(long_polls && worker.running.load(Relaxed) != NOBODY) {
+            let may_be_long = long_polls && worker.running.load(Relaxed) != NOBODY;
+            if other == context.me || !(stands || may_be_long) {
                 continue;
             }
             let (long, sleeps) = (stands && turn.stood[other] == 0, self.sleepers.0.load(Relaxed) >> other & 1 == 1);
@@ -616,10 +617,9 @@ impl Shared {
                 self.sleepers.0.load(Relaxed) >> other & 1 == 1
                     || last && self.workers[other].0.polls.load(Relaxed) == turn.seen[other]
             };
-            if ready > 1 || ready == 1 && stands() {
-                if self.help(context, turn, other, (ready as usize + 1) / 2) {
-                    return true;
-                }
+            let helps = ready > 1 || ready == 1 && stands();
+            if helps && self.help(context, turn, other, (ready as usize + 1) / 2) {
+                return true;
             }
         }
         false

@@ -40,7 +40,7 @@ impl Handle {
     fn split(&self) -> Option<Handle> {
         let other = Handle::empty();
         // SAFETY: two handles, the second of which holds nothing.
-        (unsafe { arachne_exec_split(self.at(), other.at()) } == ARACHNE_DONE).then(|| other)
+        (unsafe { arachne_exec_split(self.at(), other.at()) } == ARACHNE_DONE).then_some(other)
     }
 }
 
@@ -174,7 +174,9 @@ impl Hands {
                     return Spawned::Ready { name: told.name, unpark: told.unpark != ARACHNE_NOBODY };
                 }
                 (ARACHNE_FULL, _) => {
-                    own.map(|seat| self.is_free(seat));
+                    if let Some(seat) = own {
+                        self.is_free(seat);
+                    }
                     return Spawned::Full;
                 }
                 (code, _) => broken("spawn", code),
@@ -482,7 +484,7 @@ impl LockCore {
         let who = odd_number();
         match self.ask(who) {
             Asked::Granted => Some(who),
-            Asked::Queued => (!self.withdraw(who)).then(|| who),
+            Asked::Queued => (!self.withdraw(who)).then_some(who),
         }
     }
 
@@ -537,7 +539,7 @@ impl Estimator {
         let right = most as usize <= NUMBERS;
         // SAFETY: a pointer to an estimator's room.
         (right && unsafe { arachne_estimator_new(load, hysteresis, most, &mut estimator) })
-            .then(|| Estimator(estimator))
+            .then_some(Estimator(estimator))
     }
 
     pub(crate) fn judge(&mut self, sample: Sample) -> Option<Advice> {

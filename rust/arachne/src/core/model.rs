@@ -326,7 +326,7 @@ impl LockCore {
     /// Takes the lock where it is free; the name in which it is held.
     #[inline]
     pub(crate) fn try_ask(&self) -> Option<u64> {
-        self.state.compare_exchange(FREE, HELD, SeqCst, SeqCst).is_ok().then(|| 1)
+        self.state.compare_exchange(FREE, HELD, SeqCst, SeqCst).is_ok().then_some(1)
     }
 
     /// Asks in a name that nobody else has in this lock: an even number.
