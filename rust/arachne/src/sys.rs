@@ -1,7 +1,6 @@
 //! Linux's calls that the crate needs, declared by hand: epoll, eventfd, sockets, affinity, slices.
 //!
-//! Every `unsafe` block here keeps one rule: the declarations are those of Linux's C library on 64 bits, and each
-//! pointer is to memory that lives through the call. The functions around them are safe.
+//! The declarations are those of Linux's C library on 64 bits. The functions around the calls are safe.
 
 use std::io;
 use std::os::unix::io::RawFd;
@@ -56,39 +55,47 @@ fn checked(result: i32) -> io::Result<i32> {
 }
 
 pub(crate) fn new_epoll() -> io::Result<RawFd> {
+    // SAFETY: a call with numbers alone.
     checked(unsafe { epoll_create1(CLOSE_ON_EXEC) })
 }
 
 pub(crate) fn new_event() -> io::Result<RawFd> {
+    // SAFETY: a call with numbers alone.
     checked(unsafe { eventfd(0, CLOSE_ON_EXEC | NON_BLOCKING) })
 }
 
 pub(crate) fn close_fd(fd: RawFd) {
+    // SAFETY: a call with a number alone; the caller has the descriptor for itself, and doesn't use it again.
     unsafe { close(fd) };
 }
 
 pub(crate) fn watch(epoll: RawFd, fd: RawFd, events: u32, data: u64) -> io::Result<()> {
+    // SAFETY: the event lives through the call, which keeps a copy.
     checked(unsafe { epoll_ctl(epoll, ADD, fd, &mut Event { events, data }) }).map(drop)
 }
 
 pub(crate) fn unwatch(epoll: RawFd, fd: RawFd) {
+    // SAFETY: the event lives through the call, which doesn't read it.
     unsafe { epoll_ctl(epoll, DELETE, fd, &mut Event { events: 0, data: 0 }) };
 }
 
 /// How many of `events` were told; none where the call was interrupted. `timeout` is in milliseconds, -1 for ever.
 pub(crate) fn wait(epoll: RawFd, events: &mut [Event], timeout: i32) -> usize {
+    // SAFETY: the kernel writes at most as many events as the slice has, and any bytes are an event.
     unsafe { epoll_wait(epoll, events.as_mut_ptr(), events.len() as i32, timeout) }.max(0) as usize
 }
 
 /// Raises the event, which makes its descriptor readable.
 pub(crate) fn raise(event: RawFd) {
     let one = 1u64.to_ne_bytes();
+    // SAFETY: there are eight bytes to read from.
     unsafe { write(event, one.as_ptr(), 8) };
 }
 
 /// Clears an event.
 pub(crate) fn lower(event: RawFd) {
     let mut count = [0; 8];
+    // SAFETY: there are eight bytes to write to.
     unsafe { read(event, count.as_mut_ptr(), 8) };
 }
 
@@ -125,7 +132,9 @@ pub(crate) fn start_connect(to: &std::net::SocketAddr) -> io::Result<RawFd> {
         }
     };
     bytes[..2].copy_from_slice(&family.to_ne_bytes());
+    // SAFETY: a call with numbers alone.
     let fd = checked(unsafe { socket(family as i32, 1 | CLOSE_ON_EXEC | NON_BLOCKING, 0) })?;
+    // SAFETY: the address has at least `len` bytes, which are laid out as its family's.
     match checked(unsafe { connect(fd, bytes.as_ptr(), len) }) {
         Err(error) if error.raw_os_error() != Some(IN_PROGRESS) => {
             close_fd(fd);
@@ -139,6 +148,7 @@ pub(crate) fn start_connect(to: &std::net::SocketAddr) -> io::Result<RawFd> {
 #[inline]
 pub(crate) fn now() -> u64 {
     let mut time = [0i64; 2];
+    // SAFETY: there is room for a time: two words of 64 bits.
     unsafe { clock_gettime(1, &mut time) };
     time[0] as u64 * 1_000_000_000 + time[1] as u64
 }
@@ -146,6 +156,7 @@ pub(crate) fn now() -> u64 {
 /// The processors that this kernel thread may run on.
 pub(crate) fn affinity() -> Vec<usize> {
     let mut mask = [0u64; 16];
+    // SAFETY: the mask has the 128 bytes that are said.
     let len = unsafe { sched_getaffinity(0, 128, mask.as_mut_ptr()) };
     if len < 0 {
         return Vec::new();
@@ -157,6 +168,7 @@ pub(crate) fn affinity() -> Vec<usize> {
 pub(crate) fn pin(cpu: usize) -> bool {
     let mut mask = [0u64; 16];
     mask[cpu / 64 % 16] = 1 << (cpu % 64);
+    // SAFETY: the mask has the 128 bytes that are said.
     unsafe { sched_setaffinity(0, 128, mask.as_ptr()) == 0 }
 }
 
@@ -177,6 +189,7 @@ extern "C" fn handler(number: i32) {
 pub(crate) fn raise_at(number: i32, event: RawFd) -> io::Result<()> {
     let kept = SIGNALLED.get(number as usize).ok_or(io::ErrorKind::InvalidInput)?;
     kept.store(event, SeqCst);
+    // SAFETY: the handler is a function of C's convention that lives for ever, and makes one call that a handler may.
     match unsafe { signal(number, handler as extern "C" fn(i32) as usize) } {
         usize::MAX => Err(io::Error::last_os_error()),
         _ => Ok(()),
@@ -186,11 +199,13 @@ pub(crate) fn raise_at(number: i32, event: RawFd) -> io::Result<()> {
 /// Waits until the event is raised, and clears it.
 pub(crate) fn await_event(event: RawFd) -> bool {
     let mut count = [0; 8];
+    // SAFETY: there are eight bytes to write to.
     unsafe { read(event, count.as_mut_ptr(), 8) == 8 }
 }
 
 /// As `new_event`, one that blocks who waits for it.
 pub(crate) fn new_blocking_event() -> io::Result<RawFd> {
+    // SAFETY: a call with numbers alone.
     checked(unsafe { eventfd(0, CLOSE_ON_EXEC) })
 }
 
@@ -208,10 +223,13 @@ pub(crate) fn ask_for_slices(nanos: u64) -> Option<()> {
     let (set, get) = SCHEDULING?;
     // Its own length and the policy, flags, priorities, the slice, and three that the usual policy doesn't have.
     let mut attributes = [0u64; 7];
+    // SAFETY: the attributes have the 56 bytes that are said.
     let got = unsafe { syscall(get, 0i32, attributes.as_mut_ptr(), 56u32, 0u32) };
     if got != 0 || attributes[0] >> 32 != 0 {
         return None;
     }
     attributes[3] = nanos;
-    (unsafe { syscall(set, 0i32, attributes.as_ptr(), 0u32) } == 0).then_some(())
+    // SAFETY: the attributes have as many bytes as their first word says, which the call above has written.
+    let was_set = unsafe { syscall(set, 0i32, attributes.as_ptr(), 0u32) };
+    (was_set == 0).then_some(())
 }

@@ -106,12 +106,13 @@ impl Parking {
     ///
     /// It is asked by `next`, which also hides blocks that were found empty; a job that this finds is ready again.
     pub(crate) fn park(&self) -> bool {
-        // SAFETY, here and below: a handle.
+        // SAFETY: a handle.
         let told = unsafe { arachne_exec_next(self.0.at()) };
         match told.code {
             ARACHNE_PARK => true,
             ARACHNE_AGAIN => false,
             ARACHNE_RUN => {
+                // SAFETY: a handle.
                 let rested = unsafe { arachne_exec_rest_ready(self.0.at()) };
                 if rested.code != ARACHNE_READY {
                     broken("rest_ready", rested.code);
@@ -162,9 +163,10 @@ impl Hands {
     pub(crate) fn spawn(&self, block: usize, job: u64, keep: bool) -> Spawned {
         let own = if keep { self.last_free() } else { None };
         loop {
-            // SAFETY, here and below: a handle.
             let told = match own {
+                // SAFETY: a handle.
                 Some(seat) => unsafe { arachne_exec_spawn_here(self.seat(seat), block, job) },
+                // SAFETY: a handle.
                 None => unsafe { arachne_exec_spawn(self.any(), block, job) },
             };
             match (told.code, own) {
@@ -313,9 +315,10 @@ impl Hands {
     pub(crate) fn wake(&self, name: u64, keep: bool) -> Woken {
         let own = if keep { self.last_free() } else { None };
         loop {
-            // SAFETY, here and below: a handle.
             let told = match own {
+                // SAFETY: a handle.
                 Some(seat) => unsafe { arachne_exec_wake_here(self.seat(seat), name) },
+                // SAFETY: a handle.
                 None => unsafe { arachne_exec_wake(self.any(), name) },
             };
             let woken = match told.code {
