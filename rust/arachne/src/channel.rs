@@ -70,7 +70,9 @@ fn leave(line: &mut VecDeque<Arc<Node>>, node: &Arc<Node>) -> Option<Arc<Node>> 
 /// The receivers are gone, or the channel is full: the value comes back.
 #[derive(Clone, Copy, PartialEq, Eq)]
 pub enum SendError<T> {
+    /// The receivers are gone.
     Closed(T),
+    /// There is no room.
     Full(T),
 }
 
@@ -98,6 +100,7 @@ pub struct Sender<T>(Arc<Mutex<State<T>>>);
 pub struct Receiver<T>(Arc<Mutex<State<T>>>);
 
 /// A channel with room for so many values, at least one.
+#[must_use]
 pub fn channel<T>(room: usize) -> (Sender<T>, Receiver<T>) {
     let state = State {
         values: VecDeque::new(),
@@ -128,6 +131,7 @@ impl<T> Sender<T> {
         Send { channel: &self.0, value: Some(value), node: None }
     }
 
+    /// Sends if there is room now.
     pub fn try_send(&self, value: T) -> Result<(), SendError<T>> {
         let mut state = self.0.lock().unwrap();
         if state.receivers == 0 {
@@ -150,7 +154,8 @@ impl<T> Receiver<T> {
         Recv { channel: &self.0, node: None }
     }
 
-    /// The next value, where one is there.
+    /// Returns the next value, if one is there.
+    #[must_use]
     pub fn try_recv(&self) -> Option<T> {
         let mut state = self.0.lock().unwrap();
         let value = state.values.pop_front()?;
@@ -160,10 +165,14 @@ impl<T> Receiver<T> {
         Some(value)
     }
 
+    /// Returns how many values wait to be received.
+    #[must_use]
     pub fn len(&self) -> usize {
         self.0.lock().unwrap().values.len()
     }
 
+    /// Returns true if no value waits to be received.
+    #[must_use]
     pub fn is_empty(&self) -> bool {
         self.len() == 0
     }

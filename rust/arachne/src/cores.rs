@@ -31,9 +31,13 @@ pub(crate) enum Advice {
 /// the use has to have fallen before one is given back.
 #[derive(Clone, Copy, Debug)]
 pub struct Policy {
+    /// From so many thousandths of a task ready at a look on, a core is asked for.
     pub load: u64,
+    /// The use has to have fallen by so many thousandths of a core before one is given back.
     pub hysteresis: u64,
+    /// How often the load is judged.
     pub every: Duration,
+    /// So many cores are kept.
     pub min_cores: usize,
 }
 
@@ -45,6 +49,7 @@ impl Default for Policy {
 
 /// Whole processors that this process may use: by its affinity, and by its control group's `cpu.max` (of version 1:
 /// `cpu.cfs_quota_us`), rounded up.
+#[must_use]
 pub fn available_cores() -> usize {
     let mask = sys::affinity().len().max(1);
     mask.min(quota().map_or(mask, |quota| (quota + 999) / 1000)).max(1)

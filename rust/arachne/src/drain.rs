@@ -39,7 +39,8 @@ impl Draining {
     }
 }
 
-/// Whether this task's runtime is about to end: what is in flight may still end, and nothing new is begun.
+/// Returns true if this task's runtime is about to end: what is in flight may still end, and nothing new is begun.
+#[must_use]
 pub fn is_stopping() -> bool {
     here().map_or(false, |shared| shared.draining.has_begun())
 }
@@ -127,11 +128,12 @@ pub struct Ended {
 
 impl Runtime {
     /// Tasks that were spawned and have not ended.
+    #[must_use]
     pub fn live(&self) -> u64 {
         self.shared().live()
     }
 
-    /// Stops accepting (once nobody waits to be accepted `TcpListener::accept` answers an error), `stopping` is ready,
+    /// Stops accepting (once nobody waits to be accepted `TcpListener::accept` returns an error), `stopping` is ready,
     /// waits until every task has ended but for those of `spawn_background`, and then, or at the deadline, drops those
     /// that have not. Returns once all kernel threads
     /// are joined: a poll, or work on the blocking pool, that runs at the deadline is waited for.
@@ -172,20 +174,26 @@ pub struct Limit(Arc<(AtomicUsize, usize)>);
 
 /// A place under a limit, given back when this is dropped.
 #[derive(Debug)]
+#[must_use = "a place is given back when this is dropped"]
 pub struct Ticket(Limit);
 
 impl Limit {
+    /// At most so many at once.
+    #[must_use]
     pub fn new(most: usize) -> Limit {
         Limit(Arc::new((AtomicUsize::new(0), most)))
     }
 
-    /// None where there are so many already.
+    /// Returns a place, or None if all are taken.
+    #[must_use]
     pub fn enter(&self) -> Option<Ticket> {
         let (count, most) = &*self.0;
         let entered = count.fetch_update(SeqCst, SeqCst, |count| (count < *most).then(|| count + 1));
         entered.is_ok().then(|| Ticket(self.clone()))
     }
 
+    /// Returns how many there are now.
+    #[must_use]
     pub fn count(&self) -> usize {
         self.0 .0.load(SeqCst)
     }

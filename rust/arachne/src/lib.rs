@@ -9,6 +9,7 @@
 //! says which rules it has to keep for the core's promises to reach a program.
 
 #![cfg(all(target_os = "linux", target_pointer_width = "64"))]
+#![warn(missing_docs, missing_debug_implementations)]
 
 mod block_on;
 mod blocking;

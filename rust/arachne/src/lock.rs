@@ -30,10 +30,13 @@ unsafe impl<T: ?Sized + Send> Send for Lock<T> {}
 unsafe impl<T: ?Sized + Send> Sync for Lock<T> {}
 
 impl<T> Lock<T> {
+    /// A lock that nobody holds.
+    #[must_use]
     pub fn new(value: T) -> Lock<T> {
         Lock { core: LockCore::default(), value: UnsafeCell::new(value) }
     }
 
+    /// Returns the value. Nobody can hold the lock.
     pub fn into_inner(self) -> T {
         self.value.into_inner()
     }
@@ -57,11 +60,13 @@ impl<T: ?Sized> Lock<T> {
         Locking { lock: self, node: None }
     }
 
-    /// The lock, where it is free.
+    /// Takes the lock, if it is free.
+    #[must_use]
     pub fn try_lock(&self) -> Option<Guard<'_, T>> {
         self.core.try_ask().map(|who| Guard { lock: self, who, _node: None })
     }
 
+    /// Returns the value without taking the lock: nobody else has a reference to it.
     pub fn get_mut(&mut self) -> &mut T {
         self.value.get_mut()
     }

@@ -193,10 +193,12 @@ impl TcpListener {
         Ok(TcpListener(Source::new(listener)))
     }
 
+    /// Returns the address at which it listens.
     pub fn local_addr(&self) -> io::Result<SocketAddr> {
         self.0.socket.local_addr()
     }
 
+    /// Waits for a connection. Once the end has begun and nobody waits to be accepted, it returns an error.
     pub async fn accept(&self) -> io::Result<(TcpStream, SocketAddr)> {
         let mut stopping = crate::drain::stopping();
         let (stream, from) = poll_fn(|cx: &mut Context<'_>| {
@@ -210,6 +212,7 @@ impl TcpListener {
         Ok((TcpStream::from_std(stream)?, from))
     }
 
+    /// As `accept`, by a poll, which doesn't wake its task when the end begins. The task that polled last is woken.
     pub fn poll_accept(&self, cx: &mut Context<'_>) -> Poll<io::Result<(TcpStream, SocketAddr)>> {
         match self.poll_std(cx) {
             Poll::Ready(Ok((stream, from))) => Poll::Ready(TcpStream::from_std(stream).map(|stream| (stream, from))),
@@ -238,6 +241,7 @@ impl TcpListener {
 pub struct TcpStream(Source<std::net::TcpStream>);
 
 impl TcpStream {
+    /// Takes a connection, which doesn't block from then on.
     pub fn from_std(stream: std::net::TcpStream) -> io::Result<TcpStream> {
         stream.set_nonblocking(true)?;
         Ok(TcpStream(Source::new(stream)))
@@ -270,31 +274,38 @@ impl TcpStream {
         Ok(stream)
     }
 
+    /// Returns the other side's address.
     pub fn peer_addr(&self) -> io::Result<SocketAddr> {
         self.0.socket.peer_addr()
     }
 
+    /// Returns this side's address.
     pub fn local_addr(&self) -> io::Result<SocketAddr> {
         self.0.socket.local_addr()
     }
 
+    /// Sends small pieces at once, and not once the last ones were confirmed (`TCP_NODELAY`).
     pub fn set_nodelay(&self, nodelay: bool) -> io::Result<()> {
         self.0.socket.set_nodelay(nodelay)
     }
 
+    /// Ends reading, writing or both.
     pub fn shutdown(&self, how: Shutdown) -> io::Result<()> {
         self.0.socket.shutdown(how)
     }
 
+    /// As `read`, by a poll. The task that polled last to read is woken.
     pub fn poll_read(&self, cx: &mut Context<'_>, buffer: &mut [u8]) -> Poll<io::Result<usize>> {
         let len = buffer.len();
         self.0.poll(cx, true, len, |mut socket| socket.read(buffer), |&n| n)
     }
 
+    /// As `write`, by a poll. The task that polled last to write is woken.
     pub fn poll_write(&self, cx: &mut Context<'_>, bytes: &[u8]) -> Poll<io::Result<usize>> {
         self.0.poll(cx, false, bytes.len(), |mut socket| socket.write(bytes), |&n| n)
     }
 
+    /// As `poll_write`, of several pieces in a row.
     pub fn poll_write_vectored(&self, cx: &mut Context<'_>, bytes: &[IoSlice<'_>]) -> Poll<io::Result<usize>> {
         let len = bytes.iter().map(|slice| slice.len()).sum();
         self.0.poll(cx, false, len, |mut socket| socket.write_vectored(bytes), |&n| n)
@@ -305,6 +316,7 @@ impl TcpStream {
         poll_fn(|cx: &mut Context<'_>| self.poll_read(cx, buffer)).await
     }
 
+    /// Fills the buffer; an error if the end comes before.
     pub async fn read_exact(&self, mut buffer: &mut [u8]) -> io::Result<()> {
         while !buffer.is_empty() {
             match self.read(buffer).await? {
@@ -315,10 +327,12 @@ impl TcpStream {
         Ok(())
     }
 
+    /// Writes some of the bytes, at least one, once there is room; returns how many.
     pub async fn write(&self, bytes: &[u8]) -> io::Result<usize> {
         poll_fn(|cx: &mut Context<'_>| self.poll_write(cx, bytes)).await
     }
 
+    /// Writes all of the bytes.
     pub async fn write_all(&self, mut bytes: &[u8]) -> io::Result<()> {
         while !bytes.is_empty() {
             match self.write(bytes).await? {

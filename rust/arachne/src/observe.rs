@@ -15,10 +15,15 @@ use std::time::Duration;
 /// What a host may want to hear of its tasks (a tracing library's spans, say). Each is called on the kernel thread that
 /// makes the step; `id` is a number that no other task of the runtime ever has. None may panic.
 pub trait Hooks: Send + Sync {
+    /// A task was spawned.
     fn spawned(&self, _about: &About) {}
+    /// A poll of this task begins.
     fn poll_begins(&self, _id: u64, _about: &About) {}
+    /// That poll ends. If the task has ended, `ended` follows.
     fn poll_ends(&self, _id: u64) {}
+    /// The task that waits at this place was made ready.
     fn woken(&self, _place: usize) {}
+    /// The task has ended on a worker.
     fn ended(&self, _id: u64) {}
 }
 
@@ -46,16 +51,22 @@ pub(crate) struct Observer {
 /// What a task does at this moment.
 #[derive(Clone, Copy, PartialEq, Eq, Debug)]
 pub enum Doing {
+    /// It waits to be woken.
     Waits,
+    /// It waits for a worker.
     Ready,
+    /// A worker polls it.
     Runs,
 }
 
 /// A task that has begun and has not ended.
 #[derive(Clone, Copy, Debug)]
 pub struct TaskInfo {
+    /// A number that no other task of the runtime ever has.
     pub id: u64,
+    /// Where it was spawned, and its name.
     pub about: About,
+    /// What it does now.
     pub doing: Doing,
     /// For how long it does that.
     pub age: Duration,

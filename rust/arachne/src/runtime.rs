@@ -29,6 +29,7 @@ const HANDS: usize = 3 + crate::worker::HAND + crate::worker::FEW;
 type Starts = Arc<dyn Fn() + Send + Sync>;
 
 /// How a runtime is to be.
+#[must_use = "`build` makes the runtime"]
 pub struct Builder {
     cores: usize,
     places: usize,
@@ -129,7 +130,8 @@ impl Builder {
         self
     }
 
-    /// Err where memory, descriptors or kernel threads are refused, or the process has 32 runtimes of other shapes.
+    /// Begins the workers. Returns an error if memory, descriptors or kernel threads are refused, or if the process has 32
+    /// runtimes of other shapes.
     pub fn build(self) -> io::Result<Runtime> {
         let each = ((self.places + SHARD * BLOCK - 1) / (SHARD * BLOCK) + self.cores - 1) / self.cores;
         let most = MOST_SHARDS / self.cores * self.cores;
@@ -179,33 +181,46 @@ impl Builder {
 pub struct Stats {
     /// Cores held now.
     pub active: usize,
+    /// Polls of tasks.
     pub polls: u64,
+    /// Tasks that ended on a worker.
     pub ended: u64,
     /// Looks at other workers that brought jobs.
     pub takes: u64,
+    /// How often a worker went to sleep.
     pub parks: u64,
     /// Tasks that found no place at once.
     pub queued: u64,
+    /// Cores that the policy asked for.
     pub adds: u64,
+    /// Cores that the policy gave back.
     pub removes: u64,
     /// The time for which cores were held, added up over the cores; with a policy alone.
     pub core_time: Duration,
     /// Polls that took longer than `Builder::watch_polls` says, and jobs that the watcher ran meanwhile.
     pub slow_polls: u64,
+    /// See `slow_polls`.
     pub rescued: u64,
+    /// The same of each worker.
     pub workers: Vec<WorkerStats>,
     /// By power of two of microseconds, how long ready tasks waited to be taken; of an observed runtime alone.
     pub ready_to_taken: Vec<u64>,
 }
 
+/// What one worker has counted.
 #[derive(Clone, Copy, Debug, Default)]
 pub struct WorkerStats {
+    /// Polls of tasks.
     pub polls: u64,
+    /// Tasks that ended here.
     pub ended: u64,
+    /// Looks at other workers that brought jobs.
     pub takes: u64,
     /// Tasks that waited and were made ready here.
     pub wakes: u64,
+    /// How often it went to sleep.
     pub parks: u64,
+    /// For how long it had nothing to do.
     pub idle: Duration,
 }
 
@@ -224,12 +239,16 @@ impl fmt::Debug for Runtime {
 }
 
 impl Runtime {
+    /// A runtime of so many workers, and for the rest as `Builder::new` has it.
+    ///
     /// # Panics
-    /// Where `Builder::build` answers an error.
+    /// If `Builder::build` returns an error.
+    #[must_use]
     pub fn new(cores: usize) -> Runtime {
         Builder::new(cores).build().expect("a runtime")
     }
 
+    /// Begins a task.
     #[track_caller]
     pub fn spawn<F>(&self, future: F) -> JoinHandle<F::Output>
     where
@@ -239,6 +258,7 @@ impl Runtime {
         self.shared.spawn_task(future, About { spawned: Location::caller(), name: None }, false)
     }
 
+    /// As `spawn`, with a name.
     #[track_caller]
     pub fn spawn_named<F>(&self, name: &str, future: F) -> JoinHandle<F::Output>
     where
@@ -278,6 +298,8 @@ impl Runtime {
         entered(self.shared, f)
     }
 
+    /// Returns what the workers have counted until now.
+    #[must_use]
     pub fn stats(&self) -> Stats {
         let (shared, now) = (self.shared, now());
         let counts = &shared.counts;
@@ -309,6 +331,7 @@ impl Runtime {
     }
 
     /// All tasks that have begun and have not ended, with what they do and for how long; of an observed runtime alone.
+    #[must_use]
     pub fn tasks(&self) -> Vec<TaskInfo> {
         self.shared.observer.tasks()
     }

@@ -35,11 +35,14 @@ impl fmt::Debug for Semaphore {
 }
 
 impl Semaphore {
+    /// So many permits, which nobody has.
+    #[must_use]
     pub fn new(permits: usize) -> Semaphore {
         Semaphore { state: Mutex::new(State { permits, line: VecDeque::new() }) }
     }
 
     /// Permits that nobody has, whether or not somebody waits for more of them.
+    #[must_use]
     pub fn available(&self) -> usize {
         self.state.lock().unwrap().permits
     }
@@ -49,7 +52,8 @@ impl Semaphore {
         Acquire { semaphore: self, wants, node: None }
     }
 
-    /// So many permits, where they are there and nobody waits.
+    /// Takes so many permits, if they are there and nobody waits.
+    #[must_use]
     pub fn try_acquire(&self, wants: usize) -> Option<Permit<'_>> {
         self.take(wants).then(|| Permit { semaphore: self, count: wants })
     }
@@ -142,6 +146,7 @@ impl Drop for Acquire<'_> {
 }
 
 /// Permits, given back when this is dropped.
+#[must_use = "permits are given back when this is dropped"]
 pub struct Permit<'a> {
     semaphore: &'a Semaphore,
     count: usize,

@@ -152,7 +152,9 @@ pub(crate) struct Header {
 /// What is known of a task: where it was spawned, and the name that it was given.
 #[derive(Clone, Copy, PartialEq, Eq, Debug)]
 pub struct About {
+    /// Where it was spawned.
     pub spawned: &'static Location<'static>,
+    /// Its name, if it was given one.
     pub name: Option<&'static Label>,
 }
 
@@ -163,6 +165,7 @@ pub struct Label(String);
 static LABELS: Mutex<Vec<&'static Label>> = Mutex::new(Vec::new());
 
 impl Label {
+    /// Returns the label of this text, which is made at the first call.
     pub fn of(text: &str) -> &'static Label {
         let mut labels = LABELS.lock().unwrap();
         if let Some(label) = labels.iter().find(|label| label.0 == text) {
@@ -173,6 +176,8 @@ impl Label {
         label
     }
 
+    /// Returns the text.
+    #[must_use]
     pub fn as_str(&self) -> &str {
         &self.0
     }
@@ -368,6 +373,8 @@ impl<T> JoinHandle<T> {
         unsafe { self.at.as_ref() }
     }
 
+    /// Returns true once the output can be had without waiting.
+    #[must_use]
     pub fn is_finished(&self) -> bool {
         self.header().state.load(Acquire) & COMPLETE != 0
     }
@@ -384,6 +391,7 @@ impl<T> JoinHandle<T> {
     }
 
     /// Where the task was spawned, and its name.
+    #[must_use]
     pub fn about(&self) -> About {
         self.header().about
     }
