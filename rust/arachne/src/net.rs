@@ -1,4 +1,4 @@
-//! TCP, and other descriptors, over the runtime's reactor. A socket belongs to the runtime in which it first has to wait.
+//! TCP and other descriptors over the runtime's reactor. A socket belongs to the runtime where it first has to wait.
 
 use crate::block_on::poll_fn;
 use crate::drain::is_stopping;
@@ -344,8 +344,8 @@ impl TcpStream {
     }
 }
 
-/// Any descriptor that epoll can watch: a socket of Unix or of UDP, a pipe, an eventfd. Its reads and writes are calls of
-/// `S` that return `WouldBlock` where they would wait.
+/// Any descriptor that epoll can watch: a socket of Unix or of UDP, a pipe, an eventfd. Its reads and writes are calls
+/// of `S` that return `WouldBlock` where they would wait.
 ///
 ///     let socket = Async::new(std::net::UdpSocket::bind("127.0.0.1:0")?)?;
 ///     let (len, from) = socket.read_with(|socket| socket.recv_from(&mut buffer)).await?;

@@ -95,7 +95,7 @@ impl Builder {
         self
     }
 
-    /// Kernel threads for `spawn_blocking` at most: 512 unless it is said here. One is begun where none is idle, and ends
+    /// Kernel threads for `spawn_blocking` at most: 512 unless it is said here. One is begun if none is idle, and ends
     /// after five seconds without work.
     pub fn blocking_threads(mut self, most: usize) -> Builder {
         self.blocking = most;
@@ -130,8 +130,8 @@ impl Builder {
         self
     }
 
-    /// Begins the workers. Returns an error if memory, descriptors or kernel threads are refused, or if the process has 32
-    /// runtimes of other shapes.
+    /// Begins the workers. Returns an error if memory, descriptors or kernel threads are refused, or if the process has
+    /// 32 runtimes of other shapes.
     pub fn build(self) -> io::Result<Runtime> {
         let each = ((self.places + SHARD * BLOCK - 1) / (SHARD * BLOCK) + self.cores - 1) / self.cores;
         let most = MOST_SHARDS / self.cores * self.cores;

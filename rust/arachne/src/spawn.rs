@@ -249,9 +249,9 @@ where
     here().expect("spawn outside of a runtime").spawn_task(future, about, true)
 }
 
-/// As `spawn`, for a task that serves the others and doesn't end, such as one that sweeps a store: `Runtime::shutdown_within`
-/// doesn't wait for it. It is dropped once the others have ended, or at the deadline. What it spawns itself is waited
-/// for, unless it is spawned so too.
+/// As `spawn`, for a task that serves the others and doesn't end, such as one that sweeps a store:
+/// `Runtime::shutdown_within` doesn't wait for it. It is dropped once the others have ended, or at the deadline. What it
+/// spawns itself is waited for, unless it is spawned so too.
 ///
 /// # Panics
 /// Outside of a runtime.

@@ -94,7 +94,7 @@ impl Timers {
     }
 }
 
-/// Where a sleep waits, and the name of the task whose waker it left there: `NOBODY` where it is no task's of that runtime.
+/// Where a sleep waits, and the name of the task whose waker it left there: `NOBODY` if it is none of that runtime.
 struct Waits {
     timers: &'static Timers,
     key: Key,

@@ -546,8 +546,8 @@ impl Shared {
     }
 
     /// For how many events a worker asks: for as many as stay in its hand. The others stay with the kernel, whose order
-    /// is that of their coming, for whoever looks next: they would wait for one that has lost its processor, had they been
-    /// made ready at its places. Where none stays, it asks for some that are left for others.
+    /// is that of their coming, for whoever looks next: made ready at the places of one that has lost its
+    /// processor they would wait for it. Where none stays, it asks for some that are left for others.
     fn asks(&self, room: usize) -> usize {
         match room {
             _ if self.is_alone() => EVENTS,
