@@ -225,6 +225,8 @@ impl Shared {
         while *given_back && !self.stop.load(SeqCst) {
             given_back = waits.wait(given_back).unwrap();
         }
+        drop(given_back);
+        self.goes_on(false);
     }
 
     pub(crate) fn set_active(&self, active: usize) {

@@ -17,6 +17,7 @@ mod channel;
 mod core;
 mod cores;
 mod drain;
+mod lent;
 mod lock;
 pub mod net;
 mod observe;

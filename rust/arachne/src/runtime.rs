@@ -137,6 +137,7 @@ impl Builder {
         let most = MOST_SHARDS / self.cores * self.cores;
         let shards = (each.max(1) * self.cores).min(most);
         let shared = Shared::get(self.cores, shards, self.observed)?;
+        sys::register_barriers();
         shared.observer.set_hooks(self.hooks);
         shared.blocking.open(self.blocking);
         let mut runtime = Runtime { shared, threads: Vec::new(), ended: false };

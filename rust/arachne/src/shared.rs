@@ -3,12 +3,13 @@
 use crate::blocking::Pool;
 use crate::core::{Hands, Job, Line, Parking, Root, BLOCK, MOST_SHARDS, NUMBERS, SHARD};
 use crate::drain::Draining;
+use crate::lent::{Held, Jobs, Lent};
 use crate::observe::Observer;
 use crate::reactor::{Bell, Reactor};
 use crate::task::{About, Label, Raw};
 use crate::timer::{now, Timers};
 use crate::waker::NOBODY;
-use crate::worker::LOOK_TIME;
+use crate::worker::{FEW, HAND, LOOK_TIME};
 use std::cell::{Cell, RefCell};
 use std::collections::VecDeque;
 use std::fs::File;
@@ -41,8 +42,9 @@ pub(crate) struct Shared {
     pub(crate) deputy: Line<AtomicUsize>,
     /// When a worker that ran tasks last looked at the epoll.
     pub(crate) looked: Line<AtomicU64>,
-    /// Milliseconds between two looks of the deputy.
+    /// Milliseconds between two looks of the deputy, and of who waits in the epoll.
     pub(crate) rests: AtomicI32,
+    pub(crate) pauses: AtomicI32,
     /// By shard: blocks that may have a free place.
     pub(crate) roomy: Box<[Line<AtomicU64>]>,
     /// By place: the name of the task that first waited there last, to end it when the runtime ends.
@@ -84,6 +86,7 @@ pub(crate) struct Counts {
 /// What others see of a worker. Its counts are written by itself alone.
 pub(crate) struct Worker {
     pub(crate) bell: Bell,
+    pub(crate) lent: Lent,
     pub(crate) timers: Timers,
     /// True while the core is given back.
     pub(crate) given_back: (Mutex<bool>, Condvar),
@@ -124,6 +127,7 @@ impl Worker {
         let n = || AtomicU64::new(0);
         Worker {
             bell: Bell::default(),
+            lent: Lent::new(),
             timers: Timers::default(),
             given_back: (Mutex::new(false), Condvar::new()),
             roomy: Line(AtomicUsize::new(shards[0] * SHARD)),
@@ -240,6 +244,7 @@ impl Shared {
             deputy: Line(AtomicUsize::new(NO_ONE)),
             looked: Line::default(),
             rests: AtomicI32::new(1),
+            pauses: AtomicI32::new(1),
             roomy: (0..shards).map(|_| Line::default()).collect(),
             names: (0..places).map(|_| AtomicU64::new(NOBODY)).collect(),
             sleepers: Line::default(),
@@ -336,13 +341,19 @@ impl Shared {
     }
 }
 
-/// What a worker's kernel thread has of its own, for calls from within a task.
+/// What a worker's kernel thread has of its own, for calls from within a task. While its hand is lent, another may have
+/// its seats, and what is in them: `hands`, `next`, `hand` and `relieved`.
 pub(crate) struct Context {
     pub(crate) shared: &'static Shared,
     pub(crate) me: usize,
+    pub(crate) lent: &'static Lent,
     pub(crate) hands: Hands,
     /// The job that runs next. It is in this worker's hand.
     pub(crate) next: Cell<Option<Job>>,
+    /// Further jobs in its hand.
+    pub(crate) hand: Jobs,
+    /// Another has made ready what was in this worker's hand, as the poll that runs takes long: nothing stays there.
+    pub(crate) relieved: Cell<bool>,
     /// The name of the task that runs here, and whether it woke itself.
     pub(crate) current: Cell<u64>,
     pub(crate) woken: Cell<bool>,
@@ -369,8 +380,11 @@ impl Context {
         Context {
             shared,
             me,
+            lent: &shared.workers[me].0.lent,
             hands,
             next: Cell::new(None),
+            hand: Jobs::new(HAND + FEW),
+            relieved: Cell::new(false),
             current: Cell::new(NOBODY),
             woken: Cell::new(false),
             reads: Cell::new(0),
@@ -392,15 +406,23 @@ impl Context {
 
     /// Runs `f` as this worker.
     pub(crate) fn enter<R>(&self, f: impl FnOnce() -> R) -> R {
-        struct Leave;
-        impl Drop for Leave {
+        struct Leave<'a>(&'a Lent);
+        impl Drop for Leave<'_> {
             fn drop(&mut self) {
+                self.0.is_at(ptr::null());
                 CONTEXT.with(|context| context.set(ptr::null()));
             }
         }
         CONTEXT.with(|context| context.set(self));
-        let _leave = Leave;
+        self.lent.is_at(self);
+        let _leave = Leave(self.lent);
         f()
+    }
+
+    /// For a call that may come from within a poll, and uses this worker's hand.
+    #[inline]
+    pub(crate) fn hold(&self) -> Held<'static> {
+        self.lent.hold()
     }
 
     /// Whether the poll that runs here may read more: its first read may, and others until it is time to look out. So

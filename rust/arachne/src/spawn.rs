@@ -101,6 +101,7 @@ impl Shared {
         Context::with(|worker| match worker {
             Some(worker) if std::ptr::eq(worker.shared, self) => {
                 add(&self.workers[worker.me].0.spawned, 1);
+                let _held = worker.hold();
                 self.spawn_here(worker, raw, balanced)
             }
             _ => with_hands(self, |hands| {
@@ -125,9 +126,7 @@ impl Shared {
         }
         match self.spawn_at(&worker.hands, worker.me, raw, true) {
             Spawned::Kept(job) => {
-                if let Some(before) = worker.next.replace(Some(job)) {
-                    self.make_ready(worker, &before);
-                }
+                self.set_next(worker, job);
                 true
             }
             Spawned::Ready { name, unpark } => {

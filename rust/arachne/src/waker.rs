@@ -64,6 +64,7 @@ pub(crate) fn wake_name(table: usize, name: u64) {
                 worker.woken.set(true);
                 return;
             }
+            let _held = worker.hold();
             match worker.hands.wake(name, worker.keeps.get() || worker.room.get() != 0) {
                 Woken::Kept(job) => {
                     shared.woke(worker.me);
@@ -71,8 +72,8 @@ pub(crate) fn wake_name(table: usize, name: u64) {
                     if !worker.keeps.get() {
                         worker.room.set(worker.room.get() - 1);
                         worker.told.borrow_mut().push(job);
-                    } else if let Some(before) = worker.next.replace(Some(job)) {
-                        shared.make_ready(worker, &before);
+                    } else {
+                        shared.set_next(worker, job);
                     }
                 }
                 Woken::Ready { unpark } => {

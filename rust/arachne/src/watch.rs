@@ -80,6 +80,9 @@ fn rescue(shared: &'static Shared, hands: &Hands, stuck: u64) {
     let polls: Vec<u64> = shared.workers.iter().map(|w| w.0.polls.load(Relaxed)).collect();
     let all = u64::MAX >> (64 - shared.active.0.load(Relaxed));
     let (mut left, until) = (stuck, now() + TURN);
+    for worker in (0..polls.len()).filter(|worker| stuck >> worker & 1 == 1) {
+        shared.relieve(worker);
+    }
     while left != 0 && now() < until && !shared.stop.load(SeqCst) {
         let mut found = shared.reactor.tell(&shared.reactor.look(EVENTS));
         for (worker, before) in polls.iter().enumerate() {

@@ -10,7 +10,6 @@ use crate::shared::{add, Context, Shared, NO_ONE};
 use crate::task::{self, Raw};
 use crate::timer::now;
 use crate::waker::{waker_of, NOBODY};
-use std::collections::VecDeque;
 use std::sync::atomic::{AtomicUsize, Ordering::*};
 
 mod sleepers;
@@ -29,6 +28,8 @@ const LONG_POLLS: u32 = 3;
 const JUDGED: u32 = 8;
 /// After so many of these looks at which another worker had not got on, its timers are looked at too.
 const LONG: u32 = 8;
+/// From so many nanoseconds without a poll's end on, a busy worker makes ready what another has in hand.
+const LONG_POLL: u64 = 1_000_000;
 /// After so many looks at blocks that are shown and have nothing, they are hidden.
 const STALE: u32 = 16;
 /// Jobs in hand at most: of those that one look at the epoll tells of, of another worker's, and of any while somebody
@@ -47,8 +48,7 @@ const CROWD: u32 = 128;
 
 /// Where a worker is in its rounds.
 pub(crate) struct Turn {
-    /// Jobs in hand, and how many of them run before the words are looked at again.
-    hand: VecDeque<Job>,
+    /// How many of the jobs in hand run before the words are looked at again.
     hand_left: usize,
     /// The block that is swept, which of its places were ready as its turn came and were not passed since, and which of
     /// this worker's blocks is next.
@@ -63,10 +63,11 @@ pub(crate) struct Turn {
     most: u32,
     /// Looks are counted, and what is ready at them, for the policy.
     counts: bool,
-    /// By worker: its polls at the last look, and at how many looks in a row it had not got on.
+    /// By worker: its polls at the last look, at how many looks in a row it had not got on, and since when.
     seen: Vec<u64>,
     stood: Vec<u32>,
-    /// Milliseconds between its looks as a deputy, and the polls of all workers at the last.
+    since: Vec<u64>,
+    /// Milliseconds between its looks while it sleeps, and the polls of all workers at the last.
     rests: i32,
     watched: u64,
     /// Whether it took ready tasks at its last look of one that gets on.
@@ -76,7 +77,6 @@ pub(crate) struct Turn {
 impl Turn {
     pub(crate) fn new(shared: &Shared, counts: bool) -> Turn {
         Turn {
-            hand: VecDeque::with_capacity(HAND + FEW),
             hand_left: 0,
             block: 0,
             wanted: 0,
@@ -88,6 +88,7 @@ impl Turn {
             counts,
             seen: vec![0; shared.workers.len()],
             stood: vec![0; shared.workers.len()],
+            since: vec![0; shared.workers.len()],
             rests: 1,
             watched: 0,
             helped: false,
@@ -137,6 +138,34 @@ impl Shared {
     pub(crate) fn make_ready(&self, context: &Context, job: &Job) {
         let unpark = context.hands.rest_ready(job);
         self.published(job.name, unpark, false);
+    }
+
+    /// A job in this worker's hand runs next here. What it displaces is ready for all, and so is itself where the poll
+    /// that runs is known to take long.
+    #[inline]
+    pub(crate) fn set_next(&self, context: &Context, job: Job) {
+        let waits = if context.relieved.get() { Some(job) } else { context.next.replace(Some(job)) };
+        if let Some(waits) = waits {
+            self.make_ready(context, &waits);
+        }
+    }
+
+    /// Makes ready what a worker has in hand beside the poll in which it is, and has it keep nothing until that ends; how
+    /// many jobs. Nobody is woken for them but workers at whose places they are.
+    pub(crate) fn relieve(&self, other: usize) -> usize {
+        let worker = &self.workers[other].0;
+        let mut count = 0;
+        if worker.running.load(Relaxed) != NOBODY {
+            worker.lent.relieve(|context| {
+                context.relieved.set(true);
+                let jobs = context.next.take().into_iter().chain(std::iter::from_fn(|| context.hand.take_first()));
+                jobs.for_each(|job| {
+                    self.published(job.name, context.hands.rest_ready(&job), true);
+                    count += 1;
+                });
+            });
+        }
+        count
     }
 
     fn rouse(&self, worker: usize) -> bool {
@@ -248,8 +277,13 @@ impl Shared {
         context.current.set(name);
         context.woken.set(false);
         context.reads.set(0);
+        context.lent.lend();
         // SAFETY: as above.
         let ended = unsafe { task::run(job.job, self.table, name, &mut cx) };
+        if context.lent.take_back() {
+            context.relieved.set(false);
+            turn.hand_left = 0;
+        }
         turn.polls += 1;
         context.current.set(NOBODY);
         worker.running.store(NOBODY, Relaxed);
@@ -258,12 +292,12 @@ impl Shared {
         if ended {
             return self.finish(context, &job);
         }
-        self.rest(context, turn, job);
+        self.rest(context, job);
     }
 
     /// Lays a job down that has not ended: it waits, or is behind all that is ready here.
     #[inline]
-    fn rest(&self, context: &Context, turn: &mut Turn, job: Job) {
+    fn rest(&self, context: &Context, job: Job) {
         let name = job.name;
         if !context.woken.get() {
             let kept = &self.names[job.place()];
@@ -280,7 +314,7 @@ impl Shared {
             }
         }
         self.observer.ready(job.place());
-        self.set_behind(context, turn, job);
+        self.set_behind(context, job);
     }
 
     #[inline]
@@ -325,7 +359,7 @@ impl Shared {
                 context.hands.begin(&job);
                 return Some(job);
             }
-            self.set_behind(context, turn, job);
+            self.set_behind(context, job);
         }
         turn.chain = 0;
         None
@@ -333,10 +367,10 @@ impl Shared {
 
     /// Behind all that is ready here: it stays in hand, unless somebody has nothing to do and one is in hand already.
     #[inline]
-    fn set_behind(&self, context: &Context, turn: &mut Turn, job: Job) {
+    fn set_behind(&self, context: &Context, job: Job) {
         let most = if self.is_alone() { HAND } else { KEPT };
-        if turn.hand.len() < if self.all_busy() { most } else { 1 } {
-            turn.hand.push_back(job);
+        if context.hand.len() < if self.all_busy() { most } else { 1 } {
+            context.hand.push(job);
         } else {
             self.make_ready(context, &job);
         }
@@ -344,7 +378,7 @@ impl Shared {
 
     #[inline]
     fn pick_ready(&'static self, context: &Context, turn: &mut Turn) -> Option<Job> {
-        if turn.hand.len() > turn.few() && !self.all_busy() {
+        if context.hand.len() > turn.few() && !self.all_busy() {
             self.lay_down_to(context, turn, turn.few());
             self.rouse_any();
         }
@@ -353,9 +387,9 @@ impl Shared {
                 if let Some(job) = self.sweep(context, turn) {
                     return Some(job);
                 }
-                turn.hand_left = turn.hand.len();
+                turn.hand_left = context.hand.len();
             }
-            if let Some(job) = turn.hand.pop_front() {
+            if let Some(job) = context.hand.take_first() {
                 turn.hand_left -= 1;
                 context.hands.begin(&job);
                 return Some(job);
@@ -391,7 +425,7 @@ impl Shared {
                 continue;
             }
             let began = std::mem::take(&mut turn.next) != 0;
-            if !began || !turn.hand.is_empty() || self.has_queued() {
+            if !began || !context.hand.is_empty() || self.has_queued() {
                 return None;
             }
         }
@@ -476,17 +510,17 @@ impl Shared {
     fn look_out(&self, context: &Context, turn: &mut Turn, by_time: bool) {
         // What is ready here goes first, and where polls are long what is in hand goes last.
         let lasts = turn.few() < FEW && !self.is_alone();
-        let takes = (turn.hand.is_empty() || !lasts) && turn.wanted == 0 && !self.mine(context);
-        let room = if takes { self.room(turn) } else { 0 };
+        let takes = (context.hand.is_empty() || !lasts) && turn.wanted == 0 && !self.mine(context);
+        let room = if takes { self.room(context, turn) } else { 0 };
         let now = context.looked.get();
         if by_time && now.saturating_sub(self.looked.0.load(Relaxed)) < LOOK_TIME {
-            self.hear(context, turn, &Found::NOTHING, room);
+            self.hear(context, &Found::NOTHING, room);
         } else {
             self.looked.0.store(now, Relaxed);
-            self.look_at_events(context, turn, room);
+            self.look_at_events(context, room);
         }
         if turn.counts {
-            let here = turn.hand.len() + context.next.get().is_some() as usize;
+            let here = context.hand.len() + context.next.get().is_some() as usize;
             let mine = std::iter::once(context.me).chain(self.lodgers(context.me));
             let ready: u32 = mine.map(|owner| self.ready_up_to(&context.hands, owner, CROWD)).sum();
             add(&self.workers[context.me].0.scans, 1);
@@ -506,6 +540,9 @@ impl Shared {
             let polls = worker.polls.load(Relaxed);
             let stands = other >= active || polls == turn.seen[other];
             turn.seen[other] = polls;
+            if !stands {
+                turn.since[other] = context.looked.get();
+            }
             turn.stood[other] = if other == context.me || !stands { 0 } else { (turn.stood[other] + 1) % LONG };
             let may_be_long = long_polls && worker.running.load(Relaxed) != NOBODY;
             if other == context.me || !(stands || may_be_long) {
@@ -515,6 +552,9 @@ impl Shared {
             if long && other < active && !sleeps {
                 // In a long poll, or without a processor: its timers would wait for it.
                 self.fire_quietly(context, other);
+                if context.looked.get().saturating_sub(turn.since[other]) >= LONG_POLL {
+                    self.relieve(other);
+                }
             }
             // Who makes something ready for one that sleeps wakes somebody, so that is looked at now and then.
             if (long || !sleeps) && may_help && self.ready(&context.hands, other) != 0 {
@@ -531,7 +571,7 @@ impl Shared {
         let (block, ready) = found.map_or((0, 0), |(_, block, ready)| (block, ready));
         let most = most.min(FEW).min(ready.count_ones() as usize);
         let got = (0..most).map_while(|_| hands.take_any(block)).enumerate();
-        let got = got.map(|(at, job)| turn.hand.insert(at, job)).count();
+        let got = got.map(|(at, job)| context.hand.insert(at, job)).count();
         turn.hand_left += got;
         if got != 0 {
             add(&self.workers[context.me].0.takes, 1);
@@ -540,9 +580,9 @@ impl Shared {
     }
 
     /// How many tasks that are told of may stay in this worker's hand.
-    fn room(&self, turn: &Turn) -> usize {
+    fn room(&self, context: &Context, turn: &Turn) -> usize {
         let most = if self.is_alone() { HAND } else { turn.few() };
-        most.saturating_sub(turn.hand.len())
+        most.saturating_sub(context.hand.len())
     }
 
     /// For how many events a worker asks: for as many as stay in its hand. The others stay with the kernel, whose order
@@ -562,14 +602,14 @@ impl Shared {
     }
 
     /// Looks at the epoll, and fires timers; how many there were.
-    fn look_at_events(&self, context: &Context, turn: &mut Turn, room: usize) -> usize {
+    fn look_at_events(&self, context: &Context, room: usize) -> usize {
         let found = if self.reactor.is_used() { self.reactor.look(self.asks(room)) } else { Found::NOTHING };
-        self.hear(context, turn, &found, room)
+        self.hear(context, &found, room)
     }
 
     /// Wakes who is told of, and fires timers; how many there were. The first `room` tasks stay in this worker's hand,
     /// so that nobody else is woken for them.
-    fn hear(&self, context: &Context, turn: &mut Turn, found: &Found, room: usize) -> usize {
+    fn hear(&self, context: &Context, found: &Found, room: usize) -> usize {
         context.keeps.set(false);
         context.room.set(room);
         let mut heard = self.reactor.tell(found);
@@ -578,18 +618,19 @@ impl Shared {
         }
         context.room.set(0);
         context.keeps.set(true);
-        turn.hand.extend(context.told.borrow_mut().drain(..));
+        context.told.borrow_mut().drain(..).for_each(|job| context.hand.push(job));
         if found.is_full() || heard >= room + MANY {
             self.rouse_any();
         }
         heard
     }
 
-    /// Fires the timers of a worker that doesn't get on.
-    fn fire_quietly(&self, context: &Context, other: usize) {
+    /// Fires the timers of a worker that doesn't get on; how many.
+    fn fire_quietly(&self, context: &Context, other: usize) -> usize {
         context.keeps.set(false);
-        self.fire(other);
+        let fired = self.fire(other);
         context.keeps.set(true);
+        fired
     }
 
     pub(crate) fn fire(&self, owner: usize) -> usize {
@@ -661,9 +702,9 @@ impl Shared {
     /// With nothing of its own to do: events, unless another waits for them; and timers.
     fn look_when_idle(&self, context: &Context, turn: &mut Turn) -> usize {
         if self.waits.0.load(Relaxed) == NO_ONE {
-            return self.look_at_events(context, turn, self.room(turn));
+            return self.look_at_events(context, self.room(context, turn));
         }
-        self.hear(context, turn, &Found::NOTHING, self.room(turn))
+        self.hear(context, &Found::NOTHING, self.room(context, turn))
     }
 
     fn help_lodgers(&self, context: &Context, turn: &mut Turn) -> bool {
@@ -673,8 +714,8 @@ impl Shared {
 
     /// Makes ready what is in this worker's hand, but for so many that run first.
     fn lay_down_to(&self, context: &Context, turn: &mut Turn, left: usize) {
-        while turn.hand.len() > left {
-            if let Some(job) = turn.hand.pop_back() {
+        while context.hand.len() > left {
+            if let Some(job) = context.hand.take_last() {
                 let unpark = context.hands.rest_ready(&job);
                 self.published(job.name, unpark, true);
             }
@@ -684,7 +725,7 @@ impl Shared {
 
     /// Makes all ready that is in this worker's hand.
     pub(crate) fn lay_down(&self, context: &Context, turn: &mut Turn) {
-        turn.hand.extend(context.next.take());
+        context.next.take().into_iter().for_each(|job| context.hand.push(job));
         self.lay_down_to(context, turn, 0);
     }
 }

@@ -1,11 +1,11 @@
 //! Who sleeps and what wakes it: one worker waits in the epoll, one stands in for it, and the others are woken.
-use arachne::{block_on, net, spawn_balanced, yield_now, Builder, Runtime, Semaphore};
+use arachne::{block_on, net, sleep, spawn, spawn_balanced, yield_now, Builder, Runtime, Semaphore};
 use std::io::{Read, Write};
 use std::net::SocketAddr;
 use std::sync::atomic::{AtomicBool, AtomicUsize, Ordering::*};
 use std::sync::{Arc, Mutex};
 use std::thread;
-use std::time::Duration;
+use std::time::{Duration, Instant};
 
 const MS: Duration = Duration::from_millis(1);
 /// Longer than a machine with much else to do keeps anything waiting.
@@ -149,6 +149,91 @@ fn a_wake_of_who_waits_is_left_to_it() {
         ask(&mut stream, round);
         ends.store(true, SeqCst);
         block_on(busy).unwrap();
+    }
+}
+
+/// Blocks the worker until that flag is set.
+fn blocks(flag: &AtomicBool) {
+    let start = Instant::now();
+    while !flag.load(SeqCst) {
+        assert!(start.elapsed() < LONG, "what is ready waits for the end of another's poll");
+        thread::sleep(MS / 4);
+    }
+}
+
+/// What a worker has in hand, or is to run next, is run by another while the worker is in a poll that blocks until it
+/// was: whether the others sleep as that poll begins, or fall asleep later.
+#[test]
+fn what_is_in_hand_is_run_beside_a_poll_that_blocks() {
+    for (cores, pause) in (2..5).flat_map(|cores| [(cores, MS / 4), (cores, 20 * MS)]) {
+        let runtime = Runtime::new(cores);
+        for asleep in [true, false] {
+            thread::sleep(pause);
+            let begin = Arc::new(AtomicBool::new(asleep));
+            // Else the others are in polls as the hand is filled, and idle soon after.
+            for _ in 1..if asleep { 1 } else { cores } {
+                let (begin, beginning) = (begin.clone(), Arc::new(AtomicBool::new(false)));
+                let begun = beginning.clone();
+                runtime.spawn(async move {
+                    begun.store(true, SeqCst);
+                    blocks(&begin);
+                });
+                blocks(&beginning);
+            }
+            let task = runtime.spawn(async move {
+                // It yields, and stays in the hand while what it spawned before that blocks.
+                let yielded: Vec<_> =
+                    (0..if asleep { 1 } else { 5 }).map(|_| Arc::new(AtomicBool::new(false))).collect();
+                let tasks = yielded.iter().cloned().map(|flag| async move {
+                    yield_now().await;
+                    flag.store(true, SeqCst);
+                });
+                let tasks: Vec<_> = tasks.map(spawn).collect();
+                yield_now().await;
+                let blocked = spawn(async move {
+                    begin.store(true, SeqCst);
+                    yielded.iter().for_each(|flag| blocks(flag));
+                });
+                blocked.await.unwrap();
+                for task in tasks {
+                    task.await.unwrap();
+                }
+                // What a poll makes ready, also once it is known to take long.
+                for _ in 0..3 {
+                    let ran = Arc::new(AtomicBool::new(false));
+                    let runs = ran.clone();
+                    spawn(async move { runs.store(true, SeqCst) });
+                    blocks(&ran);
+                }
+            });
+            block_on(task).unwrap();
+        }
+    }
+}
+
+/// A poll that blocks until a timer of its worker has told.
+#[test]
+fn timers_are_seen_beside_a_poll_that_blocks() {
+    for cores in 2..5 {
+        let runtime = Runtime::new(cores);
+        for pause in [MS / 4, 20 * MS] {
+            thread::sleep(pause);
+            block_on(runtime.spawn(async {
+                let (fired, fires) = (Arc::new(AtomicBool::new(false)), Arc::new(AtomicBool::new(false)));
+                let (tells, sleeping) = (fired.clone(), fires.clone());
+                let sleeps = spawn(async move {
+                    fires.store(true, SeqCst);
+                    sleep(5 * MS).await;
+                    tells.store(true, SeqCst);
+                });
+                while !sleeping.load(SeqCst) {
+                    yield_now().await;
+                }
+                blocks(&fired);
+                sleeps.await.unwrap();
+            }))
+            .unwrap();
+        }
     }
 }
 

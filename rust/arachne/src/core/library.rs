@@ -2,9 +2,10 @@
 //!
 //! The rules of the header, and who keeps them here. *A handle is null at first, its pointer is written by the library
 //! alone, and it is never copied*: `Handle` is made by `Handle::empty`, moved and never cloned. *One thread at a time
-//! with each handle*: a type that has one is `Send` and not `Sync`, and no call of the library calls back. *Two handles
-//! where two are asked for, of one origin*: `Root` splits and joins its own alone. *Pointers that are not null*: all are
-//! from references. *No call from a signal handler or behind a fork*: this crate makes none.
+//! with each handle*: a type that has one is `Send` and not `Sync`, and no call of the library calls back; those of a
+//! worker are another thread's, one at a time, while `lent.rs` lends them. *Two handles where two are asked for, of one
+//! origin*: `Root` splits and joins its own alone. *Pointers that are not null*: all are from references. *No call from a
+//! signal handler or behind a fork*: this crate makes none.
 //!
 //! A handle has at most one job in hand, so a thread has several.
 

@@ -6,12 +6,14 @@ use crate::cores::Judge;
 use crate::reactor::Found;
 use crate::shared::{add, Context, Shared, NO_ONE};
 use crate::timer;
-use std::sync::atomic::Ordering::*;
+use std::sync::atomic::{AtomicI32, Ordering::*};
 
 /// How often an idle worker looks around before it sleeps.
 const SPINS: usize = 4;
-/// Milliseconds between two looks of the deputy from which on it is woken once tasks run again.
+/// Milliseconds between two looks at the others while one of them is awake, at most; and the least, of who waits in the
+/// epoll while no deputy looks. Who sleeps for longer than the most is woken once tasks run again.
 const LONG_REST: i32 = 8;
+const PAUSE: i32 = 2;
 
 impl Shared {
     /// With nothing of its own to do: takes from others, or sleeps until it is woken.
@@ -33,16 +35,16 @@ impl Shared {
             || self.stop.load(SeqCst)
             || context.me >= self.active.0.load(SeqCst);
         let sleeps = !busy && self.may_park(context);
-        let found = if sleeps { self.sleep(context, turn, judge, waits) } else { Found::NOTHING };
+        let (found, called) = if sleeps { self.sleep(context, turn, judge, waits) } else { (Found::NOTHING, false) };
         // Before anybody is woken: a wake of what is at this worker's own places would have it woken once more.
         self.wake_up(context);
         let roused = self.awake(context);
         if waits {
             self.waits.0.store(NO_ONE, SeqCst);
         }
-        let heard = sleeps && self.hear(context, turn, &found, self.room(turn)) != 0;
-        if waits && (!sleeps || roused || heard) {
-            self.leaves_epoll();
+        let heard = sleeps && self.hear(context, &found, self.room(context, turn)) != 0;
+        if !sleeps || roused || heard || called {
+            self.goes_on(waits);
         }
     }
 
@@ -95,8 +97,9 @@ impl Shared {
         }
     }
 
-    /// Sleeps in the epoll, where it `waits` there, or else until it is woken; what the epoll told.
-    fn sleep(&self, context: &Context, turn: &mut Turn, judge: &Option<Judge>, waits: bool) -> Found {
+    /// Sleeps in the epoll, where it `waits` there, or else until it is woken; what the epoll told, and whether another's
+    /// tasks may wait for it.
+    fn sleep(&self, context: &Context, turn: &mut Turn, judge: &Option<Judge>, waits: bool) -> (Found, bool) {
         add(&self.workers[context.me].0.parks, 1);
         let owners = std::iter::once(context.me).chain(self.lodgers(context.me));
         let mut timeout = timer::rest(self, owners);
@@ -104,11 +107,11 @@ impl Shared {
             timeout = sooner(timeout, judge.millis());
         }
         if waits {
-            return self.reactor.wait(timeout, self.asks(self.room(turn)));
+            return self.wait_in_epoll(context, turn, timeout);
         }
         if self.deputy.0.compare_exchange(NO_ONE, context.me, SeqCst, SeqCst).is_err() {
             self.workers[context.me].0.bell.wait(timeout);
-            return Found::NOTHING;
+            return (Found::NOTHING, false);
         }
         let found = self.stand_in(context, turn, timeout);
         self.deputy.0.store(NO_ONE, SeqCst);
@@ -118,61 +121,115 @@ impl Shared {
         found
     }
 
-    /// Sleeps as the deputy until it is woken, so much time is over, or it has something to do: where one who waits in
-    /// the epoll is told of something and has no processor, or nobody waits there and one who is awake doesn't get on.
-    fn stand_in(&self, context: &Context, turn: &mut Turn, timeout: i32) -> Found {
+    /// Sleeps in the epoll until something is told, so much time is over, or tasks of another wait for it.
+    fn wait_in_epoll(&self, context: &Context, turn: &mut Turn, timeout: i32) -> (Found, bool) {
+        let most = self.asks(self.room(context, turn));
+        if self.is_alone() {
+            return (self.reactor.wait(timeout, most), false);
+        }
+        let mut left = timeout;
+        loop {
+            let least = if self.deputy.0.load(Relaxed) == NO_ONE { PAUSE } else { LONG_REST };
+            let rests = sooner(left, self.rests_of(context.me, turn, least, &self.pauses));
+            let found = self.reactor.wait(rests, most);
+            if !found.is_empty() || left == rests {
+                return (found, false);
+            }
+            left -= if left < 0 { 0 } else { rests };
+            if self.look_after(context, turn).1 {
+                return (Found::NOTHING, true);
+            }
+        }
+    }
+
+    /// Sleeps as the deputy until it is woken, so much time is over, or it has something to do: where tasks of another
+    /// wait for it, one who waits in the epoll is told of something and has no processor, or nobody waits there and one
+    /// who is awake doesn't get on.
+    fn stand_in(&self, context: &Context, turn: &mut Turn, timeout: i32) -> (Found, bool) {
         let bell = &self.workers[context.me].0.bell;
         let mut left = timeout;
         loop {
-            let rests = sooner(left, self.rests_of(turn));
+            let rests = sooner(left, self.rests_of(context.me, turn, 1, &self.rests));
             if bell.wait(rests) {
                 turn.rests = 1;
-                return Found::NOTHING;
+                return (Found::NOTHING, false);
             }
             if left == rests {
-                return Found::NOTHING;
+                return (Found::NOTHING, false);
             }
             left -= if left < 0 { 0 } else { rests };
+            let (stands, waits) = self.look_after(context, turn);
             let stuck = self.waits.0.load(SeqCst) == NO_ONE;
-            if stuck && !self.stands_anybody(turn) {
+            if !stuck && waits {
+                return (Found::NOTHING, true);
+            }
+            if stuck && !stands {
                 continue;
             }
-            let found = self.reactor.look(self.asks(self.room(turn)));
+            let found = self.reactor.look(self.asks(self.room(context, turn)));
             if stuck || !found.is_empty() {
-                return found;
+                return (found, true);
             }
         }
     }
 
-    /// Whether a worker that is awake has not got on since the last look.
-    fn stands_anybody(&self, turn: &mut Turn) -> bool {
-        let (active, sleepers) = (self.active.0.load(Relaxed), self.sleepers.0.load(Relaxed));
-        let mut stands = false;
-        for (number, seen) in turn.seen.iter_mut().enumerate() {
-            let polls = self.workers[number].0.polls.load(Relaxed);
-            stands |= number < active && sleepers >> number & 1 == 0 && polls == *seen;
-            *seen = polls;
+    /// Looks after workers that are awake and have not got on since the last look: makes ready what they have in hand,
+    /// and fires their timers. Whether there are any, and whether tasks wait for them.
+    fn look_after(&self, context: &Context, turn: &mut Turn) -> (bool, bool) {
+        let (active, sleepers) = (self.active.0.load(SeqCst), self.sleepers.0.load(SeqCst));
+        let (mut stands, mut waits) = (false, false);
+        for other in 0..self.workers.len() {
+            let polls = self.workers[other].0.polls.load(Relaxed);
+            let gets_on = polls != std::mem::replace(&mut turn.seen[other], polls);
+            if gets_on || other >= active || other == context.me || sleepers >> other & 1 == 1 {
+                continue;
+            }
+            stands = true;
+            waits |= self.relieve(other) != 0;
+            for owner in std::iter::once(other).chain(self.lodgers(other)) {
+                waits |= self.fire_quietly(context, owner) != 0 || self.ready(&context.hands, owner) != 0;
+            }
         }
-        stands
+        (stands, waits)
     }
 
-    /// For how many milliseconds the deputy sleeps: one while tasks run, and twice as long each time that none has.
-    fn rests_of(&self, turn: &mut Turn) -> i32 {
+    /// For how many milliseconds one sleeps that looks after others: the least while tasks run, and twice as long each
+    /// time that none has; while anybody is awake, `LONG_REST` at most.
+    fn rests_of(&self, me: usize, turn: &mut Turn, least: i32, told: &AtomicI32) -> i32 {
         let polls = self.workers.iter().map(|worker| worker.0.polls.load(Relaxed)).sum();
-        turn.rests = if polls != turn.watched { 1 } else { (2 * turn.rests).min(1 << 20) };
+        turn.rests = if polls != turn.watched { least } else { (2 * turn.rests).clamp(least, 1 << 20) };
         turn.watched = polls;
-        self.rests.store(turn.rests, Relaxed);
+        told.store(turn.rests, SeqCst);
+        // Whoever wakes is no sleeper any more, and then looks at what is told here.
+        if turn.rests > LONG_REST && self.is_anybody_awake(me) {
+            turn.rests = LONG_REST;
+            told.store(turn.rests, SeqCst);
+        }
         turn.rests
     }
 
-    /// Whoever waited in the epoll has something to do, which may take long: where nobody stands in, another is woken
-    /// to wait there, and a deputy that sleeps for long is woken to look more often again.
-    fn leaves_epoll(&self) {
-        let deputy = self.deputy.0.load(SeqCst);
-        if deputy == NO_ONE {
+    fn is_anybody_awake(&self, me: usize) -> bool {
+        let active = u64::MAX >> (64 - self.active.0.load(SeqCst));
+        active & !self.sleepers.0.load(SeqCst) & !(1 << me) != 0
+    }
+
+    /// A worker that slept has something to do, which may take long. Where it `waited` in the epoll and nobody stands in,
+    /// another is woken to wait there; and of those that look after others one that sleeps for long is woken to look more
+    /// often again.
+    pub(crate) fn goes_on(&self, waited: bool) {
+        if self.sleepers.0.load(SeqCst) == 0 {
+            return;
+        }
+        let (waits, deputy) = (self.waits.0.load(SeqCst), self.deputy.0.load(SeqCst));
+        let looks = waits != NO_ONE && self.pauses.load(SeqCst) <= LONG_REST;
+        if deputy != NO_ONE {
+            if !looks && self.rests.load(SeqCst) > LONG_REST {
+                self.rouse(deputy);
+            }
+        } else if waited {
             self.rouse_any();
-        } else if self.rests.load(Relaxed) >= LONG_REST {
-            self.rouse(deputy);
+        } else if waits != NO_ONE && !looks {
+            self.rouse(waits);
         }
     }
 }
