@@ -1,6 +1,7 @@
 //! An orderly end, and a limit of what is accepted.
 
 use crate::runtime::Runtime;
+use crate::seam;
 use crate::shared::{here, Context as Worker, Shared};
 use crate::sys;
 use crate::waker::is_of_running;
@@ -30,6 +31,7 @@ impl Draining {
     pub(crate) fn begin(&self) {
         self.begun.store(true, SeqCst);
         let waiting = std::mem::take(&mut self.waiting.lock().unwrap().1);
+        seam::at("who waits for the end is told");
         waiting.into_values().for_each(Waker::wake);
     }
 

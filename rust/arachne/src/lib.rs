@@ -23,6 +23,7 @@ pub mod net;
 mod observe;
 mod reactor;
 mod runtime;
+mod seam;
 mod semaphore;
 mod shared;
 mod spawn;
@@ -41,6 +42,8 @@ pub use drain::{is_stopping, stopping, Ended, Limit, Signal, Stopping, Ticket};
 pub use lock::{Guard, Lock, Locking};
 pub use observe::{Doing, Hooks, TaskInfo, HISTOGRAM};
 pub use runtime::{Builder, Runtime, Stats, WorkerStats};
+#[cfg(feature = "seams")]
+pub use seam::at_seams;
 pub use semaphore::{Acquire, Permit, Semaphore};
 pub use spawn::{spawn, spawn_background, spawn_balanced, spawn_named, Refused};
 pub use task::{About, JoinError, JoinHandle, Label, Panic};

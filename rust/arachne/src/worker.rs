@@ -6,6 +6,7 @@
 use crate::core::{place_of, Hands, Job, Rested, Spawned, BLOCK, SHARD};
 use crate::cores::Judge;
 use crate::reactor::{Found, EVENTS};
+use crate::seam;
 use crate::shared::{add, Context, Shared, NO_ONE};
 use crate::task::{self, Raw};
 use crate::timer::now;
@@ -470,6 +471,7 @@ impl Shared {
         }
         self.queue.lock().unwrap().push_front(raw);
         self.queued.0.fetch_add(1, SeqCst);
+        seam::at("what is queued has no room");
         None
     }
 
