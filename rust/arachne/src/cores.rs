@@ -219,13 +219,16 @@ impl Shared {
     /// A worker's core is given back: its kernel thread waits until the core is asked for again.
     pub(crate) fn give_back(&self, context: &Context, turn: &mut Turn) {
         self.lay_down(context, turn);
-        let (gate, waits) = &self.workers[context.me].0.given_back;
+        let worker = &self.workers[context.me].0;
+        let (gate, waits) = &worker.given_back;
+        worker.away.store(true, SeqCst);
         self.ring(self.keeper(context.me));
         let mut given_back = gate.lock().unwrap();
         while *given_back && !self.stop.load(SeqCst) {
             given_back = waits.wait(given_back).unwrap();
         }
         drop(given_back);
+        worker.away.store(false, SeqCst);
         self.goes_on(false);
     }
 

@@ -90,6 +90,8 @@ pub(crate) struct Worker {
     pub(crate) timers: Timers,
     /// True while the core is given back.
     pub(crate) given_back: (Mutex<bool>, Condvar),
+    /// It has laid down all that it had in hand, and waits for its core.
+    pub(crate) away: AtomicBool,
     /// Its shards, and the seats that park in the name of their numbers. Whoever looks after them takes the lock.
     pub(crate) shards: Box<[usize]>,
     /// How many of its shards, from the first on, ever had a task: the others needn't be looked at. It only grows.
@@ -130,6 +132,7 @@ impl Worker {
             lent: Lent::new(),
             timers: Timers::default(),
             given_back: (Mutex::new(false), Condvar::new()),
+            away: AtomicBool::new(false),
             roomy: Line(AtomicUsize::new(shards[0] * SHARD)),
             shards,
             used: AtomicUsize::new(1),

@@ -540,9 +540,10 @@ impl Shared {
         for other in 0..self.workers.len() {
             let worker = &self.workers[other].0;
             let polls = worker.polls.load(Relaxed);
-            let stands = other >= active || polls == turn.seen[other];
+            let gets_on = polls != turn.seen[other];
+            let stands = other >= active || !gets_on;
             turn.seen[other] = polls;
-            if !stands {
+            if gets_on {
                 turn.since[other] = context.looked.get();
             }
             turn.stood[other] = if other == context.me || !stands { 0 } else { (turn.stood[other] + 1) % LONG };
@@ -551,9 +552,11 @@ impl Shared {
                 continue;
             }
             let (long, sleeps) = (stands && turn.stood[other] == 0, self.sleepers.0.load(Relaxed) >> other & 1 == 1);
-            if long && other < active && !sleeps {
-                // In a long poll, or without a processor: its timers would wait for it.
-                self.fire_quietly(context, other);
+            if long && !sleeps {
+                // In a long poll, or without a processor: its timers would wait for it, unless another has them.
+                if other < active {
+                    self.fire_quietly(context, other);
+                }
                 if context.looked.get().saturating_sub(turn.since[other]) >= LONG_POLL {
                     self.relieve(other);
                 }

@@ -124,7 +124,7 @@ impl Shared {
     /// Sleeps in the epoll until something is told, so much time is over, or tasks of another wait for it.
     fn wait_in_epoll(&self, context: &Context, turn: &mut Turn, timeout: i32) -> (Found, bool) {
         let most = self.asks(self.room(context, turn));
-        if self.is_alone() {
+        if self.workers.len() == 1 {
             return (self.reactor.wait(timeout, most), false);
         }
         let mut left = timeout;
@@ -173,19 +173,25 @@ impl Shared {
         }
     }
 
-    /// Looks after workers that are awake and have not got on since the last look: makes ready what they have in hand,
-    /// and fires their timers. Whether there are any, and whether tasks wait for them.
+    /// Looks after workers that are awake and have not got on since the last look: makes ready what they have in hand, and
+    /// fires their timers; and after those that are yet to give their cores back. Whether there are any of the former, and
+    /// whether tasks wait for any.
     fn look_after(&self, context: &Context, turn: &mut Turn) -> (bool, bool) {
         let (active, sleepers) = (self.active.0.load(SeqCst), self.sleepers.0.load(SeqCst));
         let (mut stands, mut waits) = (false, false);
         for other in 0..self.workers.len() {
             let polls = self.workers[other].0.polls.load(Relaxed);
             let gets_on = polls != std::mem::replace(&mut turn.seen[other], polls);
-            if gets_on || other >= active || other == context.me || sleepers >> other & 1 == 1 {
+            let away = self.workers[other].0.away.load(SeqCst);
+            if gets_on || away || other == context.me || sleepers >> other & 1 == 1 {
+                continue;
+            }
+            waits |= self.relieve(other) != 0;
+            if other >= active {
+                // Its core was asked back: another has its timers and places already.
                 continue;
             }
             stands = true;
-            waits |= self.relieve(other) != 0;
             for owner in std::iter::once(other).chain(self.lodgers(other)) {
                 waits |= self.fire_quietly(context, owner) != 0 || self.ready(&context.hands, owner) != 0;
             }
@@ -209,8 +215,8 @@ impl Shared {
     }
 
     fn is_anybody_awake(&self, me: usize) -> bool {
-        let active = u64::MAX >> (64 - self.active.0.load(SeqCst));
-        active & !self.sleepers.0.load(SeqCst) & !(1 << me) != 0
+        let sleepers = self.sleepers.0.load(SeqCst) | 1 << me;
+        self.workers.iter().enumerate().any(|(other, line)| sleepers >> other & 1 == 0 && !line.0.away.load(SeqCst))
     }
 
     /// A worker that slept has something to do, which may take long. Where it `waited` in the epoll and nobody stands in,
