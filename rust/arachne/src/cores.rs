@@ -219,7 +219,7 @@ impl Shared {
     /// A worker's core is given back: its kernel thread waits until the core is asked for again.
     pub(crate) fn give_back(&self, context: &Context, turn: &mut Turn) {
         self.lay_down(context, turn);
-        let worker = &self.workers[context.me].0;
+        let worker = context.worker;
         let (gate, waits) = &worker.given_back;
         worker.away.store(true, SeqCst);
         self.ring(self.keeper(context.me));

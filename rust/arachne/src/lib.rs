@@ -17,7 +17,7 @@ mod channel;
 mod core;
 mod cores;
 mod drain;
-mod lent;
+mod hand;
 mod lock;
 pub mod net;
 mod observe;

@@ -74,8 +74,9 @@ mod once {
     }
 }
 
-/// Whether a read may be made here. In a poll of a task there is one, and more until its worker is to look out. Nothing is
-/// put off once the end has begun, nor for a waker that isn't the task's: its poll gives no worker back (`block_on`).
+/// Whether a read may be made here. In a poll of a task there is one, and more until its worker is to look out. Nothing
+/// is put off once the end has begun, nor for a waker that isn't the task's: its poll gives no worker back
+/// (`block_on`).
 #[inline]
 fn may_read(waker: &Waker) -> bool {
     Worker::with(|worker| match worker {

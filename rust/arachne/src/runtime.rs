@@ -23,7 +23,7 @@ use std::time::Duration;
 
 /// Jobs that a worker may have in hand: the one that runs, the next one and one that it displaces, and those in its
 /// hand with what it took of another.
-const HANDS: usize = 3 + crate::worker::HAND + crate::worker::FEW;
+const HANDS: usize = 3 + crate::worker::HAND + crate::hand::FIRST;
 
 /// What a kernel thread calls before its first task.
 type Starts = Arc<dyn Fn() + Send + Sync>;
@@ -88,8 +88,8 @@ impl Builder {
     }
 
     /// For how long at a time a worker wants a processor that other kernel threads want too: Linux (6.12 and later)
-    /// gives one sooner to a worker that wakes and asks for less. 100 us, its least, unless it is said here; None leaves
-    /// what the system has (some 3 ms), for tasks that compute for long beside others that do.
+    /// gives one sooner to a worker that wakes and asks for less. 100 us, its least, unless it is said here; None
+    /// leaves what the system has (some 3 ms), for tasks that compute for long beside others that do.
     pub fn slices(mut self, slice: Option<Duration>) -> Builder {
         self.slice = slice;
         self
@@ -137,22 +137,25 @@ impl Builder {
         let most = MOST_SHARDS / self.cores * self.cores;
         let shards = (each.max(1) * self.cores).min(most);
         let shared = Shared::get(self.cores, shards, self.observed)?;
-        sys::register_barriers();
         shared.observer.set_hooks(self.hooks);
         shared.blocking.open(self.blocking);
         let mut runtime = Runtime { shared, threads: Vec::new(), ended: false };
         let cpus = if self.pin { sys::affinity() } else { Vec::new() };
-        for me in 0..self.cores {
+        // The watcher is one more, behind the workers.
+        let crew = shared.root.lock().unwrap().crew(self.cores + self.slow.is_some() as usize, HANDS);
+        let mut crew = crew.ok_or(io::ErrorKind::OutOfMemory)?;
+        let watches = crew.drain(self.cores..).next();
+        let alone = self.cores == 1 && watches.is_none();
+        for (me, hands) in crew.into_iter().enumerate() {
             let (counts, policy) = (self.policy.is_some(), self.policy.filter(|_| me == 0));
             let cpu = cpus.get(me % cpus.len().max(1)).copied();
             let slice = self.slice.map(|slice| slice.as_nanos() as u64);
-            let hands = shared.root.lock().unwrap().hands(HANDS).ok_or(io::ErrorKind::OutOfMemory)?;
             let starts = self.starts.clone();
             let work = move || {
                 cpu.map(sys::pin);
                 slice.map(sys::ask_for_slices);
                 *shared.workers[me].0.account.lock().unwrap() = std::fs::File::open("/proc/thread-self/schedstat").ok();
-                let context = Context::new(shared, me, hands);
+                let context = Context::new(shared, me, hands, alone);
                 let judge = policy.and_then(|policy| Judge::new(policy, shared));
                 let end = EndsTheProcess;
                 starts.iter().for_each(|starts| starts());
@@ -162,14 +165,14 @@ impl Builder {
             };
             runtime.threads.push(thread::Builder::new().name(format!("arachne-{me}")).spawn(work)?);
         }
-        if let Some(longer) = self.slow {
+        if let (Some(longer), Some(hands)) = (self.slow, watches) {
             let log = self.log;
             let starts = self.starts;
             let work = move || {
                 let end = EndsTheProcess;
                 starts.iter().for_each(|starts| starts());
                 std::mem::forget(end);
-                watch::run(shared, longer, log);
+                watch::run(shared, hands, longer, log);
             };
             runtime.threads.push(thread::Builder::new().name("arachne-watch".into()).spawn(work)?);
         }

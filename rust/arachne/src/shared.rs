@@ -1,15 +1,15 @@
 //! What the kernel threads of a runtime share, and what each of them has of its own.
 
 use crate::blocking::Pool;
-use crate::core::{Hands, Job, Line, Parking, Root, BLOCK, MOST_SHARDS, NUMBERS, SHARD};
+use crate::core::{Hands, Line, Parking, Root, BLOCK, MOST_SHARDS, NUMBERS, SHARD};
 use crate::drain::Draining;
-use crate::lent::{Held, Jobs, Lent};
+use crate::hand::Hand;
 use crate::observe::Observer;
 use crate::reactor::{Bell, Reactor};
 use crate::task::{About, Label, Raw};
 use crate::timer::{now, Timers};
 use crate::waker::NOBODY;
-use crate::worker::{FEW, HAND, LOOK_TIME};
+use crate::worker::LOOK_TIME;
 use std::cell::{Cell, RefCell};
 use std::collections::VecDeque;
 use std::fs::File;
@@ -86,7 +86,7 @@ pub(crate) struct Counts {
 /// What others see of a worker. Its counts are written by itself alone.
 pub(crate) struct Worker {
     pub(crate) bell: Bell,
-    pub(crate) lent: Lent,
+    pub(crate) hand: Hand,
     pub(crate) timers: Timers,
     /// True while the core is given back.
     pub(crate) given_back: (Mutex<bool>, Condvar),
@@ -129,7 +129,7 @@ impl Worker {
         let n = || AtomicU64::new(0);
         Worker {
             bell: Bell::default(),
-            lent: Lent::new(),
+            hand: Hand::default(),
             timers: Timers::default(),
             given_back: (Mutex::new(false), Condvar::new()),
             away: AtomicBool::new(false),
@@ -315,12 +315,6 @@ impl Shared {
         (self.spawned() - background - ended).max(0) as u64
     }
 
-    /// A worker has woken a task that waited.
-    #[inline]
-    pub(crate) fn woke(&self, worker: usize) {
-        add(&self.workers[worker].0.wakes, 1);
-    }
-
     /// Nobody uses it any more.
     pub(crate) fn give(&'static self) {
         POOL.lock().unwrap().1.push(self);
@@ -344,19 +338,14 @@ impl Shared {
     }
 }
 
-/// What a worker's kernel thread has of its own, for calls from within a task. While its hand is lent, another may have
-/// its seats, and what is in them: `hands`, `next`, `hand` and `relieved`.
+/// What a worker's kernel thread has of its own, for calls from within a task.
 pub(crate) struct Context {
     pub(crate) shared: &'static Shared,
     pub(crate) me: usize,
-    pub(crate) lent: &'static Lent,
     pub(crate) hands: Hands,
-    /// The job that runs next. It is in this worker's hand.
-    pub(crate) next: Cell<Option<Job>>,
-    /// Further jobs in its hand.
-    pub(crate) hand: Jobs,
-    /// Another has made ready what was in this worker's hand, as the poll that runs takes long: nothing stays there.
-    pub(crate) relieved: Cell<bool>,
+    pub(crate) worker: &'static Worker,
+    /// No other kernel thread ever takes jobs out of this worker's hand.
+    pub(crate) alone: bool,
     /// The name of the task that runs here, and whether it woke itself.
     pub(crate) current: Cell<u64>,
     pub(crate) woken: Cell<bool>,
@@ -364,10 +353,9 @@ pub(crate) struct Context {
     pub(crate) reads: Cell<u32>,
     pub(crate) looked: Cell<u64>,
     /// What a wake makes ready runs next here. Where not, a wake that makes ready wakes no other worker, and the first
-    /// `room` tasks that are woken stay in this worker's hand, as `told`.
+    /// `room` tasks that are woken stay in this worker's hand, in order.
     pub(crate) keeps: Cell<bool>,
     pub(crate) room: Cell<usize>,
-    pub(crate) told: RefCell<Vec<Job>>,
     random: Cell<u64>,
 }
 
@@ -378,23 +366,20 @@ thread_local! {
 }
 
 impl Context {
-    pub(crate) fn new(shared: &'static Shared, me: usize, hands: Hands) -> Context {
+    pub(crate) fn new(shared: &'static Shared, me: usize, hands: Hands, alone: bool) -> Context {
         let random = Cell::new((me as u64 + 1).wrapping_mul(0x9e37_79b9_7f4a_7c15));
         Context {
             shared,
             me,
-            lent: &shared.workers[me].0.lent,
             hands,
-            next: Cell::new(None),
-            hand: Jobs::new(HAND + FEW),
-            relieved: Cell::new(false),
+            worker: &shared.workers[me].0,
+            alone,
             current: Cell::new(NOBODY),
             woken: Cell::new(false),
             reads: Cell::new(0),
             looked: Cell::new(now()),
             keeps: Cell::new(true),
             room: Cell::new(0),
-            told: RefCell::default(),
             random,
         }
     }
@@ -409,23 +394,15 @@ impl Context {
 
     /// Runs `f` as this worker.
     pub(crate) fn enter<R>(&self, f: impl FnOnce() -> R) -> R {
-        struct Leave<'a>(&'a Lent);
-        impl Drop for Leave<'_> {
+        struct Leave;
+        impl Drop for Leave {
             fn drop(&mut self) {
-                self.0.is_at(ptr::null());
                 CONTEXT.with(|context| context.set(ptr::null()));
             }
         }
         CONTEXT.with(|context| context.set(self));
-        self.lent.is_at(self);
-        let _leave = Leave(self.lent);
+        let _leave = Leave;
         f()
-    }
-
-    /// For a call that may come from within a poll, and uses this worker's hand.
-    #[inline]
-    pub(crate) fn hold(&self) -> Held<'static> {
-        self.lent.hold()
     }
 
     /// Whether the poll that runs here may read more: its first read may, and others until it is time to look out. So
@@ -496,8 +473,8 @@ pub(crate) fn with_hands<R>(shared: &'static Shared, call: impl FnOnce(&Hands) -
             visitor.seats.resize_with(shared.table + 1, || None);
         }
         if visitor.seats[shared.table].is_none() {
-            let hands = shared.root.lock().unwrap_or_else(|e| e.into_inner()).hands(1)?;
-            visitor.seats[shared.table] = Some(hands);
+            let hands = shared.root.lock().unwrap_or_else(|e| e.into_inner()).crew(1, 1)?.pop();
+            visitor.seats[shared.table] = hands;
         }
         let hands = visitor.seats[shared.table].as_ref()?;
         call.take().map(|call| call(hands))
@@ -507,7 +484,7 @@ pub(crate) fn with_hands<R>(shared: &'static Shared, call: impl FnOnce(&Hands) -
         (_, Some(call)) => {
             // The thread ends: seats for this one call.
             let mut root = shared.root.lock().unwrap_or_else(|e| e.into_inner());
-            let hands = root.hands(1).expect("no memory for a seat");
+            let hands = root.crew(1, 1).and_then(|mut crew| crew.pop()).expect("no memory for a seat");
             let result = call(&hands);
             root.join(hands);
             result

@@ -46,8 +46,8 @@ impl<F: Future> Future for Background<F> {
 
 impl Shared {
     /// Puts a task into a free place of a worker's blocks. Tasks that are spawned one after the other stand in the
-    /// blocks of a shard in turn: the marks of neighbours in a block share a cache line, on which workers that wake them
-    /// would meet.
+    /// blocks of a shard in turn: the marks of neighbours in a block share a cache line, on which workers that wake
+    /// them would meet.
     pub(crate) fn spawn_at(&self, hands: &Hands, worker: usize, raw: Raw, keep: bool) -> Spawned {
         let (shards, next) = (&*self.workers[worker].0.shards, &self.workers[worker].0.roomy.0);
         let hint = next.load(Relaxed);
@@ -100,8 +100,7 @@ impl Shared {
     fn place_new(&'static self, raw: Raw, balanced: bool) -> bool {
         Context::with(|worker| match worker {
             Some(worker) if std::ptr::eq(worker.shared, self) => {
-                add(&self.workers[worker.me].0.spawned, 1);
-                let _held = worker.hold();
+                add(&worker.worker.spawned, 1);
                 self.spawn_here(worker, raw, balanced)
             }
             _ => with_hands(self, |hands| {
@@ -249,8 +248,8 @@ where
 }
 
 /// As `spawn`, for a task that serves the others and doesn't end, such as one that sweeps a store:
-/// `Runtime::shutdown_within` doesn't wait for it. It is dropped once the others have ended, or at the deadline. What it
-/// spawns itself is waited for, unless it is spawned so too.
+/// `Runtime::shutdown_within` doesn't wait for it. It is dropped once the others have ended, or at the deadline. What
+/// it spawns itself is waited for, unless it is spawned so too.
 ///
 /// # Panics
 /// Outside of a runtime.

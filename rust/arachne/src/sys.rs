@@ -4,7 +4,7 @@
 
 use std::io;
 use std::os::unix::io::RawFd;
-use std::sync::atomic::{compiler_fence, fence, AtomicBool, AtomicI32, Ordering::*};
+use std::sync::atomic::{AtomicI32, Ordering::*};
 
 #[derive(Clone, Copy)]
 #[cfg_attr(target_arch = "x86_64", repr(C, packed))]
@@ -141,47 +141,6 @@ pub(crate) fn start_connect(to: &std::net::SocketAddr) -> io::Result<RawFd> {
             Err(error)
         }
         _ => Ok(fd),
-    }
-}
-
-/// The number of Linux's call that has all threads of the process pass a barrier, where it is known.
-#[cfg(target_arch = "x86_64")]
-const BARRIER: Option<i64> = Some(324);
-#[cfg(any(target_arch = "aarch64", target_arch = "riscv64"))]
-const BARRIER: Option<i64> = Some(283);
-#[cfg(not(any(target_arch = "x86_64", target_arch = "aarch64", target_arch = "riscv64")))]
-const BARRIER: Option<i64> = None;
-const EXPEDITED: i32 = 8;
-const REGISTER: i32 = 16;
-/// Linux has said that it will: from then on a light barrier is one of the compiler alone.
-static BARRIERS: AtomicBool = AtomicBool::new(false);
-
-/// Before a kernel thread is started that makes light barriers.
-pub(crate) fn register_barriers() {
-    // SAFETY: a call with numbers alone.
-    if BARRIER.map_or(false, |number| unsafe { syscall(number, REGISTER, 0u32, 0i32) } == 0) {
-        BARRIERS.store(true, SeqCst);
-    }
-}
-
-/// Of two threads that each store, pass a barrier and load, one a light and the other a heavy one, at least one sees what
-/// the other has stored.
-#[inline]
-pub(crate) fn light_barrier() {
-    if BARRIERS.load(Relaxed) {
-        compiler_fence(SeqCst);
-    } else {
-        fence(SeqCst);
-    }
-}
-
-/// False where it could not be made.
-pub(crate) fn heavy_barrier() -> bool {
-    fence(SeqCst);
-    match BARRIER {
-        // SAFETY: a call with numbers alone.
-        Some(number) if BARRIERS.load(SeqCst) => unsafe { syscall(number, EXPEDITED, 0u32, 0i32) == 0 },
-        _ => true,
     }
 }
 

@@ -3,7 +3,8 @@
 //! So a waker is copied and dropped for nothing, and one of a task that has ended finds nobody.
 
 use crate::core::{place_of, Woken};
-use crate::shared::{shared_of, with_hands, Context as Worker, TABLES};
+use crate::hand::LINE;
+use crate::shared::{add, shared_of, with_hands, Context as Worker, TABLES};
 use std::mem::ManuallyDrop;
 use std::task::{RawWaker, RawWakerVTable, Waker};
 
@@ -64,20 +65,19 @@ pub(crate) fn wake_name(table: usize, name: u64) {
                 worker.woken.set(true);
                 return;
             }
-            let _held = worker.hold();
             match worker.hands.wake(name, worker.keeps.get() || worker.room.get() != 0) {
                 Woken::Kept(job) => {
-                    shared.woke(worker.me);
+                    add(&worker.worker.wakes, 1);
                     shared.observer.ready(place_of(name));
                     if !worker.keeps.get() {
                         worker.room.set(worker.room.get() - 1);
-                        worker.told.borrow_mut().push(job);
+                        shared.set_behind(worker, job, LINE);
                     } else {
                         shared.set_next(worker, job);
                     }
                 }
                 Woken::Ready { unpark } => {
-                    shared.woke(worker.me);
+                    add(&worker.worker.wakes, 1);
                     shared.observer.ready(place_of(name));
                     shared.published(name, unpark, !worker.keeps.get());
                 }

@@ -21,12 +21,11 @@ struct Seen {
 }
 
 /// Looks at all workers until the runtime stops.
-pub(crate) fn run(shared: &'static Shared, longer: Duration, log: bool) {
+pub(crate) fn run(shared: &'static Shared, hands: Hands, longer: Duration, log: bool) {
     let tick = (longer / 20).clamp(Duration::from_micros(500), Duration::from_millis(5));
     let longer = longer.as_nanos() as u64;
     let mut seen: Vec<Seen> =
         shared.workers.iter().map(|_| Seen { polls: 0, name: NOBODY, since: 0, told: false }).collect();
-    let hands = shared.root.lock().unwrap().hands(4).expect("no memory for a seat");
     while !shared.stop.load(SeqCst) {
         if shared.stuck.0.load(Relaxed) == 0 {
             thread::sleep(tick);
@@ -81,7 +80,7 @@ fn rescue(shared: &'static Shared, hands: &Hands, stuck: u64) {
     let all = u64::MAX >> (64 - shared.active.0.load(Relaxed));
     let (mut left, until) = (stuck, now() + TURN);
     for worker in (0..polls.len()).filter(|worker| stuck >> worker & 1 == 1) {
-        shared.relieve(worker);
+        shared.relieve(hands, worker);
     }
     while left != 0 && now() < until && !shared.stop.load(SeqCst) {
         let mut found = shared.reactor.tell(&shared.reactor.look(EVENTS));

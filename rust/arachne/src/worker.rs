@@ -5,6 +5,7 @@
 
 use crate::core::{place_of, Hands, Job, Rested, Spawned, BLOCK, SHARD};
 use crate::cores::Judge;
+use crate::hand::FIRST;
 use crate::reactor::{Found, EVENTS};
 use crate::seam;
 use crate::shared::{add, Context, Shared, NO_ONE};
@@ -29,13 +30,13 @@ const LONG_POLLS: u32 = 3;
 const JUDGED: u32 = 8;
 /// After so many of these looks at which another worker had not got on, its timers are looked at too.
 const LONG: u32 = 8;
-/// From so many nanoseconds without a poll's end on, a busy worker makes ready what another has in hand.
+/// From so many nanoseconds without a poll's end on, a busy worker takes also what is to run next at another.
 const LONG_POLL: u64 = 1_000_000;
 /// After so many looks at blocks that are shown and have nothing, they are hidden.
 const STALE: u32 = 16;
 /// Jobs in hand at most: of those that one look at the epoll tells of, of another worker's, and of any while somebody
 /// has nothing to do.
-pub(crate) const FEW: usize = 8;
+const FEW: usize = 8;
 /// Jobs in hand at most of those that woke themselves, or were next after many in a row; and of any, where a worker is
 /// alone.
 const KEPT: usize = 16;
@@ -49,8 +50,10 @@ const CROWD: u32 = 128;
 
 /// Where a worker is in its rounds.
 pub(crate) struct Turn {
-    /// How many of the jobs in hand run before the words are looked at again.
-    hand_left: usize,
+    /// How many jobs it has taken of others, and how many of those in line run before the words are looked at again.
+    /// Others may have taken them.
+    first: usize,
+    line_left: usize,
     /// The block that is swept, which of its places were ready as its turn came and were not passed since, and which of
     /// this worker's blocks is next.
     block: usize,
@@ -78,7 +81,8 @@ pub(crate) struct Turn {
 impl Turn {
     pub(crate) fn new(shared: &Shared, counts: bool) -> Turn {
         Turn {
-            hand_left: 0,
+            first: 0,
+            line_left: 0,
             block: 0,
             wanted: 0,
             next: 0,
@@ -141,32 +145,30 @@ impl Shared {
         self.published(job.name, unpark, false);
     }
 
-    /// A job in this worker's hand runs next here. What it displaces is ready for all, and so is itself where the poll
-    /// that runs is known to take long.
+    /// A job in this worker's hand runs next here. What it displaces is ready for all.
     #[inline]
     pub(crate) fn set_next(&self, context: &Context, job: Job) {
-        let waits = if context.relieved.get() { Some(job) } else { context.next.replace(Some(job)) };
-        if let Some(waits) = waits {
-            self.make_ready(context, &waits);
+        if !context.worker.hand.next.put(job) {
+            self.displace_next(context, job);
         }
     }
 
-    /// Makes ready what a worker has in hand beside the poll in which it is, and has it keep nothing until that ends; how
-    /// many jobs. Nobody is woken for them but workers at whose places they are.
-    pub(crate) fn relieve(&self, other: usize) -> usize {
-        let worker = &self.workers[other].0;
-        let mut count = 0;
-        if worker.running.load(Relaxed) != NOBODY {
-            worker.lent.relieve(|context| {
-                context.relieved.set(true);
-                let jobs = context.next.take().into_iter().chain(std::iter::from_fn(|| context.hand.take_first()));
-                jobs.for_each(|job| {
-                    self.published(job.name, context.hands.rest_ready(&job), true);
-                    count += 1;
-                });
-            });
+    /// Apart, so that what is done mostly is short.
+    #[inline(never)]
+    fn displace_next(&self, context: &Context, job: Job) {
+        if let Some(waits) = context.worker.hand.next.take(context.alone) {
+            self.make_ready(context, &waits);
         }
-        count
+        // By now there is none, whoever has taken it.
+        context.worker.hand.next.put(job);
+    }
+
+    /// Makes ready what a worker has in hand. Nobody is woken for them but workers at whose places they are.
+    pub(crate) fn relieve(&self, hands: &Hands, other: usize) {
+        while let Some(job) = self.workers[other].0.hand.take(true) {
+            hands.gets(&job, other);
+            self.published(job.name, hands.rest_ready(&job), true);
+        }
     }
 
     fn rouse(&self, worker: usize) -> bool {
@@ -270,7 +272,7 @@ impl Shared {
         let name = job.name;
         let waker = waker_of(self.table, name);
         let mut cx = std::task::Context::from_waker(&waker);
-        let worker = &self.workers[context.me].0;
+        let worker = context.worker;
         // SAFETY: the job is in this worker's hand until it is laid down or spent below.
         let about = unsafe { task::about(job.job) };
         worker.begins(name, &about);
@@ -278,16 +280,12 @@ impl Shared {
         context.current.set(name);
         context.woken.set(false);
         context.reads.set(0);
-        context.lent.lend();
         // SAFETY: as above.
         let ended = unsafe { task::run(job.job, self.table, name, &mut cx) };
-        if context.lent.take_back() {
-            context.relieved.set(false);
-            turn.hand_left = 0;
-        }
         turn.polls += 1;
         context.current.set(NOBODY);
         worker.running.store(NOBODY, Relaxed);
+        seam::at("a poll has ended");
         add(&worker.polls, 1);
         self.observer.stops(&job, ended);
         if ended {
@@ -315,14 +313,14 @@ impl Shared {
             }
         }
         self.observer.ready(job.place());
-        self.set_behind(context, job);
+        self.set_behind(context, job, self.kept());
     }
 
     #[inline]
     fn finish(&self, context: &Context, job: &Job) {
         context.hands.finish(job);
         self.show_room(job.place() / BLOCK);
-        add(&self.workers[context.me].0.ended, 1);
+        add(&context.worker.ended, 1);
         if self.clogged.load(SeqCst) {
             self.clogged.store(false, SeqCst);
         }
@@ -354,46 +352,62 @@ impl Shared {
     /// The job that the last one made ready, unless there were many in a row.
     #[inline]
     fn pick_next(&self, context: &Context, turn: &mut Turn) -> Option<Job> {
-        if let Some(job) = context.next.take() {
+        if let Some(job) = context.worker.hand.next.take(context.alone) {
             if turn.chain < NEXTS {
                 turn.chain += 1;
                 context.hands.begin(&job);
                 return Some(job);
             }
-            self.set_behind(context, job);
+            self.set_behind(context, job, self.kept());
         }
         turn.chain = 0;
         None
     }
 
-    /// Behind all that is ready here: it stays in hand, unless somebody has nothing to do and one is in hand already.
+    /// Behind all that is ready here: it stays in hand, unless `most` are in line already.
     #[inline]
-    fn set_behind(&self, context: &Context, job: Job) {
-        let most = if self.is_alone() { HAND } else { KEPT };
-        if context.hand.len() < if self.all_busy() { most } else { 1 } {
-            context.hand.push(job);
-        } else {
+    pub(crate) fn set_behind(&self, context: &Context, job: Job, most: usize) {
+        if !context.worker.hand.line.put(job, most) {
             self.make_ready(context, &job);
+        }
+    }
+
+    /// How many jobs stay in line of those that woke themselves, or were next after many in a row: one while somebody
+    /// has nothing to do.
+    #[inline]
+    fn kept(&self) -> usize {
+        match self.all_busy() {
+            false => 1,
+            true if self.is_alone() => HAND,
+            true => KEPT,
         }
     }
 
     #[inline]
     fn pick_ready(&'static self, context: &Context, turn: &mut Turn) -> Option<Job> {
-        if context.hand.len() > turn.few() && !self.all_busy() {
-            self.lay_down_to(context, turn, turn.few());
-            self.rouse_any();
+        if turn.first != 0 {
+            if let Some(job) = context.worker.hand.first.take(context.alone) {
+                turn.first -= 1;
+                context.hands.begin(&job);
+                return Some(job);
+            }
+            turn.first = 0;
         }
         loop {
-            if turn.hand_left == 0 {
+            if turn.line_left == 0 {
                 if let Some(job) = self.sweep(context, turn) {
                     return Some(job);
                 }
-                turn.hand_left = context.hand.len();
+                turn.line_left = context.worker.hand.line.len();
             }
-            if let Some(job) = context.hand.take_first() {
-                turn.hand_left -= 1;
-                context.hands.begin(&job);
-                return Some(job);
+            if turn.line_left != 0 {
+                if let Some(job) = context.worker.hand.line.take(context.alone) {
+                    turn.line_left -= 1;
+                    context.hands.begin(&job);
+                    return Some(job);
+                }
+                turn.line_left = 0;
+                continue;
             }
             if self.has_queued() {
                 match self.begin_queued(context) {
@@ -426,7 +440,7 @@ impl Shared {
                 continue;
             }
             let began = std::mem::take(&mut turn.next) != 0;
-            if !began || !context.hand.is_empty() || self.has_queued() {
+            if !began || !context.worker.hand.line.is_empty() || self.has_queued() {
                 return None;
             }
         }
@@ -510,9 +524,12 @@ impl Shared {
 
     /// Looks at epoll and timers, and takes a job of one that doesn't get on or has nobody: whatever is next here.
     fn look_out(&self, context: &Context, turn: &mut Turn, by_time: bool) {
+        if context.worker.hand.line.len() > turn.few() && !self.all_busy() {
+            self.rouse_any();
+        }
         // What is ready here goes first, and where polls are long what is in hand goes last.
         let lasts = turn.few() < FEW && !self.is_alone();
-        let takes = (context.hand.is_empty() || !lasts) && turn.wanted == 0 && !self.mine(context);
+        let takes = (context.worker.hand.line.is_empty() || !lasts) && turn.wanted == 0 && !self.mine(context);
         let room = if takes { self.room(context, turn) } else { 0 };
         let now = context.looked.get();
         if by_time && now.saturating_sub(self.looked.0.load(Relaxed)) < LOOK_TIME {
@@ -522,11 +539,11 @@ impl Shared {
             self.look_at_events(context, room);
         }
         if turn.counts {
-            let here = context.hand.len() + context.next.get().is_some() as usize;
+            let here = context.worker.hand.waits() + !context.worker.hand.next.is_empty() as usize;
             let mine = std::iter::once(context.me).chain(self.lodgers(context.me));
             let ready: u32 = mine.map(|owner| self.ready_up_to(&context.hands, owner, CROWD)).sum();
-            add(&self.workers[context.me].0.scans, 1);
-            add(&self.workers[context.me].0.runnable, here as u64 + ready as u64);
+            add(&context.worker.scans, 1);
+            add(&context.worker.runnable, here as u64 + ready as u64);
         }
         self.look_at_others(context, turn);
     }
@@ -535,7 +552,7 @@ impl Shared {
     fn look_at_others(&self, context: &Context, turn: &mut Turn) {
         // One that runs a long poll doesn't get on either: but what is ready here isn't put off twice in a row.
         let (active, long_polls) = (self.active.0.load(Relaxed), turn.few() < FEW && !turn.helped);
-        let may_help = turn.few() == FEW || turn.hand_left == 0;
+        let may_help = turn.few() == FEW || turn.line_left == 0;
         turn.helped = false;
         for other in 0..self.workers.len() {
             let worker = &self.workers[other].0;
@@ -557,9 +574,10 @@ impl Shared {
                 if other < active {
                     self.fire_quietly(context, other);
                 }
-                if context.looked.get().saturating_sub(turn.since[other]) >= LONG_POLL {
-                    self.relieve(other);
-                }
+            }
+            if !gets_on && !sleeps && may_help {
+                let lasts = context.looked.get().saturating_sub(turn.since[other]) >= LONG_POLL;
+                self.take_out(context, turn, other, 2, lasts);
             }
             // Who makes something ready for one that sleeps wakes somebody, so that is looked at now and then.
             if (long || !sleeps) && may_help && self.ready(&context.hands, other) != 0 {
@@ -574,12 +592,35 @@ impl Shared {
         let start = context.random() as usize % (self.workers[other].0.used_shards().len() * SHARD);
         let found = self.find_block(hands, other, start, stale).or_else(|| self.find_block(hands, other, 0, stale));
         let (block, ready) = found.map_or((0, 0), |(_, block, ready)| (block, ready));
-        let most = most.min(FEW).min(ready.count_ones() as usize);
-        let got = (0..most).map_while(|_| hands.take_any(block)).enumerate();
-        let got = got.map(|(at, job)| context.hand.insert(at, job)).count();
-        turn.hand_left += got;
+        let most = most.min(FIRST - context.worker.hand.first.len()).min(ready.count_ones() as usize);
+        let got = (0..most).map_while(|_| hands.take_any(block)).map(|job| self.set_first(context, job)).count();
+        self.has_taken(context, turn, got)
+    }
+
+    /// Takes up to `most` jobs out of another worker's hand, which run next here; with `next` also the one that is to
+    /// run next there.
+    fn take_out(&self, context: &Context, turn: &mut Turn, other: usize, most: usize, next: bool) -> bool {
+        let most = most.min(FIRST - context.worker.hand.first.len());
+        let jobs = (0..most).map_while(|_| self.workers[other].0.hand.take(next));
+        let got = jobs.map(|job| match context.hands.gets(&job, other) {
+            true => self.set_first(context, job),
+            false => self.make_ready(context, &job),
+        });
+        let got = got.count();
+        self.has_taken(context, turn, got)
+    }
+
+    /// A job that was taken of another worker runs before what is ready here.
+    fn set_first(&self, context: &Context, job: Job) {
+        if !context.worker.hand.first.put(job, FIRST) {
+            self.make_ready(context, &job);
+        }
+    }
+
+    fn has_taken(&self, context: &Context, turn: &mut Turn, got: usize) -> bool {
+        turn.first += got;
         if got != 0 {
-            add(&self.workers[context.me].0.takes, 1);
+            add(&context.worker.takes, 1);
         }
         got != 0
     }
@@ -587,7 +628,7 @@ impl Shared {
     /// How many tasks that are told of may stay in this worker's hand.
     fn room(&self, context: &Context, turn: &Turn) -> usize {
         let most = if self.is_alone() { HAND } else { turn.few() };
-        most.saturating_sub(context.hand.len())
+        most.saturating_sub(context.worker.hand.line.len())
     }
 
     /// For how many events a worker asks: for as many as stay in its hand. The others stay with the kernel, whose order
@@ -623,7 +664,6 @@ impl Shared {
         }
         context.room.set(0);
         context.keeps.set(true);
-        context.told.borrow_mut().drain(..).for_each(|job| context.hand.push(job));
         if found.is_full() || heard >= room + MANY {
             self.rouse_any();
         }
@@ -651,20 +691,21 @@ impl Shared {
         }
     }
 
-    /// Runs some of what is ready at other workers' places: half of what one has, where that is more than one job;
-    /// else one, where its worker sleeps or doesn't get on.
+    /// Runs some of what is ready at other workers' places, or at last in their hands: half of what one has, where that
+    /// is more than one job; else one, where its worker sleeps or doesn't get on.
     fn steal(&self, context: &Context, turn: &mut Turn, last: bool) -> bool {
         let count = self.workers.len();
         let offset = context.random() as usize % count;
-        for i in 0..count {
-            let other = (i + offset) % count;
-            let ready = if other == context.me { 0 } else { self.ready(&context.hands, other) };
-            let stands = || {
-                self.sleepers.0.load(Relaxed) >> other & 1 == 1
-                    || last && self.workers[other].0.polls.load(Relaxed) == turn.seen[other]
-            };
-            let helps = ready > 1 || ready == 1 && stands();
-            if helps && self.help(context, turn, other, (ready as usize + 1) / 2) {
+        for other in (0..count).map(|i| (i + offset) % count).filter(|&other| other != context.me) {
+            let worker = &self.workers[other].0;
+            let ready = self.ready(&context.hands, other) as usize;
+            let waits = if last { worker.hand.waits() } else { 0 };
+            let stands = self.sleepers.0.load(Relaxed) >> other & 1 == 1
+                || last && worker.polls.load(Relaxed) == turn.seen[other];
+            let helps = |count: usize| count > 1 || count == 1 && stands;
+            if helps(ready) && self.help(context, turn, other, (ready + 1) / 2)
+                || helps(waits) && self.take_out(context, turn, other, (waits + 1) / 2, false)
+            {
                 return true;
             }
         }
@@ -675,7 +716,7 @@ impl Shared {
 
     pub(crate) fn work(&'static self, context: &Context, mut judge: Option<Judge>, counts: bool) {
         let mut turn = Turn::new(self, counts);
-        let worker = &self.workers[context.me].0;
+        let worker = context.worker;
         let most = if judge.is_some() { JUDGED } else { LOOK_OUT };
         while !self.stop.load(Relaxed) {
             if context.me >= self.active.0.load(SeqCst) {
@@ -717,20 +758,12 @@ impl Shared {
             .any(|other| self.ready(&context.hands, other) != 0 && self.help(context, turn, other, FEW))
     }
 
-    /// Makes ready what is in this worker's hand, but for so many that run first.
-    fn lay_down_to(&self, context: &Context, turn: &mut Turn, left: usize) {
-        while context.hand.len() > left {
-            if let Some(job) = context.hand.take_last() {
-                let unpark = context.hands.rest_ready(&job);
-                self.published(job.name, unpark, true);
-            }
-        }
-        turn.hand_left = turn.hand_left.min(left);
-    }
-
     /// Makes all ready that is in this worker's hand.
     pub(crate) fn lay_down(&self, context: &Context, turn: &mut Turn) {
-        context.next.take().into_iter().for_each(|job| context.hand.push(job));
-        self.lay_down_to(context, turn, 0);
+        while let Some(job) = context.worker.hand.take(true) {
+            let unpark = context.hands.rest_ready(&job);
+            self.published(job.name, unpark, true);
+        }
+        (turn.first, turn.line_left) = (0, 0);
     }
 }

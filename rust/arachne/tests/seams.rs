@@ -45,8 +45,8 @@ impl Wake for Woken {
     }
 }
 
-/// A task ends between two steps of its handle's poll, and the handle is dropped while the end is told: whoever tells it
-/// still uses the task, and frees it.
+/// A task ends between two steps of its handle's poll, and the handle is dropped while the end is told: whoever tells
+/// it still uses the task, and frees it.
 #[test]
 fn a_task_is_freed_by_who_tells_its_end() {
     let _one = ONE.lock().unwrap_or_else(|e| e.into_inner());
@@ -97,6 +97,39 @@ fn who_begins_to_wait_as_the_end_begins_is_told() {
     runtime.shutdown_within(LONG);
     at_seams(|_| {});
     assert!(!waits.load(SeqCst) || woken.0.load(SeqCst) != 0, "it waits for ever");
+}
+
+/// A worker loses its processor between two polls, with a task that is to run next there and others at its places.
+#[test]
+fn what_a_worker_without_a_processor_has_in_hand_is_run() {
+    let _one = ONE.lock().unwrap_or_else(|e| e.into_inner());
+    let runtime = Runtime::new(3);
+    for pause in [MS / 4, 20 * MS, 100 * MS] {
+        thread::sleep(pause);
+        let (stops, goes_on) = (Arc::new(Mutex::new(None)), Arc::new(AtomicBool::new(false)));
+        let (stopped, ends) = (stops.clone(), goes_on.clone());
+        at_seams(move |point| {
+            let here = Some(thread::current().id());
+            if point == "a poll has ended" && *stopped.lock().unwrap() == here {
+                until("the others", || ends.load(SeqCst));
+            }
+        });
+        let count = Arc::new(AtomicUsize::new(0));
+        let runs = count.clone();
+        let task = runtime.spawn(async move {
+            for _ in 0..9 {
+                let ran = runs.clone();
+                arachne::spawn(async move {
+                    ran.fetch_add(1, SeqCst);
+                });
+            }
+            *stops.lock().unwrap() = Some(thread::current().id());
+        });
+        until("what is in hand", || count.load(SeqCst) == 9);
+        goes_on.store(true, SeqCst);
+        block_on(task).unwrap();
+        at_seams(|_| {});
+    }
 }
 
 /// A task ends, and as its place is given back another worker finds no room for what is queued.

@@ -2,19 +2,19 @@
 //!
 //! The rules of the header, and who keeps them here. *A handle is null at first, its pointer is written by the library
 //! alone, and it is never copied*: `Handle` is made by `Handle::empty`, moved and never cloned. *One thread at a time
-//! with each handle*: a type that has one is `Send` and not `Sync`, and no call of the library calls back; those of a
-//! worker are another thread's, one at a time, while `lent.rs` lends them. *Two handles where two are asked for, of one
-//! origin*: `Root` splits and joins its own alone. *Pointers that are not null*: all are from references. *No call from a
-//! signal handler or behind a fork*: this crate makes none.
+//! with each handle*: no call of the library calls back, and a type that has one is `Send` and not `Sync`, but for
+//! `Crew`. *Two handles where two are asked for, of one origin*: `Root` splits and joins its own alone. *Pointers that
+//! are not null*: all are from references. *No call from a signal handler or behind a fork*: this crate makes none.
 //!
-//! A handle has at most one job in hand, so a thread has several.
+//! A handle has at most one job in hand, so a thread has several. With a job goes the seat that has it: who takes a job
+//! out of another's hand has that one's seat until the job is laid down.
 
-use super::{Asked, Freed, Job, Rested, Spawned, Woken, BLOCK, MOST_SHARDS, NUMBERS};
+use super::{Asked, Freed, Job, Line, Rested, Spawned, Woken, BLOCK, MOST_SHARDS, NUMBERS};
 use crate::cores::{Advice, Sample};
 use std::cell::{Cell, RefCell, UnsafeCell};
 use std::ptr;
 use std::sync::atomic::{AtomicBool, AtomicU64, Ordering::*};
-use std::sync::Mutex;
+use std::sync::{Arc, Mutex};
 
 /// Declarations as in the header. `tests/header.rs` compares them with it.
 #[path = "declarations.rs"]
@@ -55,15 +55,40 @@ impl Drop for Handle {
 /// A runtime's executor, from which threads get their seats.
 pub(crate) struct Root(Handle);
 
-/// What a kernel thread has of an executor, to take and lay down jobs: a seat for each job that it may have in hand.
+/// Seats of a thread that others may have at a time, each with its job, so that it has some left.
+const AWAY: u64 = 24;
+
+/// The seats of kernel threads that take jobs out of each other's hands: so many of each.
+struct Crew {
+    seats: Box<[Handle]>,
+    each: usize,
+    members: Box<[Line<Member>]>,
+}
+
+/// Of the seats of one thread, those that others have laid down jobs by, as bits, and how many others have.
+#[derive(Default)]
+struct Member {
+    laid: AtomicU64,
+    away: AtomicU64,
+}
+
+// SAFETY: a seat's handle is used by one thread at a time. The first of each thread is its own for ever. Any other is
+// used by the thread that has the seat: at first the one of whose seats it is; then whoever takes the job that the seat
+// has, which orders the accesses, until that lays the job down and sets the seat's bit, by which its thread gets it
+// back.
+unsafe impl Sync for Crew {}
+
+/// What a kernel thread has of an executor, to take and lay down jobs: a seat for each job that it may have in hand,
+/// and the first for calls that leave its hand as it was.
 pub(crate) struct Hands {
-    seats: Vec<Handle>,
-    /// Seats with nothing in hand, as bits.
+    crew: Arc<Crew>,
+    me: usize,
+    /// Its seats with nothing in hand, as bits.
     free: Cell<u64>,
     /// By seat, the index in a block from which on its next take looks. The library goes round a block by seat.
     from: Vec<Cell<u32>>,
     /// The seat by which blocks are swept.
-    sweeps: Cell<u8>,
+    sweeps: Cell<usize>,
 }
 
 /// The right to sleep in the name of the shards of one number.
@@ -78,16 +103,24 @@ impl Root {
         made.then(|| Root(handle))
     }
 
-    /// Seats for a thread that has at most so many jobs in hand.
-    pub(crate) fn hands(&mut self, most: usize) -> Option<Hands> {
-        let seats = (0..most).map(|_| self.0.split()).collect::<Option<Vec<_>>>()?;
-        let from = vec![Cell::new(0); most];
-        Some(Hands { seats, free: Cell::new(u64::MAX >> (64 - most)), from, sweeps: Cell::new(0) })
+    /// Seats for so many threads, of which each has at most so many jobs in hand, less than 64.
+    pub(crate) fn crew(&mut self, threads: usize, most: usize) -> Option<Vec<Hands>> {
+        let each = 1 + most;
+        let seats = (0..threads * each).map(|_| self.0.split()).collect::<Option<Box<[_]>>>()?;
+        let crew = Arc::new(Crew { seats, each, members: (0..threads).map(|_| Line::default()).collect() });
+        let hands = |me| Hands {
+            crew: crew.clone(),
+            me,
+            free: Cell::new(u64::MAX >> (64 - each) & !1),
+            from: vec![Cell::new(0); each],
+            sweeps: Cell::new(0),
+        };
+        Some((0..threads).map(hands).collect())
     }
 
-    /// Gets a thread's seats back, with nothing in hand.
+    /// Gets a thread's seats back, with nothing in hand: those of a crew as the last of it comes.
     pub(crate) fn join(&mut self, hands: Hands) {
-        for seat in hands.seats {
+        for seat in Arc::try_unwrap(hands.crew).map_or(Box::default(), |crew| crew.seats).iter() {
             // SAFETY: two handles of one origin.
             let code = unsafe { arachne_exec_join(self.0.at(), seat.at()) };
             debug_assert_eq!(code, ARACHNE_DONE);
@@ -142,6 +175,12 @@ fn round(from: u32, to: u32) -> u64 {
     }
 }
 
+/// The thread of whose seats this is one, and which.
+#[inline]
+fn owner(seat: u16) -> (usize, usize) {
+    (seat as usize >> 6, seat as usize & 63)
+}
+
 fn broken(call: &str, code: u32) -> ! {
     eprintln!("arachne: {call} answered {code}, which this crate rules out");
     std::process::abort()
@@ -149,14 +188,26 @@ fn broken(call: &str, code: u32) -> ! {
 
 impl Hands {
     #[inline]
-    fn seat(&self, seat: u8) -> *mut arachne_exec {
-        self.seats[seat as usize].at()
+    fn seat(&self, seat: u16) -> *mut arachne_exec {
+        let (owner, which) = owner(seat);
+        self.crew.seats[owner * self.crew.each + which].at()
     }
 
-    /// A seat for a call that leaves its hand as it was: any, as those with a job in hand wake and spawn too.
+    /// The seat for a call that leaves its hand as it was.
     #[inline]
     fn any(&self) -> *mut arachne_exec {
-        self.seats[0].at()
+        self.crew.seats[self.me * self.crew.each].at()
+    }
+
+    /// This thread has taken a job out of another's hand. False where it is to be made ready at once, so that the
+    /// thread of whose seats one has it keeps some.
+    pub(crate) fn gets(&self, job: &Job, of: usize) -> bool {
+        let owner = owner(job.seat).0;
+        let away = &self.crew.members[owner].0.away;
+        if owner == self.me {
+            away.fetch_sub(1, Relaxed);
+        }
+        owner != of || away.fetch_add(1, Relaxed) < AWAY
     }
 
     /// Puts a job into a place of the block; with `keep` it stays in this thread's hand.
@@ -205,19 +256,19 @@ impl Hands {
     #[inline]
     pub(crate) fn take_next(&self, block: usize, wanted: &mut u64) -> Option<Job> {
         let seat = self.sweeping()?;
-        let from = self.from[seat as usize].get();
+        let from = self.from[owner(seat).1].get();
         let taken = self.take(seat, block);
         *wanted &= taken.map_or(0, |job| !round(from, (job.place() % BLOCK) as u32));
         taken
     }
 
     #[inline]
-    fn take(&self, seat: u8, block: usize) -> Option<Job> {
+    fn take(&self, seat: u16, block: usize) -> Option<Job> {
         // SAFETY: a handle.
         let told = unsafe { arachne_exec_take(self.seat(seat), block) };
         if told.code == ARACHNE_RUN {
             let job = Job { name: told.name, job: told.job, seat };
-            self.from[seat as usize].set(((job.place() + 1) % BLOCK) as u32);
+            self.from[owner(seat).1].set(((job.place() + 1) % BLOCK) as u32);
             return Some(job);
         }
         self.is_free(seat);
@@ -248,31 +299,51 @@ impl Hands {
     }
 
     #[inline]
-    fn is_free(&self, seat: u8) {
-        self.free.set(self.free.get() | 1 << seat);
+    fn is_free(&self, seat: u16) {
+        let (owner, which) = owner(seat);
+        if owner == self.me {
+            return self.free.set(self.free.get() | 1 << which);
+        }
+        let member = &self.crew.members[owner].0;
+        member.laid.fetch_or(1 << which, Release);
+        member.away.fetch_sub(1, Relaxed);
+    }
+
+    /// Its seats with nothing in hand.
+    #[inline]
+    fn free(&self) -> u64 {
+        match self.free.get() {
+            0 => self.crew.members[self.me].0.laid.swap(0, Acquire),
+            free => free,
+        }
     }
 
     /// The seat that swept last, or where it has a job in hand, the first that has none.
     #[inline]
-    fn sweeping(&self) -> Option<u8> {
-        let free = self.free.get();
+    fn sweeping(&self) -> Option<u16> {
+        let free = self.free();
         if free >> self.sweeps.get() & 1 == 0 {
             if free == 0 {
                 return None;
             }
-            self.sweeps.set(free.trailing_zeros() as u8);
+            self.sweeps.set(free.trailing_zeros() as usize);
         }
         self.free.set(free & !(1 << self.sweeps.get()));
-        Some(self.sweeps.get())
+        Some(self.own(self.sweeps.get()))
     }
 
     /// A seat for what isn't swept, from the last on.
     #[inline]
-    fn last_free(&self) -> Option<u8> {
-        let free = self.free.get();
+    fn last_free(&self) -> Option<u16> {
+        let free = self.free();
         let last = 63u32.checked_sub(free.leading_zeros())?;
         self.free.set(free & !(1 << last));
-        Some(last as u8)
+        Some(self.own(last as usize))
+    }
+
+    #[inline]
+    fn own(&self, which: usize) -> u16 {
+        (self.me << 6 | which) as u16
     }
 
     /// Makes a job in hand ready; whether the shard's thread has to be woken.

@@ -38,8 +38,8 @@ pub(crate) const MOST_SHARDS: usize = (1 << PLACE_BITS) / (BLOCK * SHARD);
 pub(crate) struct Job {
     pub(crate) name: u64,
     pub(crate) job: u64,
-    /// Which of a thread's seats has it.
-    pub(crate) seat: u8,
+    /// Which of the seats of its crew has it.
+    pub(crate) seat: u16,
 }
 
 impl Job {

@@ -124,9 +124,9 @@ impl Root {
         })))
     }
 
-    /// Seats for a thread that has at most so many jobs in hand.
-    pub(crate) fn hands(&mut self, _most: usize) -> Option<Hands> {
-        Some(Hands { table: self.0.clone(), _one_thread: Cell::new(()) })
+    /// Seats for so many threads, of which each has at most so many jobs in hand.
+    pub(crate) fn crew(&mut self, threads: usize, _most: usize) -> Option<Vec<Hands>> {
+        Some((0..threads).map(|_| Hands { table: self.0.clone(), _one_thread: Cell::new(()) }).collect())
     }
 
     /// Gets a thread's seats back, with nothing in hand.
@@ -189,6 +189,12 @@ impl Hands {
             unsafe { *self.table.slot(place) = job };
             return Spawned::Ready { name, unpark: self.table.publish(place) };
         }
+    }
+
+    /// This thread has taken a job out of another's hand. False where it is to be made ready at once.
+    #[inline]
+    pub(crate) fn gets(&self, _job: &Job, _of: usize) -> bool {
+        true
     }
 
     /// A job that was kept is about to run: wakes that came since are answered by that run.

@@ -1,8 +1,9 @@
-//! Who sleeps: one worker waits in the epoll, a deputy looks at it now and then while that one runs tasks, and the others
-//! sleep until they are woken.
+//! Who sleeps: one worker waits in the epoll, a deputy looks at it now and then while that one runs tasks, and the
+//! others sleep until they are woken.
 
 use super::Turn;
 use crate::cores::Judge;
+use crate::hand::FIRST;
 use crate::reactor::Found;
 use crate::shared::{add, Context, Shared, NO_ONE};
 use crate::timer;
@@ -10,10 +11,11 @@ use std::sync::atomic::{AtomicI32, Ordering::*};
 
 /// How often an idle worker looks around before it sleeps.
 const SPINS: usize = 4;
-/// Milliseconds between two looks at the others while one of them is awake, at most; and the least, of who waits in the
-/// epoll while no deputy looks. Who sleeps for longer than the most is woken once tasks run again.
-const LONG_REST: i32 = 8;
-const PAUSE: i32 = 2;
+/// Milliseconds between two looks at the others while one of them is awake, at most. Who looks after them and sleeps
+/// for longer is woken once tasks run again.
+const LONG_REST: i32 = 2;
+/// The same while all sleep.
+const FOR_EVER: i32 = 1 << 20;
 
 impl Shared {
     /// With nothing of its own to do: takes from others, or sleeps until it is woken.
@@ -29,9 +31,12 @@ impl Shared {
         let busy = self.has_queued()
             || (0..self.workers.len()).any(|other| {
                 let ready = self.ready(&context.hands, other);
-                ready > 1 || ready == 1 && self.sleepers.0.load(SeqCst) >> other & 1 == 1
+                let in_hand = self.workers[other].0.hand.waits();
+                in_hand > 1 && other != context.me
+                    || ready > 1
+                    || ready == 1 && self.sleepers.0.load(SeqCst) >> other & 1 == 1
             })
-            || context.next.get().is_some()
+            || !context.worker.hand.is_empty()
             || self.stop.load(SeqCst)
             || context.me >= self.active.0.load(SeqCst);
         let sleeps = !busy && self.may_park(context);
@@ -55,7 +60,7 @@ impl Shared {
             if self.stop.load(Relaxed) || context.me >= self.active.0.load(Relaxed) {
                 return false;
             }
-            let own = self.has_queued() || context.next.get().is_some() || self.mine(context);
+            let own = self.has_queued() || !context.worker.hand.is_empty() || self.mine(context);
             if own || self.steal(context, turn, spin + 1 == SPINS) {
                 return true;
             }
@@ -97,10 +102,10 @@ impl Shared {
         }
     }
 
-    /// Sleeps in the epoll, where it `waits` there, or else until it is woken; what the epoll told, and whether another's
-    /// tasks may wait for it.
+    /// Sleeps in the epoll, where it `waits` there, or else until it is woken; what the epoll told, and whether
+    /// another's tasks may wait for it.
     fn sleep(&self, context: &Context, turn: &mut Turn, judge: &Option<Judge>, waits: bool) -> (Found, bool) {
-        add(&self.workers[context.me].0.parks, 1);
+        add(&context.worker.parks, 1);
         let owners = std::iter::once(context.me).chain(self.lodgers(context.me));
         let mut timeout = timer::rest(self, owners);
         if let Some(judge) = judge {
@@ -110,7 +115,7 @@ impl Shared {
             return self.wait_in_epoll(context, turn, timeout);
         }
         if self.deputy.0.compare_exchange(NO_ONE, context.me, SeqCst, SeqCst).is_err() {
-            self.workers[context.me].0.bell.wait(timeout);
+            context.worker.bell.wait(timeout);
             return (Found::NOTHING, false);
         }
         let found = self.stand_in(context, turn, timeout);
@@ -129,8 +134,7 @@ impl Shared {
         }
         let mut left = timeout;
         loop {
-            let least = if self.deputy.0.load(Relaxed) == NO_ONE { PAUSE } else { LONG_REST };
-            let rests = sooner(left, self.rests_of(context.me, turn, least, &self.pauses));
+            let rests = sooner(left, self.rests_of(context.me, turn, LONG_REST, FOR_EVER, &self.pauses));
             let found = self.reactor.wait(rests, most);
             if !found.is_empty() || left == rests {
                 return (found, false);
@@ -146,10 +150,10 @@ impl Shared {
     /// wait for it, one who waits in the epoll is told of something and has no processor, or nobody waits there and one
     /// who is awake doesn't get on.
     fn stand_in(&self, context: &Context, turn: &mut Turn, timeout: i32) -> (Found, bool) {
-        let bell = &self.workers[context.me].0.bell;
+        let bell = &context.worker.bell;
         let mut left = timeout;
         loop {
-            let rests = sooner(left, self.rests_of(context.me, turn, 1, &self.rests));
+            let rests = sooner(left, self.rests_of(context.me, turn, 1, 2, &self.rests));
             if bell.wait(rests) {
                 turn.rests = 1;
                 return (Found::NOTHING, false);
@@ -163,7 +167,7 @@ impl Shared {
             if !stuck && waits {
                 return (Found::NOTHING, true);
             }
-            if stuck && !stands {
+            if stuck && !stands && !waits {
                 continue;
             }
             let found = self.reactor.look(self.asks(self.room(context, turn)));
@@ -173,9 +177,9 @@ impl Shared {
         }
     }
 
-    /// Looks after workers that are awake and have not got on since the last look: makes ready what they have in hand, and
-    /// fires their timers; and after those that are yet to give their cores back. Whether there are any of the former, and
-    /// whether tasks wait for any.
+    /// Looks after workers that are awake and have not got on since the last look: takes what they have in hand, and
+    /// fires their timers; and after those that are yet to give their cores back. Whether there are any of the former,
+    /// and whether tasks wait for any.
     fn look_after(&self, context: &Context, turn: &mut Turn) -> (bool, bool) {
         let (active, sleepers) = (self.active.0.load(SeqCst), self.sleepers.0.load(SeqCst));
         let (mut stands, mut waits) = (false, false);
@@ -186,7 +190,7 @@ impl Shared {
             if gets_on || away || other == context.me || sleepers >> other & 1 == 1 {
                 continue;
             }
-            waits |= self.relieve(other) != 0;
+            waits |= self.take_out(context, turn, other, FIRST, true);
             if other >= active {
                 // Its core was asked back: another has its timers and places already.
                 continue;
@@ -199,11 +203,12 @@ impl Shared {
         (stands, waits)
     }
 
-    /// For how many milliseconds one sleeps that looks after others: the least while tasks run, and twice as long each
-    /// time that none has; while anybody is awake, `LONG_REST` at most.
-    fn rests_of(&self, me: usize, turn: &mut Turn, least: i32, told: &AtomicI32) -> i32 {
+    /// For how many milliseconds one sleeps that looks after others: the least while tasks run, and so many times as
+    /// long each time that none has; while anybody is awake, `LONG_REST` at most.
+    fn rests_of(&self, me: usize, turn: &mut Turn, least: i32, times: i32, told: &AtomicI32) -> i32 {
         let polls = self.workers.iter().map(|worker| worker.0.polls.load(Relaxed)).sum();
-        turn.rests = if polls != turn.watched { least } else { (2 * turn.rests).clamp(least, 1 << 20) };
+        let longer = turn.rests.saturating_mul(times).clamp(least, FOR_EVER);
+        turn.rests = if polls != turn.watched { least } else { longer };
         turn.watched = polls;
         told.store(turn.rests, SeqCst);
         // Whoever wakes is no sleeper any more, and then looks at what is told here.
@@ -219,9 +224,9 @@ impl Shared {
         self.workers.iter().enumerate().any(|(other, line)| sleepers >> other & 1 == 0 && !line.0.away.load(SeqCst))
     }
 
-    /// A worker that slept has something to do, which may take long. Where it `waited` in the epoll and nobody stands in,
-    /// another is woken to wait there; and of those that look after others one that sleeps for long is woken to look more
-    /// often again.
+    /// A worker that slept has something to do, which may take long. Where it `waited` in the epoll and nobody stands
+    /// in, another is woken to wait there; and of those that look after others one that sleeps for long is woken to
+    /// look more often again.
     pub(crate) fn goes_on(&self, waited: bool) {
         if self.sleepers.0.load(SeqCst) == 0 {
             return;
