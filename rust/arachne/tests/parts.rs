@@ -246,7 +246,9 @@ fn a_connection_is_made_without_blocking_and_refused() {
     });
     assert_eq!(&block_on(client).unwrap(), b"hello");
     assert_eq!(&block_on(server).unwrap(), b"hello");
-    let refused = runtime.spawn(async move { net::TcpStream::connect(at).await.map(drop) });
+    // Another test may have the port by now, but not at this address.
+    let nobody = std::net::SocketAddr::from(([127, 98, 76, 54], at.port()));
+    let refused = runtime.spawn(async move { net::TcpStream::connect(nobody).await.map(drop) });
     assert!(block_on(refused).unwrap().is_err());
 }
 
