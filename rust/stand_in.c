@@ -12,9 +12,25 @@ typedef _Atomic uint64_t word;
 
 typedef struct { word ready, free, marks[64]; uint64_t slots[64]; } block_t;
 typedef struct { atomic_size_t uses; size_t shards; word idle, numbers; block_t *blocks; } table_t;
-typedef struct { table_t *table; uint64_t name, job; int has, worker; unsigned turn; } seat_t;
+typedef struct { table_t *table; uint64_t name, job; int has, worker, calls; unsigned turn; void *_Atomic user; } seat_t;
 
 static seat_t *seat_of(arachne_exec *exec) { return exec->opaque; }
+
+/* One thread at a time with each handle: a call beside another's ends the process. A call may make others. */
+static seat_t *begin(arachne_exec *exec) {
+    static _Thread_local char self;
+    seat_t *seat = seat_of(exec);
+    void *nobody = NULL;
+    if (!seat) return seat;
+    if (atomic_load(&seat->user) != &self && !atomic_compare_exchange_strong(&seat->user, &nobody, &self)) abort();
+    seat->calls++;
+    return seat;
+}
+
+static void end(seat_t **seat) {
+    if (*seat && --(*seat)->calls == 0) atomic_store(&(*seat)->user, NULL);
+}
+#define CALL(exec) __attribute__((cleanup(end))) seat_t *seat = begin(exec)
 
 static uint32_t seat_new(arachne_exec *exec, table_t *table) {
     seat_t *seat = calloc(1, sizeof *seat);
@@ -55,7 +71,7 @@ uint32_t arachne_exec_join(arachne_exec *exec, arachne_exec *other) {
 }
 
 uint32_t arachne_exec_register(arachne_exec *exec, uint32_t worker) {
-    seat_t *seat = seat_of(exec);
+    CALL(exec);
     if (!seat || worker > 63 || seat->worker >= 0) return ARACHNE_REFUSED;
     if (atomic_fetch_or(&seat->table->numbers, 1ull << worker) >> worker & 1) return ARACHNE_LOST;
     seat->worker = (int)worker;
@@ -63,7 +79,7 @@ uint32_t arachne_exec_register(arachne_exec *exec, uint32_t worker) {
 }
 
 uint32_t arachne_exec_leave(arachne_exec *exec) {
-    seat_t *seat = seat_of(exec);
+    CALL(exec);
     if (!seat || seat->worker < 0) return ARACHNE_REFUSED;
     atomic_fetch_and(&seat->table->numbers, ~(1ull << seat->worker));
     seat->worker = -1;
@@ -83,7 +99,7 @@ static uint32_t publish(table_t *table, uint64_t place) {
 }
 
 arachne_exec_told arachne_exec_spawn(arachne_exec *exec, size_t block, uint64_t job) {
-    seat_t *seat = seat_of(exec);
+    CALL(exec);
     if (!seat || block >= seat->table->shards * 64) return told(ARACHNE_REFUSED, 0, 0, ARACHNE_NOBODY);
     block_t *at = &seat->table->blocks[block];
     uint64_t seen = atomic_load(&at->free), bit = seen & -seen;
@@ -96,7 +112,7 @@ arachne_exec_told arachne_exec_spawn(arachne_exec *exec, size_t block, uint64_t 
 }
 
 arachne_exec_told arachne_exec_spawn_here(arachne_exec *exec, size_t block, uint64_t job) {
-    seat_t *seat = seat_of(exec);
+    CALL(exec);
     if (!seat || seat->has || block >= seat->table->shards * 64) return told(ARACHNE_REFUSED, 0, 0, ARACHNE_NOBODY);
     block_t *at = &seat->table->blocks[block];
     uint64_t seen = atomic_load(&at->free), bit = seen & -seen;
@@ -108,7 +124,7 @@ arachne_exec_told arachne_exec_spawn_here(arachne_exec *exec, size_t block, uint
 }
 
 uint64_t arachne_exec_ready(arachne_exec *exec, size_t block) {
-    seat_t *seat = seat_of(exec);
+    CALL(exec);
     return seat && block < seat->table->shards * 64 ? atomic_load(&seat->table->blocks[block].ready) : 0;
 }
 
@@ -120,7 +136,7 @@ uint64_t arachne_exec_shown(arachne_exec *exec, size_t shard) {
 }
 
 arachne_exec_told arachne_exec_take(arachne_exec *exec, size_t block) {
-    seat_t *seat = seat_of(exec);
+    CALL(exec);
     if (!seat || seat->has || block >= seat->table->shards * 64) return told(ARACHNE_REFUSED, 0, 0, ARACHNE_NOBODY);
     block_t *at = &seat->table->blocks[block];
     uint64_t seen = atomic_load(&at->ready), behind = seen >> seat->turn << seat->turn;
@@ -134,14 +150,14 @@ arachne_exec_told arachne_exec_take(arachne_exec *exec, size_t block) {
 }
 
 uint32_t arachne_exec_wake_up(arachne_exec *exec) {
-    seat_t *seat = seat_of(exec);
+    CALL(exec);
     if (!seat || seat->worker < 0) return ARACHNE_REFUSED;
     atomic_fetch_and(&seat->table->idle, ~(1ull << seat->worker));
     return ARACHNE_DONE;
 }
 
 uint32_t arachne_exec_may_park(arachne_exec *exec) {
-    seat_t *seat = seat_of(exec);
+    CALL(exec);
     if (!seat || seat->worker < 0) return ARACHNE_REFUSED;
     atomic_fetch_or(&seat->table->idle, 1ull << seat->worker);
     for (size_t shard = seat->worker; shard < seat->table->shards; shard += 64)
@@ -151,7 +167,7 @@ uint32_t arachne_exec_may_park(arachne_exec *exec) {
 }
 
 arachne_exec_told arachne_exec_next(arachne_exec *exec) {
-    seat_t *seat = seat_of(exec);
+    CALL(exec);
     if (!seat || seat->has || seat->worker < 0) return told(ARACHNE_REFUSED, 0, 0, ARACHNE_NOBODY);
     for (size_t shard = seat->worker; shard < seat->table->shards; shard += 64)
         for (size_t block = 64 * shard; block < 64 * shard + 64; block++) {
@@ -162,7 +178,7 @@ arachne_exec_told arachne_exec_next(arachne_exec *exec) {
 }
 
 arachne_exec_told arachne_exec_rest_ready(arachne_exec *exec) {
-    seat_t *seat = seat_of(exec);
+    CALL(exec);
     if (!seat || !seat->has) return told(ARACHNE_REFUSED, 0, 0, ARACHNE_NOBODY);
     uint64_t place = PLACE(seat->name);
     seat->has = 0;
@@ -171,7 +187,7 @@ arachne_exec_told arachne_exec_rest_ready(arachne_exec *exec) {
 }
 
 arachne_exec_told arachne_exec_rest_blocked(arachne_exec *exec) {
-    seat_t *seat = seat_of(exec);
+    CALL(exec);
     if (!seat || !seat->has) return told(ARACHNE_REFUSED, 0, 0, ARACHNE_NOBODY);
     uint64_t place = PLACE(seat->name), quiet = seat->name >> 20 << 2;
     seat->table->blocks[place / 64].slots[place % 64] = seat->job;
@@ -182,7 +198,7 @@ arachne_exec_told arachne_exec_rest_blocked(arachne_exec *exec) {
 }
 
 uint32_t arachne_exec_finish(arachne_exec *exec) {
-    seat_t *seat = seat_of(exec);
+    CALL(exec);
     if (!seat || !seat->has) return ARACHNE_REFUSED;
     uint64_t place = PLACE(seat->name);
     block_t *at = &seat->table->blocks[place / 64];
@@ -193,7 +209,7 @@ uint32_t arachne_exec_finish(arachne_exec *exec) {
 }
 
 static arachne_exec_told wake(arachne_exec *exec, uint64_t name, int here) {
-    seat_t *seat = seat_of(exec);
+    CALL(exec);
     if (!seat || (here && seat->has)) return told(ARACHNE_REFUSED, 0, 0, ARACHNE_NOBODY);
     uint64_t place = PLACE(name);
     if (place >= PLACES(seat->table)) return told(ARACHNE_GONE, 0, 0, ARACHNE_NOBODY);
