@@ -118,7 +118,7 @@ fn a_wake_of_who_waits_is_left_to_it() {
     let at = echo(&runtime, &Arc::default(), &Arc::default());
     let mut stream = connect(at);
     ask(&mut stream, 1);
-    for round in 0..60 {
+    for round in (0..240).map(|round| round % 60) {
         let [blocks, blocked, ends] = [(); 3].map(|()| Arc::new(AtomicBool::new(false)));
         let (block, told, end) = (blocks.clone(), blocked.clone(), ends.clone());
         let busy = runtime.spawn(async move {
@@ -134,8 +134,11 @@ fn a_wake_of_who_waits_is_left_to_it() {
             thread::sleep(MS / 8);
             block_on(runtime.spawn(async {})).unwrap();
         }
+        // Half of them are at the places of the other, which is woken while this one looks, and soon blocks.
+        let begun: Vec<_> = (0..32).map(|_| runtime.spawn(async {})).collect();
         blocks.store(true, SeqCst);
         until(|| blocked.load(SeqCst));
+        begun.into_iter().for_each(|task| block_on(task).unwrap());
         // The other one is woken yet.
         let gate = Arc::new(Semaphore::new(0));
         let waits: Vec<_> = (0..64)
