@@ -16,7 +16,7 @@ use std::time::{Clock, Duration};
 const LOOKS: u32 = 1_000;
 
 /// How often it looks, every 5 ms, for what comes at once or never.
-const GLANCES: u32 = 200;
+const GLANCES: u32 = 2000;
 
 /// What a kernel thread does.
 #[derive(Clone, Copy)]
@@ -396,7 +396,7 @@ fn joins_there<C: Contexts<Spawned<Task>>, R: Wait + Clock>(
     board.pass_turn();
 }
 
-/// Whether a kernel thread has come back from its work more often than this, by now or within a second.
+/// Returns true if kernel threads have returned from `work` more than `than` times, by now or within ten seconds.
 fn has_returned<R: Clock>(rt: &R, board: &Board, than: u32) -> bool {
     for _ in 0..GLANCES {
         if board.returns.load(Ordering::SeqCst) > u64::from(than) {
