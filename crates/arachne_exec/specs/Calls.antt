@@ -24,7 +24,7 @@ use Rattle.arachne_exec.specs.declared.turns.TakenJob.{TakenJob}
 use Rattle.arachne_exec.specs.Seats.{CallView}
 use Rattle.arachne_exec.specs.Turns.{IsFirstFrom}
 use Rattle.arachne_exec.specs.Layout.{summary_at, ready_at, free_at, mark_at, places_in_word, PicksLowest, worker_of, last_generation, name_of}
-use Rattle.arachne_exec.specs.Changes.{older, gained, gaining, unblocking, readying, blocking, spawning, beginning, ending, aging, marking, hearing, noted, rousing, often, having_seen, lying, rising}
+use Rattle.arachne_exec.specs.Changes.{older, gained, gaining, unblocking, readying, blocking, spawning, beginning, ending, aging, marking, hearing, noted, looking, rousing, often, having_seen, lying, rising}
 
 -- the worker of a place
 abbrev pub worker_at : ℕ → ℕ
@@ -174,9 +174,10 @@ HasWokenHere here.Already places place generation k after = IsAlready place gene
 HasWokenHere here.Gone places place generation k after = IsGone places place generation k after
 HasWokenHere here.Lost places place generation k after = IsLost place generation k after
 
--- it has looked at words, and cleared the idle bit of that worker so often to wake it, and of no other
+-- it has looked at words, has cleared the idle bit of that worker so often to wake it, and of no other, and has neither
+-- taken a place nor laid one down
 abbrev pub HasLooked : ℕ → Notes → Notes → Type 0
-HasLooked worker k after = (n : ℕ) × (after ≡ record k { deeds = after.deeds; roused = often n worker k.roused })
+HasLooked worker k after = (n : ℕ) × (looks : List (ℕ × ℕ)) × (after ≡ record k { deeds = looking looks ++ k.deeds; roused = often n worker k.roused })
 
 -- it has looked, and then taken a job of a block of that shard, one of so many
 abbrev pub HasTakenInShard : HeldJob → (shards shard : ℕ) → Notes → Notes → Type 0

@@ -75,6 +75,10 @@ hearing n place k = record k { heard = heard_more n place k.heard }
 abbrev pub noted : ℕ → ℕ → Notes → Notes
 noted word number k = record k { deeds = Looked word number ∷ k.deeds }
 
+-- numbers were found in words
+abbrev pub looking : List (ℕ × ℕ) → List Deed
+looking looks = map (λ (x : ℕ × ℕ). Looked x.0 x.1) looks
+
 -- the idle bit of a worker was found set, and cleared: it is to be unparked
 abbrev pub roused_more : Bool → ℕ → List ℕ → List ℕ
 roused_more false worker roused = roused

@@ -69,15 +69,15 @@ module _ (k after : Notes) where
   on-wake-here here.Lost places place generation is = quiet _ is.5 refl refl refl
 
   on-next : (answer : Next) (shards worker : ℕ) → HasAnswered answer shards worker k after → Sleeps answer shards worker k after
-  on-next (next.Run job) shards worker is = let looked = is.4.1 in let took = is.5.known in record {
+  on-next (next.Run job) shards worker is = let looked = is.4.2 in let took = is.5.known in record {
     own = (is.4.0, ap (λ (z : Notes). z.roused) took ∙ ap (λ (z : Notes). z.roused) looked);
     slept = (ap (λ (z : Notes). z.lain) took ∙ ap (λ (z : Notes). z.lain) looked, ap (λ (z : Notes). z.risen) took ∙ ap (λ (z : Notes). z.risen) looked);
   }
-  on-next next.Park shards worker is = let looked = is.1.1 in let lay = is.2.2 in let was : ℕ = bit_at is.2.0 worker in record {
+  on-next next.Park shards worker is = let looked = is.1.2 in let lay = is.2.2 in let was : ℕ = bit_at is.2.0 worker in record {
     own = (is.1.0, ap (λ (z : Notes). z.roused) lay ∙ ap (λ (z : Notes). z.roused) looked);
     slept = (was, ap (λ (z : Notes). z.lain) lay ∙ ap (λ (z : Notes). lain_more was worker z.lain) looked, ap (λ (z : Notes). z.risen) lay ∙ ap (λ (z : Notes). z.risen) looked, is.2.3);
   }
-  on-next next.Again shards worker is = let looked = is.1.1 in let rose = is.2.7 in let was : ℕ = bit_at is.2.0 worker in let then : ℕ = bit_at is.2.3 worker in record {
+  on-next next.Again shards worker is = let looked = is.1.2 in let rose = is.2.7 in let was : ℕ = bit_at is.2.0 worker in let then : ℕ = bit_at is.2.3 worker in record {
     own = (is.1.0, ap (λ (z : Notes). z.roused) rose ∙ ap (λ (z : Notes). z.roused) looked);
     slept = (was, then, ap (λ (z : Notes). z.lain) rose ∙ ap (λ (z : Notes). lain_more was worker z.lain) looked, ap (λ (z : Notes). z.risen) rose ∙ ap (λ (z : Notes). risen_more then worker z.risen) looked);
   }

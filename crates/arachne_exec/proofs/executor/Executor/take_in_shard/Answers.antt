@@ -1,12 +1,19 @@
-use Rattle.std.proofs.Common.{◌≡◌, ℕ, ◌+◌, ◌*◌, ◌/◌, ◌%◌, ◌<◌, ◌∙◌, ap, sym, subst, arith, rules}
+use Rattle.std.proofs.Common.{◌≡◌, ℕ, ◌+◌, ◌*◌, ◌/◌, ◌%◌, ◌<◌, ◌∙◌, [], ◌∷◌, ap, sym, subst, arith, rules}
 use Rattle.arachne_exec.specs.declared.view.Notes.{Notes}
 use Rattle.arachne_exec.specs.declared.turns.Unsearched.{Unsearched}
 use Rattle.arachne_exec.specs.Layout.{worker_of}
-use Rattle.arachne_exec.specs.Changes.{rousing}
+use Rattle.arachne_exec.specs.Changes.{noted, rousing}
 use Rattle.arachne_exec.specs.Calls.{HasLooked}
 use Rattle.arachne_exec.proofs.Rousing.{looked-missed, looked-told}
 use Rattle.arachne_exec.proofs.Turning.{less-without}
 use Rattle.arachne_exec.proofs.executor.Executor.take_in_shard.Goals as goal
+
+pub loop-index-init : goal.loop-index-init
+loop-index-init c = record {
+  seat = search rules;
+  looked = (0, (c.summary_word.result, c.look-shown.result) ∷ [], ap (λ v. v.known) c.look-shown.ensures.seat ∙ ap (λ v. noted c.summary_word.result c.look-shown.result v.known) c.seat.view_is);
+  hand = search rules;
+}
 
 -- the worker of the shard is the only one that was roused
 pub loop-index-preserved : goal.loop-index-preserved
