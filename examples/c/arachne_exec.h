@@ -26,7 +26,7 @@ enum {
     ARACHNE_NO_MEMORY = 2,
     /* Another thread was at the lock. Nothing has changed: ask again. */
     ARACHNE_CONTENDED = 3,
-    /* Another thread won the step. Nothing has changed: ask again. */
+    /* Another thread won the step. Nothing has changed: ask again, for a worker's number with another one. */
     ARACHNE_LOST = 4,
     /* It holds the lock. */
     ARACHNE_GRANTED = 5,
@@ -42,11 +42,11 @@ enum {
     ARACHNE_NOT_HOLDER = 10,
     /* It waited for the lock and waits no longer: it is not granted it any more. */
     ARACHNE_LEFT = 11,
-    /* Each place of the block has a job. */
+    /* No place of the block is free. */
     ARACHNE_FULL = 12,
     /* The job is in the handle's hand: run it. */
     ARACHNE_RUN = 13,
-    /* No job of the worker's is ready, and its idle bit is set: sleep until somebody unparks the worker. */
+    /* The worker has set its idle bit, and then found none of its blocks shown: sleep until somebody unparks it. */
     ARACHNE_PARK = 14,
     /* No job was found: ask again. */
     ARACHNE_AGAIN = 15,
@@ -54,11 +54,11 @@ enum {
     ARACHNE_READY = 16,
     /* The job waits for a wake. */
     ARACHNE_BLOCKED = 17,
-    /* The job is ready, and runs after this; or it runs, and is ready again where it would block next. */
+    /* The job has not begun to run since it became ready; or it runs, and is ready again where it would block next. */
     ARACHNE_MARKED = 18,
     /* It was marked already. */
     ARACHNE_ALREADY_MARKED = 19,
-    /* There is no such job any more. */
+    /* No job has that name now. */
     ARACHNE_GONE = 20,
     /* Keep the cores that there are. */
     ARACHNE_STAY = 21,

@@ -13,7 +13,7 @@ pub(crate) const NO_MEMORY: u32 = 2;
 /// Another thread was at the lock. Nothing has changed: ask again.
 pub(crate) const CONTENDED: u32 = 3;
 
-/// Another thread won the step. Nothing has changed: ask again.
+/// Another thread won the step. Nothing has changed: ask again, for a worker's number with another one.
 pub(crate) const LOST: u32 = 4;
 
 /// It holds the lock.
@@ -37,13 +37,13 @@ pub(crate) const NOT_HOLDER: u32 = 10;
 /// It waited for the lock and waits no longer: it is not granted it any more.
 pub(crate) const LEFT: u32 = 11;
 
-/// Each place of the block has a job.
+/// No place of the block is free.
 pub(crate) const FULL: u32 = 12;
 
 /// The job is in the handle's hand: run it.
 pub(crate) const RUN: u32 = 13;
 
-/// No job of the worker's is ready, and its idle bit is set: sleep until somebody unparks the worker.
+/// The worker has set its idle bit, and then found none of its blocks shown: sleep until somebody unparks it.
 pub(crate) const PARK: u32 = 14;
 
 /// No job was found: ask again.
@@ -55,13 +55,13 @@ pub(crate) const READY: u32 = 16;
 /// The job waits for a wake.
 pub(crate) const BLOCKED: u32 = 17;
 
-/// The job is ready, and runs after this; or it runs, and is ready again where it would block next.
+/// The job has not begun to run since it became ready; or it runs, and is ready again where it would block next.
 pub(crate) const MARKED: u32 = 18;
 
 /// It was marked already.
 pub(crate) const ALREADY_MARKED: u32 = 19;
 
-/// There is no such job any more.
+/// No job has that name now.
 pub(crate) const GONE: u32 = 20;
 
 /// Keep the cores that there are.
