@@ -112,6 +112,10 @@ IsSound sessions =
     (client place other place_of_other core : ℕ) → core_at sessions client place ≡ Some core
     → core_at sessions other place_of_other ≡ Some core → (client ≡ other) × (place ≡ place_of_other)
 
+-- threads have only cores below this number
+abbrev pub AreBelow : List Session → ℕ → Type 0
+AreBelow sessions cores = (client place core : ℕ) → core_at sessions client place ≡ Some core → core < cores
+
 -- no thread has the core
 abbrev pub IsFree : List Session → ℕ → Type 0
 IsFree sessions core = (client place : ℕ) → core_at sessions client place ≡ Some core → ⊥

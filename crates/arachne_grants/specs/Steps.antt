@@ -3,6 +3,7 @@ use Rattle.std.specs.Prelude.{◌≡◌, ◌≢◌, ℕ, ◌<◌, ◌≤◌, Boo
 use Rattle.arachne_grants.specs.declared.sessions.Session.{Session}
 use Rattle.arachne_grants.specs.declared.sessions.ClientThread.TheVariants.{Absent, Waits}
 use Rattle.arachne_grants.specs.Sessions.{core_at, gives_way, has_core, held_in, is_ready, is_usable, placed, session_at, thread_at, unplaced, with_thread, IsFree, IsTaken}
+use Rattle.arachne_grants.specs.declared.state.CoreArbiter.{CoreArbiter}
 use Rattle.arachne_grants.specs.declared.state.Grant.{Grant}
 use Rattle.arachne_grants.specs.declared.state.TakenCore.{TakenCore}
 
@@ -16,6 +17,10 @@ new_session taken priority reserved most = record {
   asks = 0;
   threads = replicate 64 Absent;
 }
+
+-- there are as many cores as before, and each client is allowed as many of them
+abbrev pub KeepsAllowed : CoreArbiter → CoreArbiter → Type 0
+KeepsAllowed old new = (new.cores ≡ old.cores) × (new.allowed ≡ old.allowed)
 
 -- a client has less than it is allowed
 abbrev pub HasFewer : List Session → List ℕ → ℕ → Type 0

@@ -1,6 +1,6 @@
 //! The daemon's state: its clients, their threads, and how many cores each client is allowed.
 ghost use Rattle.std.specs.Prelude.{◌≡◌, ◌⊎◌, ℕ, ◌+◌, ◌<◌, ◌≤◌, IsOk, MatchOption, MatchResult, Some, None, length, map, slice_index, slice_set, true, false, ⊤, if◌then◌else◌};
-ghost use Rattle.arachne_grants.specs.Sessions.{IsSound};
+ghost use Rattle.arachne_grants.specs.Sessions.{AreBelow, IsSound};
 
 use crate::claims::Client;
 use crate::grants::targets;
@@ -41,13 +41,14 @@ pub struct CoreArbiter {
     allowed: [u32; MAX_CLIENTS],
     ghost few: { cores ≤ 1024 },
     ghost sound: { IsSound sessions },
+    ghost below: { AreBelow sessions cores },
 }
 
 impl CoreArbiter {
     ghost use Rattle.arachne_grants.specs.Grants.{AreGrants, IsAnswer, IsLeast};
     ghost use Rattle.arachne_grants.specs.Owners.{IsNextShort};
     ghost use Rattle.arachne_grants.specs.Sessions.{core_of, core_at, held_in, can_wait, session_at, slice_thread, thread_at, wants_of, with_thread, IsFree, IsTaken};
-    ghost use Rattle.arachne_grants.specs.Steps.{new_session, AllGiven, IsGrant, IsTake};
+    ghost use Rattle.arachne_grants.specs.Steps.{new_session, AllGiven, IsGrant, IsTake, KeepsAllowed};
     ghost use Rattle.arachne_grants.specs.declared.sessions.ClientThread.TheVariants.{Absent, Runs, Waits, On, Floats, FloatsOn};
 
     /// Returns an arbiter of `cores` cores, without clients.
@@ -75,7 +76,7 @@ impl CoreArbiter {
             (λ _. self.new.sessions ≡ self.old.sessions) }
         ensures free { IsOk result → (session_at self.old.sessions client).taken ≡ false }
         ensures accepts { client < 64 → (session_at self.old.sessions client).taken ≡ false → IsOk result }
-        ensures allowed { self.new.allowed ≡ self.old.allowed }
+        ensures kept { KeepsAllowed self.old self.new }
     {
         if client >= MAX_CLIENTS {
             return Err(Refused);
@@ -101,16 +102,17 @@ impl CoreArbiter {
         ensures sessions { MatchResult result
             (λ _. self.new.sessions ≡ slice_set self.old.sessions client (record (session_at self.old.sessions client) { asks = cores }))
             (λ _. self.new.sessions ≡ self.old.sessions) }
+        ensures taken { IsOk result → (session_at self.old.sessions client).taken ≡ true }
         ensures accepts { client < 64 → (session_at self.old.sessions client).taken ≡ true → IsOk result }
-        ensures allowed { self.new.allowed ≡ self.old.allowed }
+        ensures kept { KeepsAllowed self.old self.new }
     {
         if client >= MAX_CLIENTS {
             return Err(Refused);
         }
-        if !self.sessions[client].taken {
+        let session = self.sessions[client];
+        if !session.taken {
             return Err(Refused);
         }
-        let session = self.sessions[client];
         self.set(
             client,
             Session {
@@ -124,7 +126,7 @@ impl CoreArbiter {
     /// Removes a client, with all of its threads.
     pub fn leave(&mut self, client: usize)
         ensures sessions { client < 64 → self.new.sessions ≡ slice_set self.old.sessions client (new_session false 0 0 0) }
-        ensures allowed { self.new.allowed ≡ self.old.allowed }
+        ensures kept { KeepsAllowed self.old self.new }
     {
         if client < MAX_CLIENTS {
             self.set(client, Session::NONE);
@@ -139,7 +141,7 @@ impl CoreArbiter {
         ensures absent { MatchResult result (λ _. thread_at self.old.sessions client place ≡ Absent) (λ _. ⊤) }
         ensures accepts { client < 64 → place < 64 → (session_at self.old.sessions client).taken ≡ true
             → thread_at self.old.sessions client place ≡ Absent → IsOk result }
-        ensures allowed { self.new.allowed ≡ self.old.allowed }
+        ensures kept { KeepsAllowed self.old self.new }
     {
         if client >= MAX_CLIENTS {
             return Err(Refused);
@@ -169,7 +171,7 @@ impl CoreArbiter {
             (λ _. self.new.sessions ≡ self.old.sessions) }
         ensures can { MatchResult result (λ _. can_wait (thread_at self.old.sessions client place) ≡ true) (λ _. ⊤) }
         ensures accepts { client < 64 → place < 64 → can_wait (thread_at self.old.sessions client place) ≡ true → IsOk result }
-        ensures allowed { self.new.allowed ≡ self.old.allowed }
+        ensures kept { KeepsAllowed self.old self.new }
     {
         if client >= MAX_CLIENTS {
             return Err(Refused);
@@ -187,7 +189,7 @@ impl CoreArbiter {
     /// Removes a thread.
     pub fn end(&mut self, client: usize, place: usize)
         ensures ends { client < 64 → place < 64 → self.new.sessions ≡ with_thread self.old.sessions client place Absent }
-        ensures allowed { self.new.allowed ≡ self.old.allowed }
+        ensures kept { KeepsAllowed self.old self.new }
     {
         if client < MAX_CLIENTS && place < MAX_THREADS {
             self.set_thread(client, place, ClientThread::Absent);
@@ -212,8 +214,7 @@ impl CoreArbiter {
         ensures gives { MatchOption result (self.new.sessions ≡ self.old.sessions)
             (λ grant. IsGrant self.old.sessions self.new.sessions self.old.allowed self.old.cores grant) }
         ensures all { result ≡ None → AllGiven self.old.sessions self.old.allowed self.old.cores }
-        ensures allowed { self.new.allowed ≡ self.old.allowed }
-        ensures cores { self.new.cores ≡ self.old.cores }
+        ensures kept { KeepsAllowed self.old self.new }
     {
         let short = self.next_short()?;
         let core = self.first_free()?;
@@ -237,7 +238,7 @@ impl CoreArbiter {
             (λ taken. IsTake self.old.sessions self.new.sessions self.old.allowed client late taken) }
         ensures enough { result ≡ None → late ≡ true → client < 64
             → held_in (session_at self.old.sessions client) ≤ slice_index self.old.allowed client }
-        ensures allowed { self.new.allowed ≡ self.old.allowed }
+        ensures kept { KeepsAllowed self.old self.new }
     {
         if client >= MAX_CLIENTS {
             return None;
@@ -283,8 +284,7 @@ impl CoreArbiter {
         requires sound { (place core : ℕ) → core_of (slice_thread session.threads place) ≡ Some core
             → core_at self.old.sessions client place ≡ Some core }
         ensures sessions { self.new.sessions ≡ slice_set self.old.sessions client session }
-        ensures allowed { self.new.allowed ≡ self.old.allowed }
-        ensures cores { self.new.cores ≡ self.old.cores }
+        ensures kept { KeepsAllowed self.old self.new }
     {
         self.sessions[client] = session;
     }
@@ -293,10 +293,9 @@ impl CoreArbiter {
     fn set_thread(&mut self, client: usize, place: usize, thread: ClientThread)
         requires client { client < 64 }
         requires place { place < 64 }
-        requires sound { (core : ℕ) → core_of thread ≡ Some core → IsFree self.old.sessions core }
+        requires sound { (core : ℕ) → core_of thread ≡ Some core → (core < self.old.cores) × IsFree self.old.sessions core }
         ensures sessions { self.new.sessions ≡ with_thread self.old.sessions client place thread }
-        ensures allowed { self.new.allowed ≡ self.old.allowed }
-        ensures cores { self.new.cores ≡ self.old.cores }
+        ensures kept { KeepsAllowed self.old self.new }
     {
         self.sessions[client].threads[place] = thread;
     }

@@ -1,4 +1,4 @@
-use Rattle.std.proofs.Common.{◌≡◌, ℕ, map, sym, ◌∙◌, ap, subst, arith}
+use Rattle.std.proofs.Common.{◌≡◌, ℕ, ◌<◌, map, sym, ◌∙◌, ap, subst, arith}
 use Rattle.arachne_grants.specs.Owners.{IsHighestShort}
 use Rattle.arachne_grants.specs.Sessions.{core_of, held_in, thread_at, wants_of, IsFree}
 use Rattle.arachne_grants.proofs.Giving.{AllGiven-none, AllGiven-ready, IsGrant-give, core-placed}
@@ -32,10 +32,10 @@ set_thread-requires-clause-place c = c.in_ok-place.ensures.within
 
 pub set_thread-requires-clause-sound : goal.set_thread-requires-clause-sound
 set_thread-requires-clause-sound c =
-    let sessions = c.args.self.now.sessions in
+    let state = c.args.self.now in
     λ core is.
-    let same : c.in_ok-core.core ≡ core = core-placed (thread_at sessions c.from-client.result c.in_ok-place.place) c.in_ok-core.core core (sym (ap core_of c.placed.ensures) ∙ is) in
-    subst (λ (k : ℕ). IsFree sessions k) same c.in_ok-core.ensures.1
+    let same : c.in_ok-core.core ≡ core = core-placed (thread_at state.sessions c.from-client.result c.in_ok-place.place) c.in_ok-core.core core (sym (ap core_of c.placed.ensures) ∙ is) in
+    subst (λ (k : ℕ). (k < state.cores) × IsFree state.sessions k) same c.in_ok-core.ensures
 
 pub returns-clause-gives : goal.returns-clause-gives
 returns-clause-gives c =
