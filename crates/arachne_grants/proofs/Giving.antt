@@ -16,7 +16,7 @@ use Rattle.arachne_grants.specs.Owners.{IsHighestShort, IsShort}
 use Rattle.arachne_grants.specs.Sessions.{core_of, has_core, held_in, is_ready, is_usable, is_waiting, placed, session_at, slice_thread, thread_at, wants_of, with_thread, IsFree}
 use Rattle.arachne_grants.specs.Steps.{AllGiven, HasFewer, IsGrant}
 
-client_at-wants : (sessions : List Session) (client : ℕ) → client_at (map wants_of sessions) client ≡ wants_of (session_at sessions client)
+pub client_at-wants : (sessions : List Session) (client : ℕ) → client_at (map wants_of sessions) client ≡ wants_of (session_at sessions client)
 client_at-wants sessions client = get_or-map wants_of sessions client _
 
 held-wants : (sessions : List Session) (client : ℕ) → get_or (map held_in sessions) client 0 ≡ held_in (session_at sessions client)

@@ -9,5 +9,6 @@ pub mod Next
 pub mod Order
 pub mod Promises
 pub mod Sound
+pub mod Standing
 pub mod Stays
 pub mod Taking

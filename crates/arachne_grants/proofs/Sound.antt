@@ -7,11 +7,11 @@ use Rattle.arachne_grants.specs.declared.sessions.ClientThread.{ClientThread}
 use Rattle.arachne_grants.specs.declared.sessions.ClientThread.TheVariants.{Absent}
 use Rattle.arachne_grants.specs.Sessions.{core_of, core_at, session_at, slice_thread, thread_at, with_thread, AreBelow, IsSound, IsFree}
 
-session_at-same : (sessions : List Session) (client : ℕ) (session : Session) → client < length sessions
+pub session_at-same : (sessions : List Session) (client : ℕ) (session : Session) → client < length sessions
     → session_at (set sessions client session) client ≡ session
 session_at-same sessions client session h = get_or-set_same sessions client session _ h
 
-session_at-other : (sessions : List Session) (client other : ℕ) (session : Session) → other ≢ client
+pub session_at-other : (sessions : List Session) (client other : ℕ) (session : Session) → other ≢ client
     → session_at (set sessions client session) other ≡ session_at sessions other
 session_at-other sessions client other session ne = get_or-set_other sessions client other session _ ne
 

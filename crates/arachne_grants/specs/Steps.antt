@@ -1,8 +1,9 @@
 -- What a step of the daemon's state changes.
-use Rattle.std.specs.Prelude.{◌≡◌, ◌≢◌, ℕ, ◌<◌, ◌≤◌, Bool, true, false, Some, List, replicate, count_by, slice_index}
+use Rattle.std.specs.Prelude.{◌≡◌, ◌≢◌, ℕ, ◌<◌, ◌≤◌, Bool, true, false, Some, List, map, replicate, count_by, slice_index}
 use Rattle.arachne_grants.specs.declared.sessions.Session.{Session}
 use Rattle.arachne_grants.specs.declared.sessions.ClientThread.TheVariants.{Absent, Waits}
-use Rattle.arachne_grants.specs.Sessions.{core_at, gives_way, has_core, held_in, is_ready, is_usable, placed, session_at, thread_at, unplaced, with_thread, IsFree, IsTaken}
+use Rattle.arachne_grants.specs.Grants.{AreGrants, IsAnswer}
+use Rattle.arachne_grants.specs.Sessions.{core_at, gives_way, has_core, held_in, is_ready, is_usable, placed, session_at, thread_at, unplaced, wants_of, with_thread, IsFree, IsTaken}
 use Rattle.arachne_grants.specs.declared.state.CoreArbiter.{CoreArbiter}
 use Rattle.arachne_grants.specs.declared.state.Grant.{Grant}
 use Rattle.arachne_grants.specs.declared.state.TakenCore.{TakenCore}
@@ -21,6 +22,12 @@ new_session taken priority reserved most = record {
 -- there are as many cores as before, and each client is allowed as many of them
 abbrev pub KeepsAllowed : CoreArbiter → CoreArbiter → Type 0
 KeepsAllowed old new = (new.cores ≡ old.cores) × (new.allowed ≡ old.allowed)
+
+-- what clients are allowed still has the promises of `targets`, and is its answer, if it was
+abbrev pub StaysAnswered : CoreArbiter → CoreArbiter → Type 0
+StaysAnswered old new =
+    (AreGrants (map wants_of old.sessions) old.cores old.allowed → AreGrants (map wants_of new.sessions) new.cores new.allowed)
+    × (IsAnswer (map wants_of old.sessions) old.cores old.allowed → IsAnswer (map wants_of new.sessions) new.cores new.allowed)
 
 -- a client has less than it is allowed
 abbrev pub HasFewer : List Session → List ℕ → ℕ → Type 0

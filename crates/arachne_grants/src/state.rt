@@ -48,7 +48,7 @@ impl CoreArbiter {
     ghost use Rattle.arachne_grants.specs.Grants.{AreGrants, IsAnswer, IsLeast};
     ghost use Rattle.arachne_grants.specs.Owners.{IsNextShort};
     ghost use Rattle.arachne_grants.specs.Sessions.{core_of, core_at, held_in, can_wait, session_at, slice_thread, thread_at, wants_of, with_thread, IsFree, IsTaken};
-    ghost use Rattle.arachne_grants.specs.Steps.{new_session, AllGiven, IsGrant, IsTake, KeepsAllowed};
+    ghost use Rattle.arachne_grants.specs.Steps.{new_session, AllGiven, IsGrant, IsTake, KeepsAllowed, StaysAnswered};
     ghost use Rattle.arachne_grants.specs.declared.sessions.ClientThread.TheVariants.{Absent, Runs, Waits, On, Floats, FloatsOn};
 
     /// Returns an arbiter of `cores` cores, without clients.
@@ -215,6 +215,7 @@ impl CoreArbiter {
             (λ grant. IsGrant self.old.sessions self.new.sessions self.old.allowed self.old.cores grant) }
         ensures all { result ≡ None → AllGiven self.old.sessions self.old.allowed self.old.cores }
         ensures kept { KeepsAllowed self.old self.new }
+        ensures stands { StaysAnswered self.old self.new }
     {
         let short = self.next_short()?;
         let core = self.first_free()?;
@@ -239,6 +240,7 @@ impl CoreArbiter {
         ensures enough { result ≡ None → late ≡ true → client < 64
             → held_in (session_at self.old.sessions client) ≤ slice_index self.old.allowed client }
         ensures kept { KeepsAllowed self.old self.new }
+        ensures stands { StaysAnswered self.old self.new }
     {
         if client >= MAX_CLIENTS {
             return None;

@@ -2,6 +2,7 @@ use Rattle.std.proofs.Common.{◌≡◌, ℕ, ◌<◌, map, sym, ◌∙◌, ap, 
 use Rattle.arachne_grants.specs.Owners.{IsHighestShort}
 use Rattle.arachne_grants.specs.Sessions.{core_of, held_in, thread_at, wants_of, IsFree}
 use Rattle.arachne_grants.proofs.Giving.{AllGiven-none, AllGiven-ready, IsGrant-give, core-placed}
+use Rattle.arachne_grants.proofs.Standing.{stay-give}
 use Rattle.arachne_grants.proofs.state.CoreArbiter.give.Goals as goal
 
 pub returns-in_err-short-clause-all : goal.returns-in_err-short-clause-all
@@ -43,3 +44,6 @@ returns-clause-gives c =
     let short : IsHighestShort (map wants_of state.sessions) state.allowed (map held_in state.sessions) 64 c.from-client.result = subst (λ (n : ℕ). IsHighestShort (map wants_of state.sessions) state.allowed (map held_in state.sessions) 64 n) (sym c.from-client.ensures) c.in_ok-short.ensures in
     IsGrant-give state.sessions c.set_thread.new.self.sessions state.allowed state.cores c.from-client.result c.in_ok-place.place c.in_ok-core.core c.placed.result c.is_waiting.result
     (omega arith) (omega arith) short c.in_ok-core.ensures (sym c.in_ok-place.ensures.first) c.set_thread.ensures.sessions c.placed.ensures c.is_waiting.ensures
+
+pub returns-clause-stands : goal.returns-clause-stands
+returns-clause-stands c = stay-give c.args.self.now c.set_thread.new.self _ (returns-clause-gives c) c.set_thread.ensures.kept

@@ -2,6 +2,7 @@ use Rattle.std.proofs.Common.{Bool, sym, ◌∙◌, ap, arith}
 use Rattle.std.proofs.lemmas.Bool.{false≢true}
 use Rattle.arachne_grants.specs.declared.sessions.ClientThread.{ClientThread}
 use Rattle.arachne_grants.specs.Sessions.{core_of, gives_way, thread_at, with_thread}
+use Rattle.arachne_grants.proofs.Standing.{stay-take}
 use Rattle.arachne_grants.proofs.Taking.{core-unplaced, gives_way-late, not-none}
 use Rattle.arachne_grants.proofs.state.CoreArbiter.take_back.Goals as goal
 
@@ -37,3 +38,6 @@ returns-clause-takes c =
       way = sym c.gives_way.ensures ∙ c.if-not-gives_way.false;
       unplaced = c.set_thread.ensures.sessions ∙ ap (λ (t : ClientThread). with_thread sessions c.args.client c.in_ok-place.place t) c.unplaced.ensures;
     }
+
+pub returns-clause-stands : goal.returns-clause-stands
+returns-clause-stands c = stay-take c.args.self.now c.set_thread.new.self c.args.client c.args.late _ (returns-clause-takes c) c.set_thread.ensures.kept
