@@ -1,13 +1,13 @@
 //! A future on the kernel thread that calls, and a task's yield.
 
+use crate::sync::atomic::{AtomicBool, Ordering::*};
+use crate::sync::thread::{self, Thread};
+use crate::sync::Arc;
 use std::cell::RefCell;
 use std::fmt;
 use std::future::Future;
 use std::pin::Pin;
-use std::sync::atomic::{AtomicBool, Ordering::*};
-use std::sync::Arc;
 use std::task::{Context, Poll, Wake, Waker};
-use std::thread::{self, Thread};
 
 struct Parker {
     thread: Thread,

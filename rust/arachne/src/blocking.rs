@@ -1,14 +1,14 @@
 //! Work that blocks its kernel thread, on a bounded pool of such threads beside the workers.
 
 use crate::shared::{entered, here, Shared};
+use crate::sync::thread;
+use crate::sync::{Condvar, Mutex};
 use crate::task::{self, About, JoinHandle, Raw};
 use std::collections::VecDeque;
 use std::future::Future;
 use std::panic::Location;
 use std::pin::Pin;
-use std::sync::{Condvar, Mutex};
 use std::task::{Context, Poll, RawWaker, RawWakerVTable, Waker};
-use std::thread;
 use std::time::Duration;
 
 /// How long a thread of the pool waits for more work before it ends.

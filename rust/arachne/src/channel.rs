@@ -2,12 +2,12 @@
 
 use crate::reactor::Slot;
 use crate::shared::here;
+use crate::sync::atomic::{AtomicBool, Ordering::*};
+use crate::sync::{Arc, Mutex};
 use std::collections::VecDeque;
 use std::fmt;
 use std::future::Future;
 use std::pin::Pin;
-use std::sync::atomic::{AtomicBool, Ordering::*};
-use std::sync::{Arc, Mutex};
 use std::task::{Context, Poll, Waker};
 
 struct Node {

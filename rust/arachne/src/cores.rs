@@ -2,12 +2,12 @@
 
 use crate::core::Estimator;
 use crate::shared::{Context, Shared, Worker};
+use crate::sync::atomic::Ordering::*;
 use crate::sys;
 use crate::timer::now;
 use crate::worker::Turn;
 use std::fs;
 use std::os::unix::fs::FileExt;
-use std::sync::atomic::Ordering::*;
 use std::time::Duration;
 
 /// Load and use of all cores between two judgements.
@@ -192,7 +192,7 @@ fn totals(shared: &Shared, active: usize, now: u64) -> Vec<Totals> {
 }
 
 /// Nanoseconds that a worker's kernel thread was ready and had no processor.
-fn waited(account: &std::sync::Mutex<Option<fs::File>>) -> u64 {
+fn waited(account: &crate::sync::Mutex<Option<fs::File>>) -> u64 {
     let mut text = [0; 64];
     let len = account.lock().unwrap().as_ref().and_then(|file| file.read_at(&mut text, 0).ok()).unwrap_or(0);
     let text = std::str::from_utf8(&text[..len]).unwrap_or("");

@@ -3,6 +3,8 @@
 use crate::runtime::Runtime;
 use crate::seam;
 use crate::shared::{here, Context as Worker, Shared};
+use crate::sync::atomic::{AtomicBool, AtomicUsize, Ordering::*};
+use crate::sync::{thread, Arc, Instant, Mutex};
 use crate::sys;
 use crate::waker::is_of_running;
 use std::collections::BTreeMap;
@@ -10,11 +12,8 @@ use std::fmt;
 use std::future::Future;
 use std::io;
 use std::pin::Pin;
-use std::sync::atomic::{AtomicBool, AtomicUsize, Ordering::*};
-use std::sync::{Arc, Mutex};
 use std::task::{Context, Poll, Waker};
-use std::thread;
-use std::time::{Duration, Instant};
+use std::time::Duration;
 
 /// Who waits for the end of a runtime.
 #[derive(Default)]

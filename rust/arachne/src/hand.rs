@@ -2,7 +2,7 @@
 //! worker does meanwhile.
 
 use crate::core::Job;
-use std::sync::atomic::{AtomicU64, Ordering::*};
+use crate::sync::atomic::{AtomicU64, Ordering::*};
 
 /// Jobs that were taken of another worker at once, at most.
 pub(crate) const FIRST: usize = 8;

@@ -27,6 +27,7 @@ mod seam;
 mod semaphore;
 mod shared;
 mod spawn;
+mod sync;
 mod sys;
 mod task;
 mod timer;

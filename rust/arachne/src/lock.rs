@@ -3,13 +3,13 @@
 use crate::core::{Asked, Freed, LockCore};
 use crate::reactor::Slot;
 use crate::shared::here;
+use crate::sync::atomic::{AtomicBool, Ordering::*};
+use crate::sync::Arc;
 use std::cell::UnsafeCell;
 use std::fmt;
 use std::future::Future;
 use std::ops::{Deref, DerefMut};
 use std::pin::Pin;
-use std::sync::atomic::{AtomicBool, Ordering::*};
-use std::sync::Arc;
 use std::task::{Context, Poll};
 
 /// One that waits. The line has a count of it, as a number.

@@ -4,6 +4,8 @@ use crate::block_on::poll_fn;
 use crate::drain::is_stopping;
 use crate::reactor::{Io, Key, READ, READ_CLOSED, WRITE, WRITE_CLOSED};
 use crate::shared::{here, Context as Worker, Shared};
+use crate::sync::atomic::Ordering::*;
+use crate::sync::{Arc, Mutex};
 use crate::sys;
 use crate::waker::is_of_running;
 use std::fmt;
@@ -12,8 +14,6 @@ use std::io::{self, ErrorKind::WouldBlock, IoSlice, Read, Write};
 use std::net::{Shutdown, SocketAddr, ToSocketAddrs};
 use std::os::unix::io::{AsFd, AsRawFd, BorrowedFd, FromRawFd, RawFd};
 use std::pin::Pin;
-use std::sync::atomic::Ordering::*;
-use std::sync::{Arc, Mutex};
 use std::task::{Context, Poll, Waker};
 
 #[derive(Clone)]
@@ -32,8 +32,8 @@ struct Source<S: AsRawFd> {
 
 /// A value that is written once.
 mod once {
+    use crate::sync::atomic::{AtomicPtr, Ordering::*};
     use std::ptr;
-    use std::sync::atomic::{AtomicPtr, Ordering::*};
 
     pub(super) struct Once<T>(AtomicPtr<T>);
 

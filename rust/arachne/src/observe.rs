@@ -4,12 +4,12 @@
 
 use crate::core::Job;
 use crate::shared::Shared;
+use crate::sync::atomic::{AtomicPtr, AtomicU64, Ordering::*};
+use crate::sync::{Arc, RwLock};
 use crate::task::{About, Label};
 use crate::timer::now;
 use std::panic::Location;
 use std::ptr;
-use std::sync::atomic::{AtomicPtr, AtomicU64, Ordering::*};
-use std::sync::{Arc, RwLock};
 use std::time::Duration;
 
 /// What a host may want to hear of its tasks (a tracing library's spans, say). Each is called on the kernel thread that

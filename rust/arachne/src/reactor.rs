@@ -1,11 +1,11 @@
 //! One epoll for all workers: what the sockets tell, and how a worker that sleeps is woken.
 
+use crate::sync::atomic::{AtomicU64, AtomicUsize, Ordering::*};
+use crate::sync::{Arc, Condvar, Mutex};
 use crate::sys::{self, Event};
 use crate::waker::{name_in, wake_name, NOBODY};
 use std::io;
 use std::os::unix::io::RawFd;
-use std::sync::atomic::{AtomicU64, AtomicUsize, Ordering::*};
-use std::sync::{Arc, Condvar, Mutex};
 use std::task::Waker;
 use std::time::Duration;
 

@@ -7,6 +7,9 @@ use crate::drain::Signal;
 use crate::observe::{Hooks, TaskInfo, HISTOGRAM};
 use crate::shared::{entered, is_own, with_hands, Context, Shared};
 use crate::spawn::Refused;
+use crate::sync::atomic::Ordering::*;
+use crate::sync::thread;
+use crate::sync::Arc;
 use crate::task::{self, About, JoinHandle, Label};
 use crate::timer::now;
 use crate::waker::NOBODY;
@@ -16,9 +19,6 @@ use std::future::Future;
 use std::io;
 use std::mem::ManuallyDrop;
 use std::panic::Location;
-use std::sync::atomic::Ordering::*;
-use std::sync::Arc;
-use std::thread;
 use std::time::Duration;
 
 /// Jobs that a worker may have in hand: the one that runs, the next one and one that it displaces, and those in its

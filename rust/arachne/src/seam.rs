@@ -4,7 +4,7 @@
 
 #[cfg(feature = "seams")]
 mod heard {
-    use std::sync::{Arc, Mutex};
+    use crate::sync::{Arc, Mutex};
 
     type Hook = Arc<dyn Fn(&'static str) + Send + Sync>;
     static HOOK: Mutex<Option<Hook>> = Mutex::new(None);

@@ -2,12 +2,12 @@
 
 use crate::reactor::Slot;
 use crate::shared::here;
+use crate::sync::atomic::{AtomicBool, Ordering::*};
+use crate::sync::{Arc, Mutex};
 use std::collections::VecDeque;
 use std::fmt;
 use std::future::Future;
 use std::pin::Pin;
-use std::sync::atomic::{AtomicBool, Ordering::*};
-use std::sync::{Arc, Mutex};
 use std::task::{Context, Poll};
 
 struct Node {
@@ -75,7 +75,7 @@ impl Semaphore {
     }
 
     /// Gives the first in line theirs, and wakes them without the lock.
-    fn grant(&self, mut state: std::sync::MutexGuard<'_, State>) {
+    fn grant(&self, mut state: crate::sync::MutexGuard<'_, State>) {
         let mut granted = Vec::new();
         while state.line.front().map_or(false, |node| node.wants <= state.permits) {
             if let Some(node) = state.line.pop_front() {

@@ -6,6 +6,8 @@ use crate::drain::Draining;
 use crate::hand::Hand;
 use crate::observe::Observer;
 use crate::reactor::{Bell, Reactor};
+use crate::sync::atomic::{AtomicBool, AtomicI32, AtomicPtr, AtomicU64, AtomicUsize, Ordering::*};
+use crate::sync::{Condvar, Mutex};
 use crate::task::{About, Label, Raw};
 use crate::timer::{now, Timers};
 use crate::waker::NOBODY;
@@ -16,8 +18,6 @@ use std::fs::File;
 use std::io;
 use std::panic::Location;
 use std::ptr;
-use std::sync::atomic::{AtomicBool, AtomicI32, AtomicPtr, AtomicU64, AtomicUsize, Ordering::*};
-use std::sync::{Condvar, Mutex};
 
 /// Runtimes of a process at a time, as each has wakers of its own.
 pub(crate) const TABLES: usize = 32;

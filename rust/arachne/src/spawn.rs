@@ -2,12 +2,12 @@
 
 use crate::core::{Hands, Spawned, SHARD};
 use crate::shared::{add, here, with_hands, Context, Shared};
+use crate::sync::atomic::Ordering::*;
 use crate::task::{self, About, JoinHandle, Label, Raw};
 use std::fmt;
 use std::future::Future;
 use std::panic::Location;
 use std::pin::Pin;
-use std::sync::atomic::Ordering::*;
 use std::task::{self as std_task, Poll};
 
 /// Tasks from outside that go to one worker before the next one gets some.

@@ -2,9 +2,10 @@
 //!
 //! The declarations are those of Linux's C library on 64 bits. The functions around the calls are safe.
 
+use crate::sync::atomic::{AtomicI32, Ordering::*};
+use crate::sync::{clock, told, wait as wait_in};
 use std::io;
 use std::os::unix::io::RawFd;
-use std::sync::atomic::{AtomicI32, Ordering::*};
 
 #[derive(Clone, Copy)]
 #[cfg_attr(target_arch = "x86_64", repr(C, packed))]
@@ -81,8 +82,10 @@ pub(crate) fn unwatch(epoll: RawFd, fd: RawFd) {
 
 /// How many of `events` were told; none where the call was interrupted. `timeout` is in milliseconds, -1 for ever.
 pub(crate) fn wait(epoll: RawFd, events: &mut [Event], timeout: i32) -> usize {
-    // SAFETY: the kernel writes at most as many events as the slice has, and any bytes are an event.
-    unsafe { epoll_wait(epoll, events.as_mut_ptr(), events.len() as i32, timeout) }.max(0) as usize
+    wait_in(epoll, timeout, |timeout| {
+        // SAFETY: the kernel writes at most as many events as the slice has, and any bytes are an event.
+        unsafe { epoll_wait(epoll, events.as_mut_ptr(), events.len() as i32, timeout) }.max(0) as usize
+    })
 }
 
 /// Raises the event, which makes its descriptor readable.
@@ -90,6 +93,7 @@ pub(crate) fn raise(event: RawFd) {
     let one = 1u64.to_ne_bytes();
     // SAFETY: there are eight bytes to read from.
     unsafe { write(event, one.as_ptr(), 8) };
+    told();
 }
 
 /// Clears an event.
@@ -147,10 +151,12 @@ pub(crate) fn start_connect(to: &std::net::SocketAddr) -> io::Result<RawFd> {
 /// Nanoseconds of the system's monotonic clock.
 #[inline]
 pub(crate) fn now() -> u64 {
-    let mut time = [0i64; 2];
-    // SAFETY: there is room for a time: two words of 64 bits.
-    unsafe { clock_gettime(1, &mut time) };
-    time[0] as u64 * 1_000_000_000 + time[1] as u64
+    clock(|| {
+        let mut time = [0i64; 2];
+        // SAFETY: there is room for a time: two words of 64 bits.
+        unsafe { clock_gettime(1, &mut time) };
+        time[0] as u64 * 1_000_000_000 + time[1] as u64
+    })
 }
 
 /// The processors that this kernel thread may run on.

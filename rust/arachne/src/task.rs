@@ -2,6 +2,8 @@
 //! its output until that is dropped; whoever is last frees it.
 
 use crate::seam;
+use crate::sync::atomic::{AtomicU32, AtomicU64, Ordering::*};
+use crate::sync::Mutex;
 use crate::waker::{wake_name, NOBODY};
 use std::any::Any;
 use std::cell::UnsafeCell;
@@ -11,8 +13,6 @@ use std::marker::PhantomData;
 use std::panic::{catch_unwind, AssertUnwindSafe, Location};
 use std::pin::Pin;
 use std::ptr::NonNull;
-use std::sync::atomic::{AtomicU32, AtomicU64, Ordering::*};
-use std::sync::Mutex;
 use std::task::{Context, Poll, Waker};
 
 /// The output is there.

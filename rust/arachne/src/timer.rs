@@ -1,15 +1,15 @@
 //! Sleeping and time limits: each worker has its timers, which it looks at when it looks at the epoll.
 
 use crate::shared::{here, Context as Worker, Shared};
+use crate::sync::atomic::{AtomicU64, Ordering::*};
+use crate::sync::{Instant, Mutex};
 use crate::waker::{name_in, NOBODY};
 use std::collections::BTreeMap;
 use std::fmt;
 use std::future::Future;
 use std::pin::Pin;
-use std::sync::atomic::{AtomicU64, Ordering::*};
-use std::sync::Mutex;
 use std::task::{Context, Poll, Waker};
-use std::time::{Duration, Instant};
+use std::time::Duration;
 
 /// Nanoseconds of the system's monotonic clock.
 pub(crate) use crate::sys::now;

@@ -3,11 +3,11 @@
 use crate::core::{Hands, Job, Rested, SHARD};
 use crate::reactor::EVENTS;
 use crate::shared::Shared;
+use crate::sync::atomic::Ordering::*;
+use crate::sync::thread;
 use crate::task;
 use crate::timer::now;
 use crate::waker::{waker_of, NOBODY};
-use std::sync::atomic::Ordering::*;
-use std::thread;
 use std::time::Duration;
 
 /// For so many nanoseconds it looks after workers that are stuck, before it looks who else is.

@@ -9,10 +9,10 @@ use crate::hand::FIRST;
 use crate::reactor::{Found, EVENTS};
 use crate::seam;
 use crate::shared::{add, Context, Shared, NO_ONE};
+use crate::sync::atomic::{AtomicUsize, Ordering::*};
 use crate::task::{self, Raw};
 use crate::timer::now;
 use crate::waker::{waker_of, NOBODY};
-use std::sync::atomic::{AtomicUsize, Ordering::*};
 
 mod sleepers;
 

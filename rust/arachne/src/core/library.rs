@@ -11,10 +11,10 @@
 
 use super::{Asked, Freed, Job, Line, Rested, Spawned, Woken, BLOCK, MOST_SHARDS, NUMBERS};
 use crate::cores::{Advice, Sample};
+use crate::sync::atomic::{AtomicBool, AtomicU64, Ordering::*};
+use crate::sync::{Arc, Mutex};
 use std::cell::{Cell, RefCell, UnsafeCell};
 use std::ptr;
-use std::sync::atomic::{AtomicBool, AtomicU64, Ordering::*};
-use std::sync::{Arc, Mutex};
 
 /// Declarations as in the header. `tests/header.rs` compares them with it.
 #[path = "declarations.rs"]

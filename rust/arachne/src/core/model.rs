@@ -9,10 +9,10 @@ use super::{
 };
 use crate::cores::{Advice, Sample};
 use crate::seam;
+use crate::sync::atomic::{AtomicU64, AtomicU8, Ordering::*};
+use crate::sync::{Arc, Mutex};
 use std::cell::{Cell, UnsafeCell};
 use std::collections::VecDeque;
-use std::sync::atomic::{AtomicU64, AtomicU8, Ordering::*};
-use std::sync::{Arc, Mutex};
 
 const WOKEN: u64 = 1;
 const BLOCKED: u64 = 2;

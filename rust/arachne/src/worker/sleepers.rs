@@ -6,8 +6,8 @@ use crate::cores::Judge;
 use crate::hand::FIRST;
 use crate::reactor::Found;
 use crate::shared::{add, Context, Shared, NO_ONE};
+use crate::sync::atomic::{AtomicI32, Ordering::*};
 use crate::timer;
-use std::sync::atomic::{AtomicI32, Ordering::*};
 
 /// How often an idle worker looks around before it sleeps.
 const SPINS: usize = 4;
