@@ -30,6 +30,11 @@ thread_local! {
     static PARKER: RefCell<Option<Arc<Parker>>> = const { RefCell::new(None) };
 }
 
+#[cfg(feature = "explore")]
+pub(crate) fn forget_parker() {
+    PARKER.with(|parker| *parker.borrow_mut() = None);
+}
+
 /// Runs a future on this thread, which sleeps while the future waits. Within a task it blocks the worker.
 pub fn block_on<F: Future>(future: F) -> F::Output {
     let kept = PARKER.with(|parker| parker.borrow_mut().take());

@@ -46,6 +46,8 @@ pub use runtime::{Builder, Runtime, Stats, WorkerStats};
 #[cfg(feature = "seams")]
 pub use seam::at_seams;
 pub use semaphore::{Acquire, Permit, Semaphore};
+#[cfg(feature = "explore")]
+pub use shared::{forget_runtimes, forget_thread};
 pub use spawn::{spawn, spawn_background, spawn_balanced, spawn_named, Refused};
 pub use task::{About, JoinError, JoinHandle, Label, Panic};
 pub use timer::{sleep, sleep_until, timeout, Elapsed, Sleep, Timeout};

@@ -185,6 +185,11 @@ impl Reactor {
         Ok((io, key))
     }
 
+    #[cfg(feature = "explore")]
+    pub(crate) fn close(&self) {
+        [self.epoll, self.event].into_iter().for_each(sys::close_fd);
+    }
+
     fn forget(&self, key: Key) {
         let mut sources = self.sources.lock().unwrap();
         let at = (key.0 as u32 - 1) as usize;

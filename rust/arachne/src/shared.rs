@@ -19,6 +19,11 @@ use std::io;
 use std::panic::Location;
 use std::ptr;
 
+#[cfg(feature = "explore")]
+mod explored;
+#[cfg(feature = "explore")]
+pub use explored::{forget_runtimes, forget_thread};
+
 /// Runtimes of a process at a time, as each has wakers of its own.
 pub(crate) const TABLES: usize = 32;
 
@@ -270,7 +275,7 @@ impl Shared {
 
     fn reset(&self) {
         self.workers.iter().for_each(|worker| worker.0.reset());
-        self.roomy.iter().for_each(|word| word.0.store(u64::MAX, Relaxed));
+        self.roomy.iter().for_each(|word| word.0.store(u64::MAX >> (64 - SHARD), Relaxed));
         let counts = &self.counts;
         let all =
             [&counts.queued, &counts.core_time, &counts.adds, &counts.removes, &counts.slow_polls, &counts.rescued];

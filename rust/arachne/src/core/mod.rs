@@ -23,9 +23,9 @@ pub(crate) use library::{Estimator, Hands, LockCore, Parking, Root};
 #[derive(Default)]
 pub(crate) struct Line<T>(pub(crate) T);
 
-/// Places of a block, and blocks of a shard.
-pub(crate) const BLOCK: usize = 64;
-pub(crate) const SHARD: usize = 64;
+/// Places of a block, and blocks of a shard: few where each step is one of the explorer's.
+pub(crate) const BLOCK: usize = if cfg!(feature = "explore") { 2 } else { 64 };
+pub(crate) const SHARD: usize = if cfg!(feature = "explore") { 2 } else { 64 };
 /// Numbers of shards that are looked after together, and workers at most.
 pub(crate) const NUMBERS: usize = 64;
 /// Bits of a name that are its place; the others are its generation.

@@ -113,7 +113,7 @@ impl Root {
         }
         let block = || Block {
             ready: Line(AtomicU64::new(0)),
-            free: Line(AtomicU64::new(u64::MAX)),
+            free: Line(AtomicU64::new(u64::MAX >> (64 - BLOCK))),
             marks: std::array::from_fn(|_| AtomicU64::new(0)),
             slots: std::array::from_fn(|_| UnsafeCell::new(0)),
         };

@@ -1,0 +1,537 @@
+//! Loads for the explorer, of some three kernel threads each.
+
+use arachne::net::Async;
+use arachne::{
+    block_on, channel, poll_fn, sleep, spawn, spawn_balanced, spawn_blocking, stopping, timeout, yield_now, Builder,
+    JoinError, JoinHandle, Lock, Policy, Runtime, Semaphore,
+};
+use explorer::{choose, now, thread, told, Arc, Condvar, Mutex};
+use std::future::Future;
+use std::io::{Read, Write};
+use std::os::unix::net::UnixStream;
+use std::pin::Pin;
+use std::task::{Context, Poll, Wake};
+use std::time::Duration;
+
+#[global_allocator]
+static MEMORY: explorer::Memory = explorer::Memory;
+
+const MS: Duration = Duration::from_millis(1);
+const LONG: Duration = Duration::from_millis(500);
+
+/// A runtime with so few places that a task may find none.
+fn runtime(workers: usize) -> Runtime {
+    Builder::new(workers).places(4 * workers).slices(None).build().unwrap()
+}
+
+/// A number that a kernel thread may wait for.
+#[derive(Default)]
+struct Count(Mutex<usize>, Condvar);
+
+impl Count {
+    fn add(&self) {
+        *self.0.lock().unwrap() += 1;
+        self.1.notify_all();
+    }
+    fn await_all(&self, most: usize) {
+        drop(self.1.wait_while(self.0.lock().unwrap(), |count| *count < most).unwrap());
+    }
+    fn is(&self, wanted: usize) {
+        assert_eq!(*self.0.lock().unwrap(), wanted);
+    }
+}
+
+/// Tasks come from outside as workers fall asleep: each runs once.
+fn sleepers() {
+    let (runtime, ran) = (runtime(2), Arc::new(Count::default()));
+    for round in 0..3 {
+        let (one, other) = (ran.clone(), ran.clone());
+        let task = runtime.spawn(async move { one.add() });
+        let late = runtime.spawn(async move {
+            yield_now().await;
+            other.add();
+        });
+        runtime.block_on(task).unwrap();
+        runtime.block_on(late).unwrap();
+        ran.is(2 * round + 2);
+    }
+}
+
+/// What is spawned, and what is woken, is run at once where workers sleep: no time passes meanwhile.
+fn prompt() {
+    let (runtime, gate) = (runtime(2 + choose(2)), Arc::new(Semaphore::new(0)));
+    for _ in 0..3 {
+        let wants = gate.clone();
+        let waits = runtime.spawn(async move { wants.acquire(1).await.forget() });
+        thread::sleep(choose(12) as u32 * MS);
+        let (since, releases) = (now(), gate.clone());
+        let task = runtime.spawn(async move {
+            let spawned = spawn_balanced(async { yield_now().await });
+            releases.release(1);
+            spawned.await.unwrap();
+        });
+        runtime.block_on(waits).unwrap();
+        runtime.block_on(task).unwrap();
+        assert!(now() - since < 300_000, "after {} us", (now() - since) / 1000);
+    }
+}
+
+/// Each of so many tasks blocks its worker until all have begun: so each needs a worker of its own.
+fn hands() {
+    let (runtime, begun) = (runtime(2), Arc::new(Count::default()));
+    for round in 1..3 {
+        let each = begun.clone();
+        runtime.spawn(async move {
+            for _ in 0..2 {
+                let begun = each.clone();
+                spawn_balanced(async move {
+                    begun.add();
+                    begun.await_all(2 * round);
+                });
+            }
+        });
+        begun.await_all(2 * round);
+    }
+}
+
+impl Wake for Count {
+    fn wake(self: Arc<Self>) {
+        self.add();
+    }
+}
+
+/// Polls by that waker.
+fn poll<F: Future + Unpin>(future: &mut F, woken: &Arc<Count>) -> Poll<F::Output> {
+    Pin::new(future).poll(&mut Context::from_waker(&woken.clone().into()))
+}
+
+/// What is ready behind a poll that takes 200 ms begins within `SOON` of virtual time, in which no machine is late:
+/// what the poll's worker had in hand, what was to run next there, and what the poll makes ready.
+fn behind() {
+    const SOON: u64 = 16_000_000;
+    let (runtime, begun) = (runtime(2 + choose(2)), Arc::new(Count::default()));
+    let each = begun.clone();
+    let task = runtime.spawn(async move {
+        let begins = || {
+            let (begun, since) = (each.clone(), now());
+            spawn(async move {
+                assert!(now() - since < SOON, "begun after {} us", (now() - since) / 1000);
+                begun.add();
+            })
+        };
+        let mut tasks: Vec<_> = (0..5).map(|_| begins()).collect();
+        if choose(2) == 0 {
+            yield_now().await;
+        }
+        tasks.push(begins());
+        for _ in 0..2 {
+            thread::sleep(100 * MS);
+            tasks.push(begins());
+        }
+        for task in tasks {
+            task.await.unwrap();
+        }
+    });
+    runtime.block_on(task).unwrap();
+    begun.is(8);
+}
+
+/// Polls that take long, spawn and wake in their midst, while another worker makes ready what they have in hand.
+fn relief() {
+    let (runtime, ran, gate) = (runtime(2), Arc::new(Count::default()), Arc::new(Semaphore::new(0)));
+    let task = |waits: u32| {
+        let (ran, gate) = (ran.clone(), gate.clone());
+        runtime.spawn(async move {
+            let mut spawned = Vec::new();
+            for _ in 0..2 {
+                let (ran, wants) = (ran.clone(), gate.clone());
+                spawned.push(spawn(async move {
+                    wants.acquire(1).await.forget();
+                    ran.add();
+                }));
+                thread::sleep(waits * MS);
+                gate.release(1);
+                if choose(2) == 0 {
+                    yield_now().await;
+                }
+            }
+            for task in spawned {
+                task.await.unwrap();
+            }
+        })
+    };
+    let tasks = [task(choose(4) as u32), task(choose(20) as u32)];
+    tasks.into_iter().for_each(|task| runtime.block_on(task).unwrap());
+    ran.is(4);
+}
+
+/// The only worker is in a poll that blocks until what is ready has run: the watcher runs it.
+fn watcher() {
+    let runtime = Builder::new(1).places(8).slices(None).watch_polls(10 * MS, false).build().unwrap();
+    let ran = Arc::new(Count::default());
+    let each = ran.clone();
+    let task = runtime.spawn(async move {
+        for yields in 0..3 {
+            let ran = each.clone();
+            spawn(async move {
+                if yields == 1 {
+                    yield_now().await;
+                }
+                ran.add();
+            });
+        }
+        if choose(2) == 0 {
+            yield_now().await;
+        }
+        each.await_all(3);
+    });
+    runtime.block_on(task).unwrap();
+    ran.is(3);
+}
+
+/// A handle is polled by two wakers, and then awaited, aborted or dropped, while its task ends.
+fn handles() {
+    let (runtime, dropped) = (runtime(1), Arc::new(Count::default()));
+    for round in 1..3 {
+        let ends = Counted(dropped.clone());
+        let yields = choose(2) == 0;
+        let mut handle = runtime.spawn(async move {
+            if yields {
+                yield_now().await;
+            }
+            (7, ends)
+        });
+        let (first, second) = (Arc::new(Count::default()), Arc::new(Count::default()));
+        let kind = choose(4);
+        let mut polled = poll(&mut handle, &first);
+        if polled.is_pending() && kind != 0 {
+            polled = poll(&mut handle, &second);
+        }
+        if polled.is_pending() && kind == 1 {
+            handle.abort();
+        }
+        if polled.is_pending() && kind != 0 && kind != 3 {
+            second.await_all(1);
+            polled = poll(&mut handle, &second);
+            assert!(polled.is_ready());
+        }
+        match polled {
+            Poll::Ready(Ok(output)) => assert_eq!(output.0, 7),
+            Poll::Ready(Err(error)) => assert!(kind == 1 && error.is_cancelled()),
+            Poll::Pending => {}
+        }
+        drop(handle);
+        dropped.await_all(round);
+        dropped.is(round);
+    }
+}
+
+/// Counts its drop.
+struct Counted(Arc<Count>);
+impl Drop for Counted {
+    fn drop(&mut self) {
+        self.0.add();
+    }
+}
+
+/// An orderly end: whoever waits for it is told, also one that begins to wait at that moment, or does so by another
+/// waker, and what it spawns then.
+fn drain() {
+    let (runtime, ended) = (runtime(2), Arc::new(Count::default()));
+    for yields in 0..2 {
+        let ended = ended.clone();
+        runtime.spawn(async move {
+            let mut end = stopping();
+            for _ in 0..yields {
+                let _ = poll(&mut end, &Arc::default());
+                yield_now().await;
+            }
+            end.await;
+            spawn(async move { ended.add() });
+        });
+    }
+    assert_eq!(runtime.shutdown_within(LONG).aborted, 0);
+    ended.is(2);
+}
+
+/// An end in the midst of all: each task has run, or is dropped, once, and its handle tells which.
+fn shutdown() {
+    let (runtime, dropped, gate) = (runtime(2), Arc::new(Count::default()), Arc::new(Semaphore::new(0)));
+    let task = |kind: usize| {
+        let (ends, gate) = (Counted(dropped.clone()), gate.clone());
+        runtime.spawn(async move {
+            let _ends = ends;
+            match kind {
+                0 => gate.release(1),
+                1 => gate.acquire(1).await.forget(),
+                2 => drop(spawn(async { yield_now().await })),
+                _ => sleep(MS).await,
+            }
+        })
+    };
+    let tasks = [task(choose(4)), task(choose(4)), task(choose(4))];
+    for _ in 0..choose(3) {
+        thread::sleep(MS / 4);
+    }
+    drop(runtime);
+    dropped.is(3);
+    for handle in tasks {
+        match block_on(handle) {
+            Ok(()) | Err(JoinError::Cancelled) => {}
+            Err(error) => panic!("{error}"),
+        }
+    }
+}
+
+/// A runtime that one of its own tasks drops.
+fn own() {
+    let (runtime, dropped) = (Arc::new(runtime(2)), Arc::new(Count::default()));
+    let (kept, ends, waits) = (runtime.clone(), Counted(dropped.clone()), Counted(dropped.clone()));
+    let yields = choose(2) == 0;
+    drop(runtime.spawn(async move {
+        let _ends = ends;
+        if yields {
+            yield_now().await;
+        }
+        drop(kept);
+    }));
+    let late = runtime.spawn(async move {
+        let _waits = waits;
+        sleep(MS).await;
+    });
+    drop(runtime);
+    let _ = block_on(late);
+    dropped.await_all(2);
+}
+
+/// More tasks than places, of which all that have one wait for one that has none until another ends.
+fn room() {
+    let (runtime, gate) = (runtime(2), Arc::new(Semaphore::new(0)));
+    let mut tasks: Vec<JoinHandle<()>> = Vec::new();
+    for _ in 0..7 {
+        let gate = gate.clone();
+        tasks.push(runtime.spawn(async move { gate.acquire(1).await.forget() }));
+    }
+    tasks.push(runtime.spawn(async {}));
+    tasks.push(runtime.spawn(async move { gate.release(7) }));
+    for task in tasks {
+        runtime.block_on(task).unwrap();
+    }
+}
+
+/// Three senders at a full channel of one: nothing is lost, each one's values are in order, and who was called and
+/// found it full again is next.
+fn channels() {
+    let (sender, receiver) = channel(1);
+    sender.try_send(0).unwrap();
+    let (woken, mut one, mut other) = ([(); 2].map(|()| Arc::new(Count::default())), sender.send(1), sender.send(2));
+    assert!(poll(&mut one, &woken[0]).is_pending() && poll(&mut other, &woken[1]).is_pending());
+    receiver.try_recv().unwrap();
+    sender.try_send(3).unwrap();
+    assert!(poll(&mut one, &woken[0]).is_pending());
+    receiver.try_recv().unwrap();
+    assert!(poll(&mut one, &woken[0]).is_ready() && poll(&mut other, &woken[1]).is_pending());
+    drop((one, other));
+    drop((sender, receiver));
+
+    let (runtime, (sender, receiver)) = (runtime(2), channel(1));
+    let senders: Vec<_> = (0..3)
+        .map(|me| {
+            let sender = sender.clone();
+            runtime.spawn(async move {
+                for value in 0..2 {
+                    sender.send((me, value)).await.unwrap();
+                }
+            })
+        })
+        .collect();
+    drop(sender);
+    let mut next = [0; 3];
+    while let Some((me, value)) = runtime.block_on(receiver.recv()) {
+        assert_eq!(next[me], value);
+        next[me] += 1;
+    }
+    assert_eq!(next, [2; 3]);
+    senders.into_iter().for_each(|task| runtime.block_on(task).unwrap());
+}
+
+/// Who waits leaves when its time is over: no permit and no value is lost.
+fn leaving() {
+    let (runtime, gate, (sender, receiver)) = (runtime(2), Arc::new(Semaphore::new(1)), channel(1));
+    let tasks: Vec<_> = (0..3)
+        .map(|me| {
+            let (gate, sender, millis) = (gate.clone(), sender.clone(), 1 + choose(3) as u32);
+            runtime.spawn(async move {
+                let permit = timeout(millis * MS, gate.acquire(1)).await;
+                if permit.is_ok() {
+                    sleep(MS).await;
+                }
+                timeout(MS, sender.send(me)).await.is_ok()
+            })
+        })
+        .collect();
+    drop(sender);
+    let mut received = 0;
+    thread::sleep(choose(4) as u32 * MS);
+    while runtime.block_on(receiver.recv()).is_some() {
+        received += 1;
+    }
+    let sent = tasks.into_iter().map(|task| runtime.block_on(task).unwrap()).filter(|&sent| sent).count();
+    assert_eq!(sent, received);
+    runtime.block_on(gate.acquire(1)).forget();
+}
+
+/// Timers of a worker, and those of another thread: none early, and none late by more than a millisecond.
+fn timers() {
+    let runtime = runtime(2);
+    let sleeps = |millis: u32| async move {
+        let due = now() + millis as u64 * 1_000_000;
+        sleep(millis * MS).await;
+        assert!((due..due + 1_200_000).contains(&now()), "late by {} us", now() as i64 / 1000 - due as i64 / 1000);
+    };
+    let tasks = [runtime.spawn(sleeps(3)), runtime.spawn(sleeps(1))];
+    if choose(2) == 0 {
+        thread::sleep(10 * MS);
+    }
+    runtime.block_on(sleeps(2));
+    for task in tasks {
+        runtime.block_on(task).unwrap();
+    }
+}
+
+/// What is ready at the places of a core that was given back is run at once by whoever looks after them.
+fn cores() {
+    let policy = Policy { every: MS, ..Policy::default() };
+    let runtime = Builder::new(4).places(16).slices(None).policy(policy).build().unwrap();
+    let gate = Arc::new(Semaphore::new(0));
+    let tasks: Vec<_> = (0..2)
+        .map(|_| {
+            let gate = gate.clone();
+            runtime.spawn(async move {
+                spawn_balanced(async move { gate.acquire(1).await.forget() }).await.unwrap();
+            })
+        })
+        .collect();
+    thread::sleep((1 + choose(12)) as u32 * MS);
+    let since = now();
+    gate.release(2);
+    for task in tasks {
+        runtime.block_on(task).unwrap();
+    }
+    assert!(now() - since < 300_000, "after {} us", (now() - since) / 1000);
+}
+
+/// Sockets come and go: what was told of one that is gone isn't told to the next of its number, which would try to read
+/// in vain once more.
+fn sockets() {
+    let runtime = runtime(2);
+    for round in 0..2 {
+        let ((mut near, far), gate) = (UnixStream::pair().unwrap(), Arc::new(Semaphore::new(0)));
+        let (far, leaves) = (Async::new(far).unwrap(), gate.clone());
+        let task = runtime.spawn(async move {
+            let (mut byte, mut blocked, mut left) = ([0], 0, Box::pin(leaves.acquire(1)));
+            let read = poll_fn(|cx: &mut Context<'_>| {
+                if left.as_mut().poll(cx).is_ready() {
+                    return Poll::Ready(None);
+                }
+                let read = far.poll_read_with(cx, |mut far: &UnixStream| {
+                    let read = far.read(&mut byte);
+                    blocked += read.is_err() as usize;
+                    read
+                });
+                read.map(Some)
+            });
+            let read = read.await.map(|read| read.unwrap());
+            (read, blocked)
+        });
+        thread::sleep(MS / 4);
+        let hangs_up = round == 0 && choose(2) == 0;
+        if hangs_up {
+            drop(near);
+        } else {
+            near.write_all(&[7]).unwrap();
+        }
+        told();
+        if round == 0 {
+            gate.release(1);
+        }
+        let (read, blocked) = runtime.block_on(task).unwrap();
+        assert!(blocked <= 1 && (read == Some(1 - hangs_up as usize) || round == 0 && read.is_none()));
+    }
+}
+
+/// A lock that three tasks want, one of which may leave the line; and work on the blocking pool.
+fn locks() {
+    let (runtime, lock, inside) = (runtime(2), Arc::new(Lock::new(0)), Arc::new(Mutex::new(false)));
+    let tasks: Vec<_> = (0..3)
+        .map(|_| {
+            let (lock, inside) = (lock.clone(), inside.clone());
+            runtime.spawn(async move {
+                let mut guard = lock.lock().await;
+                assert!(!std::mem::replace(&mut *inside.lock().unwrap(), true));
+                let leaves = Leaves(inside);
+                yield_now().await;
+                *guard += 1;
+                drop(leaves);
+            })
+        })
+        .collect();
+    if choose(2) == 0 {
+        tasks[1].abort();
+    }
+    let blocks = runtime.enter(|| spawn_blocking(|| 7));
+    let ended = tasks.into_iter().map(|task| runtime.block_on(task)).filter(Result::is_ok).count();
+    assert_eq!(*runtime.block_on(lock.lock()), ended);
+    assert_eq!(runtime.block_on(blocks).unwrap(), 7);
+}
+
+struct Leaves(Arc<Mutex<bool>>);
+impl Drop for Leaves {
+    fn drop(&mut self) {
+        *self.0.lock().unwrap() = false;
+    }
+}
+
+/// Name, load, and whether its time is exact.
+type Load = (&'static str, fn(), bool);
+const LOADS: [Load; 17] = [
+    ("sleepers", sleepers, false),
+    ("prompt", prompt, true),
+    ("hands", hands, false),
+    ("behind", behind, true),
+    ("relief", relief, false),
+    ("watcher", watcher, false),
+    ("handles", handles, false),
+    ("drain", drain, false),
+    ("shutdown", shutdown, false),
+    ("own", own, false),
+    ("room", room, false),
+    ("channels", channels, false),
+    ("leaving", leaving, false),
+    ("timers", timers, true),
+    ("cores", cores, true),
+    ("sockets", sockets, false),
+    ("locks", locks, false),
+];
+
+fn main() {
+    let words: Vec<String> = std::env::args().collect();
+    let number = |at: usize| words.get(at).and_then(|word| word.parse::<u64>().ok());
+    let names = words.get(1).map_or("all", |word| word);
+    let (count, first) = (number(2).unwrap_or(1000), number(3).unwrap_or(0));
+    explorer::prepare(arachne::forget_thread);
+    for wanted in names.split(',') {
+        let loads: Vec<&Load> = LOADS.iter().filter(|load| [load.0, "all"].contains(&wanted)).collect();
+        assert!(!loads.is_empty(), "there is no load {wanted}");
+        for (name, load, exact) in loads {
+            let (begin, mut points, mut switches) = (std::time::Instant::now(), 0, 0);
+            for seed in first..first + count {
+                let took = explorer::run(name, *load, *exact, seed, arachne::forget_runtimes);
+                (points, switches) = (points + took.0, switches + took.1);
+            }
+            let (time, mean) = (begin.elapsed().as_secs_f64(), |all: u64| all / count.max(1));
+            print!("{name}: {count} schedules in {time:.1} s ({:.0} a second), ", count as f64 / time);
+            println!("{} points and {} switches each", mean(points), mean(switches));
+        }
+    }
+}
