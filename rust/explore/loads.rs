@@ -108,7 +108,7 @@ fn poll<F: Future + Unpin>(future: &mut F, woken: &Arc<Count>) -> Poll<F::Output
 /// What is ready behind a poll that takes 200 ms begins within `SOON` of virtual time, in which no machine is late:
 /// what the poll's worker had in hand, what was to run next there, and what the poll makes ready.
 fn behind() {
-    const SOON: u64 = 16_000_000;
+    const SOON: u64 = 5_000_000;
     let (runtime, begun) = (runtime(2 + choose(2)), Arc::new(Count::default()));
     let each = begun.clone();
     let task = runtime.spawn(async move {
@@ -163,6 +163,31 @@ fn relief() {
     let tasks = [task(choose(4) as u32), task(choose(20) as u32)];
     tasks.into_iter().for_each(|task| runtime.block_on(task).unwrap());
     ran.is(4);
+}
+
+/// A worker that wakes each millisecond for its own task looks after one whose poll blocks until what is ready has run.
+fn ticks() {
+    let (runtime, ran) = (runtime(2), Arc::new(Count::default()));
+    let ticking = runtime.spawn(async {
+        loop {
+            sleep(MS).await;
+        }
+    });
+    thread::sleep(choose(4) as u32 * MS);
+    let each = ran.clone();
+    let task = runtime.spawn(async move {
+        for _ in 0..2 {
+            let ran = each.clone();
+            spawn(async move { ran.add() });
+        }
+        if choose(2) == 0 {
+            yield_now().await;
+        }
+        each.await_all(2);
+    });
+    runtime.block_on(task).unwrap();
+    ticking.abort();
+    assert!(runtime.block_on(ticking).unwrap_err().is_cancelled());
 }
 
 /// The only worker is in a poll that blocks until what is ready has run: the watcher runs it.
@@ -421,6 +446,30 @@ fn cores() {
     assert!(now() - since < 300_000, "after {} us", (now() - since) / 1000);
 }
 
+/// A core is given back while its worker is in a poll that blocks until what it has in hand has run.
+fn returned() {
+    let policy = Policy { every: MS, min_cores: 2, ..Policy::default() };
+    let runtime = Builder::new(3).places(12).slices(None).policy(policy).build().unwrap();
+    for _ in 0..3 {
+        let ran = Arc::new(Count::default());
+        let task = runtime.spawn(async move {
+            let task = spawn_balanced(async move {
+                let (one, other) = (ran.clone(), ran.clone());
+                thread::sleep(choose(6) as u32 * MS);
+                spawn(async move { one.add() });
+                spawn(async move { other.add() });
+                if choose(2) == 0 {
+                    yield_now().await;
+                }
+                thread::sleep(choose(6) as u32 * MS);
+                ran.await_all(2);
+            });
+            task.await.unwrap();
+        });
+        runtime.block_on(task).unwrap();
+    }
+}
+
 /// Sockets come and go: what was told of one that is gone isn't told to the next of its number, which would try to read
 /// in vain once more.
 fn sockets() {
@@ -494,12 +543,14 @@ impl Drop for Leaves {
 
 /// Name, load, and whether its time is exact.
 type Load = (&'static str, fn(), bool);
-const LOADS: [Load; 17] = [
+const LOADS: [Load; 19] = [
     ("sleepers", sleepers, false),
     ("prompt", prompt, true),
+    ("returned", returned, false),
     ("hands", hands, false),
     ("behind", behind, true),
     ("relief", relief, false),
+    ("ticks", ticks, false),
     ("watcher", watcher, false),
     ("handles", handles, false),
     ("drain", drain, false),

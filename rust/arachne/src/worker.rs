@@ -71,6 +71,9 @@ pub(crate) struct Turn {
     seen: Vec<u64>,
     stood: Vec<u32>,
     since: Vec<u64>,
+    /// By worker: its polls at the last look before a sleep, and when that was.
+    met: Vec<u64>,
+    looked: u64,
     /// Milliseconds between its looks while it sleeps, and the polls of all workers at the last.
     rests: i32,
     watched: u64,
@@ -94,6 +97,8 @@ impl Turn {
             seen: vec![0; shared.workers.len()],
             stood: vec![0; shared.workers.len()],
             since: vec![0; shared.workers.len()],
+            met: vec![0; shared.workers.len()],
+            looked: 0,
             rests: 1,
             watched: 0,
             helped: false,

@@ -1,7 +1,7 @@
 //! Who sleeps: one worker waits in the epoll, a deputy looks at it now and then while that one runs tasks, and the
 //! others sleep until they are woken.
 
-use super::Turn;
+use super::{Turn, LONG_POLL};
 use crate::cores::Judge;
 use crate::hand::FIRST;
 use crate::reactor::Found;
@@ -105,6 +105,9 @@ impl Shared {
     /// Sleeps in the epoll, where it `waits` there, or else until it is woken; what the epoll told, and whether
     /// another's tasks may wait for it.
     fn sleep(&self, context: &Context, turn: &mut Turn, judge: &Option<Judge>, waits: bool) -> (Found, bool) {
+        if self.looks_before_sleep(context, turn) {
+            return (Found::NOTHING, true);
+        }
         add(&context.worker.parks, 1);
         let owners = std::iter::once(context.me).chain(self.lodgers(context.me));
         let mut timeout = timer::rest(self, owners);
@@ -175,6 +178,20 @@ impl Shared {
                 return (found, true);
             }
         }
+    }
+
+    /// Looks after the others if this worker has not for `LONG_POLL`: one that is woken again and again sleeps for too
+    /// short a time to do so. Returns true if tasks of one of them wait.
+    fn looks_before_sleep(&self, context: &Context, turn: &mut Turn) -> bool {
+        let now = context.looked.get();
+        if self.workers.len() == 1 || now.saturating_sub(turn.looked) < LONG_POLL {
+            return false;
+        }
+        turn.looked = now;
+        std::mem::swap(&mut turn.seen, &mut turn.met);
+        let (_, waits) = self.look_after(context, turn);
+        std::mem::swap(&mut turn.seen, &mut turn.met);
+        waits
     }
 
     /// Looks after workers that are awake and have not got on since the last look: takes what they have in hand, and
