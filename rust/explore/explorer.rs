@@ -96,6 +96,8 @@ struct World {
     gap: Cell<u64>,
     began: Cell<u64>,
     lowest: Cell<u64>,
+    /// A thread that is to lose its processor, from which point on, and for how many nanoseconds.
+    loss: Cell<(usize, u64, u64)>,
     /// The scheduler looks at this point, at this time, and where somebody was told.
     alarm: Cell<u64>,
     timer: Cell<u64>,
@@ -166,6 +168,12 @@ impl World {
         if steps >= STEPS {
             fail("livelock: it takes too many points");
         }
+        let (loses, from, nanos) = self.loss.get();
+        if loses == me && steps >= from {
+            self.loss.set((NOBODY, 0, 0));
+            self.wait(me, 0, self.now.get() + nanos, -1);
+            return;
+        }
         if steps >= self.change.get() {
             self.change.set(steps + 1 + self.random() % (2 * self.gap.get()));
             let until = self.now.get() + (1 << (10 + self.random() % 15));
@@ -213,7 +221,9 @@ impl World {
         let (old, steps) = (&self.threads[me], self.steps.get());
         old.patience.set(old.patience.get().saturating_sub(steps - self.began.get()).max(1));
         self.began.set(steps);
-        self.alarm.set(self.change.get().min(steps + self.threads[next].patience.get()));
+        let (loses, from, _) = self.loss.get();
+        let loss = if loses == next { from } else { NEVER };
+        self.alarm.set(self.change.get().min(steps + self.threads[next].patience.get()).min(loss));
         if next != me {
             // SAFETY: of the thread that runs.
             old.last.set(unsafe { (*self.events.get())[steps as usize % KEPT] });
@@ -402,6 +412,7 @@ pub fn prepare(clean: fn()) {
         gap: Cell::default(),
         began: Cell::default(),
         lowest: Cell::default(),
+        loss: Cell::default(),
         alarm: Cell::default(),
         timer: Cell::default(),
         stirred: Cell::default(),
@@ -428,7 +439,7 @@ pub fn run(name: &'static str, load: fn(), exact: bool, seed: u64, end: fn()) ->
     for count in [&world.steps, &world.switches, &world.began, &world.alarm] {
         count.set(0);
     }
-    (world.now.set(START), world.timer.set(NEVER), world.lowest.set(HIGH));
+    (world.now.set(START), world.timer.set(NEVER), world.lowest.set(HIGH), world.loss.set((NOBODY, 0, 0)));
     world.tick.set(if exact { 1 } else { [1, 10, 100, 1000][choose(4)] });
     world.gap.set([8, 32, 100, 300, 1000][choose(5)]);
     world.change.set(1 + world.random() % (2 * world.gap.get()));
@@ -445,6 +456,14 @@ pub fn run(name: &'static str, load: fn(), exact: bool, seed: u64, end: fn()) ->
     HELD.tracks.set(false);
     HELD.give_back();
     (world.steps.get(), world.switches.get())
+}
+
+/// This thread has no processor for `time`, once `points` more points have passed.
+pub fn lose_processor(points: usize, time: std::time::Duration) {
+    let world = world();
+    let from = world.steps.get() + points as u64;
+    world.loss.set((me(), from, time.as_nanos() as u64));
+    world.alarm.set(world.alarm.get().min(from));
 }
 
 /// A number below that, by the seed.

@@ -5,7 +5,7 @@ use arachne::{
     block_on, channel, poll_fn, sleep, spawn, spawn_balanced, spawn_blocking, stopping, timeout, yield_now, Builder,
     JoinError, JoinHandle, Lock, Policy, Runtime, Semaphore,
 };
-use explorer::{choose, now, thread, told, Arc, Condvar, Mutex};
+use explorer::{choose, lose_processor, now, thread, told, Arc, Condvar, Mutex};
 use std::future::Future;
 use std::io::{Read, Write};
 use std::os::unix::net::UnixStream;
@@ -105,10 +105,12 @@ fn poll<F: Future + Unpin>(future: &mut F, woken: &Arc<Count>) -> Poll<F::Output
     Pin::new(future).poll(&mut Context::from_waker(&woken.clone().into()))
 }
 
-/// What is ready behind a poll that takes 200 ms begins within `SOON` of virtual time, in which no machine is late:
-/// what the poll's worker had in hand, what was to run next there, and what the poll makes ready.
+/// Nanoseconds of virtual time, in which no machine is late, within which what is ready begins.
+const SOON: u64 = 5_000_000;
+
+/// What is ready behind a poll that takes 200 ms begins soon: what the poll's worker had in hand, what was to run next
+/// there, and what the poll makes ready.
 fn behind() {
-    const SOON: u64 = 5_000_000;
     let (runtime, begun) = (runtime(2 + choose(2)), Arc::new(Count::default()));
     let each = begun.clone();
     let task = runtime.spawn(async move {
@@ -134,6 +136,36 @@ fn behind() {
     });
     runtime.block_on(task).unwrap();
     begun.is(8);
+}
+
+/// A worker loses its processor as it ends a poll, or a little later: all that is ready there begins soon, but for the
+/// one task that it has taken to run.
+fn stands() {
+    let (runtime, begun, late) = (runtime(2 + choose(2)), Arc::new(Count::default()), Arc::new(Count::default()));
+    thread::sleep(choose(12) as u32 * MS);
+    let (tells, counts) = (begun.clone(), late.clone());
+    let begins = move |since: u64| {
+        if now() - since >= SOON {
+            counts.add();
+        }
+        tells.add();
+    };
+    let task = runtime.spawn(async move {
+        let (each, since) = (begins.clone(), now());
+        spawn(async move {
+            for _ in 0..3 {
+                let (begins, since) = (each.clone(), now());
+                spawn(async move { begins(since) });
+            }
+            lose_processor(choose(40), 100 * MS);
+        });
+        yield_now().await;
+        begins(since);
+    });
+    runtime.block_on(task).unwrap();
+    begun.await_all(4);
+    let late = *late.0.lock().unwrap();
+    assert!(late <= 1, "{late} begin late");
 }
 
 /// Polls that take long, spawn and wake in their midst, while another worker makes ready what they have in hand.
@@ -543,12 +575,13 @@ impl Drop for Leaves {
 
 /// Name, load, and whether its time is exact.
 type Load = (&'static str, fn(), bool);
-const LOADS: [Load; 19] = [
+const LOADS: [Load; 20] = [
     ("sleepers", sleepers, false),
     ("prompt", prompt, true),
     ("returned", returned, false),
     ("hands", hands, false),
     ("behind", behind, true),
+    ("stands", stands, true),
     ("relief", relief, false),
     ("ticks", ticks, false),
     ("watcher", watcher, false),
