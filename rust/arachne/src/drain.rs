@@ -1,7 +1,6 @@
 //! An orderly end, and a limit of what is accepted.
 
 use crate::runtime::Runtime;
-use crate::seam;
 use crate::shared::{here, Context as Worker, Shared};
 use crate::sync::atomic::{AtomicBool, AtomicUsize, Ordering::*};
 use crate::sync::{thread, Arc, Instant, Mutex};
@@ -30,7 +29,6 @@ impl Draining {
     pub(crate) fn begin(&self) {
         self.begun.store(true, SeqCst);
         let waiting = std::mem::take(&mut self.waiting.lock().unwrap().1);
-        seam::at("who waits for the end is told");
         waiting.into_values().for_each(Waker::wake);
     }
 

@@ -23,7 +23,6 @@ pub mod net;
 mod observe;
 mod reactor;
 mod runtime;
-mod seam;
 mod semaphore;
 mod shared;
 mod spawn;
@@ -43,8 +42,6 @@ pub use drain::{is_stopping, stopping, Ended, Limit, Signal, Stopping, Ticket};
 pub use lock::{Guard, Lock, Locking};
 pub use observe::{Doing, Hooks, TaskInfo, HISTOGRAM};
 pub use runtime::{Builder, Runtime, Stats, WorkerStats};
-#[cfg(feature = "seams")]
-pub use seam::at_seams;
 pub use semaphore::{Acquire, Permit, Semaphore};
 #[cfg(feature = "explore")]
 pub use shared::{forget_runtimes, forget_thread};

@@ -1,7 +1,6 @@
 //! A task: its future, then its output, behind one pointer. The runtime owns it until it has ended, and the handle on
 //! its output until that is dropped; whoever is last frees it.
 
-use crate::seam;
 use crate::sync::atomic::{AtomicU32, AtomicU64, Ordering::*};
 use crate::sync::Mutex;
 use crate::waker::{wake_name, NOBODY};
@@ -346,7 +345,6 @@ unsafe fn take_output<F: Future>(header: *mut Header, to: *mut ()) {
 }
 
 unsafe fn free<F: Future>(header: *mut Header) {
-    seam::at("a task is freed");
     let task = Box::from_raw(header.cast::<Task<F>>());
     let _ = catch_unwind(AssertUnwindSafe(|| drop(task)));
 }
@@ -406,7 +404,6 @@ impl<T> Future for JoinHandle<T> {
         let mut state = header.state.load(Acquire);
         if state & (COMPLETE | WAITING) == WAITING {
             // Take the waker back, unless the task ends first.
-            seam::at("a handle takes its waker back");
             state = header.state.fetch_and(!WAITING, AcqRel);
             if state & COMPLETE != 0 {
                 header.state.fetch_or(WAITING, AcqRel);

@@ -7,7 +7,6 @@ use crate::core::{place_of, Hands, Job, Rested, Spawned, BLOCK, SHARD};
 use crate::cores::Judge;
 use crate::hand::FIRST;
 use crate::reactor::{Found, EVENTS};
-use crate::seam;
 use crate::shared::{add, Context, Shared, NO_ONE};
 use crate::sync::atomic::{AtomicUsize, Ordering::*};
 use crate::task::{self, Raw};
@@ -290,7 +289,6 @@ impl Shared {
         turn.polls += 1;
         context.current.set(NOBODY);
         worker.running.store(NOBODY, Relaxed);
-        seam::at("a poll has ended");
         add(&worker.polls, 1);
         self.observer.stops(&job, ended);
         if ended {
@@ -490,7 +488,6 @@ impl Shared {
         }
         self.queue.lock().unwrap().push_front(raw);
         self.queued.0.fetch_add(1, SeqCst);
-        seam::at("what is queued has no room");
         None
     }
 

@@ -8,7 +8,6 @@ use super::{
     place_of, Asked, Freed, Job, Line, Rested, Spawned, Woken, BLOCK, MOST_SHARDS, NUMBERS, PLACE_BITS, SHARD,
 };
 use crate::cores::{Advice, Sample};
-use crate::seam;
 use crate::sync::atomic::{AtomicU64, AtomicU8, Ordering::*};
 use crate::sync::{Arc, Mutex};
 use std::cell::{Cell, UnsafeCell};
@@ -280,7 +279,6 @@ impl Hands {
     /// A job in hand has ended; its place is free, and its name means nobody.
     #[inline]
     pub(crate) fn finish(&self, job: &Job) {
-        seam::at("a place is given back");
         let next = (job.name >> PLACE_BITS) + 1;
         self.table.mark(job.place()).store(next << 2, SeqCst);
         if next >> (64 - PLACE_BITS) == 0 {
