@@ -3,7 +3,6 @@
 //! The worker's loop stands on this trait, and not on tables and jobs.
 ghost use Rattle.std.specs.Prelude.{◌≡◌, ◌≤◌, OnOk};
 
-use crate::drained::Drained;
 use crate::policy;
 use crate::queue::PostedThread;
 use arachne_arbiter::Pace;
@@ -17,9 +16,9 @@ pub struct Halt {
     pub why: u8,
 }
 
-/// The worker of a core can't go on, for which its loop has ended. It can't be dropped, so that it is told.
+/// The error that ended a worker's loop. It is not `Drop`, so that it must be handled.
 ///
-/// Contracts see why.
+/// Contracts see the cause.
 pub struct Halted {
     halt: Halt,
 }
@@ -40,7 +39,7 @@ impl Halted {
         Halted { halt }
     }
 
-    /// It is being told.
+    /// Returns the cause.
     #[inline(always)]
     pub fn halt(self) -> Halt
         ensures { result ≡ self }
@@ -125,8 +124,8 @@ pub trait Desk {
     /// for a place. It sleeps for shorter times, and doesn't park.
     fn is_waited_for(&self) -> bool;
 
-    /// That the core is closed and nothing is left on it, if its word shows that.
-    fn is_drained(&mut self) -> Option<Drained>
+    /// Returns whether the core is closed and nothing is left on it. Only then does the worker park.
+    fn is_drained(&mut self) -> bool
         ensures { self.new ≡ self.old };
 
     /// A slice of the thread in hand begins, the worker's of this number.
@@ -235,35 +234,14 @@ pub fn give_all_back<D: Desk>(desk: &mut D) -> Result<(), Halt>
     Ok(())
 }
 
-/// No place is kept, and none will be before a thread is run. [`keep_none`] alone gives one.
-#[derive(Drop)]
-pub(crate) struct NoneKept {
-    since: (),
-}
-
-/// Gives back all places that are kept, as [`give_all_back`] does.
+/// Gives back all kept places, if that is due by what is on the core. `slots`: how many places the core has.
 #[inline(always)]
-pub(crate) fn keep_none<D: Desk>(desk: &mut D) -> Result<NoneKept, Halt>
-    ensures { desk.new ≡ desk.old }
-{
-    give_all_back(desk)?;
-    Ok(NoneKept { since: () })
-}
-
-/// The places that are kept were given back if that was due. [`thin_out`] alone gives one.
-#[derive(Drop)]
-pub(crate) struct Thinned {
-    done: (),
-}
-
-/// Gives back all places that are kept, if that is due by what is on the core, which has so many places.
-#[inline(always)]
-pub(crate) fn thin_out<D: Desk>(desk: &mut D, slots: u8) -> Result<Thinned, Halt>
+pub(crate) fn thin_out<D: Desk>(desk: &mut D, slots: u8) -> Result<(), Halt>
     ensures { desk.new ≡ desk.old }
 {
     let kept = desk.kept();
     if kept > 0 && policy::gives_back(desk.look(), kept, slots) {
         give_all_back(desk)?;
     }
-    Ok(Thinned { done: () })
+    Ok(())
 }

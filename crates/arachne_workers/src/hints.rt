@@ -2,12 +2,9 @@
 //!
 //! It may touch atomics alone, so any host may call it: whom to wake each call says, and waking is the caller's.
 ghost use Rattle.std.specs.Prelude.{◌≡◌, ◌↔◌, ◌<◌, ◌≤◌, ◌*◌, ◌/◌, ◌%◌, ◌^◌, IfOk, IsSome, IsTrue};
-ghost use Rattle.std.specs.Int.RustNames.{bit_or};
-ghost use Rattle.arachne_core.specs.Occupancy.{mask_of};
 ghost use Rattle.arachne_core.specs.declared.layout.TheConstants.{SLOTS};
 
-use crate::queue::LookDue;
-use arachne_core::{OccWord, SLOTS};
+use arachne_core::SLOTS;
 use crossbeam_utils::CachePadded;
 use std::alloc::{AllocError, Global};
 use std::marker::Model;
@@ -52,55 +49,6 @@ fn says_sleeps(word: u64) -> bool
     ensures { IsTrue result ↔ (word % 2 ≡ 1) }
 {
     word & SLEEPS != 0
-}
-
-/// The indexes of a scan, a bit for each. It can't be dropped, so that what was hinted at is looked at.
-pub(crate) struct Indexes {
-    mask: u64,
-}
-
-impl Indexes {
-    /// All that are occupied.
-    #[inline(always)]
-    pub(crate) fn occupied(now: OccWord) -> Indexes
-        ensures { result.mask ≡ mask_of now.occupied }
-    {
-        Indexes { mask: now.mask() }
-    }
-
-    /// And all that are occupied, since a look at these is due.
-    #[inline(always)]
-    pub(crate) fn and_occupied(self, due: LookDue, now: OccWord) -> Indexes
-        ensures { result.mask ≡ bit_or self.mask (mask_of now.occupied) }
-    {
-        due.done();
-        let Indexes { mask } = self;
-        Indexes {
-            mask: mask | now.mask(),
-        }
-    }
-
-    /// They are being scanned.
-    #[inline(always)]
-    pub(crate) fn mask(self) -> u64
-        ensures { result ≡ self.mask }
-    {
-        let Indexes { mask } = self;
-        mask
-    }
-}
-
-/// A core's word says that its worker sleeps no longer. It can't be dropped, so that the worker is woken.
-pub(crate) struct Rising<'a> {
-    word: &'a AtomicU64,
-}
-
-impl<'a> Rising<'a> {
-    #[inline(always)]
-    pub(crate) fn wake(self) {
-        let Rising { word } = self;
-        word.wake_one();
-    }
 }
 
 /// For each core a word on a cache line of its own. It has a bit for each index at which a thread may be ready, and one
@@ -148,14 +96,13 @@ impl Hints {
     }
 
     /// The indexes of a core that were hinted at since they were taken last.
-    pub(crate) fn take(&self, core: u8) -> Indexes {
-        let mask = match self.word(core) {
+    pub(crate) fn take(&self, core: u8) -> u64 {
+        match self.word(core) {
             Some(word) if word.load(Ordering::SeqCst) != 0 => {
                 indexes_in(word.swap(0, Ordering::SeqCst))
             }
             _ => 0,
-        };
-        Indexes { mask }
+        }
     }
 
     /// Whether there is something to take.
@@ -185,13 +132,12 @@ impl Hints {
         }
     }
 
-    /// The core's worker is to sleep no longer, if there is one.
-    pub(crate) fn end_sleep(&self, core: u8) -> Option<Rising<'_>>
-        ensures { IsSome result ↔ (core < self.now) }
-    {
-        let word = self.word(core)?;
-        word.fetch_and(!SLEEPS, Ordering::SeqCst);
-        Some(Rising { word })
+    /// Wakes the core's worker, if there is one.
+    pub(crate) fn end_sleep(&self, core: u8) {
+        if let Some(word) = self.word(core) {
+            word.fetch_and(!SLEEPS, Ordering::SeqCst);
+            word.wake_one();
+        }
     }
 
     /// The word of a core, on whose low 32 bits its worker may sleep.

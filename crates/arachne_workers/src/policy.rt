@@ -2,7 +2,7 @@
 //!
 //! Pure functions: what they answer changes when and where threads run, and how fast, and never what a run means. The
 //! contract of each says its exact answer, so no test of its own is needed.
-ghost use Rattle.std.specs.Prelude.{◌≡◌, ◌≤◌, ◌<◌, ◌+◌, ◌-◌, ◌*◌, ◌^◌, ◌↔◌, ◌⊎◌, false, true, if◌then◌else◌, min, IsTrue};
+ghost use Rattle.std.specs.Prelude.{◌≡◌, ◌≤◌, ◌<◌, ◌+◌, ◌-◌, ◌*◌, ◌^◌, ◌↔◌, ◌⊎◌, false, true, if◌then◌else◌, min, EachIndex, IsTrue, slice_index_or};
 ghost use Rattle.arachne_core.specs.Occupancy.{count_of};
 ghost use Rattle.arachne_workers.specs.Keeping.{MayKeepPlaces};
 ghost use Rattle.arachne_workers.specs.declared.policy.TheConstants.{STEPS_PAST_FREE, TOLD_AT_ONCE, LAST_SPIN, LAST_SPIN_ALONE, LAST_YIELD, MOST_SPINS, SHORT_SLEEP, LONG_SLEEP};
@@ -72,6 +72,14 @@ pub fn may_take_ticket(now: OccWord, kept: usize, slots: u8) -> bool
     ensures { IsTrue result ↔ (now.closed ≡ false) × (now.exclusive ≡ false) × ((0 < kept) ⊎ (count_of now.occupied < slots)) }
 {
     !now.is_closed() && !now.is_exclusive() && (kept > 0 || now.count() < slots)
+}
+
+/// Returns whether a core that looks so is closed with nothing on it, so that its worker may park.
+#[inline(always)]
+pub fn is_drained(now: OccWord) -> bool
+    ensures { IsTrue result ↔ (now.closed ≡ true) × EachIndex now.occupied (λ i. slice_index_or now.occupied i false ≡ false) }
+{
+    now.is_closed() && now.is_empty()
 }
 
 /// Whether the thread in hand has another slice at once, on a core that looks so: the core is open, and the thread

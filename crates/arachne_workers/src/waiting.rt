@@ -1,7 +1,6 @@
 //! How a kernel thread waits for others without a sleep on its core's word.
 use crate::hints::Hints;
 use crate::policy;
-use crate::tending::Tended;
 use arachne_arbiter::Pace;
 use std::hint::spin_loop;
 use std::thread;
@@ -9,15 +8,7 @@ use std::time::{Clock, Duration};
 
 /// The worker of a core, which has looked at orders, waits without a sleep, longer the more rounds have found nothing:
 /// it spins, until a thread of the core may be ready, then yields the processor.
-pub(crate) fn stay_awake<H: Clock>(
-    rt: &H,
-    pace: &mut Pace,
-    hints: &Hints,
-    core: u8,
-    round: u32,
-    tended: Tended,
-) {
-    let _ = tended;
+pub(crate) fn stay_awake<H: Clock>(rt: &H, pace: &mut Pace, hints: &Hints, core: u8, round: u32) {
     if !policy::spins(round, pace.may_yield()) {
         pace.yield_once(rt);
         return;

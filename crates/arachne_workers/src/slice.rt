@@ -1,0 +1,140 @@
+//! The turn of a thread in hand: its slices, and its end.
+ghost use Rattle.std.specs.Prelude.{◌≡◌, ◌≤◌, ◌<◌, ◌+◌, true, min, IfOk, IsTrue};
+
+use crate::desk::{Cause, Desk, Halt, SliceEnd, ThreadStop, WorkerEvent, thin_out};
+use crate::policy;
+use crate::wake::{posted, tell_all};
+use crate::worker::CoreWorker;
+use arachne_core::Rest;
+use std::sync::Wait;
+use std::time::Clock;
+
+impl<'a, H: Wait + Clock, D: Desk> CoreWorker<'a, H, D> {
+    /// Gives the thread in hand, which was taken at this index, a slice, and more slices while it holds a lock or
+    /// nothing else is ready. Then puts it back or ends it. Returns whether it is blocked.
+    pub(crate) fn turn(&mut self, index: u8) -> Result<bool, Halt>
+        ensures { self.new.desk ≡ self.old.desk }
+    {
+        let end = self.slices()?;
+        if end == SliceEnd::Ended {
+            self.end()?;
+            return Ok(false);
+        }
+        let rest = self.desk.rest()?;
+        if rest == Rest::Ready {
+            self.agenda.note(index);
+        }
+        Ok(rest == Rest::Blocked)
+    }
+
+    /// The slices of a turn. Returns how the last one ended.
+    fn slices(&mut self) -> Result<SliceEnd, Halt>
+        ensures { self.new.desk ≡ self.old.desk }
+    {
+        let quantum = self.desk.quantum();
+        // How many more steps the thread may make at once because it holds a lock.
+        let mut grace = policy::STEPS_TO_FREE;
+        let mut end = self.slice(quantum)?;
+        for _ in 1..policy::MOST_ALONE {
+            let holds = self.desk.holds();
+            if end != SliceEnd::GoesOn || !self.goes_on(holds, grace) {
+                break;
+            }
+            let steps = policy::most_steps(quantum, holds, grace);
+            grace = policy::grace_left(holds, grace, steps);
+            self.tend();
+            end = self.slice(steps)?;
+        }
+        Ok(end)
+    }
+
+    /// Returns whether the thread in hand gets another slice at once: if it holds a lock and has grace left, or if
+    /// nothing else is ready here and no ticket can be taken; and only on an open core, while the workers go on.
+    fn goes_on(&mut self, holds: bool, grace: u32) -> bool
+        ensures desk { self.new.desk ≡ self.old.desk }
+        ensures same { (self.new.agenda ≡ self.old.agenda) × (self.new.slices ≡ self.old.slices) }
+        ensures grace { IsTrue result → holds ≡ true → 0 < grace }
+    {
+        if policy::is_grace_over(holds, grace) {
+            return false;
+        }
+        let others = self.agenda.is_any() || self.shared.hints().is_any(self.core);
+        if others && !holds || self.shared.is_stopped() {
+            return false;
+        }
+        let takes_ticket = !holds && self.desk.may_take_ticket();
+        policy::may_go_on(self.desk.look(), holds, others, takes_ticket)
+    }
+
+    /// Runs the thread in hand for one slice of at most `most` steps. Returns how the slice ended.
+    fn slice(&mut self, most: u32) -> Result<SliceEnd, Halt>
+        ensures desk { self.new.desk ≡ self.old.desk }
+        ensures number { self.new.slices ≡ min (self.old.slices + 1) u64.MAX }
+        ensures scan { self.new.agenda.scan ≡ self.old.agenda.scan }
+    {
+        let nth = self.slices;
+        self.slices = nth.saturating_add(1);
+        self.desk.begins(nth);
+        let (made, end) = self.spend(most)?;
+        self.desk.told(WorkerEvent::Sliced(made, end));
+        // Counted last: an order that is due by this count is applied after the slice was reported.
+        self.shared.count_slice(self.core);
+        Ok(end)
+    }
+
+    /// Makes the steps of a slice. Returns how many they are, and how the slice ends. If all steps are used up, every
+    /// untold post is signalled.
+    fn spend(&mut self, most: u32) -> Result<(u32, SliceEnd), Halt>
+        ensures desk { self.new.desk ≡ self.old.desk }
+        ensures steps { IfOk result (λ spent. spent.0 ≤ most) }
+        ensures others { (self.new.slices ≡ self.old.slices) × (self.new.agenda.scan ≡ self.old.agenda.scan) }
+    {
+        self.agenda.begin_slice();
+        let mut left = most;
+        let mut made = 0;
+        for _ in 0..most {
+            if left == 0 {
+                break;
+            }
+            let stretch = self.agenda.stretch(left);
+            let mut rest = stretch;
+            let stop = self.desk.advance(&mut self.pace, &mut rest)?;
+            let steps = stretch - rest;
+            left -= steps;
+            made += steps;
+            // Before the stop is served: a child that was posted in these steps is kept back for its full time.
+            if self.agenda.spend(steps) {
+                tell_all(&mut self.agenda, self.shared);
+            }
+            match stop {
+                ThreadStop::Goes => {}
+                ThreadStop::Posted(post) => {
+                    posted(&mut self.agenda, self.shared, self.core, post);
+                }
+                ThreadStop::Spilled => self.desk.told(WorkerEvent::Spilled),
+                ThreadStop::Wakes(id) => {
+                    self.wake(id, Cause::IsServed);
+                    left = policy::left_past_free(left, self.agenda.has_next());
+                }
+                ThreadStop::Ends => return Ok((made, SliceEnd::Ended)),
+                ThreadStop::Blocks => return Ok((made, SliceEnd::AwaitsChild)),
+                ThreadStop::Waits(number) => return Ok((made, SliceEnd::Awaits(number))),
+            }
+        }
+        tell_all(&mut self.agenda, self.shared);
+        Ok((made, SliceEnd::GoesOn))
+    }
+
+    /// Ends the thread in hand and wakes its parent.
+    fn end(&mut self) -> Result<(), Halt>
+        ensures desk { self.new.desk ≡ self.old.desk }
+        ensures others { (self.new.slices ≡ self.old.slices) × (self.new.agenda.scan ≡ self.old.agenda.scan) × (self.new.agenda.posts ≡ self.old.agenda.posts) }
+    {
+        // Read while the thread still has its place: the desk keeps that place if the core was full.
+        let before = self.desk.look();
+        if let Some(parent) = self.desk.end(before)? {
+            self.wake(parent, Cause::ChildEnded);
+        }
+        thin_out(&mut self.desk, self.slots)
+    }
+}
