@@ -1,5 +1,4 @@
 //! What lies in the cell of a child that waits for a place.
-use crate::unended::Unended;
 use crate::wanted::Wanted;
 use arachne_core::ThreadId;
 use arachne_join::Fits;
@@ -37,5 +36,5 @@ pub enum Found<'p> {
     /// The child waited still, and waits no longer.
     Child(Thread<'p>),
     /// The child is at a place of its own, or on the way to one.
-    Nothing(Unended),
+    Nothing,
 }

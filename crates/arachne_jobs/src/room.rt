@@ -1,28 +1,10 @@
 //! Words that all workers of a run share, and look at before each fork: free places, children that wait, tags.
-ghost use Rattle.std.specs.Prelude.{◌≡◌, ◌↔◌, ◌+◌, ◌<◌, ◌≤◌, ◌*◌, ◌%◌, ◌^◌, IsTrue};
+ghost use Rattle.std.specs.Prelude.{◌≡◌, ◌+◌, ◌<◌, ◌≤◌, ◌*◌, ◌%◌, ◌^◌};
 ghost use Rattle.arachne_jobs.specs.declared.tags.TheConstants.{BLOCK};
 
-use crate::places::PlaceLeft;
-use crate::queued::{TicketPut, TicketTaken};
 use crate::tags::BLOCK;
 use crossbeam_utils::CachePadded;
 use std::sync::atomic::{AtomicU64, Ordering};
-
-/// How many children may wait at most.
-#[derive(Clone, Copy)]
-struct Limit {
-    most: u64,
-}
-
-impl Limit {
-    /// Whether one more may wait beside so many.
-    #[inline(always)]
-    fn allows(self, waiting: u64) -> bool
-        ensures { IsTrue result ↔ waiting < self.most }
-    {
-        waiting < self.most
-    }
-}
 
 /// How many places of a machine are free and how many children wait for one, or a little more or less, and how many
 /// blocks of tags are drawn. They say whether a fork is worth a look: what is claimed, and which child goes on, is
@@ -31,7 +13,8 @@ impl Limit {
 pub struct Room {
     free: CachePadded<AtomicU64>,
     waiting: CachePadded<AtomicU64>,
-    limit: Limit,
+    /// How many children may wait at most.
+    most_waiting: u64,
     blocks: CachePadded<AtomicU64>,
 }
 
@@ -39,12 +22,12 @@ impl Room {
     /// All places of so many cores are free, of each so many, and no child waits, of at most so many. No block of tags
     /// is drawn: the root's tag, 0, is in none.
     pub fn new(cores: u8, slots: u8, most_waiting: u64) -> Room
-        ensures { result.limit.most ≡ most_waiting }
+        ensures { result.most_waiting ≡ most_waiting }
     {
         Room {
             free: CachePadded::new(AtomicU64::new(places_of(cores, slots))),
             waiting: CachePadded::new(AtomicU64::new(0)),
-            limit: Limit { most: most_waiting },
+            most_waiting,
             blocks: CachePadded::new(AtomicU64::new(0)),
         }
     }
@@ -62,8 +45,7 @@ impl Room {
 
     /// A place was given back, or its thread has ended.
     #[inline(always)]
-    pub fn place_was_left(&self, left: PlaceLeft) {
-        left.counted();
+    pub fn place_was_left(&self) {
         self.free.fetch_add(1, Ordering::SeqCst);
     }
 
@@ -76,20 +58,18 @@ impl Room {
     /// Whether one more child may wait.
     #[inline(always)]
     pub fn may_wait(&self) -> bool {
-        self.limit.allows(seen(&self.waiting))
+        seen(&self.waiting) < self.most_waiting
     }
 
     /// A child begins to wait.
     #[inline(always)]
-    pub fn child_waits(&self, put: TicketPut) {
-        put.counted();
+    pub fn child_waits(&self) {
         self.waiting.fetch_add(1, Ordering::SeqCst);
     }
 
     /// A child's ticket was taken.
     #[inline(always)]
-    pub fn ticket_was_taken(&self, taken: TicketTaken) {
-        taken.counted();
+    pub fn ticket_was_taken(&self) {
         self.waiting.fetch_sub(1, Ordering::SeqCst);
     }
 

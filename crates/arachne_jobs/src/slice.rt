@@ -11,7 +11,6 @@ ghost use Rattle.arachne_jobs.specs.Slices.{IsLeft, IsRequest, MayRest, UsesStep
 use crate::fault::JobFault;
 use crate::openings::Openings;
 use crate::room::Room;
-use crate::unended::Unended;
 use crate::wanted::OutcomeReceiver;
 use arachne_contexts::Tagged;
 use arachne_core::{Rest, ThreadId};
@@ -26,7 +25,7 @@ pub enum Slice<Child> {
     /// It forks this child, and goes on once it is answered.
     Forks(Class, Child),
     /// It awaits a child that has not ended.
-    Blocks(Unended),
+    Blocks,
     /// It asks for this lock, and goes on once it is answered.
     Asks(u64),
     /// It has asked for this lock before, and is not answered yet.

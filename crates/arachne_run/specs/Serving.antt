@@ -47,19 +47,19 @@ IsAddition ledger amount addition = (addition.ledger.value ≡ ledger) × (addit
 -- a thread that asks for a lock waits for that one as an ask said, or has a pass of it by an ask; one that awaits the lock
 -- does so by a check; one that frees or adds goes on
 abbrev pub IsServed : Want → Who → Served → Type 0
-IsServed (Asks lock) who (Waits awaited unserved) = (awaited ≡ lock) × (unserved.call.value ≡ Ask)
+IsServed (Asks lock) who (Waits awaited) = awaited ≡ lock
 IsServed (Asks lock) who (Holds granted) = IsGrantBy Ask lock who granted
 IsServed (Asks lock) who (Freed release) = ⊥
 IsServed (Asks lock) who (Added addition) = ⊥
-IsServed (Awaits lock) who (Waits awaited unserved) = (awaited ≡ lock) × (unserved.call.value ≡ Check)
+IsServed (Awaits lock) who (Waits awaited) = awaited ≡ lock
 IsServed (Awaits lock) who (Holds granted) = IsGrantBy Check lock who granted
 IsServed (Awaits lock) who (Freed release) = ⊥
 IsServed (Awaits lock) who (Added addition) = ⊥
-IsServed (Frees lock) who (Waits awaited unserved) = ⊥
+IsServed (Frees lock) who (Waits awaited) = ⊥
 IsServed (Frees lock) who (Holds granted) = ⊥
 IsServed (Frees lock) who (Freed release) = Unit {0}
 IsServed (Frees lock) who (Added addition) = ⊥
-IsServed (Tallies ledger amount) who (Waits awaited unserved) = ⊥
+IsServed (Tallies ledger amount) who (Waits awaited) = ⊥
 IsServed (Tallies ledger amount) who (Holds granted) = ⊥
 IsServed (Tallies ledger amount) who (Freed release) = ⊥
 IsServed (Tallies ledger amount) who (Added addition) = IsAddition ledger amount addition
@@ -106,7 +106,7 @@ has_lock_after (Tallies ledger amount) waits had = had
 
 -- the same by what came of it
 abbrev pub has_lock_by : Served → (had : Bool) → Bool
-has_lock_by (Waits lock unserved) had = had
+has_lock_by (Waits lock) had = had
 has_lock_by (Holds granted) had = true
 has_lock_by (Freed release) had = false
 has_lock_by (Added addition) had = had

@@ -1,21 +1,18 @@
 //! What a worker does at the locks and the ledgers. A lock is tried again while another kernel thread is at it.
-ghost use Rattle.std.specs.Prelude.{◌≡◌, ◌<◌, ◌≤◌, false, Err, None, Ok, MatchOption, IfErr, IfOk, IsOk, OnOk, length};
+ghost use Rattle.std.specs.Prelude.{◌≡◌, ◌<◌, ◌≤◌, Err, Ok, IfErr, IfOk, IfSome, IsOk, OnOk, length};
 ghost use Rattle.arachne_ledger.specs.Sums.{raised};
 ghost use Rattle.arachne_ledger.specs.Views.{IsShareOf};
 ghost use Rattle.arachne_sleep.specs.Calls.{FreeAnswer};
 ghost use Rattle.arachne_sleep.specs.SleepLocks.{AreSeatsOf, ChangesAt};
 ghost use Rattle.arachne_run.specs.Serving.{IsAddition, IsGrantBy, IsServed, IsSettled, IsWantOf, StopsAt, has_lock_after, has_lock_by, id_of, is_wait};
 ghost use Rattle.arachne_run.specs.Tokens.{AreHoldingsOf};
-ghost use Rattle.arachne_workers.specs.declared.desk.ThreadStop.TheVariants as stopped;
-ghost use Rattle.arachne_run.specs.declared.access.Want.TheVariants.{Asks, Awaits};
 ghost use Rattle.arachne_run.specs.declared.fault.WorkerFault.TheVariants.{Foreign};
 ghost use Rattle.arachne_run.specs.declared.granted.Got.TheVariants as got;
 ghost use Rattle.arachne_run.specs.declared.granted.LockCall.TheVariants as calls;
 ghost use Rattle.arachne_run.specs.declared.granted.Granted.{Granted};
-ghost use Rattle.arachne_run.specs.declared.granted.Unserved.{Unserved};
 
 use crate::fault::WorkerFault;
-use crate::granted::{self, Got, Granted, Unserved};
+use crate::granted::{self, Got, Granted};
 use crate::resources::{Holdings, Resources};
 use arachne_arbiter::Pace;
 use arachne_core::ThreadId;
@@ -41,70 +38,16 @@ pub(crate) enum Want {
     Tallies(u64, u64),
 }
 
-impl Want {
-    /// This lock, by a step of the thread: fewer are left than it had.
-    #[inline(always)]
-    pub(crate) fn asks(lock: u64, had: u32, left: u32) -> Want
-        requires { left < had }
-        ensures { result ≡ Asks lock }
-    {
-        let _ = (had, left);
-        Want::Asks(lock)
-    }
-
-    /// This lock, for which it has asked before: it has made no step.
-    #[inline(always)]
-    pub(crate) fn awaits(lock: u64, had: u32, left: u32) -> Want
-        requires { left ≡ had }
-        ensures { result ≡ Awaits lock }
-    {
-        let _ = (had, left);
-        Want::Awaits(lock)
-    }
-}
-
 /// What came of what a thread asked for.
 pub(crate) enum Served {
     /// It waits for this lock.
-    Waits(u64, Unserved),
+    Waits(u64),
     /// It holds the lock that it asked for.
     Holds(Granted),
-    /// The lock that it had is free, or another thread holds it now.
-    Freed(LockFreed),
+    /// The lock that it had is free, or this thread holds it now.
+    Freed(Option<ThreadId>),
     /// The amount was added.
     Added(Addition),
-}
-
-/// A lock was freed. It can't be dropped, so that who holds it next goes on.
-pub(crate) struct LockFreed {
-    next: Option<ThreadId>,
-}
-
-impl LockFreed {
-    /// What the lock said as it was freed.
-    #[inline(always)]
-    fn by(freed: Freed) -> LockFreed
-        ensures { result.next ≡ id_of freed.next }
-    {
-        let next = match freed.next {
-            Some(next) => Some(next.id),
-            None => None,
-        };
-        LockFreed { next }
-    }
-
-    /// Where the thread that freed it stops.
-    #[inline(always)]
-    fn stop(self) -> ThreadStop
-        ensures next { MatchOption self.next (result ≡ stopped.Goes) (λ next. result ≡ stopped.Wakes next) }
-        ensures goes_on { StopsAt result None × (is_wait result ≡ false) }
-    {
-        let LockFreed { next } = self;
-        match next {
-            Some(next) => ThreadStop::Wakes(next),
-            None => ThreadStop::Goes,
-        }
-    }
 }
 
 /// This amount was added to this ledger. [`add_to`] alone gives one. It has no bytes.
@@ -128,7 +71,7 @@ impl Served {
         ensures { result ≡ has_lock_by self.now had }
     {
         match self {
-            Served::Waits(_, _) | Served::Added(_) => had,
+            Served::Waits(_) | Served::Added(_) => had,
             Served::Holds(_) => true,
             Served::Freed(_) => false,
         }
@@ -184,9 +127,9 @@ impl<'a> Access<'a> {
         let served = self.do_for(rt, pace, want, Who { tag, id })?;
         *has_lock = served.has_lock(*has_lock);
         let stop = match served {
-            Served::Waits(lock, _) => return Ok(ThreadStop::Waits(lock)),
-            Served::Freed(release) => release.stop(),
-            Served::Holds(_) | Served::Added(_) => ThreadStop::Goes,
+            Served::Waits(lock) => return Ok(ThreadStop::Waits(lock)),
+            Served::Freed(Some(next)) => ThreadStop::Wakes(next),
+            Served::Freed(None) | Served::Holds(_) | Served::Added(_) => ThreadStop::Goes,
         };
         match thread.answer() {
             Ok(()) => Ok(stop),
@@ -207,12 +150,12 @@ impl<'a> Access<'a> {
     {
         match want {
             Want::Asks(lock) => match self.ask(rt, pace, lock, who)? {
-                Ok(granted) => Ok(Served::Holds(granted)),
-                Err(unserved) => Ok(Served::Waits(lock, unserved)),
+                Some(granted) => Ok(Served::Holds(granted)),
+                None => Ok(Served::Waits(lock)),
             },
             Want::Awaits(lock) => match self.check(rt, pace, lock, who)? {
-                Ok(granted) => Ok(Served::Holds(granted)),
-                Err(unserved) => Ok(Served::Waits(lock, unserved)),
+                Some(granted) => Ok(Served::Holds(granted)),
+                None => Ok(Served::Waits(lock)),
             },
             Want::Frees(lock) => Ok(Served::Freed(self.free(rt, pace, lock, who)?)),
             Want::Tallies(ledger, amount) => {
@@ -222,23 +165,22 @@ impl<'a> Access<'a> {
         }
     }
 
-    /// Asks for a lock. An error within where the thread has to wait for it.
+    /// Asks for a lock. Returns `None` if the thread has to wait for it.
     pub(crate) fn ask<H: Wait + Clock>(
         &mut self,
         rt: &H,
         pace: &mut Pace,
         lock: u64,
         who: Who,
-    ) -> Result<Result<Granted, Unserved>, WorkerFault>
+    ) -> Result<Option<Granted>, WorkerFault>
         ensures same { self.new ≡ self.old }
-        ensures granted { IfOk result (λ found. IfOk found (IsGrantBy calls.Ask lock who)) }
-        ensures waits { IfOk result (λ found. IfErr found (λ unserved. unserved.call.value ≡ calls.Ask)) }
+        ensures granted { IfOk result (λ found. IfSome found (IsGrantBy calls.Ask lock who)) }
     {
         let mut tries: u32 = 0;
         for _ in rt.forever() {
             match self.try_ask(lock, who)? {
-                Got::Granted(granted) => return Ok(Ok(granted)),
-                Got::Waits(unserved) => return Ok(Err(unserved)),
+                Got::Granted(granted) => return Ok(Some(granted)),
+                Got::Waits => return Ok(None),
                 Got::Refused(fault) => return Err(WorkerFault::from(fault)),
                 Got::Contended => {}
             }
@@ -248,23 +190,22 @@ impl<'a> Access<'a> {
         unreachable!()
     }
 
-    /// That the thread which has asked for a lock holds it now, if it does.
+    /// Looks whether a thread that has asked for a lock holds it now. Returns `None` if it still waits.
     pub(crate) fn check<H: Wait + Clock>(
         &mut self,
         rt: &H,
         pace: &mut Pace,
         lock: u64,
         who: Who,
-    ) -> Result<Result<Granted, Unserved>, WorkerFault>
+    ) -> Result<Option<Granted>, WorkerFault>
         ensures same { self.new ≡ self.old }
-        ensures granted { IfOk result (λ found. IfOk found (IsGrantBy calls.Check lock who)) }
-        ensures waits { IfOk result (λ found. IfErr found (λ unserved. unserved.call.value ≡ calls.Check)) }
+        ensures granted { IfOk result (λ found. IfSome found (IsGrantBy calls.Check lock who)) }
     {
         let mut tries: u32 = 0;
         for _ in rt.forever() {
             match self.try_check(lock, who)? {
-                Got::Granted(granted) => return Ok(Ok(granted)),
-                Got::Waits(unserved) => return Ok(Err(unserved)),
+                Got::Granted(granted) => return Ok(Some(granted)),
+                Got::Waits => return Ok(None),
                 Got::Refused(_) => return Err(WorkerFault::Threads),
                 Got::Contended => {}
             }
@@ -274,20 +215,20 @@ impl<'a> Access<'a> {
         unreachable!()
     }
 
-    /// Frees a lock.
+    /// Frees a lock. Returns the thread that holds it next, if one does.
     pub(crate) fn free<H: Wait + Clock>(
         &mut self,
         rt: &H,
         pace: &mut Pace,
         lock: u64,
         who: Who,
-    ) -> Result<LockFreed, WorkerFault>
+    ) -> Result<Option<ThreadId>, WorkerFault>
         ensures { self.new ≡ self.old }
     {
         let mut tries: u32 = 0;
         for _ in rt.forever() {
             match self.try_free(lock, who)? {
-                Tried::Answered(Ok(freed)) => return Ok(LockFreed::by(freed)),
+                Tried::Answered(Ok(freed)) => return Ok(holder_after(freed)),
                 Tried::Answered(Err(fault)) => return Err(WorkerFault::from(fault)),
                 Tried::Contended => {}
             }
@@ -301,7 +242,6 @@ impl<'a> Access<'a> {
     fn try_ask(&mut self, lock: u64, who: Who) -> Result<Got, WorkerFault>
         ensures same { self.new ≡ self.old }
         ensures pass { (granted : Granted) → result ≡ Ok (got.Granted granted) → IsGrantBy calls.Ask lock who granted }
-        ensures waits { (unserved : Unserved) → result ≡ Ok (got.Waits unserved) → unserved.call.value ≡ calls.Ask }
     {
         let locks = &self.resources.locks;
         let lock = number_of(locks, lock)?;
@@ -312,7 +252,6 @@ impl<'a> Access<'a> {
     fn try_check(&mut self, lock: u64, who: Who) -> Result<Got, WorkerFault>
         ensures same { self.new ≡ self.old }
         ensures pass { (granted : Granted) → result ≡ Ok (got.Granted granted) → IsGrantBy calls.Check lock who granted }
-        ensures waits { (unserved : Unserved) → result ≡ Ok (got.Waits unserved) → unserved.call.value ≡ calls.Check }
     {
         let locks = &self.resources.locks;
         let lock = number_of(locks, lock)?;
@@ -351,6 +290,16 @@ impl<'a> Access<'a> {
     {
         let ledgers = &self.resources.ledgers;
         add_to(ledgers, &mut self.holdings.share, ledger, amount)
+    }
+}
+
+/// Returns the thread that holds a lock next, which was freed with this answer.
+fn holder_after(freed: Freed) -> Option<ThreadId>
+    ensures { result ≡ id_of freed.next }
+{
+    match freed.next {
+        Some(next) => Some(next.id),
+        None => None,
     }
 }
 

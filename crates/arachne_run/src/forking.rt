@@ -10,14 +10,12 @@ ghost use Rattle.arachne_run.specs.Serving.{StopsAt};
 ghost use Rattle.arachne_run.specs.Tokens.{IsOutWith, IsSetUp, IsSpent, thread_in};
 
 use crate::access::{Access, Want};
-use crate::claims::{Claims, Uncounted};
+use crate::claims::Claims;
 use crate::fault::WorkerFault;
 use crate::machine::Machine;
 use arachne_arbiter::{Cores, Pace};
 use arachne_contexts::{Contexts, Held, Identified, Placed};
-use arachne_jobs::{
-    Openings, PlaceLeft, RunJob, Slice, give_back, has_room, make_room, put_ticket,
-};
+use arachne_jobs::{Openings, RunJob, Slice, make_room, put_ticket};
 use arachne_lang::Class;
 use arachne_spill::SpillPass;
 use arachne_workers::{PostedThread, ThreadStop};
@@ -63,10 +61,11 @@ pub(crate) fn go_on<H: Wait + Clock, T: RunJob, C: Contexts<T>, R: Rng>(
     ensures drawn { IsOk result → forks.new.openings.draws ≡ 0 }
     ensures settled { OnOk result (forks.new.openings.due.amount ≡ 0) }
 {
-    let (room, had) = (machine.shared.room(), *left);
+    let room = machine.shared.room();
     let slice = held
         .value
         .slice(left, &mut forks.spares, room, &mut forks.openings)?;
+    // Forks that were no pause have drawn no word: the choosers are to go on as if they had.
     draw(&mut forks.chooser, forks.openings.draws);
     forks.openings.draws = 0;
     access.settle(&mut forks.openings.due)?;
@@ -77,10 +76,10 @@ pub(crate) fn go_on<H: Wait + Clock, T: RunJob, C: Contexts<T>, R: Rng>(
                 rt, alloc, machine, seat, pass, held, class, child, forks,
             );
         }
-        Slice::Blocks(_) => return Ok(ThreadStop::Blocks),
+        Slice::Blocks => return Ok(ThreadStop::Blocks),
         Slice::Ends => return Ok(ThreadStop::Ends),
-        Slice::Asks(lock) => Want::asks(lock, had, *left),
-        Slice::Awaits(lock) => Want::awaits(lock, had, *left),
+        Slice::Asks(lock) => Want::Asks(lock),
+        Slice::Awaits(lock) => Want::Awaits(lock),
         Slice::Frees(lock) => Want::Frees(lock),
         Slice::Tallies(ledger, amount) => Want::Tallies(ledger, amount),
     };
@@ -124,21 +123,22 @@ fn answer_fork<H: Wait, T: RunJob, C: Contexts<T>, R: Rng>(
     let tag = forks.openings.tags.take(room);
     let cores = machine.cores::<H, T>(rt);
     let claim = claim_for::<H, T, C, R>(&cores, seat, class, &mut forks.chooser)?;
-    if let Some(uncounted) = Uncounted::of(claim) {
-        let claim = uncounted.counted(room);
+    if let Some(claim) = claim {
+        room.place_was_claimed();
         let job = held
             .value
             .fork_off(alloc, me, child, tag, &mut forks.spares)?;
         let post = post_at::<H, T, C>(rt, machine, seat, claim, job)?;
         return Ok(ThreadStop::Posted(post));
     }
-    let wants_room = is_worth_room(class, forks.openings.is_large);
-    let made = make_room(rt, &machine.tickets, room, pass, wants_room);
-    let waits = may_wait(class, has_room(rt, &machine.tickets, pass, made));
+    let tickets = &machine.tickets;
+    if is_worth_room(class, forks.openings.is_large) {
+        make_room(rt, tickets, room, pass);
+    }
+    let waits = may_wait(class, !tickets.is_full(rt, pass));
     if let Some(ticket) = held.value.put_aside(alloc, me, child, tag, waits)? {
-        // Where the queue was filled meanwhile, the child waits without a ticket, for its parent.
-        if let Ok(put) = put_ticket(rt, &machine.tickets, pass, ticket) {
-            room.child_waits(put);
+        // If others have filled the queue meanwhile, the child waits without a ticket, for its parent only.
+        if put_ticket(rt, tickets, room, pass, ticket).is_ok() {
             return Ok(ThreadStop::Spilled);
         }
     }
@@ -182,20 +182,20 @@ fn is_worth_room(class: Class, is_large: bool) -> bool
     class == Class::Normal && is_large
 }
 
-/// Gives back a place at which nothing was posted. It is to be counted then.
+/// Gives back a place at which nothing was posted. The caller counts it.
 pub(crate) fn give_place_back<H: Wait, T: RunJob, C: Contexts<T>>(
     rt: &H,
     machine: &Machine<C, T::Ticket>,
     spare: &mut C::Seat,
     claim: C::Claim,
-) -> Result<PlaceLeft, WorkerFault>
+) -> Result<(), WorkerFault>
     requires seat { C.sits machine.now.table spare.old }
     requires out { HasOut (C.has machine.now.table) (a_claim claim) spare.old }
     ensures seat { C.sits machine.now.table spare.new }
     ensures out { OnOk result (IsSpent (C.has machine.now.table) (a_claim claim) spare.old spare.new) }
 {
-    match give_back::<H, T, C>(rt, &machine.table, spare, claim) {
-        Ok(left) => Ok(left),
+    match machine.table.give_back(rt, spare, claim) {
+        Ok(()) => Ok(()),
         Err(_) => Err(WorkerFault::Token),
     }
 }
@@ -219,10 +219,10 @@ pub(crate) fn free_place<H: Wait, T: RunJob, C: Contexts<T>>(
         return Ok(Some(claim));
     }
     let claim = machine.cores::<H, T>(rt).claim_on(spare, core)?;
-    let Some(uncounted) = Uncounted::of(claim) else {
-        return Ok(None);
-    };
-    Ok(Some(uncounted.counted(machine.shared.room())))
+    if claim.is_some() {
+        machine.shared.room().place_was_claimed();
+    }
+    Ok(claim)
 }
 
 /// Posts a job at a claimed place. Its id, and where it was posted.
@@ -266,8 +266,8 @@ pub(crate) fn post_waiting<H: Wait, T: RunJob, C: Contexts<T>>(
     match job {
         Some(job) => Ok(Some(post_at::<H, T, C>(rt, machine, spare, claim, job)?)),
         None => {
-            let left = give_place_back::<H, T, C>(rt, machine, spare, claim)?;
-            machine.shared.room().place_was_left(left);
+            give_place_back::<H, T, C>(rt, machine, spare, claim)?;
+            machine.shared.room().place_was_left();
             Ok(None)
         }
     }

@@ -19,23 +19,10 @@ pub(crate) struct SharedState {
     workers: SharedWords,
 }
 
-/// All workers are stopped. [`SharedState::stop`] alone gives one.
-#[derive(Drop)]
-pub(crate) struct AllStopped {
-    all: (),
-}
-
-/// This fault was recorded, if it was the first, and all workers are stopped. [`SharedState::fail`] alone gives one,
-/// and no worker ends without its tokens but with one.
+/// This fault was recorded, if it was the first, and all workers are stopped. Only [`SharedState::fail`] makes one, and
+/// a worker ends without its tokens only with one. It has no bytes.
 #[derive(Drop)]
 pub(crate) struct Failed {
-    recorded: Recorded,
-    stopped: AllStopped,
-}
-
-/// This fault was recorded, if it was the first. [`keep_first`] alone gives one. It has no bytes.
-#[derive(Drop)]
-struct Recorded {
     fault: Snapshot<WorkerFault>,
 }
 
@@ -69,9 +56,8 @@ impl SharedState {
     }
 
     /// Stops all workers, those that sleep or are parked too.
-    pub(crate) fn stop(&self) -> AllStopped {
+    pub(crate) fn stop(&self) {
         self.workers.stop();
-        AllStopped { all: () }
     }
 
     /// What is looked at before each fork.
@@ -81,19 +67,20 @@ impl SharedState {
 
     /// Stops all workers for a fault, which is recorded if it is the first.
     pub(crate) fn fail<H: Wait>(&self, rt: &H, fault: WorkerFault) -> Failed
-        ensures { result.recorded.fault.value ≡ fault }
+        ensures { result.fault.value ≡ fault }
     {
+        // Recorded before the others stop: else a worker that ends for the stop could close the run without a fault.
         let mut first = self.first_fault.lock(rt);
-        let recorded = keep_first(&mut first, fault);
+        keep_first(&mut first, fault);
+        self.stop();
         Failed {
-            recorded,
-            stopped: self.stop(),
+            fault: Snapshot::of(&fault),
         }
     }
 
     /// Stops all workers for why the loop of one has ended.
     pub(crate) fn halt<H: Wait>(&self, rt: &H, halted: Halted) -> Failed
-        ensures { result.recorded.fault.value ≡ numbered halted.why }
+        ensures { result.fault.value ≡ numbered halted.why }
     {
         self.fail(rt, WorkerFault::from(halted.halt()))
     }
@@ -105,14 +92,10 @@ impl SharedState {
 }
 
 /// Records a fault, if it is the first.
-fn keep_first(first: &mut Option<WorkerFault>, fault: WorkerFault) -> Recorded
-    ensures kept { MatchOption first.old (first.new ≡ Some fault) (λ before. first.new ≡ Some before) }
-    ensures fault { result.fault.value ≡ fault }
+fn keep_first(first: &mut Option<WorkerFault>, fault: WorkerFault)
+    ensures { MatchOption first.old (first.new ≡ Some fault) (λ before. first.new ≡ Some before) }
 {
     if first.is_none() {
         *first = Some(fault);
-    }
-    Recorded {
-        fault: Snapshot::of(&fault),
     }
 }

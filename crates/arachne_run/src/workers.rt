@@ -202,7 +202,7 @@ fn work_on<H: Wait + Clock, T: RunJob, C: Contexts<T>, R: Rng + Drop, G: Gate>(
     requires set_up { IsSetUp C.core_count C.slot_count machine.now }
     requires core { core < machine.now.cores }
     ensures idle { IfOk result (AreIdle C.sits C.idle machine.now) }
-    ensures no_chooser { IsNone chooser → IsErr result × IfErr result (λ failed. failed.recorded.fault.value ≡ KernelThread) }
+    ensures no_chooser { IsNone chooser → IsErr result × IfErr result (λ failed. failed.fault.value ≡ KernelThread) }
 {
     let Some(chooser) = chooser else {
         return Err(machine.shared.fail(rt, WorkerFault::KernelThread));
@@ -251,7 +251,7 @@ fn into_tokens<'a, H: Wait, T: RunJob, C: Contexts<T>, R: Rng + Drop, G: Gate>(
 ) -> Result<Tokens<C::Seat, T::Ticket>, Failed>
     requires desk { desk ≡ ground_of machine.now }
     ensures idle { IfOk result (AreIdle C.sits C.idle machine.now) }
-    ensures fault { IfErr result (λ failed. failed.recorded.fault.value ≡ Token) }
+    ensures fault { IfErr result (λ failed. failed.fault.value ≡ Token) }
 {
     let RunSeat {
         rt,
