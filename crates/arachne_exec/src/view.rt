@@ -39,8 +39,8 @@ pub struct Notes {
     pub owes: u64,
     /// One more than the number of the worker that it is. 0: none.
     pub worker: u64,
-    /// How many of the worker's summary words, from the first on, it has found empty since it has set its idle bit. 0
-    /// where it has cleared the bit since.
+    /// The number of the worker's summary words, from the first on, that it has found empty since it set its idle bit;
+    /// 0 if it has cleared the bit since.
     pub seen: u64,
 }
 

@@ -2,7 +2,7 @@
 ghost use Rattle.std.specs.Prelude.{◌≡◌};
 ghost use Rattle.arachne_grants.specs.Claims.{claim_of, goes_before, reserve_of};
 
-/// What is known of a client of the machine.
+/// A client of the machine: its priority, and the cores that it reserves, asks for and holds.
 #[derive(Clone, Copy, Debug, PartialEq, Eq)]
 pub struct Client {
     /// 0 goes first.
@@ -15,7 +15,7 @@ pub struct Client {
     pub held: u32,
 }
 
-/// What decides who gets the next core.
+/// A client's claim to the next core, by which it goes before others or behind them.
 #[derive(Clone, Copy, Debug, PartialEq, Eq)]
 pub(crate) struct Claim {
     /// True if it has its reserve.

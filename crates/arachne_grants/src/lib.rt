@@ -1,4 +1,4 @@
-//! How many cores each client of a machine gets, and which cores change hands for that.
+//! The decision of an arbiter: the number of cores that each client of a machine gets, and which change hands for that.
 //!
 //! Every call is a pure function over numbers: none takes memory, none waits, and none knows a process or a thread.
 #![tactic(auto)]

@@ -1,4 +1,4 @@
-//! What a client of the daemon asked for, and what its threads do.
+//! A client of the daemon: the cores that it asked for, and the states of its threads.
 ghost use Rattle.std.specs.Prelude.{◌≡◌, ◌+◌, ◌<◌, IfSome, None, count_by, length, position};
 ghost use Rattle.arachne_grants.specs.Sessions.{can_wait, core_of, gives_way, has_core, is_ready, is_usable, is_waiting, placed, unplaced, wants_of, with_mark, AreMarked, IsLastPlaced};
 
@@ -7,7 +7,8 @@ use crate::claims::Client;
 /// The most threads that a client may have.
 pub const MAX_THREADS: usize = 64;
 
-/// What the thread at a place of a client does. One that floats never waits: it is moved to a core and back as it runs.
+/// The state of the thread at a place of a client. One that floats never waits: it is moved to a core and back as it
+/// runs.
 #[derive(Clone, Copy, Debug, PartialEq, Eq)]
 pub enum ClientThread {
     /// There is no thread at this place.

@@ -14,7 +14,7 @@ pub struct Due {
 }
 
 impl Due {
-    /// Returns one of which nothing is due.
+    /// Returns an amount of 0.
     pub fn none() -> Due
         ensures { result.amount ≡ 0 }
     {

@@ -1,4 +1,4 @@
-//! What a worker has for the slices of its threads: what a thread is told at its forks, and what it has tallied.
+//! A worker's means for the slices of its threads: the answers at their forks, and the amount that they tallied.
 ghost use Rattle.std.specs.Prelude.{◌≡◌, ◌↔◌, ◌≤◌, ◌+◌, ◌%◌, ◌^◌, false, true, if◌then◌else◌, IsTrue};
 ghost use Rattle.arachne_jobs.specs.declared.openings.TheConstants.{LARGE};
 
@@ -8,8 +8,8 @@ use crate::tags::Tags;
 use arachne_lang::Class;
 use arachne_machine::Placing;
 
-/// What a worker has for the slices of its threads: its tags, for how many forks that were no pause the chooser's word
-/// is still to be drawn, and what is due to a ledger.
+/// A worker's means for the slices of its threads: its tags, the number of forks without a pause for which the
+/// chooser's word must still be drawn, and the amount that is due to a ledger.
 #[derive(Drop)]
 pub struct Openings {
     pub tags: Tags,

@@ -33,8 +33,8 @@ impl Model for DetachedOutcome {
 }
 
 impl DetachedOutcome {
-    /// The value, the sums and the lines. It takes memory for a list of the lists of lines; where that is refused the
-    /// outcome comes back.
+    /// Returns the value, the sums and the lines. It takes memory for a list of the lists of lines; if that is refused,
+    /// the outcome is the error.
     pub fn into_parts(self) -> Result<OutcomeParts, DetachedOutcome>
         ensures value { IfOk result (λ parts. parts.value ≡ self.value) }
         ensures sums { IfOk result (λ parts. parts.sums ≡ self.sums) }

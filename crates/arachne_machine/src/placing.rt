@@ -1,4 +1,4 @@
-//! What a thread asks at its forks, and of what takes its tallies.
+//! The questions of a thread to its caller: at a fork for a place, at a tally for a taker of the amount.
 ghost use Rattle.std.specs.Prelude.{◌≡◌, ℕ, Bool, true, false, IsTrue};
 ghost use Rattle.arachne_machine.specs.Tallying.{GainsAt};
 

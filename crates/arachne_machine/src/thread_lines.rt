@@ -86,7 +86,7 @@ fn move_lines(lists: Vec<Vec<ThreadLine>>, lines: &mut Vec<ThreadLine>)
     }
 }
 
-/// What is left of some lines.
+/// The lines that an iteration has not returned yet.
 #[derive(Drop)]
 pub struct LinesLeft<'a> {
     /// Those of the list that was begun.

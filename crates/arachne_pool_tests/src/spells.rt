@@ -52,8 +52,8 @@ pub(crate) enum Spell {
     /// answer has come. One more comes where a round has found something, and the leaf has not begun. Then an answer
     /// comes, and it works to the end.
     Fetches(u8),
-    /// So many times it spawns a job on core 0, passes the turn and joins the job on its own core. That is an answer,
-    /// or that the other kernel thread comes back from its work then. At last it stops the pool.
+    /// This many times it spawns a job on core 0, passes the turn and joins the job on its own core. That is an answer,
+    /// or that the other kernel thread returns from `work` then. At last it stops the pool.
     JoinsThere(u32, Sort, Until),
     /// It comes to rounds of its core until one job alone lives, which sleeps, and wakes it with an answer.
     WakesLast,

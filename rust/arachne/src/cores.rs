@@ -31,9 +31,9 @@ pub(crate) enum Advice {
 /// the use has to have fallen before one is given back.
 #[derive(Clone, Copy, Debug)]
 pub struct Policy {
-    /// From so many thousandths of a task ready at a look on, a core is asked for.
+    /// A core is asked for if at least `load` thousandths of a task are ready at a look.
     pub load: u64,
-    /// The use has to have fallen by so many thousandths of a core before one is given back.
+    /// A core is given back once the use has fallen by `hysteresis` thousandths of a core.
     pub hysteresis: u64,
     /// How often the load is judged.
     pub every: Duration,

@@ -177,7 +177,7 @@ pub struct Limit(Arc<(AtomicUsize, usize)>);
 pub struct Ticket(Limit);
 
 impl Limit {
-    /// At most so many at once.
+    /// Returns a limit of `most` at once.
     #[must_use]
     pub fn new(most: usize) -> Limit {
         Limit(Arc::new((AtomicUsize::new(0), most)))

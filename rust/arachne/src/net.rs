@@ -173,7 +173,7 @@ impl<S: AsRawFd> Drop for Source<S> {
     }
 }
 
-/// How many connections may wait to be accepted. std asks for 128; one beyond that tries again after a second.
+/// The number of connections that may wait to be accepted. std asks for 128; one beyond tries again after a second.
 const BACKLOG: i32 = 4096;
 
 /// A socket that listens.

@@ -66,7 +66,7 @@ pub struct TaskInfo {
     pub id: u64,
     /// Where it was spawned, and its name.
     pub about: About,
-    /// What it does now.
+    /// Its state now.
     pub doing: Doing,
     /// For how long it does that.
     pub age: Duration,

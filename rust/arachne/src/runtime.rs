@@ -25,7 +25,7 @@ use std::time::Duration;
 /// hand with what it took of another.
 const HANDS: usize = 3 + crate::worker::HAND + crate::hand::FIRST;
 
-/// What a kernel thread calls before its first task.
+/// The function that each kernel thread calls before its first task.
 type Starts = Arc<dyn Fn() + Send + Sync>;
 
 /// How a runtime is to be.
@@ -211,7 +211,7 @@ pub struct Stats {
     pub ready_to_taken: Vec<u64>,
 }
 
-/// What one worker has counted.
+/// The counts of one worker.
 #[derive(Clone, Copy, Debug, Default)]
 pub struct WorkerStats {
     /// Polls of tasks.
@@ -243,7 +243,7 @@ impl fmt::Debug for Runtime {
 }
 
 impl Runtime {
-    /// A runtime of so many workers, and for the rest as `Builder::new` has it.
+    /// Returns a runtime of this many workers, and for the rest as `Builder::new` has it.
     ///
     /// # Panics
     /// If `Builder::build` returns an error.

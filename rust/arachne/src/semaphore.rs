@@ -52,7 +52,7 @@ impl Semaphore {
         Acquire { semaphore: self, wants, node: None }
     }
 
-    /// Takes so many permits, if they are there and nobody waits.
+    /// Takes `wants` permits, if they are there and nobody waits.
     #[must_use]
     pub fn try_acquire(&self, wants: usize) -> Option<Permit<'_>> {
         self.take(wants).then(|| Permit { semaphore: self, count: wants })

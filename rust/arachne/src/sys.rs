@@ -113,7 +113,7 @@ pub(crate) fn set_nonblocking(fd: RawFd) -> io::Result<()> {
     checked(unsafe { fcntl(fd, SET_FLAGS, flags | NON_BLOCKING) }).map(drop)
 }
 
-/// How many connections may wait at a socket that listens already.
+/// Sets the number of connections that may wait at a socket that listens already.
 pub(crate) fn listen(fd: RawFd, backlog: i32) -> io::Result<()> {
     // SAFETY: a call with numbers alone.
     checked(unsafe { listen_call(fd, backlog) }).map(drop)

@@ -25,7 +25,7 @@ const SETTLED: u32 = 8;
 /// It is to end at its next turn.
 const ABORTED: u32 = 16;
 
-/// What a task panicked with.
+/// The value with which a task panicked.
 pub struct Panic(Box<dyn Any + Send>);
 // SAFETY: by a shared one its text alone is seen, and both types of text are `Sync`.
 unsafe impl Sync for Panic {}
