@@ -3,11 +3,14 @@ ghost use Rattle.std.specs.Prelude.{◌≡◌, ◌≤◌, ℕ, List, [], false, 
 ghost use Rattle.arachne_lang.specs.declared.program.Program.{Program};
 ghost use Rattle.arachne_lang.specs.Program.{source_of};
 ghost use Rattle.arachne_lang.specs.Checked.{IsChecked};
-ghost use Rattle.arachne_machine.specs.Nested.{IsPlacing, MayBePlaced, with_tag};
+ghost use Rattle.arachne_machine.specs.Advance.{IsSpentAt, Moves};
+ghost use Rattle.arachne_machine.specs.Nested.{IsPlacing, MayBePlaced, begun_in, with_tag};
 ghost use Rattle.arachne_machine.specs.Suspended.{awaited};
+ghost use Rattle.arachne_machine.specs.Tallying.{AdvancesOver};
 ghost use Rattle.arachne_machine.specs.declared.pause.Pending.TheVariants as pause;
 ghost use Rattle.arachne_jobs.specs.Threads.{HasWaited, IsForking, IsGoing, IsAwaiting, name_of, pause_of, program_of, running_tag_of, tag_of};
 ghost use Rattle.arachne_jobs.specs.Cells.{IsFoundOf, IsFor, IsOf};
+ghost use Rattle.arachne_jobs.specs.Dues.{GoesOnOver, HasTallied, IsJoined, due_to};
 ghost use Rattle.arachne_jobs.specs.Ends.{IsEnd, IsWaitEnd};
 ghost use Rattle.arachne_jobs.specs.Slices.{HasNoRest, IsLeft, IsRequest, MayRest, UsesSteps};
 
@@ -127,6 +130,8 @@ impl<'p> RunJob for Job<'p> {
     type Spares = JobSpares<'p>;
 
     ghost forks = { λ j child. IsForking j.thread child };
+
+    ghost tallies = { λ had left old new due new_due. HasTallied had left old.thread new.thread due new_due };
 
     fn slice(
         &mut self,
@@ -306,6 +311,32 @@ impl<'p> Job<'p> {
         Ok((job, awaited))
     }
 
+    /// Goes on for at most as many steps as are left, over tallies whose amounts are due then.
+    #[inline(always)]
+    fn advance_over(
+        &mut self,
+        left: &mut u32,
+        spares: &mut JobSpares<'p>,
+        room: &Room,
+        openings: &mut Openings,
+    ) -> Result<Pause<'p>, JobFault>
+        requires some { 1 ≤ left.old }
+        requires going { IsGoing self.old.thread }
+        ensures tag { tag_of self.new.thread ≡ tag_of self.old.thread }
+        ensures parent { self.new.parent ≡ self.old.parent }
+        ensures moves { IfOk result (λ pause. Moves left.old self.old.thread pause self.new.thread) }
+        ensures spent { IfOk result (λ pause. IsSpentAt pause left.old left.new) }
+        ensures over { IfOk result (λ pause. AdvancesOver left.old left.new self.old.thread pause self.new.thread (due_to openings.old.due) (due_to openings.new.due)) }
+    {
+        let mut due = openings.due;
+        let mut asked = ForkPlacing { room, openings };
+        let paused = self
+            .thread
+            .advance_tallying(left, &mut spares.threads, &mut asked, &mut due);
+        asked.openings.due = due;
+        Ok(paused?)
+    }
+
     /// Goes on for at most as many steps as are left.
     fn advance(
         &mut self,
@@ -320,14 +351,9 @@ impl<'p> Job<'p> {
         ensures parent { self.new.parent ≡ self.old.parent }
         ensures left { IfOk result (λ slice. IsLeft (λ j child. IsForking j.thread child) (λ j. pause_of j.thread) slice self.new) }
         ensures steps { IfOk result (λ slice. UsesSteps slice left.old left.new) }
+        ensures tallied { OnOk result (GoesOnOver left.old left.new self.old.thread self.new.thread (due_to openings.old.due) (due_to openings.new.due)) }
     {
-        let mut due = openings.due;
-        let mut asked = ForkPlacing { room, openings };
-        let paused = self
-            .thread
-            .advance_tallying(left, &mut spares.threads, &mut asked, &mut due);
-        asked.openings.due = due;
-        match paused? {
+        match self.advance_over(left, spares, room, openings)? {
             Pause::Budget => Ok(Slice::Goes),
             Pause::Forks(class, child) => Ok(Slice::Forks(class, child)),
             Pause::Joins => match self.join(spares)? {
@@ -349,6 +375,7 @@ impl<'p> Job<'p> {
         ensures tag { tag_of self.new.thread ≡ tag_of self.old.thread }
         ensures parent { self.new.parent ≡ self.old.parent }
         ensures answered { OnOk result (pause_of self.new.thread ≡ None) }
+        ensures at_join { pause_of self.old.thread ≡ Some pause.Joins → OnOk result (self.new.thread ≡ begun_in self.old.thread child.entry) }
     {
         self.thread.in_place(child)?;
         Ok(())
@@ -368,7 +395,8 @@ impl<'p> Job<'p> {
         ensures tag { tag_of self.new.thread ≡ tag_of self.old.thread }
         ensures parent { self.new.parent ≡ self.old.parent }
         ensures joined { IfOk result (λ missed. missed ≡ None → IsGoing self.new.thread) }
-        ensures awaits { IfOk result (λ missed. IfSome missed (λ _. IsAwaiting self.new.thread)) }
+        ensures answered { IfOk result (λ missed. missed ≡ None → IsJoined self.old.thread self.new.thread) }
+        ensures same { IfOk result (λ missed. IfSome missed (λ _. self.new ≡ self.old)) }
     {
         match self.find(spares)? {
             Found::Outcome(outcome) => {

@@ -1,11 +1,15 @@
 -- What a thread asks for, what may come of it, and where it stops.
 use Rattle.std.specs.Prelude.{◌≡◌, ◌≢◌, ℕ, Bool, false, true, if◌then◌else◌, List, Option, None, Some, Result}
 use Rattle.arachne_core.specs.declared.thread_id.ThreadId.{ThreadId}
+use Rattle.arachne_machine.specs.Tallying.{Dues}
 use Rattle.arachne_machine.specs.declared.pause.Pending.{Pending}
 use Rattle.arachne_machine.specs.declared.pause.Pending.TheVariants as pause
 use Rattle.arachne_workers.specs.declared.desk.ThreadStop.{ThreadStop}
 use Rattle.arachne_workers.specs.declared.desk.ThreadStop.TheVariants as stop
+use Rattle.arachne_jobs.specs.Dues.{due_to}
 use Rattle.arachne_jobs.specs.declared.due.Due.{Due}
+use Rattle.arachne_jobs.specs.declared.slice.Slice.{Slice}
+use Rattle.arachne_jobs.specs.declared.slice.Slice.TheVariants as slices
 use Rattle.arachne_ledger.specs.Sums.{raised}
 use Rattle.arachne_sleep.specs.Calls.{AskAnswer, CheckAnswer}
 use Rattle.arachne_sleep.specs.SleepLocks.{ChangesAt}
@@ -15,7 +19,6 @@ use Rattle.arachne_sleep.specs.declared.answer.Asked.{Asked}
 use Rattle.arachne_sleep.specs.declared.answer.Pass.{Pass}
 use Rattle.arachne_sleep.specs.declared.answer.Tried.TheVariants.{Answered}
 use Rattle.arachne_sleep.specs.declared.who.Who.{Who}
-use Rattle.arachne_run.specs.declared.access.Addition.{Addition}
 use Rattle.arachne_run.specs.declared.access.Want.{Want}
 use Rattle.arachne_run.specs.declared.access.Want.TheVariants.{Asks, Awaits, Frees, Tallies}
 use Rattle.arachne_run.specs.declared.access.Served.{Served}
@@ -40,34 +43,55 @@ HasAsked lock who answer before after = ChangesAt lock before after (λ old new.
 abbrev pub HasChecked : ℕ → Who → Option Pass → List SeatView → List SeatView → Type 0
 HasChecked lock who answer before after = ChangesAt lock before after (λ old new. CheckAnswer lock who old (Answered answer) new)
 
--- this amount was added to this ledger
-abbrev pub IsAddition : ℕ → ℕ → Addition → Type 0
-IsAddition ledger amount addition = (addition.ledger.value ≡ ledger) × (addition.amount.value ≡ amount)
-
 -- a thread that asks for a lock waits for that one as an ask said, or has a pass of it by an ask; one that awaits the lock
 -- does so by a check; one that frees or adds goes on
 abbrev pub IsServed : Want → Who → Served → Type 0
 IsServed (Asks lock) who (Waits awaited unserved) = (awaited ≡ lock) × (unserved.call.value ≡ Ask)
 IsServed (Asks lock) who (Holds granted) = IsGrantBy Ask lock who granted
 IsServed (Asks lock) who (Freed release) = ⊥
-IsServed (Asks lock) who (Added addition) = ⊥
+IsServed (Asks lock) who Added = ⊥
 IsServed (Awaits lock) who (Waits awaited unserved) = (awaited ≡ lock) × (unserved.call.value ≡ Check)
 IsServed (Awaits lock) who (Holds granted) = IsGrantBy Check lock who granted
 IsServed (Awaits lock) who (Freed release) = ⊥
-IsServed (Awaits lock) who (Added addition) = ⊥
+IsServed (Awaits lock) who Added = ⊥
 IsServed (Frees lock) who (Waits awaited unserved) = ⊥
 IsServed (Frees lock) who (Holds granted) = ⊥
 IsServed (Frees lock) who (Freed release) = Unit {0}
-IsServed (Frees lock) who (Added addition) = ⊥
+IsServed (Frees lock) who Added = ⊥
 IsServed (Tallies ledger amount) who (Waits awaited unserved) = ⊥
 IsServed (Tallies ledger amount) who (Holds granted) = ⊥
 IsServed (Tallies ledger amount) who (Freed release) = ⊥
-IsServed (Tallies ledger amount) who (Added addition) = IsAddition ledger amount addition
+IsServed (Tallies ledger amount) who Added = Unit {0}
 
 -- A share has got what was due, once: where something was, its sum for that ledger is raised by it.
 pub record IsSettled (due : Due) (old new : List ℕ) : Type 0 where
   pub none : due.amount ≡ 0 → new ≡ old
   pub some : due.amount ≢ 0 → new ≡ raised old due.ledger due.amount
+
+-- the share's sums, once it has got the amount that was asked for, if one was
+abbrev pub sums_after : Want → List ℕ → List ℕ
+sums_after (Tallies ledger amount) sums = raised sums ledger amount
+sums_after (Asks lock) sums = sums
+sums_after (Awaits lock) sums = sums
+sums_after (Frees lock) sums = sums
+
+-- the same for what the thread came to in a slice
+abbrev pub sums_behind : {Child : Type 0} → Slice Child → List ℕ → List ℕ
+sums_behind (slices.Tallies ledger amount) sums = raised sums ledger amount
+sums_behind _ sums = sums
+
+-- A thread went on as its job says, with steps left, and paused; the share got what was due then, and the amount at
+-- which the thread paused, if it did so at a tally.
+pub record GetsTallied {Job Child : Type 0} (tallies : ℕ → ℕ → Job → Job → Dues → Dues → Type 0) (is_left : Slice Child → Job → Type 0)
+    (had left : ℕ) (old : Job) (due : Due) (sums new_sums : List ℕ) : Type 0 where
+  pub slice : Slice Child
+  pub paused : Job
+  pub now_due : Due
+  pub settled : List ℕ
+  pub goes : tallies had left old paused (due_to due) (due_to now_due)
+  pub stops : is_left slice paused
+  pub settles : IsSettled now_due sums settled
+  pub gets : new_sums ≡ sums_behind slice settled
 
 -- this is what a thread with this pause asks for
 abbrev pub IsWantOf : Want → Option Pending → Type 0
@@ -109,7 +133,7 @@ abbrev pub has_lock_by : Served → (had : Bool) → Bool
 has_lock_by (Waits lock unserved) had = had
 has_lock_by (Holds granted) had = true
 has_lock_by (Freed release) had = false
-has_lock_by (Added addition) had = had
+has_lock_by Added had = had
 
 -- the id of a thread, if there is one
 abbrev pub id_of : Option Who → Option ThreadId

@@ -40,6 +40,11 @@ IsArbiterOf machine arbiter = IfSome arbiter (λ progress. (length progress.list
 abbrev pub AreHoldingsOf : Resources → Holdings → Type 0
 AreHoldingsOf resources holdings = IsShareOf resources.ledgers holdings.share × AreSeatsOf resources.locks holdings.lock_seats
 
+-- what contracts see of a worker at the ledgers and locks: these, and what its share has added to each ledger
+pub record AccessView : Type 0 where
+  pub resources : Resources
+  pub sums : List ℕ
+
 -- the seat sits at the machine's table, the pass is of its queue, the holdings are of its ledgers and locks, and the
 -- arbiter, if there is one, is its arbiter; nothing is out with the seat
 abbrev pub AreIdle : {Table Seat Ticket : Type 0} → (Table → Seat → Type 0) → (Table → Seat → Type 0) → Machine Table Ticket → Tokens Seat Ticket → Type 0

@@ -4,7 +4,7 @@ ghost use Rattle.arachne_ledger.specs.Sums.{raised};
 ghost use Rattle.arachne_ledger.specs.Views.{IsShareOf};
 ghost use Rattle.arachne_sleep.specs.Calls.{FreeAnswer};
 ghost use Rattle.arachne_sleep.specs.SleepLocks.{AreSeatsOf, ChangesAt};
-ghost use Rattle.arachne_run.specs.Serving.{IsAddition, IsGrantBy, IsServed, IsSettled, IsWantOf, StopsAt, has_lock_after, has_lock_by, id_of, is_wait};
+ghost use Rattle.arachne_run.specs.Serving.{IsGrantBy, IsServed, IsSettled, IsWantOf, StopsAt, has_lock_after, has_lock_by, id_of, is_wait, sums_after};
 ghost use Rattle.arachne_run.specs.Tokens.{AreHoldingsOf};
 ghost use Rattle.arachne_workers.specs.declared.desk.ThreadStop.TheVariants as stopped;
 ghost use Rattle.arachne_run.specs.declared.access.Want.TheVariants.{Asks, Awaits};
@@ -24,7 +24,6 @@ use arachne_ledger::{Ledgers, Share};
 use arachne_sleep::{Freed, LockSeats, NotHolder, SleepLocks, Tried, Who};
 use arachne_workers::{ThreadStop, stand_by};
 use std::marker::Model;
-use std::snapshot::Snapshot;
 use std::sync::Wait;
 use std::time::Clock;
 
@@ -72,7 +71,7 @@ pub(crate) enum Served {
     /// The lock that it had is free, or another thread holds it now.
     Freed(LockFreed),
     /// The amount was added.
-    Added(Addition),
+    Added,
 }
 
 /// A lock was freed. It can't be dropped, so that who holds it next goes on.
@@ -107,14 +106,8 @@ impl LockFreed {
     }
 }
 
-/// This amount was added to this ledger. [`add_to`] alone gives one. It has no bytes.
-#[derive(Drop)]
-pub(crate) struct Addition {
-    ledger: Snapshot<u64>,
-    amount: Snapshot<u64>,
-}
-
-/// The locks and the ledgers, and what a worker has of them. Contracts see the locks and the ledgers.
+/// The locks and the ledgers, and what a worker has of them. Contracts see the locks, the ledgers, and what its share
+/// has added to each.
 #[derive(Drop)]
 pub(crate) struct Access<'a> {
     resources: &'a Resources,
@@ -128,7 +121,7 @@ impl Served {
         ensures { result ≡ has_lock_by self.now had }
     {
         match self {
-            Served::Waits(_, _) | Served::Added(_) => had,
+            Served::Waits(_, _) | Served::Added => had,
             Served::Holds(_) => true,
             Served::Freed(_) => false,
         }
@@ -136,12 +129,11 @@ impl Served {
 }
 
 impl<'a> Model for Access<'a> {
-    ghost use Rattle.arachne_run.specs.declared.resources.Resources.{Resources};
-    ghost use Rattle.arachne_run.specs.Tokens.{AreHoldingsOf};
+    ghost use Rattle.arachne_run.specs.Tokens.{AccessView, AreHoldingsOf};
 
-    ghost Value = { Resources };
+    ghost Value = { AccessView };
 
-    ghost view = { λ a. a.resources.now };
+    ghost view = { λ a. record { resources = a.resources.now; sums = a.holdings.share.sums } };
 
     ghost invariant = { λ a. AreHoldingsOf a.resources.now a.holdings };
 }
@@ -150,7 +142,7 @@ impl<'a> Access<'a> {
     /// The holdings are of these locks and ledgers.
     pub(crate) fn new(resources: &'a Resources, holdings: Holdings) -> Access<'a>
         requires { AreHoldingsOf resources.now holdings }
-        ensures { result ≡ resources.now }
+        ensures { result ≡ record { resources = resources.now; sums = holdings.share.sums } }
     {
         Access {
             resources,
@@ -159,7 +151,7 @@ impl<'a> Access<'a> {
     }
 
     pub(crate) fn into_holdings(self) -> Holdings
-        ensures { AreHoldingsOf self.entry result }
+        ensures { AreHoldingsOf self.entry.resources result }
     {
         self.holdings
     }
@@ -176,7 +168,8 @@ impl<'a> Access<'a> {
         has_lock: &mut bool,
     ) -> Result<ThreadStop, WorkerFault>
         requires { IsWantOf want (T.pause_of thread.old) }
-        ensures same { (self.new ≡ self.old) × (T.tag_of thread.new ≡ T.tag_of thread.old) }
+        ensures same { (self.new.resources ≡ self.old.resources) × (T.tag_of thread.new ≡ T.tag_of thread.old) }
+        ensures sums { OnOk result (self.new.sums ≡ sums_after want self.old.sums) }
         ensures stops { IfOk result (λ stop. StopsAt stop (T.pause_of thread.new)) }
         ensures lock { IfOk result (λ stop. has_lock.new ≡ has_lock_after want (is_wait stop) has_lock.old) }
     {
@@ -186,7 +179,7 @@ impl<'a> Access<'a> {
         let stop = match served {
             Served::Waits(lock, _) => return Ok(ThreadStop::Waits(lock)),
             Served::Freed(release) => release.stop(),
-            Served::Holds(_) | Served::Added(_) => ThreadStop::Goes,
+            Served::Holds(_) | Served::Added => ThreadStop::Goes,
         };
         match thread.answer() {
             Ok(()) => Ok(stop),
@@ -202,8 +195,9 @@ impl<'a> Access<'a> {
         want: Want,
         who: Who,
     ) -> Result<Served, WorkerFault>
-        ensures same { self.new ≡ self.old }
+        ensures same { self.new.resources ≡ self.old.resources }
         ensures served { IfOk result (IsServed want who) }
+        ensures sums { OnOk result (self.new.sums ≡ sums_after want self.old.sums) }
     {
         match want {
             Want::Asks(lock) => match self.ask(rt, pace, lock, who)? {
@@ -216,8 +210,8 @@ impl<'a> Access<'a> {
             },
             Want::Frees(lock) => Ok(Served::Freed(self.free(rt, pace, lock, who)?)),
             Want::Tallies(ledger, amount) => {
-                let addition = self.add(ledger, amount)?;
-                Ok(Served::Added(addition))
+                self.add(ledger, amount)?;
+                Ok(Served::Added)
             }
         }
     }
@@ -338,16 +332,17 @@ impl<'a> Access<'a> {
     /// Adds what is due to its ledger. Nothing is due then.
     #[inline(always)]
     pub(crate) fn settle(&mut self, due: &mut Due) -> Result<(), WorkerFault>
-        ensures same { self.new ≡ self.old }
+        ensures same { self.new.resources ≡ self.old.resources }
+        ensures added { OnOk result (IsSettled due.old self.old.sums self.new.sums) }
         ensures settled { OnOk result (due.new.amount ≡ 0) }
     {
         settle_at(&self.resources.ledgers, &mut self.holdings.share, due)
     }
 
     /// Adds to a ledger. In a checked program a pause names a ledger that is there.
-    pub(crate) fn add(&mut self, ledger: u64, amount: u64) -> Result<Addition, WorkerFault>
-        ensures same { self.new ≡ self.old }
-        ensures added { IfOk result (IsAddition ledger amount) }
+    pub(crate) fn add(&mut self, ledger: u64, amount: u64) -> Result<(), WorkerFault>
+        ensures same { self.new.resources ≡ self.old.resources }
+        ensures raised { OnOk result (self.new.sums ≡ raised self.old.sums ledger amount) }
     {
         let ledgers = &self.resources.ledgers;
         add_to(ledgers, &mut self.holdings.share, ledger, amount)
@@ -376,11 +371,10 @@ fn add_to(
     share: &mut Share,
     ledger: u64,
     amount: u64,
-) -> Result<Addition, WorkerFault>
+) -> Result<(), WorkerFault>
     requires { IsShareOf ledgers.now share.old }
     ensures own { IsShareOf ledgers.now share.new }
     ensures raised { OnOk result (share.new.sums ≡ raised share.old.sums ledger amount) }
-    ensures added { IfOk result (IsAddition ledger amount) }
     ensures there { ledger < ledgers.now.count → IsOk result }
     ensures missing { ledgers.now.count ≤ ledger → (result ≡ Err Foreign) × (share.new ≡ share.old) }
 {
@@ -388,10 +382,7 @@ fn add_to(
         return Err(WorkerFault::Foreign);
     }
     ledgers.add(share, ledger as usize, amount);
-    Ok(Addition {
-        ledger: Snapshot::of(&ledger),
-        amount: Snapshot::of(&amount),
-    })
+    Ok(())
 }
 
 /// Adds what is due, if that is anything, to the share's sum for its ledger. Nothing is due then.
@@ -405,7 +396,7 @@ fn settle_at(ledgers: &Ledgers, share: &mut Share, due: &mut Due) -> Result<(), 
     if due.amount == 0 {
         return Ok(());
     }
-    let _ = add_to(ledgers, share, due.ledger, due.amount)?;
+    add_to(ledgers, share, due.ledger, due.amount)?;
     due.amount = 0;
     Ok(())
 }

@@ -69,7 +69,7 @@ impl<'a, H, T: RunJob, C: Contexts<T>, R, G> Model for RunSeat<'a, H, T, C, R, G
         × C.sits s.machine.now.table s.seat × C.sits s.machine.now.table s.spare
         × (s.is_broken ≡ false → C.has s.machine.now.table s.seat (in_hand T.tag_of s.held))
         × (s.is_broken ≡ false → C.has s.machine.now.table s.spare (map a_claim s.kept))
-        × IsPassOf s.machine.now.tickets s.pass × IsArbiterOf s.machine.now s.arbiter × (s.access ≡ s.machine.now.resources) };
+        × IsPassOf s.machine.now.tickets s.pass × IsArbiterOf s.machine.now s.arbiter × (s.access.resources ≡ s.machine.now.resources) };
 }
 
 impl<'a, H: Wait, T: RunJob, C: Contexts<T>, R: Rng + Drop, G: Gate> RunSeat<'a, H, T, C, R, G> {
