@@ -10,10 +10,9 @@ CRATE = r"(?:arachne|example)_\w+"
 
 
 def breaks() -> dict[tuple[str, str], str]:
-    """The promise and the contract that each wrong body breaks, by its crate and its name, where it says so."""
+    """The promise and the contract that each wrong body breaks, by crate and name; empty if it doesn't say so."""
     texts = {(crate, name): text for crate in read.crates() for name, text in read.blocks_of(crate)}
-    said = {it: re.findall(r"^breaks: (.*)$", text, re.M) for it, text in texts.items()}
-    return {it: lines[0] for it, lines in said.items() if lines}
+    return {it: "".join(re.findall(r"^breaks: (.*)$", text, re.M)) for it, text in texts.items()}
 
 
 def tried() -> set[tuple[str, str]]:
