@@ -12,11 +12,9 @@ from loading import TOP, load, run_on_terminal
 
 build = load("build")
 
-# An `rt` that says of each crate that it is proved, or kept where there is a file KEPT, and leaves a program. Where
-# PLAIN is set, it is one of a kit that keeps nothing; its program has status 0 where it checks a task text alone. Where
-# LOOK is set, that is the fault of an unproved build.
+# An `rt` that says of each crate that it is proved, or kept if there is a file KEPT, and leaves a program. If LOOK is
+# set, that is the fault of an unproved build.
 FAKE = """#!/bin/sh
-if [ "$1" = help ]; then [ -n "$PLAIN" ] || echo "rt ci [--anew]"; exit; fi
 echo "$1 $PWD" >> "$SEEN"
 if [ "$1" = try ]; then
   if [ -n "$LOOK" ]; then echo "fault $LOOK" >&2; else echo value 5; fi
@@ -24,19 +22,11 @@ if [ "$1" = try ]; then
   [ -z "$LOOK" ]; exit
 fi
 if [ -n "$WAITS" ]; then sleep 60 & echo $! > "$WAITS"; wait; fi
-make() {
-  mkdir -p "$1/out" && printf '#!/bin/sh\\necho value 5\\n' > "$1/out/arachne" && chmod +x "$1/out/arachne"
-}
-case "$1" in
-  lib | run)
-    [ "${PWD##*/}" != "$FAILS" ] || { echo "rt: a goal is open"; exit 1; }
-    [ "$1" = lib ] || { make . && [ "$3" = check ] && grep -q '^arachne 1' || exit 2; }
-    exit;;
-esac
 for crate in $(sed 's/[ :].*//' crates.txt); do
   if [ -e "$KEPT" ]; then echo "rt: $crate is kept: an earlier run on this machine proved the same files"; else echo "rt: $crate proved"; fi
 done
-make crates/arachne
+mkdir -p crates/arachne/out
+printf '#!/bin/sh\\necho value 5\\n' > crates/arachne/out/arachne && chmod +x crates/arachne/out/arachne
 [ -z "$FAILS" ] || { echo "rt: arachne NOT PROVED"; echo "2 passed, 1 failed"; exit 1; }
 echo "3 passed, 0 failed"
 """
@@ -88,12 +78,6 @@ class Estimates(unittest.TestCase):
     def test_no_more_lanes_than_processors(self) -> None:
         self.assertIn(build.lanes(), range(1, len(os.sched_getaffinity(0)) + 1))
 
-    def test_a_crate_begins_where_a_lane_is_free_and_all_below_it_is_proved(self) -> None:
-        for lanes, proved, may in [(2, {"lower"}, True), (1, {"lower"}, False), (2, set(), False)]:
-            estimate = mock.Mock(lanes=lanes, below={"upper": ["lower"]})
-            of = mock.Mock(status=0, at_work={"other": None}, proved=proved, estimate=estimate)
-            self.assertEqual(build.FolderBuild.may_begin(of, "upper"), may)
-
     def test_the_crate_in_work_is_found_among_all_that_was_started(self) -> None:
         prover = 'exec -a /kit/rattle sh -c "sleep 60; :" --crate-name lower'
         ran = subprocess.Popen(["bash", "-c", f"({prover}) & wait"], start_new_session=True)
@@ -137,7 +121,7 @@ class Builds(unittest.TestCase):
     def place(self, **more: str) -> dict[str, str]:
         """The environment, where `rt` is the one above."""
         paths = {"PATH": f"{self.top}:{os.environ['PATH']}", "SEEN": f"{self.top}/seen", "KEPT": f"{self.top}/kept"}
-        return {**os.environ, **paths, "FAILS": "", "WAITS": "", "PLAIN": "", "LOOK": "", **more}
+        return {**os.environ, **paths, "FAILS": "", "WAITS": "", "LOOK": "", **more}
 
     def call(self, *words: str, text: str = "", **more: str) -> subprocess.CompletedProcess[str]:
         """Runs a script of the repository."""
@@ -172,24 +156,6 @@ class Builds(unittest.TestCase):
         self.assertFalse((self.top / "crates/arachne/out/.built").exists())
         Path(ran.stderr.split()[-1]).unlink()
 
-    def test_where_the_gate_keeps_nothing_each_crate_is_proved_in_its_folder(self) -> None:
-        ran = self.call("scripts/build", PLAIN="yes")
-        self.assertEqual(ran.returncode, 0, ran.stderr)
-        crates = self.top / "crates"
-        self.assertEqual(self.seen(), [f"lib {crates}/lower", f"run {crates}/arachne"])
-        self.assertNotIn("is proved", ran.stderr, "what takes no time was built before")
-        self.assertTrue((crates / "arachne/out/.built").exists())
-
-    def test_a_crate_that_fails_in_its_folder_ends_the_build(self) -> None:
-        for name, count in [("lower", 1), ("arachne", 2)]:
-            with self.subTest(name=name):
-                (self.top / "seen").unlink(missing_ok=True)
-                ran = self.call("scripts/build", PLAIN="yes", FAILS=name)
-                self.assertEqual((ran.returncode, len(self.seen())), (1, count))
-                self.assertIn("rt: a goal is open", ran.stderr)
-                self.assertFalse((self.top / "crates/arachne/out/.built").exists())
-                Path(ran.stderr.split()[-1]).unlink()
-
     def begun(self, *words: str, **more: str) -> tuple[subprocess.Popen[bytes], int]:
         """A build whose `rt` waits for a process of its own, and that process."""
         waits = self.top / "waits"
@@ -211,9 +177,9 @@ class Builds(unittest.TestCase):
         return False
 
     def test_an_interrupt_ends_all_that_was_started(self) -> None:
-        for plain, sent in [("", signal.SIGTERM), ("yes", signal.SIGTERM), ("yes", signal.SIGINT), ("yes", signal.SIGHUP)]:
-            with self.subTest(plain=plain, sent=sent):
-                ran, process = self.begun("scripts/build", PLAIN=plain)
+        for sent in (signal.SIGTERM, signal.SIGINT, signal.SIGHUP):
+            with self.subTest(sent=sent):
+                ran, process = self.begun("scripts/build")
                 ran.send_signal(sent)
                 self.assertEqual(ran.wait(), 130)
                 self.assertTrue(self.has_ended(process))
