@@ -329,11 +329,14 @@ impl<'p> Job<'p> {
         ensures over { IfOk result (λ pause. AdvancesOver left.old left.new self.old.thread pause self.new.thread (due_to openings.old.due) (due_to openings.new.due)) }
     {
         let mut due = openings.due;
-        let mut asked = ForkPlacing { room, openings };
+        let mut asked = ForkPlacing {
+            room,
+            openings: &mut *openings,
+        };
         let paused = self
             .thread
             .advance_tallying(left, &mut spares.threads, &mut asked, &mut due);
-        asked.openings.due = due;
+        openings.due = due;
         Ok(paused?)
     }
 

@@ -103,8 +103,8 @@ pub trait RunJob: RunThread {
     /// The job forks this child, and is not answered.
     ghost forks: { Self → Self.Child → Type 0 };
 
-    /// Of the steps that it had these are left, it has come from here to there, and by what it tallied then, what was
-    /// due has become this.
+    /// With these steps left before and after, it came from the one job to the other, and what it tallied made the
+    /// second dues of the first.
     ghost tallies: { ℕ → ℕ → Self → Self → Dues → Dues → Type 0 };
 
     /// Goes on for at most as many steps as are left, of which fewer are left then. A thread that waits makes none. A
