@@ -16,7 +16,7 @@ mod stream;
 
 pub use fault::Fault;
 pub use orders::read_order;
-pub use output::{PrintedThread, render};
+pub use output::{PrintedThreads, render};
 pub use process::{Status, run, run_on, run_without_words};
 pub use program::{drive, refuse, refuse_words};
 pub use samples::read_samples;

@@ -48,20 +48,11 @@ HasChecked lock who answer before after = ChangesAt lock before after (λ old ne
 abbrev pub IsServed : Want → Who → Served → Type 0
 IsServed (Asks lock) who (Waits awaited unserved) = (awaited ≡ lock) × (unserved.call.value ≡ Ask)
 IsServed (Asks lock) who (Holds granted) = IsGrantBy Ask lock who granted
-IsServed (Asks lock) who (Freed release) = ⊥
-IsServed (Asks lock) who Added = ⊥
 IsServed (Awaits lock) who (Waits awaited unserved) = (awaited ≡ lock) × (unserved.call.value ≡ Check)
 IsServed (Awaits lock) who (Holds granted) = IsGrantBy Check lock who granted
-IsServed (Awaits lock) who (Freed release) = ⊥
-IsServed (Awaits lock) who Added = ⊥
-IsServed (Frees lock) who (Waits awaited unserved) = ⊥
-IsServed (Frees lock) who (Holds granted) = ⊥
 IsServed (Frees lock) who (Freed release) = Unit {0}
-IsServed (Frees lock) who Added = ⊥
-IsServed (Tallies ledger amount) who (Waits awaited unserved) = ⊥
-IsServed (Tallies ledger amount) who (Holds granted) = ⊥
-IsServed (Tallies ledger amount) who (Freed release) = ⊥
 IsServed (Tallies ledger amount) who Added = Unit {0}
+IsServed _ who _ = ⊥
 
 -- A share has got what was due, once: where something was, its sum for that ledger is raised by it.
 pub record IsSettled (due : Due) (old new : List ℕ) : Type 0 where
