@@ -1,5 +1,6 @@
 """The time that scripts/build says is left, over a made-up run, and a build by an `rt` that proves nothing."""
 import os
+import shutil
 import signal
 import subprocess
 import tempfile
@@ -104,9 +105,7 @@ class Builds(unittest.TestCase):
         for name in ("lower", "arachne"):
             (self.top / "crates" / name / "src").mkdir(parents=True)
             (self.top / "crates" / name / "src/lib.rt").touch()
-        texts = "crates/arachne_commands_tests/src/commands/help.rt"
-        (self.top / texts).parent.mkdir(parents=True)
-        (self.top / texts).write_bytes((TOP / texts).read_bytes())
+        shutil.copytree(TOP / "tests/help", self.top / "tests/help")
         (self.top / "crates.txt").write_text("lower:\narachne may_wait=1: lower\nunused: lower\n")
         (self.top / "HANDLES").write_text("Handles allowed: Wait.\n")
         for name in ("scripts", "bench"):

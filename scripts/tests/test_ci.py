@@ -8,12 +8,15 @@ from loading import TOP
 
 
 class Gate(unittest.TestCase):
-    def run_of(self, gate: int, scripts: int = 0, examples: int = 0, rust: int = 0) -> tuple[int, list[str]]:
-        """The status, and what is printed, where the gate and the tests behind it return these."""
-        said = [("scripts/test", "scripts", scripts), ("examples/test", "examples", examples), ("rust/test", "rust", rust)]
+    # What is called behind the gate.
+    TESTS = ["scripts/test", "tests/run", "wrong-bodies/read --left", "examples/test", "rust/test"]
+
+    def run_of(self, gate: int, failed: str = "") -> tuple[int, list[str]]:
+        """The status, and what is printed, where the gate returns this, and those behind it 1 if they fail."""
+        said = [(it, it.split()[0] + ' "$@"', int(it == failed)) for it in self.TESTS]
         with tempfile.TemporaryDirectory() as room:
             for name, text, status in [*said, ("bench/gate", "costs; echo gate >&2", gate)]:
-                file = Path(room) / name
+                file = Path(room) / name.split()[0]
                 file.parent.mkdir(exist_ok=True)
                 file.write_text(f"#!/bin/sh\necho {text}\nexit {status}\n")
                 file.chmod(0o755)
@@ -21,13 +24,13 @@ class Gate(unittest.TestCase):
             return ran.returncode, ran.stdout.splitlines()
 
     def test_it_passes_where_all_do(self) -> None:
-        self.assertEqual(self.run_of(0), (0, ["gate", "scripts", "examples", "rust", "costs", "gate"]))
+        self.assertEqual(self.run_of(0), (0, ["gate", *self.TESTS, "costs", "gate"]))
 
     def test_it_fails_where_one_does(self) -> None:
         self.assertEqual(self.run_of(1), (1, ["gate"]))
-        for failed in [{"scripts": 1}, {"examples": 1}, {"rust": 1}]:
-            status, lines = self.run_of(0, **failed)
-            self.assertEqual((status, len(lines), lines[-1]), (1, 7, "gate"))
+        for failed in self.TESTS:
+            told = [it for test in self.TESTS for it in [test, f".ci/run: {test} failed"][: 1 + (test == failed)]]
+            self.assertEqual(self.run_of(0, failed), (1, ["gate", *told, "costs", "gate"]))
 
 
 if __name__ == "__main__":

@@ -10,11 +10,7 @@ use std::time::Clock;
 
 mod endings;
 mod fakes;
-mod help;
-mod language;
 mod orders;
-mod policy;
-mod running;
 mod samples;
 mod shortage;
 mod spelling;

@@ -1,6 +1,5 @@
-//! How a run of the program ends. Every row of words, an input and what is told comes here.
+//! How a run of the program ends. Every run comes here whose output and faults are compared.
 use super::fakes::{Script, Tray};
-use super::spelling::spelled;
 use arachne_commands::drive;
 use std::alloc::{AllocError, Global};
 use std::process::Abort;
@@ -95,64 +94,4 @@ pub(super) fn assert_ends<R: Abort + Threads + Wait + Clock + Sync>(
     let is_right = ends(rt, alloc, words, input, &mut output, &mut faults, told)?;
     assert!(rt; is_right, "{words}");
     Ok(())
-}
-
-/// The program ends on these words and an input as is told, both as rows spell them.
-fn assert_row<R: Abort + Threads + Wait + Clock + Sync>(
-    rt: &R,
-    alloc: Global,
-    words: &str,
-    input: &str,
-    told: &str,
-) -> Result<(), AllocError> {
-    let input = spelled(alloc, input)?;
-    let told = spelled(alloc, told)?;
-    let mut input = Script::of(input.as_bytes());
-    assert_ends(rt, alloc, words, &mut input, told_by(told.as_str()))
-}
-
-/// The program ends on these words as each row of a block says. It counts the rows.
-fn assert_rows<R: Abort + Threads + Wait + Clock + Sync>(
-    rt: &R,
-    alloc: Global,
-    words: &str,
-    block: &str,
-) -> Result<u64, AllocError> {
-    let mut count = 0u64;
-    for line in block.lines() {
-        if let Some((input, told)) = line.split_once(" => ") {
-            assert_row(rt, alloc, words, input, told)?;
-            count = count.wrapping_add(1);
-        }
-    }
-    Ok(count)
-}
-
-/// Each line of words of a block, which begins with a `$`, ends on each of its rows as that says. It counts the runs.
-fn assert_block<R: Abort + Threads + Wait + Clock + Sync>(
-    rt: &R,
-    alloc: Global,
-    block: &str,
-) -> Result<u64, AllocError> {
-    let mut count = 0u64;
-    for line in block.lines() {
-        if let Some(words) = line.strip_prefix("$ ") {
-            count = count.wrapping_add(assert_rows(rt, alloc, words, block)?);
-        }
-    }
-    Ok(count)
-}
-
-/// Blocks with an empty line between them: lines of words, and rows of an input, an arrow and how each of the words
-/// ends on it. It counts the runs.
-pub(super) fn all_end<R: Abort + Threads + Wait + Clock + Sync>(
-    rt: &R,
-    alloc: Global,
-    blocks: &str,
-) -> Result<u64, AllocError> {
-    let mut count = 0u64;
-    for block in blocks.split("\n\n") {
-        count = count.wrapping_add(assert_block(rt, alloc, block)?);
-    }
-    Ok(count)
 }
