@@ -27,7 +27,7 @@ class Gate(unittest.TestCase):
         self.assertEqual(self.run_of(0), (0, ["gate", *self.TESTS, "costs", "gate"]))
 
     def test_it_fails_where_one_does(self) -> None:
-        self.assertEqual(self.run_of(1), (1, ["gate"]))
+        self.assertEqual(self.run_of(1), (1, ["gate", "costs", "gate"]))
         for failed in self.TESTS:
             told = [it for test in self.TESTS for it in [test, f".ci/run: {test} failed"][: 1 + (test == failed)]]
             self.assertEqual(self.run_of(0, failed), (1, ["gate", *told, "costs", "gate"]))

@@ -366,12 +366,7 @@ fn free_at(
 }
 
 /// Adds to the share's sum for a ledger, if that is there.
-fn add_to(
-    ledgers: &Ledgers,
-    share: &mut Share,
-    ledger: u64,
-    amount: u64,
-) -> Result<(), WorkerFault>
+fn add_to(ledgers: &Ledgers, share: &mut Share, ledger: u64, amount: u64) -> Result<(), WorkerFault>
     requires { IsShareOf ledgers.now share.old }
     ensures own { IsShareOf ledgers.now share.new }
     ensures raised { OnOk result (share.new.sums ≡ raised share.old.sums ledger amount) }

@@ -30,7 +30,7 @@ returns-in-None-clause-tallied c = record {
   over = c.in_ok-advance_over.ensures.over;
   last = inr (
     (subst (λ (gives : Pause). Moves c.args.left.now c.args.self.now.thread gives c.advance_over.new.self.thread) c.in-Joins.is c.in_ok-advance_over.ensures.moves).pending,
-    c.in_ok-join-in-Joins.ensures.answered c.in-None.is
+    c.in_ok-join-in-Joins.ensures.answered c.in-None.is,
   );
 }
 

@@ -18,11 +18,11 @@ returns-clause-tallied c =
       elim c.match-pending.branch [
         | in-None w ↦ inl (ap (λ (p : Posted). p.thread) w.self-is)
         | in-Some-Joins+in_ok-unended-in-Some-Joins+in_default-2 w ↦ subst (λ (p : Posted). MayJoin c.args.self.now.thread p.thread) (sym w.self-is)
-          (inr (
-            subst (λ (t : Thread). pending_in t ≡ Some pause.Joins) (ap (λ (p : Posted). p.thread) c.self.view_is)
-            (let asked = c.pending.ensures.pending in let is = w.in-Some-Joins.is in let joins = w.in-Some-Joins.field-0-is in cc),
-            w.in_ok-unended-in-Some-Joins.ensures.answered w.in_default-2.is
-          ))
+            (inr (
+              subst (λ (t : Thread). pending_in t ≡ Some pause.Joins) (ap (λ (p : Posted). p.thread) c.self.view_is)
+                  (let asked = c.pending.ensures.pending in let is = w.in-Some-Joins.is in let joins = w.in-Some-Joins.field-0-is in cc),
+              w.in_ok-unended-in-Some-Joins.ensures.answered w.in_default-2.is,
+            ))
       ],
-      goes
+      goes,
     )) c.advance.ensures.tallied
