@@ -4,6 +4,7 @@ pub mod Decided
 pub mod Giving
 pub mod Held
 pub mod Least
+pub mod Levels
 pub mod Marks
 pub mod Next
 pub mod Order
