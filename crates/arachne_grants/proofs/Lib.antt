@@ -9,7 +9,9 @@ pub mod Marks
 pub mod Next
 pub mod Order
 pub mod Promises
+pub mod Reading
 pub mod Sound
 pub mod Standing
 pub mod Stays
 pub mod Taking
+mod WorkedMessages
