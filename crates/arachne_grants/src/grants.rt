@@ -7,7 +7,7 @@ use crate::claims::{Claim, Client};
 /// Returns how many cores each client gets, at its place in `targets`.
 ///
 /// One core at a time goes to who asks for more and has the first claim; of equal claims, the client that came first.
-/// The cores of all claims before one are given at once, so the time doesn't grow with the cores but by their logarithm.
+/// The cores of all claims before one are given at once, so the time grows only by the logarithm of the cores.
 pub fn targets(clients: &[Client], cores: u32, targets: &mut [u32])
     requires { length targets.old ≡ length clients.now }
     ensures order { IsInOrder clients.now targets.new }
