@@ -1,4 +1,4 @@
-//! The daemon by its protocol, by affinity and no cpusets: it needs two processors, and no root.
+//! The daemon by its protocol, which needs two processors: by affinity, or by cpusets in the folder ARBITER_CPUSET.
 use arbiter::protocol::*;
 use std::env;
 use std::fs;
@@ -65,7 +65,12 @@ impl Daemon {
 
     fn at(path: PathBuf) -> Daemon {
         let program = option_env!("CARGO_BIN_EXE_arbiter").map_or_else(|| env::var("ARBITER").unwrap(), str::to_string);
-        let mut guardian = Command::new(program).arg(&path).stdout(Stdio::piped()).spawn().unwrap();
+        let mut command = Command::new(program);
+        command.arg(&path);
+        if let Some(folder) = env::var_os("ARBITER_CPUSET") {
+            command.arg("--cpuset").arg(folder);
+        }
+        let mut guardian = command.stdout(Stdio::piped()).spawn().unwrap();
         let mut line = [0; 6];
         guardian.stdout.as_mut().unwrap().read_exact(&mut line).unwrap();
         assert_eq!(&line, b"ready\n");
