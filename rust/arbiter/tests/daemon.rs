@@ -251,3 +251,37 @@ fn another_begins_where_a_daemon_was_killed_with_its_guardian() {
     let second = Daemon::at(path);
     assert_eq!(second.hello(0, 0).1[0], WELCOME);
 }
+
+#[test]
+fn a_client_that_does_not_read_is_none_any_more() {
+    let daemon = Daemon::new("deaf");
+    let (mut control, welcome) = daemon.hello(5, 0);
+    let _floats = daemon.thread(welcome[1], 0, true);
+    let start = Instant::now();
+    // Each second message takes a core back, which it is sent word of.
+    let mut heard = |cores| {
+        thread::sleep(Duration::from_millis(1));
+        control.write_all(&bytes_of([ASK, cores, 0, 0])).is_ok()
+    };
+    while heard(1) && heard(0) {
+        assert!(start.elapsed() < Duration::from_secs(30));
+    }
+    assert_eq!(daemon.hello(0, 0).1[0], WELCOME);
+}
+
+#[test]
+fn a_flood_of_one_client_keeps_no_other_from_its_core() {
+    let daemon = Daemon::new("flood");
+    let (mut control, welcome) = daemon.hello(5, 0);
+    let mut greedy = daemon.thread(welcome[1], 0, false);
+    send(&mut greedy, [WAIT, 0, 0, 0]);
+    let flood = thread::spawn(move || while control.write_all(&bytes_of([ASK, 1000, 0, 0])).is_ok() {});
+    assert_eq!(receive(&mut greedy).unwrap()[0], GRANT);
+    let (mut other, welcome) = daemon.hello(5, 0);
+    let mut thread = daemon.thread(welcome[1], 0, false);
+    send(&mut thread, [WAIT, 0, 0, 0]);
+    send(&mut other, [ASK, 1, 0, 0]);
+    assert_eq!(receive(&mut thread).unwrap()[0], GRANT);
+    drop(daemon);
+    flood.join().unwrap();
+}
