@@ -19,26 +19,41 @@ level-same true false alike same is = absurd (cc)
 level-same false true alike same is = absurd (cc)
 level-same false false alike same is = is
 
+level-last : (x y alike : Bool) → x ≡ true → y ≡ false → by_level x y alike ≡ false
+level-last x y alike beyond below = rw (beyond, below) refl
+
+level-same_not : (x y alike : Bool) → x ≡ y → alike ≡ false → by_level x y alike ≡ false
+level-same_not true true alike same is = is
+level-same_not true false alike same is = absurd (cc)
+level-same_not false true alike same is = absurd (cc)
+level-same_not false false alike same is = is
+
 level-cases : (x y alike : Bool) → by_level x y alike ≡ true → ((x ≡ false) × (y ≡ true)) ⊎ ((x ≡ y) × (alike ≡ true))
 level-cases true true alike is = inr (refl, is)
 level-cases true false alike is = absurd (cc)
 level-cases false true alike is = inl (refl, refl)
 level-cases false false alike is = inr (refl, is)
 
-alike-higher : (a b : Claim) → a.priority < b.priority → goes_before_alike a b ≡ true
+pub alike-higher : (a b : Claim) → a.priority < b.priority → goes_before_alike a b ≡ true
 alike-higher a b higher = grind (arith, common_steps, higher)
 
-alike-fewer : (a b : Claim) → a.priority ≡ b.priority → a.gets < b.gets → goes_before_alike a b ≡ true
+pub alike-fewer : (a b : Claim) → a.priority ≡ b.priority → a.gets < b.gets → goes_before_alike a b ≡ true
 alike-fewer a b same fewer = grind (arith, common_steps, same, fewer)
 
-alike-holds : (a b : Claim) → a.priority ≡ b.priority → a.gets ≡ b.gets → a.moves ≡ false → b.moves ≡ true → goes_before_alike a b ≡ true
+pub alike-holds : (a b : Claim) → a.priority ≡ b.priority → a.gets ≡ b.gets → a.moves ≡ false → b.moves ≡ true → goes_before_alike a b ≡ true
 alike-holds a b same equal holds moves = grind (arith, common_steps, same, equal, holds, moves)
 
-alike-not_lower : (a b : Claim) → b.priority < a.priority → goes_before_alike a b ≡ false
+pub alike-not_lower : (a b : Claim) → b.priority < a.priority → goes_before_alike a b ≡ false
 alike-not_lower a b lower = grind (arith, common_steps, lower)
 
-alike-not_more : (a b : Claim) → a.priority ≡ b.priority → b.gets < a.gets → goes_before_alike a b ≡ false
+pub alike-not_more : (a b : Claim) → a.priority ≡ b.priority → b.gets < a.gets → goes_before_alike a b ≡ false
 alike-not_more a b same more = grind (arith, common_steps, same, more)
+
+pub alike-not_moves : (a b : Claim) → a.priority ≡ b.priority → a.gets ≡ b.gets → b.moves ≡ false → goes_before_alike a b ≡ false
+alike-not_moves a b same equal stays = grind (arith, common_steps, same, equal, stays)
+
+pub alike-not_holds : (a b : Claim) → a.priority ≡ b.priority → a.gets ≡ b.gets → a.moves ≡ true → goes_before_alike a b ≡ false
+alike-not_holds a b same equal moves = grind (arith, common_steps, same, equal, moves)
 
 alike-moves : (a b : Claim) → a.priority ≡ b.priority → a.gets ≡ b.gets → goes_before_alike a b ≡ true → (a.moves ≡ false) × (b.moves ≡ true)
 alike-moves a b same equal is = (grind (arith, common_steps, same, equal, is), grind (arith, common_steps, same, equal, is))
@@ -74,11 +89,17 @@ alike-trans_cases a b c (inr (inr x)) (inl y) = alike-higher a c (let e = x.0 in
 alike-trans_cases a b c (inr (inr x)) (inr (inl y)) = alike-fewer a c (x.0 ∙ y.0) (let d = x.1 in let e = y.1 in omega arith)
 alike-trans_cases a b c (inr (inr x)) (inr (inr y)) = alike-holds a c (x.0 ∙ y.0) (x.1 ∙ y.1) x.2 y.3
 
-before-level : (a b : Claim) → a.beyond ≡ false → b.beyond ≡ true → goes_before a b ≡ true
+pub before-level : (a b : Claim) → a.beyond ≡ false → b.beyond ≡ true → goes_before a b ≡ true
 before-level a b below beyond = level-first a.beyond b.beyond (goes_before_alike a b) below beyond
 
-before-alike : (a b : Claim) → a.beyond ≡ b.beyond → goes_before_alike a b ≡ true → goes_before a b ≡ true
+pub before-alike : (a b : Claim) → a.beyond ≡ b.beyond → goes_before_alike a b ≡ true → goes_before a b ≡ true
 before-alike a b same is = level-same a.beyond b.beyond (goes_before_alike a b) same is
+
+pub not_before-level : (a b : Claim) → a.beyond ≡ true → b.beyond ≡ false → goes_before a b ≡ false
+not_before-level a b beyond below = level-last a.beyond b.beyond (goes_before_alike a b) beyond below
+
+pub not_before-alike : (a b : Claim) → a.beyond ≡ b.beyond → goes_before_alike a b ≡ false → goes_before a b ≡ false
+not_before-alike a b same is = level-same_not a.beyond b.beyond (goes_before_alike a b) same is
 
 before-cases : (a b : Claim) → goes_before a b ≡ true
     → ((a.beyond ≡ false) × (b.beyond ≡ true)) ⊎ ((a.beyond ≡ b.beyond) × (goes_before_alike a b ≡ true))
@@ -156,10 +177,10 @@ pub goes_before-same : (a : Claim) → goes_before a a ≡ false
 goes_before-same a = grind (arith, common_steps)
 
 -- the reserve of a client that gets so many
-level-below : (client : Client) (gets : ℕ) → gets < reserve_of client → (claim_of client gets).beyond ≡ false
+pub level-below : (client : Client) (gets : ℕ) → gets < reserve_of client → (claim_of client gets).beyond ≡ false
 level-below client gets h = grind (arith, common_steps, h)
 
-level-beyond : (client : Client) (gets : ℕ) → reserve_of client ≤ gets → (claim_of client gets).beyond ≡ true
+pub level-beyond : (client : Client) (gets : ℕ) → reserve_of client ≤ gets → (claim_of client gets).beyond ≡ true
 level-beyond client gets h = grind (arith, common_steps, h)
 
 -- who has less than its reserve goes before who has not
@@ -211,10 +232,10 @@ goes_before-fewer_below client other gets before below same fewer =
     before-below client other gets before below (alike-fewer (claim_of client gets) (claim_of other before) same fewer)
 
 -- whether the next core would be one that the client does not hold
-moves-held : (client : Client) (gets : ℕ) → gets < client.held → (claim_of client gets).moves ≡ false
+pub moves-held : (client : Client) (gets : ℕ) → gets < client.held → (claim_of client gets).moves ≡ false
 moves-held client gets h = grind (arith, common_steps, h)
 
-moves-new : (client : Client) (gets : ℕ) → client.held ≤ gets → (claim_of client gets).moves ≡ true
+pub moves-new : (client : Client) (gets : ℕ) → client.held ≤ gets → (claim_of client gets).moves ≡ true
 moves-new client gets h = grind (arith, common_steps, h)
 
 alike-holds_it : (client other : Client) (gets before : ℕ) → client.priority ≡ other.priority → gets ≡ before

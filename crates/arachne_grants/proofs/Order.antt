@@ -1,8 +1,8 @@
 -- One core more for who has the first claim to it.
-use Rattle.std.proofs.Common.{true, zero, [], ◌∷◌, refl, ◌≡◌, ◌≢◌, ℕ, suc, ◌+◌, ◌<◌, ◌≤◌, false, List, length, get_or, set, arith, inl, inr, sym, ◌∙◌, sum, subst}
+use Rattle.std.proofs.Common.{true, ◌≡◌, ◌≢◌, ℕ, ◌+◌, ◌<◌, ◌≤◌, false, List, length, set, arith, inl, inr, sym, ◌∙◌, sum, subst}
 use Rattle.std.proofs.lemmas.Bool.{cases_eq}
 use Rattle.std.proofs.lemmas.List.{get_or-set_same, get_or-set_other, length-set}
-use Rattle.std.proofs.lemmas.List.Sums.{sum_by-set, sum_by-cons}
+use Rattle.std.proofs.lemmas.List.Sums.{sum_by-set}
 use Rattle.arachne_grants.specs.declared.claims.Client.{Client}
 use Rattle.arachne_grants.specs.declared.claims.Claim.{Claim}
 use Rattle.arachne_grants.specs.Claims.{claim_of, goes_before}
@@ -105,24 +105,6 @@ pub record AreSoFar (clients : List Client) (given : ℕ) (targets : List ℕ) :
   pub each : (place : ℕ) → place < length clients → target_at targets place ≤ (client_at clients place).asks
   pub order : IsInOrder clients targets
   pub turn : IsInTurn clients targets
-
-sum-zero : (xs : List ℕ) → ((k : ℕ) → k < length xs → get_or xs k 0 ≡ 0) → sum xs ≡ 0
-sum-zero [] none = refl
-sum-zero (x ∷ xs) none =
-    let rest : sum xs ≡ 0 = sum-zero xs (λ k h. none (suc k) (omega arith)) in
-    let here : x ≡ 0 = none zero (omega arith) in
-    let all = sum_by-cons (λ n. n) x xs in
-    omega arith
-
-pub AreSoFar-none : (clients : List Client) (targets : List ℕ) → length targets ≡ length clients
-    → ((k : ℕ) → k < length targets → get_or targets k 0 ≡ 0) → AreSoFar clients 0 targets
-AreSoFar-none clients targets sized none = record {
-  sized = sized;
-  total = sum-zero targets none;
-  each = λ place h. (let e = none place (omega arith) in omega arith);
-  order = λ place other before more within is. absurd (let e = none other (omega arith) in omega arith);
-  turn = λ place other before more after within is. absurd (let e = none other (omega arith) in omega arith);
-}
 
 pub AreSoFar-more : (clients : List Client) (given : ℕ) (targets : List ℕ) (next : ℕ) → AreSoFar clients given targets
     → IsFirst clients targets (length clients) next → AreSoFar clients (given + 1) (with_one targets next)

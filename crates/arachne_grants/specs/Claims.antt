@@ -1,5 +1,5 @@
 -- A client's claim to one core more.
-use Rattle.std.specs.Prelude.{ℕ, Bool, true, false, not, ◌&&◌, ◌==◌, min, nat_le, nat_lt, if◌then◌else◌}
+use Rattle.std.specs.Prelude.{ℕ, ◌+◌, Bool, true, false, not, ◌&&◌, ◌==◌, max, min, nat_le, nat_lt, if◌then◌else◌}
 use Rattle.arachne_grants.specs.declared.claims.Client.{Client}
 use Rattle.arachne_grants.specs.declared.claims.Claim.{Claim}
 
@@ -29,3 +29,20 @@ abbrev pub goes_before : Claim → Claim → Bool
 goes_before claim other =
     if claim.beyond then (if other.beyond then goes_before_alike claim other else false)
     else (if other.beyond then true else goes_before_alike claim other)
+
+-- up to how many cores a client's claims go before another of its priority
+abbrev pub level_before : Claim → Client → ℕ
+level_before claim client = if claim.moves && nat_lt claim.gets client.held then claim.gets + 1 else claim.gets
+
+-- how many of a client's first `most` cores go before a claim, if all of these or none are below its reserve
+abbrev pub before_alike : Claim → Client → ℕ → ℕ
+before_alike claim client most =
+    if client.priority == claim.priority
+    then min most (level_before claim client)
+    else (if nat_lt client.priority claim.priority then most else 0)
+
+-- how many cores a client gets by its claims that go before this one
+abbrev pub gets_before : Claim → Client → ℕ
+gets_before claim client =
+    if claim.beyond then max (reserve_of client) (before_alike claim client client.asks)
+    else before_alike claim client (reserve_of client)

@@ -1,8 +1,8 @@
 -- How many cores each client gets.
-use Rattle.std.specs.Prelude.{true, ◌≡◌, ℕ, ◌+◌, ◌<◌, ◌≤◌, false, Option, MatchOption, List, [], ◌∷◌, length, min, slice_index, slice_index_or, sum}
+use Rattle.std.specs.Prelude.{true, ◌≡◌, ℕ, ◌+◌, ◌<◌, ◌≤◌, false, Option, MatchOption, List, [], ◌∷◌, length, min, slice_index, slice_index_or, sum, sum_by}
 use Rattle.arachne_grants.specs.declared.claims.Client.{Client}
 use Rattle.arachne_grants.specs.declared.claims.Claim.{Claim}
-use Rattle.arachne_grants.specs.Claims.{claim_of, goes_before, reserve_of}
+use Rattle.arachne_grants.specs.Claims.{claim_of, gets_before, goes_before, reserve_of}
 
 -- the client at a place below the list's length
 abbrev pub client_at : List Client → ℕ → Client
@@ -130,3 +130,12 @@ abbrev pub IsDecided : List Client → ℕ → Type 0
 IsDecided clients cores =
     (targets other : List ℕ) → IsAnswer clients cores targets → IsAnswer clients cores other
     → (place : ℕ) → place < length clients → target_at targets place ≡ target_at other place
+
+-- no more claims go before this one than there are cores
+abbrev pub AreEnough : List Client → ℕ → Claim → Type 0
+AreEnough clients cores claim = sum_by (gets_before claim) clients ≤ cores
+
+-- each client gets the cores of its claims that go before some claim
+abbrev pub AreFilled : List Client → List ℕ → Type 0
+AreFilled clients targets =
+    (claim : Claim) × ((place : ℕ) → place < length clients → target_at targets place ≡ gets_before claim (client_at clients place))

@@ -1,6 +1,6 @@
 //! A client, and its claim to one core more.
 ghost use Rattle.std.specs.Prelude.{◌≡◌};
-ghost use Rattle.arachne_grants.specs.Claims.{claim_of, goes_before, reserve_of};
+ghost use Rattle.arachne_grants.specs.Claims.{before_alike, claim_of, gets_before, goes_before, level_before, reserve_of};
 
 /// A client of the machine: its priority, and the cores that it reserves, asks for and holds.
 #[derive(Clone, Copy, Debug, PartialEq, Eq)]
@@ -54,9 +54,52 @@ impl Client {
             moves: self.held <= gets,
         }
     }
+
+    /// Returns how many cores it gets by its claims that go before this one.
+    pub(crate) fn gets_before(&self, claim: &Claim) -> u32
+        ensures { result ≡ gets_before claim.now self.now }
+    {
+        if claim.beyond {
+            self.reserve().max(self.before_alike(claim, self.asks))
+        } else {
+            self.before_alike(claim, self.reserve())
+        }
+    }
+
+    /// Returns how many of its first `most` cores go before a claim, if all of these or none are below its reserve.
+    fn before_alike(&self, claim: &Claim, most: u32) -> u32
+        ensures { result ≡ before_alike claim.now self.now most }
+    {
+        if self.priority == claim.priority {
+            most.min(self.level_before(claim))
+        } else if self.priority < claim.priority {
+            most
+        } else {
+            0
+        }
+    }
+
+    /// Returns the number of cores up to which its claims go before another of its priority.
+    fn level_before(&self, claim: &Claim) -> u32
+        ensures { result ≡ level_before claim.now self.now }
+    {
+        if claim.moves && claim.gets < self.held {
+            claim.gets + 1
+        } else {
+            claim.gets
+        }
+    }
 }
 
 impl Claim {
+    /// The claim that goes before all others.
+    pub(crate) const FIRST: Claim = Claim {
+        beyond: false,
+        priority: 0,
+        gets: 0,
+        moves: false,
+    };
+
     /// Returns true if this claim goes before the other: first who has less than its reserve, then the higher priority,
     /// then who gets fewer, then who holds the core already.
     pub(crate) fn goes_before(&self, other: &Claim) -> bool

@@ -1,12 +1,13 @@
 //! The number of cores that each client gets.
-ghost use Rattle.std.specs.Prelude.{◌≡◌, ◌+◌, ◌<◌, length, IfSome};
-ghost use Rattle.arachne_grants.specs.Grants.{AreGrants, IsBounded, IsByPriority, IsDecided, IsFair, IsInOrder, IsInTurn, IsLeast, IsNext, IsReserved, IsUsed};
+ghost use Rattle.std.specs.Prelude.{◌≡◌, ◌+◌, ◌<◌, ◌≤◌, ◌↔◌, length, sum, IfSome, IsTrue};
+ghost use Rattle.arachne_grants.specs.Grants.{AreEnough, AreFilled, AreGrants, IsBounded, IsByPriority, IsDecided, IsFair, IsInOrder, IsInTurn, IsLeast, IsNext, IsReserved, IsUsed};
 
-use crate::claims::Client;
+use crate::claims::{Claim, Client};
 
 /// Returns how many cores each client gets, at its place in `targets`.
 ///
 /// One core at a time goes to who asks for more and has the first claim; of equal claims, the client that came first.
+/// The cores of all claims before one are given at once, so the time grows only by the logarithm of the cores.
 pub fn targets(clients: &[Client], cores: u32, targets: &mut [u32])
     requires { length targets.old ≡ length clients.now }
     ensures order { IsInOrder clients.now targets.new }
@@ -18,10 +19,8 @@ pub fn targets(clients: &[Client], cores: u32, targets: &mut [u32])
     ensures fair { IsFair clients.now targets.new }
     ensures least { IsLeast clients.now cores targets.new }
 {
-    'clear: for target in targets.iter_mut() {
-        *target = 0;
-    }
-    'grant: for _core in 0..cores {
+    let given = fill_levels(clients, cores, targets);
+    'grant: for _core in given..cores {
         let Some(next) = next_client(clients, targets) else {
             return;
         };
@@ -34,6 +33,105 @@ pub fn targets(clients: &[Client], cores: u32, targets: &mut [u32])
 pub fn targets_are_decided(clients: &[Client], cores: u32)
     ensures { IsDecided clients.now cores }
 {}
+
+/// Gives the cores of all claims before one, the last for which there are enough, and returns how many those are.
+fn fill_levels(clients: &[Client], cores: u32, targets: &mut [u32]) -> u32
+    requires { length targets.old ≡ length clients.now }
+    ensures few { result ≤ cores }
+    ensures sum { sum targets.new ≡ result }
+    ensures filled { AreFilled clients.now targets.new }
+{
+    let claim = last_filled(clients, cores);
+    let mut given = 0;
+    'fill: for place in 0..clients.len() {
+        let gets = clients[place].gets_before(&claim);
+        targets[place] = gets;
+        given += gets;
+    }
+    given
+}
+
+/// Returns the last claim, by whether reserves are met, priority, number of cores, and whether these are held, before
+/// which no more claims go than there are cores.
+fn last_filled(clients: &[Client], cores: u32) -> Claim
+    ensures { AreEnough clients.now cores result }
+{
+    let mut claim = later(
+        clients,
+        cores,
+        Claim::FIRST,
+        Claim {
+            beyond: true,
+            ..Claim::FIRST
+        },
+    );
+    'priority: for bit in [128, 64, 32, 16, 8, 4, 2, 1] {
+        let next = Claim {
+            priority: claim.priority | bit,
+            ..claim
+        };
+        claim = later(clients, cores, claim, next);
+    }
+    claim = last_level(clients, cores, claim);
+    later(
+        clients,
+        cores,
+        claim,
+        Claim {
+            moves: true,
+            ..claim
+        },
+    )
+}
+
+/// Returns the claim at the most cores, of fewer than there are, before which no more claims go than there are cores.
+fn last_level(clients: &[Client], cores: u32, claim: Claim) -> Claim
+    requires { AreEnough clients.now cores claim }
+    ensures { AreEnough clients.now cores result }
+{
+    let mut claim = claim;
+    let mut too_many = cores;
+    'halve: while too_many.saturating_sub(claim.gets) > 1 {
+        let middle = claim.gets + (too_many - claim.gets) / 2;
+        let next = Claim {
+            gets: middle,
+            ..claim
+        };
+        if are_enough(clients, cores, &next) {
+            claim = next;
+        } else {
+            too_many = middle;
+        }
+    }
+    claim
+}
+
+/// Returns the next claim if there are cores for all that go before it, else the claim.
+fn later(clients: &[Client], cores: u32, claim: Claim, next: Claim) -> Claim
+    requires { AreEnough clients.now cores claim }
+    ensures { AreEnough clients.now cores result }
+{
+    if are_enough(clients, cores, &next) {
+        next
+    } else {
+        claim
+    }
+}
+
+/// Returns true if there are cores for all claims that go before this one.
+fn are_enough(clients: &[Client], cores: u32, claim: &Claim) -> bool
+    ensures { IsTrue result ↔ AreEnough clients.now cores claim.now }
+{
+    let mut left = cores;
+    'each: for client in clients {
+        let gets = client.gets_before(claim);
+        if left < gets {
+            return false;
+        }
+        left -= gets;
+    }
+    true
+}
 
 /// Returns who gets the next core, or None if nobody asks for more.
 fn next_client(clients: &[Client], targets: &[u32]) -> Option<usize>

@@ -1,5 +1,5 @@
 //! The daemon's state: its clients, their threads, and how many cores each client is allowed.
-ghost use Rattle.std.specs.Prelude.{◌≡◌, ◌⊎◌, ℕ, ◌+◌, ◌<◌, ◌≤◌, IsOk, MatchOption, MatchResult, Some, None, length, map, slice_index, slice_set, true, false, ⊤, if◌then◌else◌};
+ghost use Rattle.std.specs.Prelude.{◌≡◌, ◌⊎◌, ℕ, ◌+◌, ◌<◌, ◌≤◌, IsOk, MatchOption, MatchResult, Some, None, length, map, replicate, slice_index, slice_set, true, false, ⊤, if◌then◌else◌};
 ghost use Rattle.arachne_grants.specs.Sessions.{AreBelow, IsSound};
 
 use crate::claims::Client;
@@ -35,6 +35,7 @@ pub struct TakenCore {
 }
 
 /// The clients of a daemon that grants whole cores to programs.
+#[derive(Drop)]
 pub struct CoreArbiter {
     cores: u16,
     sessions: [Session; MAX_CLIENTS],
@@ -54,7 +55,8 @@ impl CoreArbiter {
     /// Returns an arbiter of `cores` cores, without clients.
     pub fn new(cores: u16) -> CoreArbiter
         requires { cores ≤ 1024 }
-        ensures { result.cores ≡ cores }
+        ensures cores { result.cores ≡ cores }
+        ensures empty { result.sessions ≡ replicate 64 (new_session false 0 0 0) }
     {
         CoreArbiter {
             cores,
@@ -75,6 +77,7 @@ impl CoreArbiter {
             (λ _. self.new.sessions ≡ slice_set self.old.sessions client (new_session true priority reserved most))
             (λ _. self.new.sessions ≡ self.old.sessions) }
         ensures free { IsOk result → (session_at self.old.sessions client).taken ≡ false }
+        ensures within { IsOk result → client < 64 }
         ensures accepts { client < 64 → (session_at self.old.sessions client).taken ≡ false → IsOk result }
         ensures kept { KeepsAllowed self.old self.new }
     {
@@ -103,6 +106,7 @@ impl CoreArbiter {
             (λ _. self.new.sessions ≡ slice_set self.old.sessions client (record (session_at self.old.sessions client) { asks = cores }))
             (λ _. self.new.sessions ≡ self.old.sessions) }
         ensures taken { IsOk result → (session_at self.old.sessions client).taken ≡ true }
+        ensures within { IsOk result → client < 64 }
         ensures accepts { client < 64 → (session_at self.old.sessions client).taken ≡ true → IsOk result }
         ensures kept { KeepsAllowed self.old self.new }
     {
@@ -139,6 +143,8 @@ impl CoreArbiter {
             (λ _. self.new.sessions ≡ with_thread self.old.sessions client place (if floats then Floats else Runs))
             (λ _. self.new.sessions ≡ self.old.sessions) }
         ensures absent { MatchResult result (λ _. thread_at self.old.sessions client place ≡ Absent) (λ _. ⊤) }
+        ensures taken { IsOk result → (session_at self.old.sessions client).taken ≡ true }
+        ensures within { IsOk result → (client < 64) × (place < 64) }
         ensures accepts { client < 64 → place < 64 → (session_at self.old.sessions client).taken ≡ true
             → thread_at self.old.sessions client place ≡ Absent → IsOk result }
         ensures kept { KeepsAllowed self.old self.new }
@@ -170,6 +176,7 @@ impl CoreArbiter {
             (λ _. self.new.sessions ≡ with_thread self.old.sessions client place Waits)
             (λ _. self.new.sessions ≡ self.old.sessions) }
         ensures can { MatchResult result (λ _. can_wait (thread_at self.old.sessions client place) ≡ true) (λ _. ⊤) }
+        ensures within { IsOk result → (client < 64) × (place < 64) }
         ensures accepts { client < 64 → place < 64 → can_wait (thread_at self.old.sessions client place) ≡ true → IsOk result }
         ensures kept { KeepsAllowed self.old self.new }
     {
@@ -264,6 +271,16 @@ impl CoreArbiter {
         ensures { result ≡ slice_index self.now.allowed client }
     {
         self.allowed.get(client).copied().unwrap_or(0)
+    }
+
+    /// Returns how many cores a client has.
+    pub fn held_by(&self, client: usize) -> u32
+        ensures { result ≡ held_in (session_at self.now.sessions client) }
+    {
+        if client >= MAX_CLIENTS {
+            return 0;
+        }
+        self.sessions[client].held()
     }
 
     /// Returns what a thread does.

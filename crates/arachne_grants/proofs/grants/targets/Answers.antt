@@ -3,15 +3,16 @@
 -- (`Promises`, `Least`). Another order of claims changes `ClaimOrder`.
 use Rattle.std.proofs.Common.{arith}
 use Rattle.arachne_grants.specs.Grants.{IsUsed}
-use Rattle.arachne_grants.proofs.Order.{AreSoFar-none, AreSoFar-more, IsUsed-served}
+use Rattle.arachne_grants.proofs.Order.{AreSoFar-more, IsUsed-served}
+use Rattle.arachne_grants.proofs.Levels.{AreSoFar-filled}
 use Rattle.arachne_grants.proofs.Promises.{IsReserved-in_order, IsByPriority-in_order, IsFair-in_order}
 use Rattle.arachne_grants.proofs.Least.{IsLeast-in_order}
 use Rattle.arachne_grants.proofs.grants.targets.Goals as goal
 
 pub grant-init : goal.grant-init
 grant-init c =
-    AreSoFar-none c.args.clients.now c.clear.targets (let s = c.requires in omega arith)
-    (λ k h. c.clear.invariant k (let e = c.clear-test.false in omega arith))
+    AreSoFar-filled c.args.clients.now c.fill_levels-given.result c.fill_levels-given.new.targets (omega arith)
+    c.fill_levels-given.ensures.sum c.fill_levels-given.ensures.filled
 
 pub grant-preserved : goal.grant-preserved
 grant-preserved c = AreSoFar-more c.args.clients.now c.grant._core c.grant.targets c.in-Some.next c.grant.invariant c.in-Some.ensures

@@ -1,0 +1,14 @@
+use Rattle.std.proofs.Common.{◌≡◌}
+use Rattle.std.specs.declared.option.Option.TheVariants.{Some}
+use Rattle.arachne_grants_c.specs.ArbiterHeld.{held}
+use Rattle.arachne_grants_c.specs.ArbiterTold.{joined, Changes, MayJoin}
+use Rattle.arachne_grants_c.specs.Codes.{refused}
+use Rattle.arachne_grants_c.proofs.Held.{is_told}
+use Rattle.arachne_grants_c.proofs.arbiter.arachne_arbiter_join.Goals as goal
+
+pub returns : goal.returns
+returns c =
+    let was : held c.args.arbiter.now ≡ Some c.deref_mut.result.now = cc (c.in-Some.ensures.some, c.deref_mut.ensures.value) in
+    let now : held c.put.new.self ≡ Some c.join-told.new.arbiter = cc (c.put.ensures) in
+    is_told (Changes (MayJoin c.args.client c.args.place) (joined c.args.client c.args.place c.args.floats)) refused c.join-told.result (held c.args.arbiter.now) (held c.put.new.self) c.deref_mut.result.now c.join-told.new.arbiter was now
+    c.join-told.ensures

@@ -1,0 +1,219 @@
+//! The exports for an arbiter.
+ghost use Rattle.std.specs.Prelude.{◌≡◌};
+ghost use Rattle.std.specs.declared.option.Option.TheVariants.{None};
+ghost use Rattle.arachne_grants_c.specs.ArbiterHeld.{held};
+ghost use Rattle.arachne_grants_c.specs.ArbiterTold.{action_alone, asking, begun, ended, gone, joined, waiting, Changes, Decides, Gives, HasNumber, HasPlace, IsClient, IsMade, IsTold, IsVacant, MayJoin, MayWait, Shows, Takes};
+ghost use Rattle.arachne_grants_c.specs.Codes.{refused};
+
+use crate::arbiter_handle::ArachneArbiter;
+use crate::arbiter_told::{ArachneAction, ArachneShare, action_alone};
+use crate::codes::{DONE, NO_MEMORY, REFUSED};
+use crate::{events, turns};
+use arachne_grants::{CoreArbiter, MAX_CORES};
+use std::alloc::Global;
+
+/// Makes an arbiter of the cores 0 to `cores` - 1, without clients, in a handle that holds nothing. DONE; REFUSED if
+/// the handle holds something, or if there are more than 1,024 cores; NO_MEMORY.
+#[unsafe(no_mangle)]
+pub extern "C" fn arachne_arbiter_new(
+    alloc: Global,
+    arbiter: &mut ArachneArbiter,
+    cores: u32,
+) -> u32
+    ensures { IsMade cores (held arbiter.old) (held arbiter.new) result }
+{
+    if arbiter.is_in_use(alloc) || cores > MAX_CORES as u32 {
+        return REFUSED;
+    }
+    let Ok(value) = Box::new(alloc, CoreArbiter::new(cores as u16)) else {
+        return NO_MEMORY;
+    };
+    arbiter.put(value);
+    DONE
+}
+
+/// Frees what a handle holds.
+#[unsafe(no_mangle)]
+pub extern "C" fn arachne_arbiter_close(alloc: Global, arbiter: &mut ArachneArbiter)
+    ensures { held arbiter.new ≡ None }
+{
+    drop(arbiter.take(alloc));
+}
+
+/// Gives a client a number of 0 to 63 that no other has: with a priority, of which 0 goes first, the cores that it
+/// reserves, and the most that it may ask for. DONE, or REFUSED. Whether it may have these is the caller's to test.
+#[unsafe(no_mangle)]
+pub extern "C" fn arachne_arbiter_hello(
+    alloc: Global,
+    arbiter: &mut ArachneArbiter,
+    client: usize,
+    priority: u8,
+    reserved: u32,
+    most: u32,
+) -> u32
+    ensures { IsTold (Changes (IsVacant client) (begun client priority reserved most)) refused (held arbiter.old) (held arbiter.new) result }
+{
+    let Some(mut value) = arbiter.take(alloc) else {
+        return REFUSED;
+    };
+    let told = events::hello(&mut value, client, priority, reserved, most);
+    arbiter.put(value);
+    told
+}
+
+/// Sets the number of cores that a client asks for. DONE, or REFUSED if there is no such client.
+#[unsafe(no_mangle)]
+pub extern "C" fn arachne_arbiter_ask(
+    alloc: Global,
+    arbiter: &mut ArachneArbiter,
+    client: usize,
+    cores: u32,
+) -> u32
+    ensures { IsTold (Changes (IsClient client) (asking client cores)) refused (held arbiter.old) (held arbiter.new) result }
+{
+    let Some(mut value) = arbiter.take(alloc) else {
+        return REFUSED;
+    };
+    let told = events::ask(&mut value, client, cores);
+    arbiter.put(value);
+    told
+}
+
+/// Removes a client, with all of its threads. DONE, or REFUSED if its number is none of 0 to 63.
+#[unsafe(no_mangle)]
+pub extern "C" fn arachne_arbiter_leave(
+    alloc: Global,
+    arbiter: &mut ArachneArbiter,
+    client: usize,
+) -> u32
+    ensures { IsTold (Changes (HasNumber client) (gone client)) refused (held arbiter.old) (held arbiter.new) result }
+{
+    let Some(mut value) = arbiter.take(alloc) else {
+        return REFUSED;
+    };
+    let told = events::leave(&mut value, client);
+    arbiter.put(value);
+    told
+}
+
+/// Adds a thread at a place of 0 to 63 of its client that has none. One that floats never waits. DONE, or REFUSED.
+#[unsafe(no_mangle)]
+pub extern "C" fn arachne_arbiter_join(
+    alloc: Global,
+    arbiter: &mut ArachneArbiter,
+    client: usize,
+    place: usize,
+    floats: bool,
+) -> u32
+    ensures { IsTold (Changes (MayJoin client place) (joined client place floats)) refused (held arbiter.old) (held arbiter.new) result }
+{
+    let Some(mut value) = arbiter.take(alloc) else {
+        return REFUSED;
+    };
+    let told = events::join(&mut value, client, place, floats);
+    arbiter.put(value);
+    told
+}
+
+/// Takes its core from a thread, if it has one, and lets the thread wait until it is granted one. DONE, or REFUSED if
+/// it floats or waits already, or if there is no such thread.
+#[unsafe(no_mangle)]
+pub extern "C" fn arachne_arbiter_wait(
+    alloc: Global,
+    arbiter: &mut ArachneArbiter,
+    client: usize,
+    place: usize,
+) -> u32
+    ensures { IsTold (Changes (MayWait client place) (waiting client place)) refused (held arbiter.old) (held arbiter.new) result }
+{
+    let Some(mut value) = arbiter.take(alloc) else {
+        return REFUSED;
+    };
+    let told = events::wait(&mut value, client, place);
+    arbiter.put(value);
+    told
+}
+
+/// Removes a thread. DONE, or REFUSED if its client's number or its place is none of 0 to 63.
+#[unsafe(no_mangle)]
+pub extern "C" fn arachne_arbiter_end(
+    alloc: Global,
+    arbiter: &mut ArachneArbiter,
+    client: usize,
+    place: usize,
+) -> u32
+    ensures { IsTold (Changes (HasPlace client place) (ended client place)) refused (held arbiter.old) (held arbiter.new) result }
+{
+    let Some(mut value) = arbiter.take(alloc) else {
+        return REFUSED;
+    };
+    let told = events::end(&mut value, client, place);
+    arbiter.put(value);
+    told
+}
+
+/// Decides anew how many cores each client is allowed. DONE, or REFUSED.
+#[unsafe(no_mangle)]
+pub extern "C" fn arachne_arbiter_decide(alloc: Global, arbiter: &mut ArachneArbiter) -> u32
+    ensures { IsTold Decides refused (held arbiter.old) (held arbiter.new) result }
+{
+    let Some(mut value) = arbiter.take(alloc) else {
+        return REFUSED;
+    };
+    let told = turns::decide(&mut value);
+    arbiter.put(value);
+    told
+}
+
+/// Takes its core from the last thread of a client that has one, if the client has more than it is allowed: at once if
+/// that thread floats, else only if the client is late. TAKEN, or NOTHING.
+#[unsafe(no_mangle)]
+pub extern "C" fn arachne_arbiter_take_back(
+    alloc: Global,
+    arbiter: &mut ArachneArbiter,
+    client: usize,
+    late: bool,
+) -> ArachneAction
+    ensures { IsTold (Takes client late) (action_alone refused) (held arbiter.old) (held arbiter.new) result }
+{
+    let Some(mut value) = arbiter.take(alloc) else {
+        return action_alone(REFUSED);
+    };
+    let told = turns::take_back(&mut value, client, late);
+    arbiter.put(value);
+    told
+}
+
+/// Gives a free core to a thread that can take one, of a client that has less than it is allowed: the higher priority
+/// first. GRANTED if the thread waited, PLACED if it floats, or NOTHING.
+#[unsafe(no_mangle)]
+pub extern "C" fn arachne_arbiter_give(alloc: Global, arbiter: &mut ArachneArbiter) -> ArachneAction
+    ensures { IsTold Gives (action_alone refused) (held arbiter.old) (held arbiter.new) result }
+{
+    let Some(mut value) = arbiter.take(alloc) else {
+        return action_alone(REFUSED);
+    };
+    let told = turns::give(&mut value);
+    arbiter.put(value);
+    told
+}
+
+/// Returns how many cores a client is allowed, and how many it has.
+#[unsafe(no_mangle)]
+pub extern "C" fn arachne_arbiter_share(
+    alloc: Global,
+    arbiter: &mut ArachneArbiter,
+    client: usize,
+) -> ArachneShare
+    ensures { IsTold (Shows client) (record { allowed = 0; held = 0 }) (held arbiter.old) (held arbiter.new) result }
+{
+    let Some(value) = arbiter.take(alloc) else {
+        return ArachneShare {
+            allowed: 0,
+            held: 0,
+        };
+    };
+    let told = turns::share(&value, client);
+    arbiter.put(value);
+    told
+}

@@ -1,0 +1,60 @@
+//! What C is told of an arbiter.
+ghost use Rattle.std.specs.Prelude.{◌≡◌};
+ghost use Rattle.arachne_grants_c.specs.ArbiterTold.{action_alone, told_given, told_taken};
+
+use crate::codes::{GRANTED, PLACED, TAKEN};
+use arachne_grants::{Grant, TakenCore};
+
+/// What is to be done with a thread. Numbers that it doesn't have are 0.
+#[repr(C)]
+#[derive(Clone, Copy)]
+pub struct ArachneAction {
+    /// TAKEN, PLACED, GRANTED or NOTHING; REFUSED if the handle holds nothing.
+    pub code: u32,
+    pub core: u32,
+    pub client: usize,
+    pub place: usize,
+}
+
+/// A client's share of the cores.
+#[repr(C)]
+#[derive(Clone, Copy)]
+pub struct ArachneShare {
+    /// Cores that it is allowed.
+    pub allowed: u32,
+    /// Cores that its threads have.
+    pub held: u32,
+}
+
+pub(crate) fn action_alone(code: u32) -> ArachneAction
+    ensures { result ≡ action_alone code }
+{
+    ArachneAction {
+        code,
+        core: 0,
+        client: 0,
+        place: 0,
+    }
+}
+
+pub(crate) fn told_given(grant: &Grant) -> ArachneAction
+    ensures { result ≡ told_given grant.now }
+{
+    ArachneAction {
+        code: if grant.waited { GRANTED } else { PLACED },
+        core: u32::from(grant.core),
+        client: grant.client,
+        place: grant.place,
+    }
+}
+
+pub(crate) fn told_taken(client: usize, taken: &TakenCore) -> ArachneAction
+    ensures { result ≡ told_taken client taken.now }
+{
+    ArachneAction {
+        code: TAKEN,
+        core: u32::from(taken.core),
+        client,
+        place: taken.place,
+    }
+}

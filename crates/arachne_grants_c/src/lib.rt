@@ -1,0 +1,19 @@
+//! The state of a daemon that grants cores to programs, and the messages that it reads, as one static library of plain
+//! C functions.
+//!
+//! A handle holds an arbiter, or nothing. One that holds nothing is one null pointer, so C begins with that. No call
+//! waits, sleeps or locks, and only `arachne_arbiter_new` takes memory. `scripts/declarations` makes
+//! `examples/c/arachne_grants.h` and `examples/rust/arachne_grants/declared.rs` from these files.
+#![tactic(auto)]
+
+mod arbiter;
+mod arbiter_handle;
+mod arbiter_told;
+mod codes;
+mod events;
+mod message;
+mod turns;
+
+pub use arbiter_handle::ArachneArbiter;
+pub use arbiter_told::{ArachneAction, ArachneShare};
+pub use message::ArachneMessage;

@@ -1,0 +1,97 @@
+//! The export for messages.
+ghost use Rattle.std.specs.Prelude.{◌≡◌};
+ghost use Rattle.arachne_grants_c.specs.MessageTold.{code_of, message_alone, told_message, IsRead};
+
+use crate::codes::{ASK, HELLO, JOIN, KIND, PLACE, PRIORITY, SHORT, UNUSED, VERSION, WAIT};
+use arachne_grants::{ClientMessage, MessageFault, read_message};
+
+/// A message of a client. Numbers that it doesn't have are 0.
+#[repr(C)]
+#[derive(Clone, Copy)]
+pub struct ArachneMessage {
+    /// HELLO, JOIN, WAIT or ASK; else why the bytes begin with no message.
+    pub code: u32,
+    pub priority: u32,
+    pub reserved: u32,
+    pub most: u32,
+    pub client: u32,
+    pub thread: u32,
+    pub place: u32,
+    pub cores: u32,
+    pub floats: bool,
+}
+
+/// Reads the message that bytes begin with: HELLO, JOIN, WAIT or ASK. SHORT if they are fewer than 16; else KIND,
+/// VERSION, PRIORITY, PLACE or UNUSED, by the first of its four numbers that no message has.
+#[unsafe(no_mangle)]
+pub extern "C" fn arachne_message_read(bytes: &[u8]) -> ArachneMessage
+    ensures { IsRead bytes.now result }
+{
+    match read_message(bytes) {
+        Ok(message) => told_message(&message),
+        Err(fault) => message_alone(code_of(&fault)),
+    }
+}
+
+fn message_alone(code: u32) -> ArachneMessage
+    ensures { result ≡ message_alone code }
+{
+    ArachneMessage {
+        code,
+        priority: 0,
+        reserved: 0,
+        most: 0,
+        client: 0,
+        thread: 0,
+        place: 0,
+        cores: 0,
+        floats: false,
+    }
+}
+
+fn told_message(message: &ClientMessage) -> ArachneMessage
+    ensures { result ≡ told_message message.now }
+{
+    match *message {
+        ClientMessage::Hello {
+            priority,
+            reserved,
+            most,
+        } => ArachneMessage {
+            priority: u32::from(priority),
+            reserved: u32::from(reserved),
+            most: u32::from(most),
+            ..message_alone(HELLO)
+        },
+        ClientMessage::Join {
+            client,
+            thread,
+            place,
+            floats,
+        } => ArachneMessage {
+            client,
+            thread,
+            place: u32::from(place),
+            floats,
+            ..message_alone(JOIN)
+        },
+        ClientMessage::Wait => message_alone(WAIT),
+        ClientMessage::Ask { cores } => ArachneMessage {
+            cores,
+            ..message_alone(ASK)
+        },
+    }
+}
+
+fn code_of(fault: &MessageFault) -> u32
+    ensures { result ≡ code_of fault.now }
+{
+    match fault {
+        MessageFault::Short => SHORT,
+        MessageFault::Kind => KIND,
+        MessageFault::Version => VERSION,
+        MessageFault::Priority => PRIORITY,
+        MessageFault::Place => PLACE,
+        MessageFault::Unused => UNUSED,
+    }
+}

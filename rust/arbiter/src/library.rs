@@ -1,0 +1,168 @@
+//! The calls of the proved library `arachne_grants_c`: what a message's bytes say, and the state of the daemon with its
+//! decisions. Every `unsafe` block keeps one rule: the declarations are those of `examples/c/arachne_grants.h`, and a
+//! pointer is to memory that lives through the call.
+
+#[repr(C)]
+struct Handle {
+    opaque: *mut u8,
+}
+
+#[repr(C)]
+struct RawMessage {
+    code: u32,
+    priority: u32,
+    reserved: u32,
+    most: u32,
+    client: u32,
+    thread: u32,
+    place: u32,
+    cores: u32,
+    floats: bool,
+}
+
+#[repr(C)]
+struct RawAction {
+    code: u32,
+    core: u32,
+    client: usize,
+    place: usize,
+}
+
+/// How many cores a client is allowed, and how many it has.
+#[repr(C)]
+#[derive(Clone, Copy, Debug)]
+pub struct Share {
+    pub allowed: u32,
+    pub held: u32,
+}
+
+const DONE: u32 = 0;
+const HELLO: u32 = 3;
+const JOIN: u32 = 4;
+const WAIT: u32 = 5;
+const ASK: u32 = 6;
+/// Why bytes are no message, from this code on.
+const SHORT: u32 = 7;
+const TAKEN: u32 = 14;
+const PLACED: u32 = 15;
+const GRANTED: u32 = 16;
+
+extern "C" {
+    fn arachne_message_read(bytes: *const u8, bytes_count: usize) -> RawMessage;
+    fn arachne_arbiter_new(arbiter: *mut Handle, cores: u32) -> u32;
+    fn arachne_arbiter_close(arbiter: *mut Handle);
+    fn arachne_arbiter_hello(arbiter: *mut Handle, client: usize, priority: u8, reserved: u32, most: u32) -> u32;
+    fn arachne_arbiter_ask(arbiter: *mut Handle, client: usize, cores: u32) -> u32;
+    fn arachne_arbiter_leave(arbiter: *mut Handle, client: usize) -> u32;
+    fn arachne_arbiter_join(arbiter: *mut Handle, client: usize, place: usize, floats: bool) -> u32;
+    fn arachne_arbiter_wait(arbiter: *mut Handle, client: usize, place: usize) -> u32;
+    fn arachne_arbiter_end(arbiter: *mut Handle, client: usize, place: usize) -> u32;
+    fn arachne_arbiter_decide(arbiter: *mut Handle) -> u32;
+    fn arachne_arbiter_take_back(arbiter: *mut Handle, client: usize, late: bool) -> RawAction;
+    fn arachne_arbiter_give(arbiter: *mut Handle) -> RawAction;
+    fn arachne_arbiter_share(arbiter: *mut Handle, client: usize) -> Share;
+}
+
+/// What a client says.
+#[derive(Clone, Copy, PartialEq, Eq, Debug)]
+pub enum Message {
+    Hello { priority: u32, reserved: u32, most: u32 },
+    Join { client: u32, thread: u32, place: u32, floats: bool },
+    Wait,
+    Ask { cores: u32 },
+}
+
+/// Reads the message that bytes begin with, or says why they begin with none.
+pub fn read(bytes: &[u8]) -> Result<Message, &'static str> {
+    let it = unsafe { arachne_message_read(bytes.as_ptr(), bytes.len()) };
+    match it.code {
+        HELLO => Ok(Message::Hello { priority: it.priority, reserved: it.reserved, most: it.most }),
+        JOIN => Ok(Message::Join { client: it.client, thread: it.thread, place: it.place, floats: it.floats }),
+        WAIT => Ok(Message::Wait),
+        ASK => Ok(Message::Ask { cores: it.cores }),
+        code => {
+            let faults = ["half a message", "no such message", "another version", "no such priority", "no such place"];
+            Err(faults.get((code - SHORT) as usize).unwrap_or(&"a number that isn't 0"))
+        }
+    }
+}
+
+/// A core that a thread of a client is moved to or from.
+#[derive(Clone, Copy, PartialEq, Eq, Debug)]
+pub struct Move {
+    pub client: usize,
+    pub place: usize,
+    pub core: usize,
+    /// It waited for the core, and is to hear that it has it.
+    pub waited: bool,
+}
+
+impl Move {
+    fn of(action: RawAction) -> Option<Move> {
+        let RawAction { code, core, client, place } = action;
+        let moves = [TAKEN, PLACED, GRANTED].contains(&code);
+        moves.then(|| Move { client, place, core: core as usize, waited: code == GRANTED })
+    }
+}
+
+/// The clients, their threads, and who has which core. Clients' numbers and threads' places are 0 to 63.
+pub struct State(Handle);
+
+impl State {
+    /// Of at most 1,024 cores.
+    pub fn new(cores: usize) -> Option<State> {
+        let mut state = State(Handle { opaque: std::ptr::null_mut() });
+        let told = unsafe { arachne_arbiter_new(&mut state.0, u32::try_from(cores).ok()?) };
+        (told == DONE).then(|| state)
+    }
+
+    /// Each event returns false if it is out of place; then it has changed nothing.
+    pub fn hello(&mut self, client: usize, priority: u8, reserved: u32, most: u32) -> bool {
+        unsafe { arachne_arbiter_hello(&mut self.0, client, priority, reserved, most) == DONE }
+    }
+
+    pub fn ask(&mut self, client: usize, cores: u32) -> bool {
+        unsafe { arachne_arbiter_ask(&mut self.0, client, cores) == DONE }
+    }
+
+    pub fn leave(&mut self, client: usize) -> bool {
+        unsafe { arachne_arbiter_leave(&mut self.0, client) == DONE }
+    }
+
+    pub fn join(&mut self, client: usize, place: usize, floats: bool) -> bool {
+        unsafe { arachne_arbiter_join(&mut self.0, client, place, floats) == DONE }
+    }
+
+    pub fn wait(&mut self, client: usize, place: usize) -> bool {
+        unsafe { arachne_arbiter_wait(&mut self.0, client, place) == DONE }
+    }
+
+    pub fn end(&mut self, client: usize, place: usize) -> bool {
+        unsafe { arachne_arbiter_end(&mut self.0, client, place) == DONE }
+    }
+
+    /// Decides how many cores each client is allowed.
+    pub fn decide(&mut self) {
+        let _ = unsafe { arachne_arbiter_decide(&mut self.0) };
+    }
+
+    /// Takes a core of a client that has more than it is allowed, if it can be taken yet.
+    pub fn take_back(&mut self, client: usize, late: bool) -> Option<Move> {
+        Move::of(unsafe { arachne_arbiter_take_back(&mut self.0, client, late) })
+    }
+
+    /// Gives a free core to a client that has less than it is allowed.
+    pub fn give(&mut self) -> Option<Move> {
+        Move::of(unsafe { arachne_arbiter_give(&mut self.0) })
+    }
+
+    pub fn share(&mut self, client: usize) -> Share {
+        unsafe { arachne_arbiter_share(&mut self.0, client) }
+    }
+}
+
+impl Drop for State {
+    fn drop(&mut self) {
+        unsafe { arachne_arbiter_close(&mut self.0) };
+    }
+}

@@ -1,0 +1,548 @@
+//! Grants whole cores to processes:
+//! arbiter SOCKET [--cpuset FOLDER] [--sweep] [--cores LIST] [--keep N] [--open] [--log]
+//!
+//! Of the processors (LIST, as 0,2-5; else the folder's, or all that it may use) the first N (1) are never granted.
+//! With a FOLDER of cpusets of version 1, granted cores are kept from all processes below it; with --sweep those that
+//! stand in the folder itself are moved below it. Else only clients' threads are moved, by their affinity. --open lets
+//! every user connect. It ends at SIGTERM, and puts all back. `docs/arbiter.md` says more.
+
+mod means;
+mod sys;
+
+use arbiter::library::{read, Message, Move, State};
+use arbiter::protocol::*;
+use means::Means;
+use std::collections::BTreeMap;
+use std::fs;
+use std::io::{self, ErrorKind, Read, Write};
+use std::os::unix::fs::PermissionsExt;
+use std::os::unix::io::AsRawFd;
+use std::os::unix::net::{UnixListener, UnixStream};
+use std::path::PathBuf;
+use std::sync::atomic::Ordering::*;
+use std::time::{Duration, Instant};
+
+/// The time for which a client may keep a core beyond what it is allowed.
+const PATIENCE: Duration = Duration::from_millis(10);
+/// Connections at most: of all, so that there are descriptors for each (three, if each is a client's; 1,024 is the
+/// usual limit), and of one process (64 workers, and its control connection, twice).
+const CONNECTIONS: usize = 300;
+const OF_A_PROCESS: usize = 130;
+/// Clients at most: their numbers in the library's state.
+const CLIENTS: usize = 64;
+/// Users other than root and the daemon's own have these priorities, and no reserved cores.
+const FOR_OTHERS: u32 = 4;
+
+enum Role {
+    New,
+    Control(u32),
+    Thread(u32, u32),
+}
+
+struct Connection {
+    stream: UnixStream,
+    peer: (u32, u32),
+    bytes: [u8; SIZE],
+    len: usize,
+    role: Role,
+    gone: bool,
+}
+
+struct Thread {
+    id: u32,
+    connection: u64,
+    core: Option<usize>,
+}
+
+struct Client {
+    /// In the library's state.
+    number: usize,
+    process: u32,
+    ended: fs::File,
+    control: u64,
+    page: sys::Page,
+    least: u32,
+    allowed: u32,
+    /// By when it has to have given back what it was asked for.
+    until: Option<Instant>,
+    /// By their place in its order.
+    threads: BTreeMap<u32, Thread>,
+}
+
+struct Arbiter {
+    means: Means,
+    /// The clients and their threads, and every decision.
+    state: State,
+    start: Instant,
+    log: bool,
+    /// Those that are never granted, and those that may be.
+    kept: Vec<usize>,
+    cores: Vec<(usize, Option<(u32, u32)>)>,
+    rest: Vec<usize>,
+    all: Vec<usize>,
+    connections: BTreeMap<u64, Connection>,
+    clients: BTreeMap<u32, Client>,
+    names: u64,
+    forced: u64,
+}
+
+impl Arbiter {
+    fn say(&self, text: impl FnOnce() -> String) {
+        if self.log {
+            println!("{:.6} {}", clock(), text());
+        }
+    }
+
+    // ------------------------------------------------------------------------------------------ what comes
+
+    fn accept(&mut self, stream: UnixStream) {
+        let peer = match sys::peer(&stream) {
+            Ok(peer) => peer,
+            Err(_) => return,
+        };
+        let alike = self.connections.values().filter(|it| it.peer.0 == peer.0).count();
+        if self.connections.len() >= CONNECTIONS || alike >= OF_A_PROCESS || stream.set_nonblocking(true).is_err() {
+            return;
+        }
+        self.names += 1;
+        let connection = Connection { stream, peer, bytes: [0; SIZE], len: 0, role: Role::New, gone: false };
+        self.connections.insert(self.names, connection);
+    }
+
+    /// Reads what a connection has, a few messages at most.
+    fn hear(&mut self, name: u64) {
+        for _ in 0..8 {
+            let connection = match self.connections.get_mut(&name) {
+                Some(connection) if !connection.gone => connection,
+                _ => return,
+            };
+            match connection.stream.read(&mut connection.bytes[connection.len..]) {
+                Ok(0) => connection.gone = true,
+                Ok(n) => connection.len += n,
+                Err(error) if error.kind() == ErrorKind::WouldBlock => return,
+                Err(error) if error.kind() == ErrorKind::Interrupted => continue,
+                Err(_) => connection.gone = true,
+            }
+            if connection.len == SIZE {
+                connection.len = 0;
+                let bytes = connection.bytes;
+                if let Err(why) = read(&bytes).and_then(|message| self.obey(name, message)) {
+                    self.say(|| format!("refused: {why}"));
+                    self.send(name, [REFUSED, 0, 0, 0]);
+                    self.connections.get_mut(&name).unwrap().gone = true;
+                }
+            }
+        }
+    }
+
+    fn obey(&mut self, name: u64, message: Message) -> Result<(), &'static str> {
+        let connection = &self.connections[&name];
+        match (&connection.role, message) {
+            (Role::New, Message::Hello { priority, reserved, most }) => self.greet(name, priority, reserved, most),
+            (Role::New, Message::Join { client, thread, place, floats }) => {
+                self.join(name, client, thread, place, floats)
+            }
+            (Role::Control(client), Message::Ask { cores }) => {
+                let number = self.clients.get(client).ok_or("no client")?.number;
+                self.state.ask(number, cores).then(|| ()).ok_or("no client")
+            }
+            (&Role::Thread(client, place), Message::Wait) => self.take_back(client, place),
+            _ => Err("a message that is out of place"),
+        }
+    }
+
+    fn greet(&mut self, name: u64, priority: u32, least: u32, most: u32) -> Result<(), &'static str> {
+        let (process, user) = self.connections[&name].peer;
+        let trusted = user == 0 || user == sys::user();
+        let reserved: u32 = self.clients.values().map(|client| client.least).sum();
+        if !trusted && priority < FOR_OTHERS {
+            return Err("a priority that it may not have");
+        }
+        if least > 0 && (!trusted || (reserved + least) as usize > self.cores.len()) {
+            return Err("reserved cores that it may not have");
+        }
+        let free = |number: &usize| self.clients.values().all(|client| client.number != *number);
+        let number = (0..CLIENTS).find(free).ok_or("too many clients")?;
+        let failed = |_| "the system refused it";
+        let client = Client {
+            number,
+            process,
+            ended: sys::watch_process(process).map_err(failed)?,
+            control: name,
+            page: sys::Page::new().map_err(failed)?,
+            least,
+            allowed: 0,
+            until: None,
+            threads: BTreeMap::new(),
+        };
+        let all = self.clients.values().flat_map(|client| client.threads.values());
+        let placed: Vec<u32> = all.filter(|thread| thread.core.is_some()).map(|thread| thread.id).collect();
+        self.means.admit(process, &placed);
+        let id = name as u32;
+        let welcome = [WELCOME, id, self.cores.len() as u32, matches!(self.means, Means::Cpusets(_)) as u32];
+        if !self.state.hello(number, priority as u8, least, most) {
+            return Err("no such client");
+        }
+        let connection = self.connections.get_mut(&name).unwrap();
+        if let Err(error) = sys::send_with(&connection.stream, &bytes_of(welcome), client.page.fd()) {
+            self.state.leave(number);
+            return Err(failed(error));
+        }
+        connection.role = Role::Control(id);
+        self.say(|| format!("client {id} comes: process {process}, priority {priority}"));
+        self.clients.insert(id, client);
+        Ok(())
+    }
+
+    fn join(&mut self, name: u64, id: u32, thread: u32, place: u32, floats: bool) -> Result<(), &'static str> {
+        let process = self.connections[&name].peer.0;
+        let client = self.clients.get(&id).filter(|client| client.process == process).ok_or("no client of it")?;
+        let number = client.number;
+        let known = self.clients.values().any(|client| client.threads.values().any(|it| it.id == thread));
+        if known || !is_thread_of(process, thread) {
+            return Err("a thread that isn't one of it, or that is known");
+        }
+        if !self.state.join(number, place as usize, floats) {
+            return Err("two threads of one place");
+        }
+        let client = self.clients.get_mut(&id).unwrap();
+        client.threads.insert(place, Thread { id: thread, connection: name, core: None });
+        self.connections.get_mut(&name).unwrap().role = Role::Thread(id, place);
+        let _ = self.means.unplace(thread, &self.rest);
+        Ok(())
+    }
+
+    /// A thread gives its core back, if it has one, and waits for another.
+    fn take_back(&mut self, client: u32, place: u32) -> Result<(), &'static str> {
+        let number = self.clients.get(&client).ok_or("no client")?.number;
+        if !self.state.wait(number, place as usize) {
+            return Err("one that floats, or waits, waits");
+        }
+        self.unplace(client, place);
+        Ok(())
+    }
+
+    // ------------------------------------------------------------------------------------------ what goes
+
+    fn send(&mut self, name: u64, words: [u32; 4]) {
+        if let Some(connection) = self.connections.get_mut(&name) {
+            // A client that doesn't read is none any more.
+            let sent = connection.stream.write(&bytes_of(words));
+            connection.gone |= !matches!(sent, Ok(SIZE));
+        }
+    }
+
+    fn unplace(&mut self, client: u32, place: u32) {
+        let thread = self.clients.get_mut(&client).and_then(|it| it.threads.get_mut(&place));
+        if let Some((thread, core)) = thread.and_then(|thread| thread.core.take().map(|core| (thread.id, core))) {
+            self.cores[core].1 = None;
+            // It may have ended.
+            let _ = self.means.unplace(thread, &self.rest);
+            self.say(|| format!("core {} back from {client}.{place}", self.cores[core].0));
+        }
+    }
+
+    /// Moves a thread to its core. False if it can't be moved: it is no thread of its client then.
+    fn place(&mut self, given: Move) -> bool {
+        let id = match self.clients.iter().find(|(_, client)| client.number == given.client) {
+            Some((&id, _)) => id,
+            None => return true,
+        };
+        let (place, core) = (given.place as u32, given.core);
+        let thread = self.clients.get_mut(&id).unwrap().threads.get_mut(&place).unwrap();
+        let (cpu, name, number) = (self.cores[core].0, thread.connection, thread.id);
+        thread.core = Some(core);
+        self.cores[core].1 = Some((id, place));
+        self.update_rest();
+        if self.means.place(number, cpu).is_err() {
+            // It has ended, or may not be moved.
+            self.drop_thread(id, place);
+            return false;
+        }
+        if given.waited {
+            self.send(name, [GRANT, cpu as u32, 0, 0]);
+        }
+        self.say(|| format!("core {cpu} to {id}.{place}"));
+        true
+    }
+
+    fn update_rest(&mut self) {
+        let free = self.cores.iter().filter(|core| core.1.is_none()).map(|core| core.0);
+        let rest: Vec<usize> = self.kept.iter().copied().chain(free).collect();
+        if rest != self.rest {
+            let all = self.clients.values().flat_map(|client| client.threads.values());
+            self.means.set_rest(&rest, all.filter(|it| it.core.is_none()).map(|it| it.id));
+            self.rest = rest;
+        }
+    }
+
+    /// Who is gone gives all back; then it is decided anew, and cores are taken and given for that.
+    fn settle(&mut self) {
+        loop {
+            self.bury();
+            self.state.decide();
+            let ids: Vec<u32> = self.clients.keys().copied().collect();
+            ids.into_iter().for_each(|id| self.take_from(id));
+            let mut all_moved = true;
+            while let Some(given) = self.state.give() {
+                all_moved &= self.place(given);
+            }
+            // What can't be moved, or doesn't read, is gone, so there is less in each turn.
+            if all_moved && self.connections.values().all(|it| !it.gone) {
+                return self.update_rest();
+            }
+        }
+    }
+
+    /// Shows a client what it is allowed, and takes what it has beyond that: at once from a thread that floats, else
+    /// once it is late.
+    fn take_from(&mut self, id: u32) {
+        let client = self.clients.get_mut(&id).unwrap();
+        let (number, share) = (client.number, self.state.share(client.number));
+        if client.allowed != share.allowed {
+            let less = share.allowed < client.allowed;
+            client.allowed = share.allowed;
+            client.page.allowed().store(share.allowed, SeqCst);
+            let control = client.control;
+            if less {
+                self.send(control, [ALLOWED, share.allowed, 0, 0]);
+            }
+        }
+        let client = self.clients.get_mut(&id).unwrap();
+        if share.held <= share.allowed {
+            client.until = None;
+            return;
+        }
+        let late = Instant::now() >= *client.until.get_or_insert_with(|| Instant::now() + PATIENCE);
+        let mut left = share.held;
+        while let Some(taken) = self.state.take_back(number, late) {
+            self.unplace(id, taken.place as u32);
+            self.forced += late as u64;
+            left -= 1;
+        }
+        if left <= share.allowed {
+            self.clients.get_mut(&id).unwrap().until = None;
+        }
+    }
+
+    fn drop_thread(&mut self, id: u32, place: u32) {
+        self.unplace(id, place);
+        if let Some(client) = self.clients.get(&id) {
+            self.state.end(client.number, place as usize);
+        }
+        if let Some(thread) = self.clients.get_mut(&id).and_then(|client| client.threads.remove(&place)) {
+            self.connections.remove(&thread.connection);
+            self.means.release(thread.id, &self.all);
+        }
+    }
+
+    fn bury(&mut self) {
+        loop {
+            let gone = self.connections.iter().find(|(_, it)| it.gone).map(|(&name, _)| name);
+            let name = match gone {
+                Some(name) => name,
+                None => return,
+            };
+            match self.connections.remove(&name).map(|it| it.role) {
+                Some(Role::Control(id)) => self.drop_client(id),
+                Some(Role::Thread(id, place)) => self.drop_thread(id, place),
+                _ => {}
+            }
+        }
+    }
+
+    fn drop_client(&mut self, id: u32) {
+        let places: Vec<u32> = self.clients.get(&id).map_or(Vec::new(), |it| it.threads.keys().copied().collect());
+        places.into_iter().for_each(|place| self.drop_thread(id, place));
+        if let Some(client) = self.clients.remove(&id) {
+            self.state.leave(client.number);
+            self.connections.remove(&client.control);
+            self.say(|| format!("client {id} goes"));
+        }
+    }
+
+    /// Now and then: threads that have ended, and those that began on a core that isn't theirs.
+    fn look_round(&mut self) {
+        let all =
+            self.clients.iter().flat_map(|(&id, it)| it.threads.iter().map(move |(&place, t)| (id, it, place, t)));
+        let ended: Vec<_> = all.filter(|(_, client, _, thread)| !is_thread_of(client.process, thread.id)).collect();
+        let ended: Vec<_> = ended.into_iter().map(|(id, _, place, _)| (id, place)).collect();
+        ended.into_iter().for_each(|(id, place)| self.drop_thread(id, place));
+        for &(cpu, owner) in &self.cores {
+            let owner = owner.and_then(|(id, place)| self.clients.get(&id)?.threads.get(&place)).map(|it| it.id);
+            for thread in self.means.strangers(cpu, owner) {
+                let _ = self.means.unplace(thread, &self.rest);
+            }
+        }
+    }
+
+    fn run(&mut self, listener: UnixListener) -> io::Result<()> {
+        listener.set_nonblocking(true)?;
+        let mut looked = Instant::now();
+        while !sys::ENDS.load(SeqCst) {
+            let polled = |fd: i32| sys::Polled { fd, events: 1, seen: 0 };
+            let names: Vec<u64> = self.connections.keys().copied().collect();
+            let ids: Vec<u32> = self.clients.keys().copied().collect();
+            let mut fds = vec![polled(listener.as_raw_fd())];
+            fds.extend(self.connections.values().map(|it| polled(it.stream.as_raw_fd())));
+            fds.extend(self.clients.values().map(|it| polled(it.ended.as_raw_fd())));
+            let next = self.clients.values().filter_map(|client| client.until).min();
+            let next = next.map_or(1000, |at| at.saturating_duration_since(Instant::now()).as_millis() as i32 + 1);
+            sys::wait(&mut fds, next.min(1000));
+            if fds[0].seen != 0 {
+                while let Ok((stream, _)) = listener.accept() {
+                    self.accept(stream);
+                }
+            }
+            for (nth, &id) in ids.iter().enumerate() {
+                if fds[1 + names.len() + nth].seen != 0 {
+                    self.drop_client(id);
+                }
+            }
+            for (nth, &name) in names.iter().enumerate() {
+                if fds[1 + nth].seen != 0 {
+                    self.hear(name);
+                }
+            }
+            if looked.elapsed() > Duration::from_secs(1) {
+                looked = Instant::now();
+                self.look_round();
+            }
+            self.settle();
+        }
+        let ids: Vec<u32> = self.clients.keys().copied().collect();
+        ids.into_iter().for_each(|id| self.drop_client(id));
+        Ok(())
+    }
+}
+
+fn is_thread_of(process: u32, thread: u32) -> bool {
+    fs::metadata(format!("/proc/{process}/task/{thread}")).is_ok()
+}
+
+/// Seconds, to compare what two processes say.
+fn clock() -> f64 {
+    std::time::SystemTime::now().duration_since(std::time::SystemTime::UNIX_EPOCH).unwrap().as_secs_f64()
+}
+
+/// The processors of a list as 0,2-5.
+fn read_list(text: &str) -> Option<Vec<usize>> {
+    let mut cpus = Vec::new();
+    for part in text.split(',') {
+        let mut ends = part.splitn(2, '-').map(|end| end.parse::<usize>().ok());
+        let first = ends.next()??;
+        cpus.extend(first..=ends.next().unwrap_or(Some(first))?);
+    }
+    Some(cpus)
+}
+
+struct Options {
+    socket: PathBuf,
+    cpuset: Option<PathBuf>,
+    sweep: bool,
+    cpus: Vec<usize>,
+    keep: usize,
+    open: bool,
+    log: bool,
+}
+
+fn options() -> Option<Options> {
+    let mut words = std::env::args().skip(1);
+    let (socket, mut listed) = (words.next()?.into(), false);
+    let mut options =
+        Options { socket, cpuset: None, sweep: false, cpus: sys::affinity(), keep: 1, open: false, log: false };
+    while let Some(word) = words.next() {
+        match &*word {
+            "--cpuset" => options.cpuset = Some(words.next()?.into()),
+            "--sweep" => options.sweep = true,
+            "--cores" => (options.cpus, listed) = (read_list(&words.next()?)?, true),
+            "--keep" => options.keep = words.next()?.parse().ok()?,
+            "--open" => options.open = true,
+            "--log" => options.log = true,
+            _ => return None,
+        }
+    }
+    // Whoever begins it may stand in the rest of the one before.
+    if let (Some(folder), false) = (&options.cpuset, listed) {
+        options.cpus = read_list(fs::read_to_string(folder.join("cpuset.cpus")).ok()?.trim())?;
+    }
+    (options.keep >= 1 && options.keep < options.cpus.len()).then(|| options)
+}
+
+fn serve(options: &Options) -> io::Result<()> {
+    sys::end_with_parent();
+    // One that died has left its socket; one that answers is alive.
+    if UnixStream::connect(&options.socket).is_ok() {
+        return Err(io::Error::new(ErrorKind::AddrInUse, "there is one already"));
+    }
+    let _ = fs::remove_file(&options.socket);
+    let means = Means::new(options.cpuset.as_deref(), &options.cpus)?;
+    let listener = UnixListener::bind(&options.socket)?;
+    fs::set_permissions(&options.socket, fs::Permissions::from_mode(if options.open { 0o666 } else { 0o600 }))?;
+    means.admit(std::process::id(), &[]);
+    if options.sweep {
+        println!("swept {}", means.sweep());
+    }
+    sys::go_first();
+    let (kept, cores) = options.cpus.split_at(options.keep);
+    let state =
+        State::new(cores.len()).ok_or_else(|| io::Error::new(ErrorKind::Other, "no memory, or too many cores"))?;
+    let mut arbiter = Arbiter {
+        means,
+        state,
+        start: Instant::now(),
+        log: options.log,
+        kept: kept.to_vec(),
+        cores: cores.iter().map(|&cpu| (cpu, None)).collect(),
+        rest: options.cpus.clone(),
+        all: options.cpus.clone(),
+        connections: BTreeMap::new(),
+        clients: BTreeMap::new(),
+        names: 0,
+        forced: 0,
+    };
+    println!("ready");
+    let ended = arbiter.run(listener);
+    println!("by force {}, after {:.0} s", arbiter.forced, arbiter.start.elapsed().as_secs_f64());
+    ended
+}
+
+/// The daemon is a child of this process, which puts all back if that dies.
+fn main() {
+    let options = options().unwrap_or_else(|| {
+        eprintln!("arbiter SOCKET [--cpuset FOLDER] [--sweep] [--cores LIST] [--keep N] [--open] [--log]");
+        std::process::exit(2)
+    });
+    sys::hear_ends();
+    if std::env::var_os("ARBITER_SERVES").is_some() {
+        return serve(&options).unwrap_or_else(fails);
+    }
+    let itself = std::env::current_exe().and_then(|path| {
+        std::process::Command::new(path).args(std::env::args_os().skip(1)).env("ARBITER_SERVES", "1").spawn()
+    });
+    let mut child = itself.unwrap_or_else(fails);
+    let mut told = false;
+    let status = loop {
+        match child.try_wait() {
+            Ok(None) => std::thread::sleep(Duration::from_millis(20)),
+            Ok(Some(status)) => break status.code().unwrap_or(1),
+            Err(error) => fails(error),
+        }
+        if sys::ENDS.load(SeqCst) && !std::mem::replace(&mut told, true) {
+            sys::terminate(child.id());
+        }
+    };
+    // If there was one already, all is that one's.
+    if status != THERE_IS_ONE {
+        let _ = fs::remove_file(&options.socket);
+        options.cpuset.as_deref().map(means::restore);
+    }
+    std::process::exit(status);
+}
+
+const THERE_IS_ONE: i32 = 3;
+
+fn fails<T>(error: io::Error) -> T {
+    eprintln!("arbiter: {error}");
+    std::process::exit(if error.kind() == ErrorKind::AddrInUse { THERE_IS_ONE } else { 1 })
+}

@@ -1,0 +1,138 @@
+//! How a core is kept for one kernel thread, and all else kept from it.
+
+use crate::sys;
+use std::fs;
+use std::io;
+use std::path::{Path, PathBuf};
+
+pub enum Means {
+    /// Cpusets of version 1, in a folder of their own: `rest`, and `cpuN` for each processor that is to be had.
+    Cpusets(PathBuf),
+    /// Only the affinity of clients' threads: other processes run on any processor.
+    Affinity,
+}
+
+fn write(file: PathBuf, text: impl ToString) -> io::Result<()> {
+    fs::OpenOptions::new()
+        .write(true)
+        .open(file)
+        .and_then(|mut f| io::Write::write_all(&mut f, text.to_string().as_bytes()))
+}
+
+fn list(cpus: &[usize]) -> String {
+    cpus.iter().map(|cpu| cpu.to_string()).collect::<Vec<_>>().join(",")
+}
+
+fn numbers(file: PathBuf) -> Vec<u32> {
+    fs::read_to_string(file).unwrap_or_default().lines().filter_map(|line| line.parse().ok()).collect()
+}
+
+fn threads_of(process: u32) -> Vec<u32> {
+    let entries = fs::read_dir(format!("/proc/{process}/task")).into_iter().flatten().flatten();
+    entries.filter_map(|entry| entry.file_name().to_str()?.parse().ok()).collect()
+}
+
+impl Means {
+    /// Makes cpusets below `parent`, if one is given; what an arbiter that died has left is put right first.
+    pub fn new(parent: Option<&Path>, cpus: &[usize]) -> io::Result<Means> {
+        let parent = match parent {
+            Some(parent) => parent,
+            None => return Ok(Means::Affinity),
+        };
+        restore(parent);
+        let top = parent.join("arbiter");
+        let mems = fs::read_to_string(parent.join("cpuset.mems"))?;
+        let make = |folder: &Path, cpus: &[usize]| {
+            fs::create_dir(folder)?;
+            write(folder.join("cpuset.cpus"), list(cpus))?;
+            write(folder.join("cpuset.mems"), mems.trim())
+        };
+        make(&top, cpus)?;
+        make(&top.join("rest"), cpus)?;
+        for &cpu in cpus {
+            make(&top.join(format!("cpu{cpu}")), &[cpu])?;
+        }
+        Ok(Means::Cpusets(top))
+    }
+
+    /// Moves each process that is in the parent's own set into the rest.
+    pub fn sweep(&self) -> usize {
+        match self {
+            Means::Cpusets(top) => {
+                let all = numbers(top.parent().unwrap().join("cgroup.procs"));
+                all.iter().filter(|process| write(top.join("rest/cgroup.procs"), process).is_ok()).count()
+            }
+            Means::Affinity => 0,
+        }
+    }
+
+    /// Moves all threads of a process into the rest, but for these. Each is moved by itself, in microseconds: to move a
+    /// process Linux waits for all processors. Threads that begin meanwhile begin in the set of their parents.
+    pub fn admit(&self, process: u32, placed: &[u32]) {
+        if let Means::Cpusets(top) = self {
+            for _ in 0..2 {
+                for thread in threads_of(process).into_iter().filter(|thread| !placed.contains(thread)) {
+                    let _ = write(top.join("rest/tasks"), thread);
+                }
+            }
+        }
+    }
+
+    /// A thread is none of a client's any more.
+    pub fn release(&self, thread: u32, all: &[usize]) {
+        if let Means::Affinity = self {
+            let _ = sys::set_affinity(thread, all);
+        }
+    }
+
+    pub fn place(&self, thread: u32, cpu: usize) -> io::Result<()> {
+        match self {
+            Means::Cpusets(top) => write(top.join(format!("cpu{cpu}/tasks")), thread),
+            Means::Affinity => sys::set_affinity(thread, &[cpu]),
+        }
+    }
+
+    pub fn unplace(&self, thread: u32, rest: &[usize]) -> io::Result<()> {
+        match self {
+            Means::Cpusets(top) => write(top.join("rest/tasks"), thread),
+            Means::Affinity => sys::set_affinity(thread, rest),
+        }
+    }
+
+    /// The rest may use these; `others` are the clients' threads that have no core.
+    pub fn set_rest(&self, rest: &[usize], others: impl Iterator<Item = u32>) {
+        match self {
+            Means::Cpusets(top) => drop(write(top.join("rest/cpuset.cpus"), list(rest))),
+            Means::Affinity => others.for_each(|thread| drop(sys::set_affinity(thread, rest))),
+        }
+    }
+
+    /// Returns the threads that are on this core and shouldn't be: a thread begins in the set of the one that began it.
+    pub fn strangers(&self, cpu: usize, owner: Option<u32>) -> Vec<u32> {
+        match self {
+            Means::Cpusets(top) => {
+                let all = numbers(top.join(format!("cpu{cpu}/tasks")));
+                all.into_iter().filter(|&thread| Some(thread) != owner).collect()
+            }
+            Means::Affinity => Vec::new(),
+        }
+    }
+}
+
+/// Puts back what is in an arbiter's cpusets below `parent`, and removes them. Linux lets go of a set some time after
+/// its last thread has ended, so it is tried for a while.
+pub fn restore(parent: &Path) {
+    let top = parent.join("arbiter");
+    for _ in 0..100 {
+        let below = fs::read_dir(&top).into_iter().flatten().flatten().map(|entry| entry.path());
+        let below: Vec<_> = below.filter(|path| path.is_dir()).chain(Some(top.clone())).collect();
+        for set in &below {
+            numbers(set.join("tasks")).into_iter().for_each(|thread| drop(write(parent.join("tasks"), thread)));
+        }
+        if below.iter().all(|set| fs::remove_dir(set).is_ok()) || !top.exists() {
+            return;
+        }
+        std::thread::sleep(std::time::Duration::from_millis(10));
+    }
+    eprintln!("arbiter: {} could not be removed", top.display());
+}

@@ -1,0 +1,41 @@
+//! Messages of 16 bytes, four numbers of 32 bits each, the lowest byte first. The library reads those of clients.
+
+pub const VERSION: u32 = 1;
+pub const SIZE: usize = 16;
+/// Priorities: 0 goes first.
+pub const PRIORITIES: u32 = 8;
+
+/// From a client, first on its control connection: version, priority, least and most cores (`least << 16 | most`).
+pub const HELLO: u32 = 1;
+/// First on a connection of a kernel thread: the client's number, the thread's, and its place in the client's order
+/// (`place << 1 | floats`). One that floats never waits: it is moved to a core, and from it, as it runs.
+pub const JOIN: u32 = 2;
+/// On a thread's connection: the core that it has goes back, and it waits for one.
+pub const WAIT: u32 = 3;
+/// On the control connection: the number of cores that are wanted.
+pub const ASK: u32 = 4;
+
+/// To a client, with the descriptor of its page: the client's number, how many cores there are to be had, and by what
+/// means they are kept.
+pub const WELCOME: u32 = 5;
+/// To a thread that waits: the processor that it has from now on.
+pub const GRANT: u32 = 6;
+/// On the control connection: the page's number changed, to that.
+pub const ALLOWED: u32 = 7;
+/// Before the arbiter closes a connection: why.
+pub const REFUSED: u32 = 8;
+
+/// The bytes of a message.
+pub fn bytes_of(words: [u32; 4]) -> [u8; SIZE] {
+    let mut bytes = [0; SIZE];
+    for (chunk, word) in bytes.chunks_exact_mut(4).zip(words) {
+        chunk.copy_from_slice(&word.to_le_bytes());
+    }
+    bytes
+}
+
+/// The four numbers of a message.
+pub fn words_of(bytes: &[u8; SIZE]) -> [u32; 4] {
+    let word = |at: usize| u32::from_le_bytes([bytes[at], bytes[at + 1], bytes[at + 2], bytes[at + 3]]);
+    [word(0), word(4), word(8), word(12)]
+}
