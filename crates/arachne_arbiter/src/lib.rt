@@ -17,5 +17,5 @@ pub use choice::first_core;
 pub use cores::Cores;
 pub use orders::{Effect, Orders};
 pub use pace::Pace;
-pub use parking::Parking;
+pub use parking::{Parking, Unparked};
 pub use slices::SliceCounts;

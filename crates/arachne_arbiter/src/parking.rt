@@ -18,6 +18,12 @@ pub struct Parking {
     parkers: Vec<CachePadded<Parker>>,
 }
 
+/// All kernel threads that were parked go on. [`Parking::unpark_all`] alone gives one.
+#[derive(Drop)]
+pub struct Unparked {
+    all: (),
+}
+
 impl Parking {
     /// Parkers for so many cores.
     pub fn new(alloc: Global, cores: u8) -> Result<Parking, AllocError>
@@ -44,11 +50,12 @@ impl Parking {
         self.parkers[usize::from(core)].unpark();
     }
 
-    /// Wakes the kernel threads of all cores, or lets the next park of each return at once.
-    pub fn unpark_all(&self) {
+    /// Wakes all, as at the end of a run.
+    pub fn unpark_all(&self) -> Unparked {
         for parker in &self.parkers {
             parker.unpark();
         }
+        Unparked { all: () }
     }
 }
 
