@@ -116,6 +116,18 @@ const ANEW: Row = Row {
     told: "",
 };
 
+/// The same, with a lock that the child has in its first slice: who holds one does not go on on a closed core.
+const ANEW_HELD: Row = Row {
+    shows: "a thread that holds a lock on a core that is taken back is put back after its slice",
+    source: Source {
+        ledgers: 0,
+        locks: 1,
+        forks: 0,
+        expr: "(fork n (hold 0 (fold (num 0) (num 400) (num 0) (var 1))) (fold (num 0) (num 4000) (num 0) (var 1)) (add (var 0) (var 1)))",
+    },
+    ..ANEW
+};
+
 /// A thread that has core 1 alone awaits a child on core 0 while core 1 is closed. The grant lets the run end where its
 /// kernel thread has parked.
 const PARKS_LAST: Row = Row {
@@ -297,7 +309,14 @@ const OPENED_LATE: Row = Row {
     told: "",
 };
 
-const CLOSED: &[Row] = &[ANEW, PARKS_LAST, BOTH_DRAINED, MOVED_IN_ORDER, OPENED_LATE];
+const CLOSED: &[Row] = &[
+    ANEW,
+    ANEW_HELD,
+    PARKS_LAST,
+    BOTH_DRAINED,
+    MOVED_IN_ORDER,
+    OPENED_LATE,
+];
 
 #[test]
 fn a_core_that_is_taken_back_is_left(rt: HostRuntime) -> Result<(), Fail> {

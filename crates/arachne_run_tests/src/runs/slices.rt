@@ -203,8 +203,8 @@ const STOPS: &[Row] = &[
         },
         ..STOPPED
     },
-    // The first thread on core 1 holds the lock for which the other one waits, and frees it in its third slice, core
-    // 1's fourth. It counts on then.
+    // The first thread on core 1 holds the lock for which the other one waits, and frees it in core 1's fifth slice. It
+    // counts on then.
     Row {
         source: Source {
             ledgers: 0,
@@ -213,7 +213,7 @@ const STOPS: &[Row] = &[
             expr: "(fork n (let (hold 0 (fold (num 0) (num 25000) (num 0) (var 1))) (fold (num 0) (num 50000) (num 0) (var 2))) (fork n (hold 0 (num 1)) (fork x (num 1) (num 2) (num 3)) (num 4)) (num 5))",
         },
         machines: &[(5, 10_000, 5)],
-        watching: Watching::Stopping(3),
+        watching: Watching::Stopping(4),
         ..STOPPED
     },
 ];
