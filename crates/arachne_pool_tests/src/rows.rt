@@ -629,6 +629,25 @@ const ROWS: &[Row] = &[
         ..NOTHING
     },
     Row {
+        shows: "a kernel thread of a closed core is not parked while its worker has orders to come",
+        cores: 2,
+        slots: 1,
+        orders: &[(0, RELEASE, 1), (3, GRANT, 1)],
+        acts: &[
+            Act::Turns(0, false),
+            Act::Has(1, 0, Is::Closed),
+            Act::Spawns(Sort {
+                is_exclusive: true,
+                ..ENDLESS
+            }),
+        ],
+        spells: (Spell::ToTheEndOn(1), Spell::TurnsUntilOpen(0)),
+        then: &[Act::Has(1, 0, Is::Open), Act::Lives(1)],
+        left: (1, 0),
+        alive: 1,
+        ..NOTHING
+    },
+    Row {
         shows: "a round in which jobs only wait, for a child and for a place, finds nothing",
         cores: 2,
         slots: 1,
@@ -668,6 +687,17 @@ const ROWS: &[Row] = &[
         slots: 1,
         acts: &[Act::Spawns(ALONE_PARENT), Act::Spawns(ENDLESS)],
         spells: (Spell::InNeed, Spell::ToTheEnd),
+        then: &[Act::Answered(0), Act::Lives(3)],
+        left: (2, 0),
+        alive: 3,
+        ..NOTHING
+    },
+    Row {
+        shows: "a kernel thread that works returns once the other one is refused memory for a fork in a join",
+        cores: 2,
+        slots: 1,
+        acts: &[Act::Tries(On::Core(1), ENDLESS, Comes::Begins)],
+        spells: (Spell::JoinsInNeed, Spell::ToTheEnd),
         then: &[Act::Answered(0), Act::Lives(3)],
         left: (2, 0),
         alive: 3,

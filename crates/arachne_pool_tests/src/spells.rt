@@ -3,8 +3,9 @@ ghost use Rattle.std.specs.Prelude.{◌≡◌, ◌<◌, IfSome};
 ghost use Rattle.arachne_pool.specs.Workers.{IsWorkerOf};
 
 use crate::board::Board;
-use crate::tasks::{LEAF, Sort, Task};
+use crate::tasks::{LEAF, PARENT, Sort, Task};
 use arachne_contexts::{Contexts, Seats};
+use arachne_core::OccWord;
 use arachne_pool::{Pool, PoolFault, Spawned, Worker};
 use arachne_shortage::Hoard;
 use std::sync::atomic::{AtomicU64, Ordering};
@@ -25,15 +26,21 @@ pub(crate) enum Spell {
     Not,
     /// It works on its core until no job is left, or the pool is stopped.
     ToTheEnd,
+    /// Like `ToTheEnd`, on this core.
+    ToTheEndOn(u8),
     /// It does so again each time when it is its turn, until the pool is stopped.
     ToTheStop,
     /// It works so many rounds. Then it stops the pool.
     Rounds(u32),
     /// It works rounds until no job lives, and does not work then.
     TurnsOut,
+    /// It works rounds on this core until its own is open, for ten seconds at most. Then it stops the pool.
+    TurnsUntilOpen(u8),
     /// Once a job has begun elsewhere it works on its core while memory is used up, until it is refused some. Where
     /// that is not told, or has not stopped the pool, an answer comes, and it stops it.
     InNeed,
+    /// Like `InNeed`, but it joins a job that it has spawned on its core before.
+    JoinsInNeed,
     /// It spawns so many leaves, which no worker may keep, and works for no core.
     Spawns(u32),
     /// It spawns so many leaves for core 1, each once that core's kernel thread sleeps and one job alone lives. Then it
@@ -84,6 +91,9 @@ pub(crate) fn work<C: Contexts<Spawned<Task>>, R: Wait + Clock>(
         Spell::ToTheEnd if core < pool.cores => {
             let _ = pool.work(rt, &mut worker, core);
         }
+        Spell::ToTheEndOn(other) if other < pool.cores => {
+            let _ = pool.work(rt, &mut worker, other);
+        }
         Spell::ToTheStop if core < pool.cores => {
             to_the_stop::<C, R>(rt, pool, board, &mut worker, core);
         }
@@ -94,7 +104,13 @@ pub(crate) fn work<C: Contexts<Spawned<Task>>, R: Wait + Clock>(
         Spell::TurnsOut if core < pool.cores => {
             turns::<C, R>(rt, pool, &mut worker, core, u32::MAX);
         }
+        Spell::TurnsUntilOpen(other) if other < pool.cores && core < pool.cores => {
+            turns_until_open::<C, R>(rt, pool, &mut worker, other, core);
+        }
         Spell::InNeed if core < pool.cores => in_need::<C, R>(rt, pool, board, &mut worker, core),
+        Spell::JoinsInNeed if core < pool.cores => {
+            joins_in_need::<C, R>(rt, pool, board, &mut worker, core);
+        }
         Spell::Spawns(jobs) => spawns::<C, R>(rt, pool, board, &mut worker, jobs),
         Spell::Feeds(jobs) if pool.cores > 1 => {
             feeds::<C, R>(rt, pool, board, &mut worker, jobs);
@@ -165,6 +181,31 @@ fn turns<C: Contexts<Spawned<Task>>, R: Wait + Clock>(
     }
 }
 
+/// `Spell::TurnsUntilOpen`, with rounds on `core` until `own` is open.
+fn turns_until_open<C: Contexts<Spawned<Task>>, R: Wait + Clock>(
+    rt: &R,
+    pool: &Pool<C>,
+    worker: &mut Worker<C::Seat, Task>,
+    core: u8,
+    own: u8,
+)
+    requires worker { IsWorkerOf C.sits C.idle pool.now.table pool.now.cores worker.old }
+    requires core { core < pool.now.cores }
+    requires own { own < pool.now.cores }
+    ensures worker { IsWorkerOf C.sits C.idle pool.now.table pool.now.cores worker.new }
+{
+    for _ in 0..GLANCES {
+        let _ = pool.turn(rt, worker, core);
+        if let Some(now) = OccWord::from_word(pool.table.glance(rt, own))
+            && !now.is_closed()
+        {
+            break;
+        }
+        sleep(rt, Duration::from_millis(5));
+    }
+    pool.stop();
+}
+
 /// `Spell::InNeed`.
 fn in_need<C: Contexts<Spawned<Task>>, R: Wait + Clock>(
     rt: &R,
@@ -184,6 +225,32 @@ fn in_need<C: Contexts<Spawned<Task>>, R: Wait + Clock>(
         board.answer();
         pool.stop();
     }
+}
+
+/// `Spell::JoinsInNeed`.
+fn joins_in_need<C: Contexts<Spawned<Task>>, R: Wait + Clock>(
+    rt: &R,
+    pool: &Pool<C>,
+    board: &Arc<Board>,
+    worker: &mut Worker<C::Seat, Task>,
+    core: u8,
+)
+    requires worker { IsWorkerOf C.sits C.idle pool.now.table pool.now.cores worker.old }
+    requires core { core < pool.now.cores }
+    ensures worker { IsWorkerOf C.sits C.idle pool.now.table pool.now.cores worker.new }
+{
+    if let Some(task) = Task::new(PARENT, board)
+        && let Ok((handle, _)) = pool.try_spawn_on(rt, worker, core, task)
+    {
+        await_more(rt, pool, &board.begun, 0);
+        let hoard = Hoard::take(board.alloc);
+        let joined = pool.join(rt, worker, core, handle);
+        if hoard.is_ok() && matches!(joined, Err((PoolFault::Memory, _))) && pool.is_stopped() {
+            return;
+        }
+    }
+    board.answer();
+    pool.stop();
 }
 
 /// `Spell::Spawns`.
