@@ -18,30 +18,31 @@ mod sleepers;
 /// How many tasks in a row may run that each was made ready by the one before.
 const NEXTS: u32 = 128;
 
-/// After so many polls, or about so many nanoseconds, a worker looks at the epoll, its timers and others, whatever is
-/// next. By time it looks at the epoll only where no other has for so long.
+/// A worker looks at the epoll, its timers and others after `LOOK_OUT` polls, or about `LOOK_TIME` nanoseconds,
+/// whatever is next. By time it looks at the epoll only if no other worker has for `LOOK_TIME`.
 const LOOK_OUT: u32 = 64;
 pub(crate) const LOOK_TIME: u64 = 100_000;
-/// The same for one that is alone, and nobody else could run what it is told of, where several polls fit into it.
+/// The same for a worker that is alone, as nobody else could run what it finds. By time it looks at the epoll only
+/// after `LONELY_LOOK`: what it finds there runs behind what it has in hand.
 const LONELY_TIME: u64 = 500_000;
-const LONG_POLLS: u32 = 3;
-/// After so many polls the worker that judges how many cores there should be looks at its clock.
+const LONELY_LOOK: u64 = 2_000_000;
+/// Polls after which the worker that judges how many cores there should be looks at its clock.
 const JUDGED: u32 = 8;
-/// After so many of these looks at which another worker had not got on, its timers are looked at too.
+/// How many of these looks at which another worker had not got on there are until its timers are looked at too.
 const LONG: u32 = 8;
-/// From so many nanoseconds without a poll's end on, a busy worker takes also what is to run next at another.
+/// Nanoseconds without a poll's end after which a busy worker takes also what is to run next at another.
 const LONG_POLL: u64 = 1_000_000;
-/// After so many looks at blocks that are shown and have nothing, they are hidden.
+/// Looks at blocks that are shown and have nothing after which they are hidden.
 const STALE: u32 = 16;
 /// Jobs in hand at most: of those that one look at the epoll tells of, of another worker's, and of any while somebody
 /// has nothing to do.
 const FEW: usize = 8;
-/// Jobs in hand at most of those that woke themselves, or were next after many in a row; and of any, where a worker is
+/// Jobs in hand at most of those that woke themselves, or were next after many in a row; and of any, if a worker is
 /// alone.
 const KEPT: usize = 16;
 pub(crate) const HAND: usize = 48;
-/// From so many events and timers of one look on, that are left for others, another worker is woken to help; so it is
-/// where there may be more events.
+/// Events and timers of one look that are left for others, from which on another worker is woken to help; so it is if
+/// there may be more events.
 const MANY: usize = 4;
 
 /// The policy asks for no more cores for more ready jobs at a worker than that.
@@ -114,10 +115,10 @@ impl Turn {
         context.looked.set(now);
     }
 
-    /// Where polls are long enough to be timed: whether it is time to look.
+    /// Returns true if it is time to look, by polls that are long enough to be timed.
     #[inline]
     fn is_over(&self, context: &Context, alone: bool) -> bool {
-        let time = if alone && self.most >= LONG_POLLS { LONELY_TIME } else { LOOK_TIME };
+        let time = if alone { LONELY_TIME } else { LOOK_TIME };
         now().saturating_sub(context.looked.get()) >= time
     }
 
@@ -131,7 +132,7 @@ impl Turn {
 impl Shared {
     // --------------------------------------------------------------------------------------- whom to wake
 
-    /// A job became ready in its block: the core has said which worker it is to wake, and where that one is awake,
+    /// A job became ready in its block: the core has said which worker it is to wake, and if that one is awake,
     /// another may help.
     #[inline]
     pub(crate) fn published(&self, name: u64, unpark: bool, quiet: bool) {
@@ -186,7 +187,7 @@ impl Shared {
         true
     }
 
-    /// Ends a worker's sleep, or else its next. A worker that can be heard of as asleep keeps its post: where it has
+    /// Ends a worker's sleep, or else its next. A worker that can be heard of as asleep keeps its post: if it has
     /// taken one after it was looked up here, it sees what the caller did before this call.
     pub(crate) fn ring(&self, worker: usize) {
         if self.waits.0.load(SeqCst) == worker {
@@ -249,12 +250,12 @@ impl Shared {
         self.queued.0.load(SeqCst) != 0 && !self.clogged.load(SeqCst)
     }
 
-    /// How many jobs seem ready at a worker's places, where that are few.
+    /// Returns how many jobs seem ready at a worker's places, up to about eight.
     pub(crate) fn ready(&self, hands: &Hands, worker: usize) -> u32 {
         self.ready_up_to(hands, worker, 8)
     }
 
-    /// How many jobs seem ready at a worker's places, where that are less than `most`.
+    /// Returns how many jobs seem ready at a worker's places; it stops counting at `most`.
     fn ready_up_to(&self, hands: &Hands, worker: usize, most: u32) -> u32 {
         let mut count = 0;
         for &shard in self.workers[worker].0.used_shards() {
@@ -474,7 +475,7 @@ impl Shared {
     }
 
     /// Puts a task that found no place into one of this worker, or of another, and keeps it in hand if that may be.
-    /// None where there is no place.
+    /// None if there is no place.
     fn begin_queued(&'static self, context: &Context) -> Option<Option<Job>> {
         let raw = self.pop_queued()?;
         if let Some(job) = self.place(context, raw) {
@@ -529,12 +530,14 @@ impl Shared {
         if context.worker.hand.line.len() > turn.few() && !self.all_busy() {
             self.rouse_any();
         }
-        // What is ready here goes first, and where polls are long what is in hand goes last.
-        let lasts = turn.few() < FEW && !self.is_alone();
-        let takes = (context.worker.hand.line.is_empty() || !lasts) && turn.wanted == 0 && !self.mine(context);
+        // What is ready here goes first, and if polls are long what is in hand goes last. One that is alone runs what
+        // it finds in that order.
+        let (alone, lasts) = (self.is_alone(), turn.few() < FEW);
+        let first = |turn: &Turn| turn.wanted == 0 && !self.mine(context);
+        let takes = alone || (context.worker.hand.line.is_empty() || !lasts) && first(turn);
         let room = if takes { self.room(context, turn) } else { 0 };
-        let now = context.looked.get();
-        if by_time && now.saturating_sub(self.looked.0.load(Relaxed)) < LOOK_TIME {
+        let (now, rest) = (context.looked.get(), if alone { LONELY_LOOK } else { LOOK_TIME });
+        if by_time && now.saturating_sub(self.looked.0.load(Relaxed)) < rest {
             self.hear(context, &Found::NOTHING, room);
         } else {
             self.looked.0.store(now, Relaxed);
@@ -627,18 +630,19 @@ impl Shared {
         got != 0
     }
 
-    /// How many tasks that are told of may stay in this worker's hand.
+    /// Returns how many tasks that a look wakes may stay in this worker's hand.
     fn room(&self, context: &Context, turn: &Turn) -> usize {
         let most = if self.is_alone() { HAND } else { turn.few() };
         most.saturating_sub(context.worker.hand.line.len())
     }
 
     /// For how many events a worker asks: for as many as stay in its hand. The others stay with the kernel, whose order
-    /// is that of their coming, for whoever looks next: made ready at the places of one that has lost its
-    /// processor they would wait for it. Where none stays, it asks for some that are left for others.
+    /// is that of their coming, for whoever looks next: made ready at the places of one that has lost its processor
+    /// they would wait for it, and run before what is in hand. If none stays, it asks for some that are left for
+    /// others, or that run in the order of their places.
     fn asks(&self, room: usize) -> usize {
         match room {
-            _ if self.is_alone() => EVENTS,
+            0 if self.is_alone() => EVENTS,
             0 => FEW,
             room => room,
         }
@@ -655,7 +659,7 @@ impl Shared {
         self.hear(context, &found, room)
     }
 
-    /// Wakes who is told of, and fires timers; how many there were. The first `room` tasks stay in this worker's hand,
+    /// Wakes the tasks of these events, and fires timers; returns how many. The first `room` stay in this worker's hand
     /// so that nobody else is woken for them.
     fn hear(&self, context: &Context, found: &Found, room: usize) -> usize {
         context.keeps.set(false);
@@ -693,8 +697,8 @@ impl Shared {
         }
     }
 
-    /// Runs some of what is ready at other workers' places, or at last in their hands: half of what one has, where that
-    /// is more than one job; else one, where its worker sleeps or doesn't get on.
+    /// Runs some of what is ready at other workers' places, or at last in their hands: half of what one has, if that
+    /// is more than one job; else one, if its worker sleeps or doesn't get on.
     fn steal(&self, context: &Context, turn: &mut Turn, last: bool) -> bool {
         let count = self.workers.len();
         let offset = context.random() as usize % count;
@@ -749,10 +753,17 @@ impl Shared {
 
     /// With nothing of its own to do: events, unless another waits for them; and timers.
     fn look_when_idle(&self, context: &Context, turn: &mut Turn) -> usize {
-        if self.waits.0.load(Relaxed) == NO_ONE {
-            return self.look_at_events(context, self.room(context, turn));
+        let room = self.room(context, turn);
+        if self.waits.0.load(Relaxed) != NO_ONE {
+            return self.hear(context, &Found::NOTHING, room);
         }
-        self.hear(context, &Found::NOTHING, self.room(context, turn))
+        let heard = self.look_at_events(context, room);
+        if heard != 0 && self.is_alone() {
+            // Its hand may be full of what it found: a look by time before that has run would find no room.
+            turn.pace(context, now());
+            self.looked.0.store(context.looked.get(), Relaxed);
+        }
+        heard
     }
 
     fn help_lodgers(&self, context: &Context, turn: &mut Turn) -> bool {

@@ -393,7 +393,7 @@ fn what_has_come_when_the_end_begins_is_read() {
     let streams: Vec<_> = (0..COUNT).map(|_| std::net::TcpStream::connect(to).unwrap()).collect();
     streams.iter().for_each(|stream| ask(stream, 1));
     streams.iter().for_each(|stream| assert_eq!(answer(stream).unwrap(), 1));
-    // The one worker looks at no socket until the end has begun, and reads then what nobody was told of.
+    // The one worker looks at no socket until the end has begun, and reads then what has come meanwhile.
     let near = std::net::TcpListener::bind("127.0.0.1:0").unwrap();
     let far = std::net::TcpStream::connect(near.local_addr().unwrap()).unwrap();
     let near = net::TcpStream::from_std(near.accept().unwrap().0).unwrap();
@@ -586,7 +586,7 @@ fn cores_are_given_back_and_asked_for() {
     busy.into_iter().for_each(|task| block_on(task).unwrap());
 }
 
-/// What is ready is polled, what is told by epoll is seen, and what is due is woken, beside tasks that never rest.
+/// What is ready is polled, what the epoll returns is seen, and what is due is woken, beside tasks that never rest.
 #[test]
 fn tasks_that_yield_for_ever_hold_nobody_up() {
     // One worker alone has nobody that looks at its epoll in its place.
@@ -786,35 +786,52 @@ fn what_is_read_within_block_on_in_a_task_is_not_put_off() {
     assert_eq!(block_on(task).unwrap(), 50);
 }
 
+/// Also if they are more than a worker may have in hand.
 #[test]
 fn sockets_are_heard_in_the_order_in_which_they_were_told_of() {
-    let runtime = Runtime::new(1);
-    let listener = std::net::TcpListener::bind("127.0.0.1:0").unwrap();
-    let order = Arc::new(Mutex::new(Vec::new()));
-    let (mut clients, mut tasks) = (Vec::new(), Vec::new());
-    for i in 0..8 {
-        clients.push(std::net::TcpStream::connect(listener.local_addr().unwrap()).unwrap());
-        let stream = net::TcpStream::from_std(listener.accept().unwrap().0).unwrap();
-        let order = order.clone();
-        tasks.push(runtime.spawn(async move {
-            stream.read(&mut [0]).await.unwrap();
-            order.lock().unwrap().push(i);
-        }));
+    for count in [8, 200] {
+        let runtime = Runtime::new(1);
+        let listener = std::net::TcpListener::bind("127.0.0.1:0").unwrap();
+        let (order, waiting) = (Arc::new(Mutex::new(Vec::new())), Arc::new(AtomicUsize::new(0)));
+        let (mut clients, mut tasks) = (Vec::new(), Vec::new());
+        for i in 0..count {
+            clients.push(std::net::TcpStream::connect(listener.local_addr().unwrap()).unwrap());
+            let stream = net::TcpStream::from_std(listener.accept().unwrap().0).unwrap();
+            let (order, waiting) = (order.clone(), waiting.clone());
+            tasks.push(runtime.spawn(async move {
+                waiting.fetch_add(1, SeqCst);
+                stream.read(&mut [0]).await.unwrap();
+                order.lock().unwrap().push(i);
+            }));
+        }
+        let [is_blocked, ends] = [(); 2].map(|()| Arc::new(AtomicBool::new(false)));
+        let (told, end) = (is_blocked.clone(), ends.clone());
+        let until = |done: &dyn Fn() -> bool| {
+            while !done() {
+                thread::sleep(MS / 4);
+            }
+        };
+        // That each socket can be written to was seen, and the worker sleeps.
+        until(&|| {
+            waiting.load(SeqCst) == count && {
+                let parks = runtime.stats().parks;
+                thread::sleep(20 * MS);
+                parks == runtime.stats().parks
+            }
+        });
+        let blocks = runtime.spawn(async move {
+            told.store(true, SeqCst);
+            while !end.load(SeqCst) {
+                thread::sleep(MS / 4);
+            }
+        });
+        until(&|| is_blocked.load(SeqCst));
+        clients.iter_mut().for_each(|client| client.write_all(&[1]).unwrap());
+        ends.store(true, SeqCst);
+        block_on(blocks).unwrap();
+        tasks.into_iter().for_each(|task| block_on(task).unwrap());
+        assert_eq!(*order.lock().unwrap(), (0..count).collect::<Vec<_>>());
     }
-    thread::sleep(20 * MS);
-    let is_blocked = Arc::new(AtomicBool::new(false));
-    let told = is_blocked.clone();
-    let blocks = runtime.spawn(async move {
-        told.store(true, SeqCst);
-        thread::sleep(20 * MS);
-    });
-    while !is_blocked.load(SeqCst) {
-        thread::yield_now();
-    }
-    clients.iter_mut().for_each(|client| client.write_all(&[1]).unwrap());
-    block_on(blocks).unwrap();
-    tasks.into_iter().for_each(|task| block_on(task).unwrap());
-    assert_eq!(*order.lock().unwrap(), (0..8).collect::<Vec<_>>());
 }
 
 #[test]
@@ -855,7 +872,7 @@ fn each_kernel_thread_is_started_before_its_first_task() {
     assert!(tasks.into_iter().all(|task| block_on(task).unwrap() == 1));
     drop(runtime);
     assert_eq!(count.swap(0, SeqCst), 3);
-    // The watcher polls too, where no worker is free.
+    // The watcher polls too, if no worker is free.
     let runtime = Builder::new(1).watch_polls(5 * MS, false).on_worker_start(starts).build().unwrap();
     let (runs, ends) = (Arc::new(AtomicBool::new(false)), Arc::new(AtomicBool::new(false)));
     let (told, end) = (runs.clone(), ends.clone());
