@@ -28,7 +28,7 @@ class Archive(unittest.TestCase):
             (self.top / f"crates/{name}/src").mkdir(parents=True)
             (self.top / f"crates/{name}/src/lib.rt").touch()
         (self.top / "scripts").mkdir()
-        for name in ("archive", "below"):
+        for name in ("archive", "below", "over"):
             shutil.copy(TOP / "scripts" / name, self.top / "scripts")
 
     def command(self, name: str, kit: Path, does: str) -> None:

@@ -9,14 +9,14 @@ from loading import TOP
 
 class Gate(unittest.TestCase):
     # What is called behind the gate.
-    TESTS = ["scripts/test", "tests/run", "examples/test", "rust/test"]
+    TESTS = ["scripts/test", "tests/run", "wrong-bodies/read --left", "examples/test", "rust/test"]
 
     def run_of(self, gate: int, failed: str = "") -> tuple[int, list[str]]:
         """The status, and what is printed, where the gate returns this, and those behind it 1 if they fail."""
-        said = [(it, it, int(it == failed)) for it in self.TESTS]
+        said = [(it, it.split()[0] + ' "$@"', int(it == failed)) for it in self.TESTS]
         with tempfile.TemporaryDirectory() as room:
             for name, text, status in [*said, ("bench/gate", "costs; echo gate >&2", gate)]:
-                file = Path(room) / name
+                file = Path(room) / name.split()[0]
                 file.parent.mkdir(exist_ok=True)
                 file.write_text(f"#!/bin/sh\necho {text}\nexit {status}\n")
                 file.chmod(0o755)

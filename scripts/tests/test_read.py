@@ -1,4 +1,6 @@
 """Wrong bodies (mutants) apply to today's sources, and those that the compiler refuses are found among many."""
+import contextlib
+import io
 import unittest
 from pathlib import Path
 from unittest import mock
@@ -15,7 +17,7 @@ def edit(line: int, new: str = "fine") -> "read.Edit":
     return read.Edit(f"at_{line}", "src/a.rt", ((f"line {line};", new),))
 
 
-def compiler(_: Path, texts: dict[str, str]) -> list[tuple[str, int, str]]:
+def compiler(_: Path, texts: dict[str, str], __: object) -> list[tuple[str, int, str]]:
     """A compiler that refuses each line with the word bad, and says where, and says only that it has found worse."""
     lines = texts["src/a.rt"].splitlines()
     found = [("src/a.rt", at + 1, "error: bad") for at, it in enumerate(lines) if "bad" in it]
@@ -26,7 +28,7 @@ class Read(unittest.TestCase):
     def refused(self, *edits: "read.Edit") -> list[str]:
         """The names of those that this compiler refuses."""
         with mock.patch.object(read, "read", compiler):
-            return sorted(it.name for it, _ in read.refused(Path(), {"src/a.rt": TEXT}, list(edits)))
+            return sorted(it.name for it, _ in read.refused(Path(), {"src/a.rt": TEXT}, list(edits), []))
 
     def test_each_applies(self) -> None:
         self.assertTrue(read.crates())
@@ -41,13 +43,31 @@ class Read(unittest.TestCase):
         self.assertEqual(read.applied(edit(7), TEXT), (TEXT.replace("line 7;", "fine"), [8]))
 
     def test_edits_that_stand_close_are_read_one_after_the_other(self) -> None:
-        _, taken, left = read.together([edit(10), edit(12), edit(30)], {"src/a.rt": TEXT})
-        self.assertEqual(([it.name for it in taken], [it.name for it in left]), (["at_10", "at_30"], ["at_12"]))
+        _, taken, left = read.together([edit(10), edit(11), edit(30)], {"src/a.rt": TEXT})
+        self.assertEqual(([it.name for it in taken], [it.name for it in left]), (["at_10", "at_30"], ["at_11"]))
 
     def test_those_that_are_refused_are_found(self) -> None:
         fine = [edit(it) for it in range(0, 100, 10)]
         self.assertEqual(self.refused(*fine), [])
         self.assertEqual(self.refused(*fine, edit(25, "bad"), edit(33, "bad"), edit(27, "bad")), ["at_25", "at_27", "at_33"])
+
+    @mock.patch.object(read, "command")
+    def test_each_that_is_refused_counts(self, _: mock.Mock) -> None:
+        for errors in [], [("", 0, "error: bad")]:
+            with mock.patch.object(read, "read", lambda *_: errors), contextlib.redirect_stdout(io.StringIO()) as told:
+                self.assertEqual(read.judge("arachne_handle", left=True), len(errors))
+            self.assertIn(f"1 of 1 apply, {len(errors)} do not compile", told.getvalue())
+
+    def test_a_block_says_whether_it_compiles(self) -> None:
+        edits = [edit(10), edit(20)._replace(compiles=False), edit(30), edit(40)._replace(compiles=False)]
+        found = [(it, "error: bad") for it in edits[:2]]
+        with mock.patch.multiple(read, command=mock.DEFAULT, copy=mock.DEFAULT, refused=lambda *_: found) as fakes:
+            fakes["copy"].return_value = Path("/nowhere")
+            with mock.patch.object(read, "edits_of", lambda _: edits), mock.patch.object(read, "applied"):
+                with mock.patch.multiple(Path, exists=lambda _: True, read_text=lambda _: TEXT):
+                    with contextlib.redirect_stdout(io.StringIO()) as told:
+                        self.assertEqual(read.judge("some"), 2)
+        self.assertIn("some: at_10 does not compile\nsome: at_40 compiles, and", told.getvalue())
 
     def test_one_is_found_where_no_line_is_told(self) -> None:
         self.assertEqual(self.refused(*(edit(it) for it in range(0, 100, 10)), edit(45, "worse")), ["at_45"])
