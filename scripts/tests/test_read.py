@@ -56,7 +56,18 @@ class Read(unittest.TestCase):
         for errors in [], [("", 0, "error: bad")]:
             with mock.patch.object(read, "read", lambda *_: errors), contextlib.redirect_stdout(io.StringIO()) as told:
                 self.assertEqual(read.judge("arachne_handle", left=True), len(errors))
-            self.assertIn(f"1 of 1 apply, {len(errors)} of these are refused", told.getvalue())
+            self.assertIn(f"1 of 1 apply, {len(errors)} do not compile", told.getvalue())
+
+    def test_a_block_says_whether_it_compiles(self) -> None:
+        edits = [edit(10), edit(20)._replace(compiles=False), edit(30), edit(40)._replace(compiles=False)]
+        found = [(it, "error: bad") for it in edits[:2]]
+        with mock.patch.multiple(read, command=mock.DEFAULT, copy=mock.DEFAULT, refused=lambda *_: found) as fakes:
+            fakes["copy"].return_value = Path("/nowhere")
+            with mock.patch.object(read, "edits_of", lambda _: edits), mock.patch.object(read, "applied"):
+                with mock.patch.multiple(Path, exists=lambda _: True, read_text=lambda _: TEXT):
+                    with contextlib.redirect_stdout(io.StringIO()) as told:
+                        self.assertEqual(read.judge("some"), 2)
+        self.assertIn("some: at_10 does not compile\nsome: at_40 compiles, and", told.getvalue())
 
     def test_one_is_found_where_no_line_is_told(self) -> None:
         self.assertEqual(self.refused(*(edit(it) for it in range(0, 100, 10)), edit(45, "worse")), ["at_45"])
