@@ -30,8 +30,9 @@ const CONNECTIONS: usize = 300;
 const OF_A_PROCESS: usize = 130;
 /// Clients at most: their numbers in the library's state.
 const CLIENTS: usize = 64;
-/// Users other than root and the daemon's own have these priorities, and no reserved cores.
+/// Users other than root and the daemon's own have these priorities, no reserved cores, and this many clients each.
 const FOR_OTHERS: u32 = 4;
+const OF_ANOTHER: usize = 16;
 
 enum Role {
     New,
@@ -58,6 +59,7 @@ struct Client {
     /// In the library's state.
     number: usize,
     process: u32,
+    user: u32,
     ended: fs::File,
     control: u64,
     page: sys::Page,
@@ -161,12 +163,16 @@ impl Arbiter {
         if least > 0 && (!trusted || (reserved + least) as usize > self.cores.len()) {
             return Err("reserved cores that it may not have");
         }
+        if !trusted && self.clients.values().filter(|client| client.user == user).count() >= OF_ANOTHER {
+            return Err("too many clients of one user");
+        }
         let free = |number: &usize| self.clients.values().all(|client| client.number != *number);
         let number = (0..CLIENTS).find(free).ok_or("too many clients")?;
         let failed = |_| "the system refused it";
         let client = Client {
             number,
             process,
+            user,
             ended: sys::watch_process(process).map_err(failed)?,
             control: name,
             page: sys::Page::new().map_err(failed)?,

@@ -4,7 +4,9 @@ use std::env;
 use std::fs;
 use std::io::{BufRead, BufReader, Read, Write};
 use std::ops::Deref;
+use std::os::unix::fs::MetadataExt;
 use std::os::unix::net::UnixStream;
+use std::os::unix::process::CommandExt;
 use std::path::PathBuf;
 use std::process::{Child, Command, Stdio};
 use std::sync::mpsc;
@@ -60,13 +62,13 @@ impl Deref for Daemon {
 
 impl Daemon {
     fn new(name: &str) -> Daemon {
-        Daemon::at(env::temp_dir().join(format!("arbiter-test-{}-{name}", std::process::id())))
+        Daemon::at(path_of(name), &[])
     }
 
-    fn at(path: PathBuf) -> Daemon {
+    fn at(path: PathBuf, words: &[&str]) -> Daemon {
         let program = option_env!("CARGO_BIN_EXE_arbiter").map_or_else(|| env::var("ARBITER").unwrap(), str::to_string);
         let mut command = Command::new(program);
-        command.arg(&path);
+        command.arg(&path).args(words);
         if let Some(folder) = env::var_os("ARBITER_CPUSET") {
             command.arg("--cpuset").arg(folder);
         }
@@ -91,6 +93,10 @@ impl Drop for Daemon {
         }
         assert!(!self.socket.0.exists(), "the socket is removed");
     }
+}
+
+fn path_of(name: &str) -> PathBuf {
+    env::temp_dir().join(format!("arbiter-test-{}-{name}", std::process::id()))
 }
 
 fn kill(process: u32) {
@@ -248,7 +254,7 @@ fn another_begins_where_a_daemon_was_killed_with_its_guardian() {
     first.guardian.wait().unwrap();
     assert!(path.exists(), "nobody was left to remove it");
     std::mem::forget(first);
-    let second = Daemon::at(path);
+    let second = Daemon::at(path, &[]);
     assert_eq!(second.hello(0, 0).1[0], WELCOME);
 }
 
@@ -284,4 +290,29 @@ fn a_flood_of_one_client_keeps_no_other_from_its_core() {
     assert_eq!(receive(&mut thread).unwrap()[0], GRANT);
     drop(daemon);
     flood.join().unwrap();
+}
+
+#[test]
+fn a_user_who_is_not_trusted_has_low_priorities_no_reserve_and_few_clients() {
+    if fs::metadata("/proc/self").unwrap().uid() != 0 {
+        return println!("skipped: only root can become another user");
+    }
+    let daemon = Daemon::at(path_of("stranger"), &["--open"]);
+    let status = Command::new(env::current_exe().unwrap())
+        .args(["--exact", "a_stranger", "--ignored"])
+        .env("ARBITER_OF", &daemon.socket.0)
+        .uid(65534)
+        .status();
+    assert!(status.unwrap().success());
+    assert_eq!(daemon.hello(0, 1).1[0], WELCOME);
+}
+
+#[test]
+#[ignore = "the test before runs it as another user"]
+fn a_stranger() {
+    let socket = Socket(env::var_os("ARBITER_OF").unwrap().into());
+    assert_eq!(socket.hello(3, 0).1[0], REFUSED);
+    assert_eq!(socket.hello(4, 1).1[0], REFUSED);
+    let clients: Vec<_> = (0..20).map(|_| socket.hello(4, 0)).collect();
+    assert_eq!(clients.iter().filter(|(_, told)| told[0] == WELCOME).count(), 16);
 }
