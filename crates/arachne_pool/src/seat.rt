@@ -20,7 +20,7 @@ use crate::worker::PoolFault;
 use arachne_arbiter::Pace;
 use arachne_contexts::{Contexts, Held, Moved, Taken, Woken};
 use arachne_core::{MarkWord, OccWord, Place, Rest, ThreadId};
-use arachne_workers::{Desk, Drained, Grip, Halt, ThreadStop, TicketResult, WorkerEvent};
+use arachne_workers::{Desk, Grip, Halt, ThreadStop, TicketResult, WorkerEvent, is_drained};
 use std::marker::Model;
 use std::mem::replace;
 use std::sync::Wait;
@@ -269,10 +269,9 @@ impl<'a, H: Wait, J: PoolJob, C: Contexts<Spawned<J>>> Desk for Seat<'a, H, J, C
         self.bench.orders.has_more()
     }
 
-    fn is_drained(&mut self) -> Option<Drained> {
-        let drained = Drained::shown_by(self.look());
-        self.is_drained = drained.is_some();
-        drained
+    fn is_drained(&mut self) -> bool {
+        self.is_drained = is_drained(self.look());
+        self.is_drained
     }
 
     fn begins(&self, _nth: u64) {}

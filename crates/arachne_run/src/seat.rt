@@ -25,7 +25,8 @@ use arachne_jobs::{
 };
 use arachne_spill::SpillPass;
 use arachne_workers::{
-    Desk, Drained, Grip, Halt, PostedThread, ThreadStop, TicketResult, WorkerEvent, may_take_ticket,
+    Desk, Grip, Halt, PostedThread, ThreadStop, TicketResult, WorkerEvent, is_drained,
+    may_take_ticket,
 };
 use rand_core::Rng;
 use std::alloc::Global;
@@ -397,8 +398,8 @@ impl<'a, H: Wait + Clock, T: RunJob, C: Contexts<T>, R: Rng + Drop, G: Gate> Des
         has_orders_left(&self.arbiter, self.machine.orders)
     }
 
-    fn is_drained(&mut self) -> Option<Drained> {
-        Drained::shown_by(self.look())
+    fn is_drained(&mut self) -> bool {
+        is_drained(self.look())
     }
 
     fn begins(&self, nth: u64) {

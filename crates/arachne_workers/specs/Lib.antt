@@ -2,4 +2,3 @@ pub mod Lowest
 pub mod Posts
 pub mod Agendas
 pub mod Keeping
-pub mod Due

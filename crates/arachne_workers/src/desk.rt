@@ -1,9 +1,8 @@
-//! What a worker does at the table and with the thread in hand, and what these calls answer.
+//! What a worker does at the table and with the thread in hand, and what these calls return.
 //!
-//! The worker's loop stands on this trait, and not on tables and jobs.
+//! The worker's loop is written over this trait, and not over tables and jobs.
 ghost use Rattle.std.specs.Prelude.{◌≡◌, ◌≤◌, OnOk};
 
-use crate::drained::Drained;
 use crate::policy;
 use crate::queue::PostedThread;
 use arachne_arbiter::Pace;
@@ -11,15 +10,15 @@ use arachne_contexts::Woken;
 use arachne_core::{MarkWord, OccWord, Place, Rest, SLOTS, ThreadId};
 use std::marker::Model;
 
-/// The worker can't go on. Why is the desk's affair: it has a number for each cause.
+/// Error by which a worker can't go on. The desk has a number for each cause.
 #[derive(Clone, Copy, Debug, PartialEq, Eq)]
 pub struct Halt {
     pub why: u8,
 }
 
-/// The worker of a core can't go on, for which its loop has ended. It can't be dropped, so that it is told.
+/// The error that ended a worker's loop. It is not `Drop`, so that it must be handled.
 ///
-/// Contracts see why.
+/// Contracts see the cause.
 pub struct Halted {
     halt: Halt,
 }
@@ -40,7 +39,7 @@ impl Halted {
         Halted { halt }
     }
 
-    /// It is being told.
+    /// Returns the cause.
     #[inline(always)]
     pub fn halt(self) -> Halt
         ensures { result ≡ self }
@@ -50,93 +49,94 @@ impl Halted {
     }
 }
 
-/// What a worker does at the table and with the thread in hand. The trait has no types of its own, so that what stands
-/// on it is proved in a fraction of the time. No call changes what the seat is a seat at.
+/// What a worker does at the table and with the thread in hand. No call changes what the seat is a seat at.
+///
+/// The trait has no types of its own: over the types of a table and a job each proof of the loop takes far longer.
 pub trait Desk {
-    /// Takes the thread at an index of the core in hand, if it is ready and none is, and tells of it.
+    /// Takes the thread at an index of the core in hand, if it is ready and no other is in hand, and reports it.
     fn take(&mut self, index: u8) -> Grip
         ensures { self.new ≡ self.old };
 
-    /// The most steps of a slice of the thread in hand.
+    /// Returns how many steps a slice of the thread in hand has at most.
     fn quantum(&self) -> u32;
 
-    /// The thread in hand goes on for at most as many steps as are left, and what it asks for is done. Where another
-    /// kernel thread is at what that needs, it waits by this pace (`stand_by`).
+    /// Runs the thread in hand for at most `left` steps, from which those that it makes are taken, and does what it
+    /// asks for. While another kernel thread has what that needs, it waits by this pace (`stand_by`).
     fn advance(&mut self, pace: &mut Pace, left: &mut u32) -> Result<ThreadStop, Halt>
         requires { 1 ≤ left.old }
         ensures desk { self.new ≡ self.old }
         ensures left { OnOk result (left.new ≤ left.old) };
 
-    /// Whether the thread in hand was given something since it was taken for which others may come to wait, and has
-    /// given back nothing since.
+    /// Returns whether the thread in hand has acquired a lock since it was taken, and released none since.
     fn holds(&self) -> bool;
 
-    /// Puts the thread in hand back, as ready or blocked by its pause. How it rests then: one that was woken meanwhile
-    /// is ready.
+    /// Puts the thread in hand back, as ready or blocked by its pause. Returns how it rests: if it was woken meanwhile,
+    /// it is ready.
     fn rest(&mut self) -> Result<Rest, Halt>
         ensures { self.new ≡ self.old };
 
-    /// Ends the thread in hand, which leaves what it has ended with. Its place is kept, if the core, which looked so
-    /// before, was full, and else told of as free. The id of the thread that awaits it, if there is one. Where it was
-    /// the last one, the workers are stopped.
+    /// Ends the thread in hand, which leaves what it has ended with. Its place is kept if the core, which looked like
+    /// `before`, was full, and is free otherwise. If it was the last thread, all workers are stopped. Returns the id of
+    /// the thread that awaits it, if there is one.
     fn end(&mut self, before: OccWord) -> Result<Option<ThreadId>, Halt>
         ensures { self.new ≡ self.old };
 
-    /// How many places are kept.
+    /// Returns how many places are kept.
     fn kept(&self) -> usize;
 
-    /// Gives back the newest place that is kept. Whether there was one.
+    /// Gives back the newest place that is kept. Returns whether there was one.
     fn give_one_back(&mut self) -> Result<bool, Halt>
         ensures { self.new ≡ self.old };
 
-    /// What is on the core.
+    /// Reads what is on the core.
     fn look(&mut self) -> OccWord
         ensures { self.new ≡ self.old };
 
-    /// What is marked of a context. None where there is no such context.
+    /// Reads the mark of a context. Returns `None` if there is no such context.
     fn mark_of(&mut self, context: u32) -> Option<MarkWord>
         ensures { self.new ≡ self.old };
 
-    /// Tries once to wake the thread of an id.
+    /// Tries once to wake the thread of this id.
     fn try_wake(&mut self, id: ThreadId) -> Woken
         ensures { self.new ≡ self.old };
 
-    /// Moves the thread at a place of another core to this one, if workers may. Whether it was moved.
+    /// Moves the thread at a place of another core to this one, if workers may. Returns whether it was moved.
     fn pull(&mut self, place: Place) -> bool
         ensures { self.new ≡ self.old };
 
-    /// Whether a thread that waits for a place may get one by this worker.
+    /// Returns whether this worker may give a place to a thread that waits for one.
     fn may_take_ticket(&mut self) -> bool
         ensures { self.new ≡ self.old };
 
-    /// Takes a thread that waits for a place, and posts it if it waits still and there is a place.
+    /// Takes a thread that waits for a place, and posts it if it still waits and there is a place.
     fn take_ticket(&mut self) -> Result<TicketResult, Halt>
         ensures { self.new ≡ self.old };
 
-    /// Applies the orders that are due, and moves threads away from a closed core, if this worker is to. How many are
-    /// applied in all, if some were now, and the cores to which threads were moved, a bit for each.
+    /// Applies the orders that are due, and moves threads away from closed cores, if this worker has the orders.
+    /// Returns how many orders are applied in all, if one was now, and the cores to which threads were moved, a bit for
+    /// each.
     fn tend(&mut self) -> (Option<usize>, u64)
         ensures { self.new ≡ self.old };
 
-    /// Whether there are orders at all. They are looked at then alone.
+    /// Returns whether there are orders. `tend` is called only then.
     fn has_orders(&self) -> bool;
 
-    /// Whether others may wait for this worker: it is to apply orders of which some are left, or has threads that wait
-    /// for a place. It sleeps for shorter times, and doesn't park.
+    /// Returns whether others may wait for this worker: it has orders that are not applied yet, or threads that wait
+    /// for a place. If so, its sleeps are short, and it doesn't park.
     fn is_waited_for(&self) -> bool;
 
-    /// That the core is closed and nothing is left on it, if its word shows that.
-    fn is_drained(&mut self) -> Option<Drained>
+    /// Returns whether the core is closed and empty. The worker parks only then.
+    fn is_drained(&mut self) -> bool
         ensures { self.new ≡ self.old };
 
-    /// A slice of the thread in hand begins, the worker's of this number.
+    /// Reports that a slice of the thread in hand begins, the worker's `nth` from 0 on.
     fn begins(&self, nth: u64);
 
-    /// What the worker has done just now, or is about to do.
+    /// Reports what the worker has just done, or is about to do.
     fn told(&self, event: WorkerEvent);
 }
 
-/// Where the thread in hand stops.
+/// Why the thread in hand stops.
 #[derive(Clone, Copy)]
 pub enum ThreadStop {
     /// It goes on.
@@ -145,70 +145,70 @@ pub enum ThreadStop {
     Posted(PostedThread),
     /// It goes on, and has forked a child that waits with a ticket.
     Spilled,
-    /// It goes on, and the thread of this id, which has waited for what it has given back, is to go on before others.
+    /// It goes on, and has released a lock, which the thread of this id has now: that one goes before others.
     Wakes(ThreadId),
     /// It awaits a child that has not ended.
     Blocks,
-    /// It waits for what has this number.
+    /// It waits for the lock of this number.
     Waits(u64),
     /// It has ended.
     Ends,
 }
 
-/// What came of a try to take a thread in hand.
+/// What came of an attempt to take a thread in hand.
 #[derive(Clone, Copy)]
 pub enum Grip {
     Taken,
-    /// There is none that is ready.
+    /// None is ready there.
     None,
-    /// The place changed meanwhile: it is to be tried again.
+    /// The place changed meanwhile. The attempt must be repeated.
     Lost,
 }
 
-/// What came of a try to take a thread that waits for a place.
+/// What came of an attempt to take a thread that waits for a place.
 #[derive(Clone, Copy)]
 pub enum TicketResult {
     /// There was none.
     None,
-    /// It waits no longer, or there was no place.
+    /// It no longer waits, or there was no place.
     Gone,
     Posted(PostedThread),
 }
 
-/// What a worker tells of.
+/// What a worker reports.
 #[derive(Clone, Copy, Debug, PartialEq, Eq)]
 pub enum WorkerEvent {
-    /// A slice has ended so, after so many steps. Of one that meets a fault nothing is told.
+    /// A slice has ended, after this many steps. One that meets a fault is not reported.
     Sliced(u32, SliceEnd),
     /// A blocked thread was woken.
     Woken(ThreadId, Cause),
-    /// A thread was moved here from this core, to go on here.
+    /// A thread was moved here from this core, to run here.
     Pulled(ThreadId, u8),
-    /// A child for which there was no place waits for one, with a ticket.
+    /// A child got no place and waits for one, with a ticket.
     Spilled,
-    /// A ticket was taken. Whether its child was posted here: else its parent had taken it back, or there was no place.
+    /// A ticket was taken. True if its child was posted here; if not, its parent runs it, or there was no place.
     Ticket(bool),
-    /// Its core is closed and empty, and it is about to park.
+    /// The core is closed and empty, and the worker is about to park.
     Parks,
-    /// It was parked and goes on.
+    /// The worker was unparked.
     Unparked,
-    /// It slept its time out, and then found something of which nobody had told it. A few such sleeps are of threads
-    /// and tickets that nobody is told of at once; many show a missed signal.
+    /// The worker's sleep timed out, and then it found something that nobody had signalled. Threads and tickets that
+    /// are not signalled at once cause a few of these; many show a missing signal.
     Overslept,
-    /// By the worker that has the orders: so many in all are applied now.
+    /// The worker that has the orders has applied one: this many in all are applied now.
     Applied(usize),
-    /// By the same: threads were moved away from a closed core to these, a bit for each core.
+    /// It has moved threads away from a closed core to these cores, a bit for each.
     MovedAway(u64),
 }
 
 /// How a slice ends.
 #[derive(Clone, Copy, Debug, PartialEq, Eq)]
 pub enum SliceEnd {
-    /// The thread goes on: its quantum is used up, or it is to let another go on.
+    /// The thread goes on: its steps are used up, or another must run.
     GoesOn,
     /// It awaits a child.
     AwaitsChild,
-    /// It awaits what has this number, as a lock.
+    /// It waits for the lock of this number.
     Awaits(u64),
     /// It has ended.
     Ended,
@@ -217,13 +217,13 @@ pub enum SliceEnd {
 /// Why a thread is woken.
 #[derive(Clone, Copy, Debug, PartialEq, Eq)]
 pub enum Cause {
-    /// A child of it has ended.
+    /// Its child has ended.
     ChildEnded,
-    /// It has now what it has waited for, and for which others may wait.
+    /// It has the lock for which it waited, and for which others may wait.
     IsServed,
 }
 
-/// Gives back all places that are kept.
+/// Gives back all kept places.
 pub fn give_all_back<D: Desk>(desk: &mut D) -> Result<(), Halt>
     ensures { desk.new ≡ desk.old }
 {
@@ -235,35 +235,14 @@ pub fn give_all_back<D: Desk>(desk: &mut D) -> Result<(), Halt>
     Ok(())
 }
 
-/// No place is kept, and none will be before a thread is run. [`keep_none`] alone gives one.
-#[derive(Drop)]
-pub(crate) struct NoneKept {
-    since: (),
-}
-
-/// Gives back all places that are kept, as [`give_all_back`] does.
+/// Gives back all kept places if the core, of `slots` places, has few threads.
 #[inline(always)]
-pub(crate) fn keep_none<D: Desk>(desk: &mut D) -> Result<NoneKept, Halt>
-    ensures { desk.new ≡ desk.old }
-{
-    give_all_back(desk)?;
-    Ok(NoneKept { since: () })
-}
-
-/// The places that are kept were given back if that was due. [`thin_out`] alone gives one.
-#[derive(Drop)]
-pub(crate) struct Thinned {
-    done: (),
-}
-
-/// Gives back all places that are kept, if that is due by what is on the core, which has so many places.
-#[inline(always)]
-pub(crate) fn thin_out<D: Desk>(desk: &mut D, slots: u8) -> Result<Thinned, Halt>
+pub(crate) fn thin_out<D: Desk>(desk: &mut D, slots: u8) -> Result<(), Halt>
     ensures { desk.new ≡ desk.old }
 {
     let kept = desk.kept();
     if kept > 0 && policy::gives_back(desk.look(), kept, slots) {
         give_all_back(desk)?;
     }
-    Ok(Thinned { done: () })
+    Ok(())
 }

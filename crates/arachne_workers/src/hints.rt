@@ -1,24 +1,21 @@
 //! Where threads may be ready, and whose workers sleep: a word for each core.
 //!
-//! It may touch atomics alone, so any host may call it: whom to wake each call says, and waking is the caller's.
+//! It touches nothing but atomics, so any host may call it: each call returns whom to wake, and the caller does so.
 ghost use Rattle.std.specs.Prelude.{◌≡◌, ◌↔◌, ◌<◌, ◌≤◌, ◌*◌, ◌/◌, ◌%◌, ◌^◌, IfOk, IsSome, IsTrue};
-ghost use Rattle.std.specs.Int.RustNames.{bit_or};
-ghost use Rattle.arachne_core.specs.Occupancy.{mask_of};
 ghost use Rattle.arachne_core.specs.declared.layout.TheConstants.{SLOTS};
 
-use crate::queue::LookDue;
-use arachne_core::{OccWord, SLOTS};
+use arachne_core::SLOTS;
 use crossbeam_utils::CachePadded;
 use std::alloc::{AllocError, Global};
 use std::marker::Model;
 use std::sync::atomic::{AtomicU64, Ordering};
 
-/// The core's worker sleeps. A sleep looks at the low 32 bits of its word, so this is one of them.
+/// The bit of a core's word that says that its worker sleeps. A sleep reads the low 32 bits, so it is one of them.
 pub(crate) const SLEEPS: u64 = 1;
 
 const INDEX_SHIFT: u32 = 1;
 
-/// The bit of an index in a set of indexes, and no bit where there is no such index.
+/// Returns the bit of an index in a set of indexes, or no bit if there is no such index.
 pub(crate) fn bit_of(index: u8) -> u64
     ensures there { index < SLOTS → result ≡ 2 ^ index }
     ensures none { SLOTS ≤ index → result ≡ 0 }
@@ -30,7 +27,7 @@ pub(crate) fn bit_of(index: u8) -> u64
     }
 }
 
-/// What a word is told of indexes, a bit for each.
+/// Returns the bits of a word for these indexes.
 #[inline(always)]
 fn hint_of(indexes: u64) -> u64
     ensures { result ≡ indexes * 2 % 2 ^ 64 }
@@ -38,7 +35,7 @@ fn hint_of(indexes: u64) -> u64
     indexes << INDEX_SHIFT
 }
 
-/// The indexes in a word, a bit for each.
+/// Returns the indexes in a word, a bit for each.
 #[inline(always)]
 fn indexes_in(word: u64) -> u64
     ensures { result ≡ word / 2 }
@@ -46,7 +43,7 @@ fn indexes_in(word: u64) -> u64
     word >> INDEX_SHIFT
 }
 
-/// Whether a word says that the core's worker sleeps.
+/// Returns whether a word says that the core's worker sleeps.
 #[inline(always)]
 fn says_sleeps(word: u64) -> bool
     ensures { IsTrue result ↔ (word % 2 ≡ 1) }
@@ -54,64 +51,15 @@ fn says_sleeps(word: u64) -> bool
     word & SLEEPS != 0
 }
 
-/// The indexes of a scan, a bit for each. It can't be dropped, so that what was hinted at is looked at.
-pub(crate) struct Indexes {
-    mask: u64,
-}
-
-impl Indexes {
-    /// All that are occupied.
-    #[inline(always)]
-    pub(crate) fn occupied(now: OccWord) -> Indexes
-        ensures { result.mask ≡ mask_of now.occupied }
-    {
-        Indexes { mask: now.mask() }
-    }
-
-    /// And all that are occupied, since a look at these is due.
-    #[inline(always)]
-    pub(crate) fn and_occupied(self, due: LookDue, now: OccWord) -> Indexes
-        ensures { result.mask ≡ bit_or self.mask (mask_of now.occupied) }
-    {
-        due.done();
-        let Indexes { mask } = self;
-        Indexes {
-            mask: mask | now.mask(),
-        }
-    }
-
-    /// They are being scanned.
-    #[inline(always)]
-    pub(crate) fn mask(self) -> u64
-        ensures { result ≡ self.mask }
-    {
-        let Indexes { mask } = self;
-        mask
-    }
-}
-
-/// A core's word says that its worker sleeps no longer. It can't be dropped, so that the worker is woken.
-pub(crate) struct Rising<'a> {
-    word: &'a AtomicU64,
-}
-
-impl<'a> Rising<'a> {
-    #[inline(always)]
-    pub(crate) fn wake(self) {
-        let Rising { word } = self;
-        word.wake_one();
-    }
-}
-
-/// For each core a word on a cache line of its own. It has a bit for each index at which a thread may be ready, and one
-/// that says that the core's worker sleeps. A bit is a hint: the table alone says what is ready, and what no bit shows
-/// is found by a look at all that is occupied.
+/// A word for each core, on a cache line of its own. It has a bit for each index at which a thread may be ready, and
+/// one that says that the core's worker sleeps. A bit is a hint: only the table says what is ready, and a scan of all
+/// occupied indexes finds what no bit shows.
 #[derive(Drop)]
 pub struct Hints {
     words: Vec<CachePadded<AtomicU64>>,
 }
 
-// Contracts see for how many cores it is.
+// Contracts see the number of cores.
 impl Model for Hints {
     ghost use Rattle.std.specs.Prelude.{ℕ, vec_len};
 
@@ -121,7 +69,7 @@ impl Model for Hints {
 }
 
 impl Hints {
-    /// No thread is ready, and no worker sleeps.
+    /// Creates words for this many cores. No thread is ready, and no worker sleeps.
     pub fn new(alloc: Global, cores: u8) -> Result<Hints, AllocError>
         ensures { IfOk result (λ hints. hints ≡ cores) }
     {
@@ -132,14 +80,15 @@ impl Hints {
         Ok(Hints { words })
     }
 
-    /// For how many cores it is.
+    /// Returns the number of cores.
     pub fn cores(&self) -> usize
         ensures { result ≡ self.now }
     {
         self.words.len()
     }
 
-    /// Threads of a core may be ready at these indexes, a bit for each. Whether its worker sleeps, and is to be woken.
+    /// Records that threads of a core may be ready at these indexes, a bit for each. Returns whether its worker sleeps
+    /// and must be woken.
     pub fn hint(&self, core: u8, indexes: u64) -> bool {
         match self.word(core) {
             Some(word) => says_sleeps(word.fetch_or(hint_of(indexes), Ordering::SeqCst)),
@@ -147,23 +96,22 @@ impl Hints {
         }
     }
 
-    /// The indexes of a core that were hinted at since they were taken last.
-    pub(crate) fn take(&self, core: u8) -> Indexes {
-        let mask = match self.word(core) {
+    /// Takes the indexes of a core that were recorded since the last call. Its worker no longer sleeps.
+    pub(crate) fn take(&self, core: u8) -> u64 {
+        match self.word(core) {
             Some(word) if word.load(Ordering::SeqCst) != 0 => {
                 indexes_in(word.swap(0, Ordering::SeqCst))
             }
             _ => 0,
-        };
-        Indexes { mask }
+        }
     }
 
-    /// Whether there is something to take.
+    /// Returns whether the core's word has any bit.
     pub fn is_any(&self, core: u8) -> bool {
         self.now(core) != 0
     }
 
-    /// Whether the core's worker sleeps, or has slept its time out and not looked since.
+    /// Returns whether the core's worker sleeps, or its sleep has timed out and it has taken no hints since.
     pub fn is_asleep(&self, core: u8) -> bool {
         says_sleeps(self.now(core))
     }
@@ -175,9 +123,10 @@ impl Hints {
         }
     }
 
-    /// The core's worker is about to sleep. Whether no hint was there, so that the next one has it woken.
+    /// Records that the core's worker is about to sleep. Returns false, and records nothing, if there is a hint.
     pub fn is_about_to_sleep(&self, core: u8) -> bool {
         match self.word(core) {
+            // One exchange: a hint before it keeps the worker awake, and who hints after it sees that it sleeps.
             Some(word) => word
                 .compare_exchange(0, SLEEPS, Ordering::SeqCst, Ordering::SeqCst)
                 .is_ok(),
@@ -185,16 +134,16 @@ impl Hints {
         }
     }
 
-    /// The core's worker is to sleep no longer, if there is one.
-    pub(crate) fn end_sleep(&self, core: u8) -> Option<Rising<'_>>
-        ensures { IsSome result ↔ (core < self.now) }
-    {
-        let word = self.word(core)?;
-        word.fetch_and(!SLEEPS, Ordering::SeqCst);
-        Some(Rising { word })
+    /// Wakes the core's worker, if there is one.
+    pub(crate) fn end_sleep(&self, core: u8) {
+        if let Some(word) = self.word(core) {
+            // Before the wake: a worker that is only about to sleep finds the word changed, and does not.
+            word.fetch_and(!SLEEPS, Ordering::SeqCst);
+            word.wake_one();
+        }
     }
 
-    /// The word of a core, on whose low 32 bits its worker may sleep.
+    /// Returns the word of a core, on whose low 32 bits its worker may sleep.
     pub fn word(&self, core: u8) -> Option<&AtomicU64>
         ensures { IsSome result ↔ (core < self.now) }
     {

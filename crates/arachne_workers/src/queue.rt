@@ -1,5 +1,5 @@
-//! What a worker remembers: where threads of its core may be ready, which is to go on next, and what it has posted on
-//! other cores.
+//! What a worker remembers: where threads of its core may be ready, which one goes next, and the posts on other cores
+//! whose signals it keeps back.
 //!
 //! Plain data: it touches no word that another worker sees.
 ghost use Rattle.std.specs.Prelude.{◌≡◌, ◌≢◌, ◌≤◌, ◌<◌, ◌↔◌, ◌⊎◌, [], ◌∷◌, ◌++◌, ◌^◌, ◌+◌, ◌-◌, max, min, length, None, Some, if◌then◌else◌, IfSome, IsSome, IsTrue, MatchOption};
@@ -7,120 +7,41 @@ ghost use Rattle.std.specs.Int.RustNames.{bit_or};
 ghost use Rattle.arachne_core.specs.declared.layout.TheConstants.{SLOTS};
 ghost use Rattle.arachne_workers.specs.declared.policy.TheConstants.{MOST_KEPT_BACK, PATIENCE, SCANS_BETWEEN_LOOKS};
 ghost use Rattle.arachne_workers.specs.Lowest.{IsLowest};
-ghost use Rattle.arachne_workers.specs.Posts.{IsKeptBack, untold_of};
+ghost use Rattle.arachne_workers.specs.Posts.{IsKeptBack};
 
-use crate::candidate::Candidate;
-use crate::due::Untold;
-use crate::hints::{Indexes, bit_of};
+use crate::hints::bit_of;
 use crate::policy;
-use crate::refusal::{RoomRefused, room_for_one};
-use crate::turn::Resting;
-use crate::wake::Told;
-use arachne_core::{Place, Rest, SLOTS, ThreadId};
+use arachne_core::{Place, SLOTS, ThreadId};
 use std::alloc::Global;
 
-/// A thread that was posted, and where it was then.
+/// A thread that was posted, and where.
 #[derive(Clone, Copy)]
 pub struct PostedThread {
     pub id: ThreadId,
     pub place: Place,
 }
 
-/// What becomes of a thread that was posted on another core. It can't be dropped, so that what is to be told of is.
-pub(crate) enum Keeping {
-    /// It is told of at once, since the worker has posted few before.
-    AtOnce(PostedThread),
-    KeptBack,
-    /// As many as may be were kept back: it is in the place of this one, the oldest, which is told of.
-    ForOldest(PostedThread),
-    /// The same where memory was refused. Where none was kept back it is told of itself.
-    Refused(PostedThread, RoomRefused),
-}
-
-impl Keeping {
-    /// What is to be told of.
-    #[inline(always)]
-    pub(crate) fn untold(self) -> Option<Untold>
-        ensures { result ≡ untold_of self }
-    {
-        match self {
-            Keeping::KeptBack => None,
-            Keeping::AtOnce(post) => Some(Untold::kept(post)),
-            Keeping::ForOldest(oldest) => Some(Untold::kept(oldest)),
-            Keeping::Refused(oldest, _) => Some(Untold::kept(oldest)),
-        }
-    }
-}
-
-/// At most so many steps are made before the worker looks whether it is to tell of what is kept back.
-/// [`Agenda::stretch`] alone gives it.
-#[derive(Drop)]
-pub(crate) struct StepStretch {
-    steps: u32,
-}
-
-impl StepStretch {
-    #[inline(always)]
-    pub(crate) fn steps(&self) -> u32
-        ensures { result ≡ self.now.steps }
-    {
-        self.steps
-    }
-}
-
-/// The worker is to tell of all that it keeps back. It can't be dropped.
-pub(crate) struct TellingDue {
-    since: (),
-}
-
-impl TellingDue {
-    #[inline(always)]
-    pub(crate) fn done(self, told: Told) {
-        let _ = told;
-        let TellingDue { since: () } = self;
-    }
-}
-
-/// The next scan is to be one of all that is occupied. [`Agenda::is_look_due`] alone gives one, which can't be dropped.
-pub(crate) struct LookDue {
-    since: (),
-}
-
-impl LookDue {
-    /// What is occupied is looked at.
-    #[inline(always)]
-    pub(crate) fn done(self) {
-        let LookDue { since: () } = self;
-    }
-}
-
-/// A slice begins. [`Agenda::begin_slice`] alone gives one, and its steps are not counted without.
-#[derive(Drop)]
-pub(crate) struct SliceBegun {
-    since: (),
-}
-
 /// What a worker remembers.
 #[derive(Drop)]
 pub struct Agenda {
-    /// The indexes of this scan that are still to be looked at, a bit for each.
+    /// The indexes that are left of this scan, a bit for each.
     scan: u64,
     /// The indexes at which a thread may be ready, for the next scan.
     ready: u64,
-    /// The index at which a thread is to go on before all others.
+    /// The index at which a thread goes before all others.
     next: Option<u8>,
-    /// What it has posted on other cores and not told of, the newest last.
+    /// The posts on other cores that are not signalled yet, the newest last.
     posts: Vec<PostedThread>,
-    /// After how many steps more it tells of all of them.
+    /// After how many more steps all of them are signalled.
     patience: u32,
-    /// How many threads it has posted on other cores.
+    /// How many threads the worker has posted on other cores.
     posted: u32,
-    /// How many scans have begun since one of all that is occupied.
+    /// How many scans have begun since the last one of all occupied indexes.
     scans: u32,
 }
 
 impl Agenda {
-    /// Nothing is remembered but the index of the root, if that begins here. It takes no memory.
+    /// Creates an agenda with the index of the root, if that begins here, and nothing else. It takes no memory.
     pub fn new(alloc: Global, root: Option<u8>) -> Agenda
         ensures root { IfSome root (λ index. index < SLOTS → result.ready ≡ 2 ^ index) }
         ensures rootless { root ≡ None → result.ready ≡ 0 }
@@ -141,7 +62,7 @@ impl Agenda {
         }
     }
 
-    /// The thread at an index may be ready.
+    /// Notes for the next scan that the thread at an index may be ready.
     pub fn note(&mut self, index: u8)
         ensures there { index < SLOTS → self.new.ready ≡ bit_or self.old.ready (2 ^ index) }
         ensures others { self.new ≡ record self.old { ready = self.new.ready } }
@@ -149,56 +70,33 @@ impl Agenda {
         self.ready |= bit_of(index);
     }
 
-    /// A thread may be ready there, and is to be taken later.
-    pub(crate) fn put_off(&mut self, candidate: Candidate)
-        ensures there { candidate.index < SLOTS → self.new.ready ≡ bit_or self.old.ready (2 ^ candidate.index) }
-        ensures others { self.new ≡ record self.old { ready = self.new.ready } }
-    {
-        self.note(candidate.index());
-    }
-
-    /// A thread was put back: it is noted if it is ready. Whether it waits.
-    pub(crate) fn rests(&mut self, resting: Resting) -> bool
-        ensures waits { IsTrue result ↔ (resting.rest ≡ Rest.Blocked) }
-        ensures ready { resting.rest ≡ Rest.Ready → resting.index < SLOTS
-            → self.new.ready ≡ bit_or self.old.ready (2 ^ resting.index) }
-        ensures others { self.new ≡ record self.old { ready = self.new.ready } }
-    {
-        let (index, rest) = resting.at();
-        if rest == Rest::Ready {
-            self.note(index);
-        }
-        rest == Rest::Blocked
-    }
-
-    /// A scan begins at these indexes and those that were noted.
-    pub(crate) fn begin_scan(&mut self, indexes: Indexes)
-        ensures begun { (self.new.scan ≡ bit_or self.old.ready indexes.mask) × (self.new.ready ≡ 0) }
+    /// Begins a scan of these indexes and those that were noted.
+    pub(crate) fn begin_scan(&mut self, indexes: u64)
+        ensures begun { (self.new.scan ≡ bit_or self.old.ready indexes) × (self.new.ready ≡ 0) }
         ensures counted { self.new.scans ≡ min (self.old.scans + 1) u32.MAX }
         ensures others { self.new ≡ record self.old { scan = self.new.scan; ready = self.new.ready; scans = self.new.scans } }
     {
-        self.scan = self.ready | indexes.mask();
+        self.scan = self.ready | indexes;
         self.ready = 0;
         self.scans = self.scans.saturating_add(1);
     }
 
-    /// Whether the next scan is to be one of all that is occupied.
-    pub(crate) fn is_look_due(&mut self) -> Option<LookDue>
-        ensures due { IsSome result ↔ SCANS_BETWEEN_LOOKS ≤ self.old.scans }
-        ensures counted { MatchOption result (self.new ≡ self.old) (λ _. self.new ≡ record self.old { scans = 0 }) }
+    /// Returns whether the next scan must be one of all occupied indexes, and counts scans anew if so.
+    pub(crate) fn is_look_due(&mut self) -> bool
+        ensures due { IsTrue result ↔ SCANS_BETWEEN_LOOKS ≤ self.old.scans }
+        ensures counted { self.new ≡ record self.old { scans = if result then 0 else self.old.scans } }
     {
         let is_due = self.scans >= policy::SCANS_BETWEEN_LOOKS;
-        if !is_due {
-            return None;
+        if is_due {
+            self.scans = 0;
         }
-        self.scans = 0;
-        Some(LookDue { since: () })
+        is_due
     }
 
-    /// The lowest index that is left of the scan, and is left no longer.
-    pub(crate) fn next_index(&mut self) -> Option<Candidate>
-        ensures lowest { MatchOption result (self.old.scan ≡ 0) (λ candidate. IsLowest self.old.scan candidate.index) }
-        ensures fewer { IfSome result (λ _. self.new.scan < self.old.scan) }
+    /// Takes the lowest index that is left of the scan.
+    pub(crate) fn next_index(&mut self) -> Option<u8>
+        ensures lowest { MatchOption result (self.old.scan ≡ 0) (λ index. IsLowest self.old.scan index) }
+        ensures fewer { MatchOption result (self.new.scan ≡ 0) (λ _. self.new.scan < self.old.scan) }
         ensures others { self.new ≡ record self.old { scan = self.new.scan } }
     {
         if self.scan == 0 {
@@ -206,25 +104,17 @@ impl Agenda {
         }
         let index = self.scan.trailing_zeros() as u8;
         self.scan &= self.scan - 1;
-        Some(Candidate::at(index))
+        Some(index)
     }
 
-    /// The scan ends before all was looked at.
-    pub(crate) fn end_scan(&mut self)
-        ensures { self.new ≡ record self.old { ready = bit_or self.old.ready self.old.scan; scan = 0 } }
-    {
-        self.ready |= self.scan;
-        self.scan = 0;
-    }
-
-    /// Whether a thread beside the one in hand may be ready.
+    /// Returns whether a thread other than the one in hand may be ready.
     pub(crate) fn is_any(&self) -> bool
         ensures { IsTrue result ↔ (bit_or self.now.scan self.now.ready ≢ 0) ⊎ IsSome self.now.next }
     {
         self.scan | self.ready != 0 || self.next.is_some()
     }
 
-    /// The thread at an index goes on before all others, unless another does. Whether it will.
+    /// Has the thread at an index go before all others, unless another does. Returns whether it will.
     pub(crate) fn goes_next(&mut self, index: u8) -> bool
         ensures will { IsTrue result ↔ (self.old.next ≡ None) × (index < SLOTS) }
         ensures next { self.new ≡ record self.old { next = if result then Some index else self.old.next } }
@@ -236,58 +126,51 @@ impl Agenda {
         true
     }
 
-    /// Whether a thread goes on before all others.
+    /// Returns whether a thread goes before all others.
     pub(crate) fn has_next(&self) -> bool
         ensures { IsTrue result ↔ IsSome self.now.next }
     {
         self.next.is_some()
     }
 
-    /// The index at which a thread goes on before all others, and does no longer.
-    pub(crate) fn take_next(&mut self) -> Option<Candidate>
-        ensures taken { MatchOption result (self.old.next ≡ None) (λ candidate. self.old.next ≡ Some candidate.index) }
+    /// Takes the index at which a thread goes before all others.
+    pub(crate) fn take_next(&mut self) -> Option<u8>
+        ensures taken { MatchOption result (self.old.next ≡ None) (λ index. self.old.next ≡ Some index) }
         ensures others { self.new ≡ record self.old { next = None } }
     {
-        let index = self.next.take()?;
-        Some(Candidate::at(index))
+        self.next.take()
     }
 
-    /// A thread was posted on another core: it is told of at once, or kept back.
-    pub(crate) fn keep_back(&mut self, untold: Untold) -> Keeping
-        ensures kept { IsKeptBack self.old.posted self.old.posts.items untold.post result self.new.posts.items }
+    /// Keeps back the signal of a post on another core, or returns the post to signal now: this one, or the oldest that
+    /// was kept back.
+    pub(crate) fn keep_back(&mut self, post: PostedThread) -> Option<PostedThread>
+        ensures kept { IsKeptBack self.old.posted self.old.posts.items post result self.new.posts.items }
         ensures few { length self.old.posts.items ≤ MOST_KEPT_BACK → length self.new.posts.items ≤ MOST_KEPT_BACK }
         ensures counted { self.new.posted ≡ min (self.old.posted + 1) u32.MAX }
         ensures others { self.new ≡ record self.old { posts = self.new.posts; posted = self.new.posted } }
     {
-        let post = untold.kept_back();
         let before = self.posted;
         self.posted = before.saturating_add(1);
         if !policy::keeps_back(before) {
-            return Keeping::AtOnce(post);
+            return Some(post);
         }
-        if self.posts.len() >= policy::MOST_KEPT_BACK {
-            return Keeping::ForOldest(for_oldest(&mut self.posts, post));
+        if self.posts.len() >= policy::MOST_KEPT_BACK || self.posts.try_reserve(1).is_err() {
+            return Some(for_oldest(&mut self.posts, post));
         }
-        match room_for_one(&mut self.posts) {
-            Ok(()) => {
-                self.posts.push_reserved(post);
-                Keeping::KeptBack
-            }
-            Err(refusal) => Keeping::Refused(for_oldest(&mut self.posts, post), refusal),
-        }
+        self.posts.push_reserved(post);
+        None
     }
 
-    /// The newest that is kept back, and is no longer.
-    pub(crate) fn take_newest(&mut self) -> Option<Untold>
-        ensures newest { MatchOption result ((self.old.posts.items ≡ []) × (self.new.posts.items ≡ [])) (λ newest. self.old.posts.items ≡ self.new.posts.items ++ newest.post ∷ []) }
+    /// Takes the newest post that was kept back.
+    pub(crate) fn take_newest(&mut self) -> Option<PostedThread>
+        ensures newest { MatchOption result ((self.old.posts.items ≡ []) × (self.new.posts.items ≡ [])) (λ newest. self.old.posts.items ≡ self.new.posts.items ++ newest ∷ []) }
         ensures others { self.new ≡ record self.old { posts = self.new.posts } }
     {
-        let newest = self.posts.pop()?;
-        Some(Untold::kept(newest))
+        self.posts.pop()
     }
 
-    /// A slice begins. If nothing is kept back, what is posted from now on may be for as long as anything.
-    pub(crate) fn begin_slice(&mut self) -> SliceBegun
+    /// Begins a slice. If nothing is kept back, the next post may be for the full time.
+    pub(crate) fn begin_slice(&mut self)
         ensures empty { self.old.posts.items ≡ [] → self.new ≡ record self.old { patience = PATIENCE } }
         ensures kept_back { self.old.posts.items ≢ [] → self.new ≡ self.old }
         ensures others { self.new ≡ record self.old { patience = self.new.patience } }
@@ -295,35 +178,32 @@ impl Agenda {
         if self.posts.is_empty() {
             self.patience = policy::PATIENCE;
         }
-        SliceBegun { since: () }
     }
 
-    /// How many steps of so many, which are left of a slice, may be made before the worker is to tell of what is kept
-    /// back.
+    /// Returns how many of the `left` steps of a slice may be made before posts that are kept back may be due.
     #[inline(always)]
-    pub(crate) fn stretch(&self, left: u32) -> StepStretch
-        ensures { result.steps ≡ min left (max 1 self.now.patience) }
+    pub(crate) fn stretch(&self, left: u32) -> u32
+        ensures { result ≡ min left (max 1 self.now.patience) }
     {
-        StepStretch {
-            steps: left.min(self.patience.max(1)),
-        }
+        left.min(self.patience.max(1))
     }
 
-    /// The worker has made so many steps. Whether it is to tell now of all that is kept back.
-    pub(crate) fn spend(&mut self, steps: u32) -> Option<TellingDue>
-        ensures due { IsSome result ↔ self.old.patience ≤ steps }
-        ensures left { MatchOption result (self.new ≡ record self.old { patience = self.old.patience - steps }) (λ _. self.new ≡ record self.old { patience = PATIENCE }) }
+    /// Counts steps that were made. Returns whether all posts that are kept back must be signalled now.
+    pub(crate) fn spend(&mut self, steps: u32) -> bool
+        ensures due { IsTrue result ↔ self.old.patience ≤ steps }
+        ensures left { self.new ≡ record self.old { patience = if result then PATIENCE else self.old.patience - steps } }
     {
-        if self.patience <= steps {
-            self.patience = policy::PATIENCE;
-            return Some(TellingDue { since: () });
-        }
-        self.patience -= steps;
-        None
+        let is_due = self.patience <= steps;
+        self.patience = if is_due {
+            policy::PATIENCE
+        } else {
+            self.patience - steps
+        };
+        is_due
     }
 }
 
-/// Puts one behind those that are kept back, and takes the oldest of all.
+/// Puts a post behind those that are kept back, and takes the oldest of all.
 fn for_oldest(posts: &mut Vec<PostedThread>, post: PostedThread) -> PostedThread
     ensures all { result ∷ posts.new.items ≡ posts.old.items ++ post ∷ [] }
     ensures many { length posts.new.items ≡ length posts.old.items }

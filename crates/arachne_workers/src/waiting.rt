@@ -1,23 +1,14 @@
 //! How a kernel thread waits for others without a sleep on its core's word.
 use crate::hints::Hints;
 use crate::policy;
-use crate::tending::Tended;
 use arachne_arbiter::Pace;
 use std::hint::spin_loop;
 use std::thread;
 use std::time::{Clock, Duration};
 
-/// The worker of a core, which has looked at orders, waits without a sleep, longer the more rounds have found nothing:
-/// it spins, until a thread of the core may be ready, then yields the processor.
-pub(crate) fn stay_awake<H: Clock>(
-    rt: &H,
-    pace: &mut Pace,
-    hints: &Hints,
-    core: u8,
-    round: u32,
-    tended: Tended,
-) {
-    let _ = tended;
+/// Waits without a sleep after `round` rounds that found nothing. In the first rounds it spins, longer in each, until a
+/// thread of the core may be ready; later it yields the processor.
+pub(crate) fn stay_awake<H: Clock>(rt: &H, pace: &mut Pace, hints: &Hints, core: u8, round: u32) {
     if !policy::spins(round, pace.may_yield()) {
         pace.yield_once(rt);
         return;
@@ -30,8 +21,9 @@ pub(crate) fn stay_awake<H: Clock>(
     }
 }
 
-/// Waits while another kernel thread is at what this one needs, longer the more tries have found one there: it spins,
-/// then yields the processor if that comes back at once, and else sleeps, since that one has lost its processor.
+/// Waits while another kernel thread has what this one needs, after `tries` attempts. It spins in the first ones,
+/// longer in each; later it yields the processor if a yield returns at once, and sleeps if not: the other one has lost
+/// its processor.
 pub fn stand_by<H: Clock>(rt: &H, pace: &mut Pace, tries: u32) {
     if policy::spins(tries, pace.may_yield()) {
         for _ in 0..policy::spins_of(tries) {

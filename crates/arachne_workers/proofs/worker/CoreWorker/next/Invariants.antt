@@ -1,5 +1,5 @@
 use Rattle.std.proofs.Common.{◌≡◌, None}
-use Rattle.arachne_workers.proofs.execute.CoreWorker.next.Given as goal
+use Rattle.arachne_workers.proofs.worker.CoreWorker.next.Given as goal
 
 abbrev pub invariant-loop : goal.invariant-loop
 invariant-loop g l =

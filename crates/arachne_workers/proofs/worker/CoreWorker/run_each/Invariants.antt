@@ -1,0 +1,9 @@
+use Rattle.std.proofs.Common.{◌≡◌}
+use Rattle.arachne_workers.proofs.worker.CoreWorker.run_each.Given as goal
+
+abbrev pub invariant-loop-index : goal.invariant-loop-index
+invariant-loop-index g l = l.self.desk ≡ l.initial.self.desk
+
+-- the indexes that are left of the scan, as a number
+abbrev pub decreases-loop-index : goal.decreases-loop-index
+decreases-loop-index g l = l.self.agenda.scan

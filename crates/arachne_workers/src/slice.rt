@@ -1,0 +1,143 @@
+//! The turn of a thread in hand: its slices, and its end.
+ghost use Rattle.std.specs.Prelude.{◌≡◌, ◌≤◌, ◌<◌, ◌+◌, true, min, IfOk, IsTrue};
+
+use crate::desk::{Cause, Desk, Halt, SliceEnd, ThreadStop, WorkerEvent, thin_out};
+use crate::policy;
+use crate::wake::{posted, tell_all};
+use crate::worker::CoreWorker;
+use arachne_core::Rest;
+use std::sync::Wait;
+use std::time::Clock;
+
+impl<'a, H: Wait + Clock, D: Desk> CoreWorker<'a, H, D> {
+    /// Gives the thread in hand, which was taken at this index, a slice, and more slices while it holds a lock or
+    /// nothing else is ready. Then puts it back or ends it. Returns whether it is blocked.
+    pub(crate) fn turn(&mut self, index: u8) -> Result<bool, Halt>
+        ensures desk { self.new.desk ≡ self.old.desk }
+        ensures scan { self.new.agenda.scan ≡ self.old.agenda.scan }
+    {
+        let end = self.slices()?;
+        if end == SliceEnd::Ended {
+            self.end()?;
+            return Ok(false);
+        }
+        let rest = self.desk.rest()?;
+        if rest == Rest::Ready {
+            self.agenda.note(index);
+        }
+        Ok(rest == Rest::Blocked)
+    }
+
+    /// Makes the slices of a turn. Returns how the last one ended.
+    fn slices(&mut self) -> Result<SliceEnd, Halt>
+        ensures desk { self.new.desk ≡ self.old.desk }
+        ensures scan { self.new.agenda.scan ≡ self.old.agenda.scan }
+    {
+        let quantum = self.desk.quantum();
+        // How many more steps the thread may make in this turn because it holds a lock.
+        let mut grace = policy::STEPS_TO_FREE;
+        let mut end = self.slice(quantum)?;
+        for _ in 1..policy::MOST_ALONE {
+            let holds = self.desk.holds();
+            if end != SliceEnd::GoesOn || !self.goes_on(holds, grace) {
+                break;
+            }
+            let steps = policy::most_steps(quantum, holds, grace);
+            grace = policy::grace_left(holds, grace, steps);
+            // Before each slice, as in `run_at`.
+            self.tend();
+            end = self.slice(steps)?;
+        }
+        Ok(end)
+    }
+
+    /// Returns whether the thread in hand gets another slice at once: it holds a lock and has grace left, or nothing
+    /// else is ready here and no ticket can be taken; and the core is open, and the workers do not stop.
+    fn goes_on(&mut self, holds: bool, grace: u32) -> bool
+        ensures desk { self.new.desk ≡ self.old.desk }
+        ensures same { (self.new.agenda ≡ self.old.agenda) × (self.new.slices ≡ self.old.slices) }
+        ensures grace { IsTrue result → holds ≡ true → 0 < grace }
+    {
+        if policy::is_grace_over(holds, grace) {
+            return false;
+        }
+        let others = self.agenda.is_any() || self.shared.hints().is_any(self.core);
+        if others && !holds || self.shared.is_stopped() {
+            return false;
+        }
+        let takes_ticket = !holds && self.desk.may_take_ticket();
+        policy::may_go_on(self.desk.look(), holds, others, takes_ticket)
+    }
+
+    /// Makes one slice of at most `most` steps. Returns how it ended.
+    fn slice(&mut self, most: u32) -> Result<SliceEnd, Halt>
+        ensures desk { self.new.desk ≡ self.old.desk }
+        ensures number { self.new.slices ≡ min (self.old.slices + 1) u64.MAX }
+        ensures scan { self.new.agenda.scan ≡ self.old.agenda.scan }
+    {
+        let nth = self.slices;
+        self.slices = nth.saturating_add(1);
+        self.desk.begins(nth);
+        let (made, end) = self.spend(most)?;
+        self.desk.told(WorkerEvent::Sliced(made, end));
+        // Counted once it was reported: an order that is due by this count is reported later.
+        self.shared.count_slice(self.core);
+        Ok(end)
+    }
+
+    /// Makes the steps of a slice. Returns how many they are, and how the slice ends. If all of them are used up, every
+    /// post that was kept back is signalled.
+    fn spend(&mut self, most: u32) -> Result<(u32, SliceEnd), Halt>
+        ensures desk { self.new.desk ≡ self.old.desk }
+        ensures steps { IfOk result (λ spent. spent.0 ≤ most) }
+        ensures others { (self.new.slices ≡ self.old.slices) × (self.new.agenda.scan ≡ self.old.agenda.scan) }
+    {
+        self.agenda.begin_slice();
+        let mut left = most;
+        let mut made = 0;
+        for _ in 0..most {
+            if left == 0 {
+                break;
+            }
+            let stretch = self.agenda.stretch(left);
+            let mut rest = stretch;
+            let stop = self.desk.advance(&mut self.pace, &mut rest)?;
+            let steps = stretch - rest;
+            left -= steps;
+            made += steps;
+            // Before the stop is handled: a child that was posted by these steps is kept back for its full time.
+            if self.agenda.spend(steps) {
+                tell_all(&mut self.agenda, self.shared);
+            }
+            match stop {
+                ThreadStop::Goes => {}
+                ThreadStop::Posted(post) => {
+                    posted(&mut self.agenda, self.shared, self.core, post);
+                }
+                ThreadStop::Spilled => self.desk.told(WorkerEvent::Spilled),
+                ThreadStop::Wakes(id) => {
+                    self.wake(id, Cause::IsServed);
+                    left = policy::left_past_free(left, self.agenda.has_next());
+                }
+                ThreadStop::Ends => return Ok((made, SliceEnd::Ended)),
+                ThreadStop::Blocks => return Ok((made, SliceEnd::AwaitsChild)),
+                ThreadStop::Waits(number) => return Ok((made, SliceEnd::Awaits(number))),
+            }
+        }
+        tell_all(&mut self.agenda, self.shared);
+        Ok((made, SliceEnd::GoesOn))
+    }
+
+    /// Ends the thread in hand, and wakes its parent.
+    fn end(&mut self) -> Result<(), Halt>
+        ensures desk { self.new.desk ≡ self.old.desk }
+        ensures others { (self.new.slices ≡ self.old.slices) × (self.new.agenda.scan ≡ self.old.agenda.scan) × (self.new.agenda.posts ≡ self.old.agenda.posts) }
+    {
+        // Read while the thread has its place: the desk keeps that if the core is full with it.
+        let before = self.desk.look();
+        if let Some(parent) = self.desk.end(before)? {
+            self.wake(parent, Cause::ChildEnded);
+        }
+        thin_out(&mut self.desk, self.slots)
+    }
+}
