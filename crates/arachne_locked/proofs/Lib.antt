@@ -5,3 +5,4 @@ pub mod Ends
 pub mod Closed
 pub mod Moves
 pub mod Words
+pub mod Behind
