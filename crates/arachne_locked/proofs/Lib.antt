@@ -5,4 +5,3 @@ pub mod Ends
 pub mod Closed
 pub mod Moves
 pub mod Words
-pub mod Behind

@@ -3,4 +3,3 @@ pub mod AtHome
 pub mod Room
 pub mod Calls
 pub mod Closing
-pub mod Behind

@@ -1,19 +1,11 @@
 //! A context table behind a lock.
-ghost use Rattle.std.specs.Prelude.{◌≡◌, ◌<◌, ◌≤◌, ◌*◌, ◌≢◌, ◌↔◌, ℕ, IsTrue, IfOk, IfErr, IfSome};
-ghost use Rattle.std.specs.Sync.Mutex.{mutex_guard_value};
-ghost use Rattle.arachne_core.specs.ContextTable.{world_of};
-ghost use Rattle.arachne_core.specs.Marked.{IsMarkWord};
-ghost use Rattle.arachne_core.specs.Occupancy.{IsOccupancyWord, occupancy_of};
-ghost use Rattle.arachne_core.specs.Run.{IsDrained};
-ghost use Rattle.arachne_core.specs.declared.event.Event.TheVariants as event;
-ghost use Rattle.arachne_core.specs.declared.layout.TheConstants.{CORE_BITS};
+ghost use Rattle.std.specs.Prelude.{◌≡◌, ◌<◌, ◌≤◌, ◌*◌, ◌≢◌, ℕ, IsTrue, IfOk, IfErr};
+ghost use Rattle.arachne_core.specs.Occupancy.{IsOccupancyWord};
 ghost use Rattle.arachne_contexts.specs.Words.{HasNoPlace, ShowsFull, ShowsNoRoom};
-ghost use Rattle.arachne_contexts.specs.Answers.{ClaimsOn, ClaimsWhole, TakesAt, RestsAs, WakesAs, MovesAs, IsByContext};
-ghost use Rattle.arachne_contexts.specs.Out.{Claim as a_claim, Thread as a_thread, GetsClaim, GetsThread, Spends};
+ghost use Rattle.arachne_contexts.specs.Answers.{RestsAs};
+ghost use Rattle.arachne_contexts.specs.Out.{Thread as a_thread, Spends};
 ghost use Rattle.arachne_weights.specs.Weight.{first_part, second_part};
 ghost use Rattle.arachne_locked.specs.Seats.{HasCounted, CountsOut};
-ghost use Rattle.arachne_locked.specs.Calls.{ClaimsWholeCore, TakesFrom, Wakes};
-ghost use Rattle.arachne_locked.specs.Behind.{IsLawful, HasCalled, Sees, Steps, IsCoreWord, IsContextWord, SetsCore, ClaimsSo, MovesSo, GivesBack, Posts, PutsBack, Finishes, Closes};
 
 use crate::carriers::Carriers;
 use crate::seat::LockedSeat;
@@ -24,7 +16,7 @@ use arachne_contexts::{Claimed, Contexts, Held, Moved, Rested, Seats, Tagged, Ta
 use arachne_core::{OccWord, Place, Rest, SLOTS, ThreadId};
 use arachne_weights::Weight;
 use std::alloc::{AllocError, Global};
-use std::sync::{Mutex, MutexGuard, Wait};
+use std::sync::{Mutex, Wait};
 
 /// A context table behind a lock.
 #[derive(Drop)]
@@ -37,8 +29,7 @@ pub struct LockedContexts<T: Tagged> {
 
 /// The word of a core, or that of a full one where the table doesn't have it.
 fn word_of(occ: Option<OccWord>) -> u64
-    ensures word { IsOccupancyWord result }
-    ensures reads { IfSome occ (λ occ. occupancy_of result ≡ occ) }
+    ensures { IsOccupancyWord result }
 {
     match occ {
         Some(occ) => occ.word(),
@@ -53,15 +44,6 @@ impl<T: Tagged + Drop> LockedContexts<T> {
         ensures few { result ≤ SLOTS }
     {
         self.slots.count()
-    }
-
-    /// Locks the state, and returns it with what holds of each.
-    fn locked<R: Wait>(&self, rt: &R) -> MutexGuard<'_, TableState<T>>
-        ensures { IsLawful T.tag_of (mutex_guard_value result) }
-    {
-        let state = self.state.lock(rt);
-        state.is_lawful();
-        state
     }
 }
 
@@ -190,22 +172,14 @@ impl<T: Tagged + Drop> Contexts<T> for LockedContexts<T> {
         word_of(self.state.lock(rt).look(core))
     }
 
-    fn look<R: Wait>(&self, rt: &R, seat: &mut LockedSeat, core: u8) -> u64
-        ensures seat { seat.new ≡ seat.old }
-        ensures word { IsOccupancyWord result }
-        ensures call { HasCalled T.tag_of (Sees (λ v. IsCoreWord core result (world_of v.table))) }
-    {
+    fn look<R: Wait>(&self, rt: &R, seat: &mut LockedSeat, core: u8) -> u64 {
         let _ = seat;
-        word_of(self.locked(rt).look(core))
+        word_of(self.state.lock(rt).look(core))
     }
 
-    fn look_mark<R: Wait>(&self, rt: &R, seat: &mut LockedSeat, context: u32) -> u64
-        ensures seat { seat.new ≡ seat.old }
-        ensures word { IsMarkWord CORE_BITS result }
-        ensures call { HasCalled T.tag_of (Sees (λ v. IsContextWord context result (world_of v.table))) }
-    {
+    fn look_mark<R: Wait>(&self, rt: &R, seat: &mut LockedSeat, context: u32) -> u64 {
         let _ = seat;
-        match self.locked(rt).look_mark(context) {
+        match self.state.lock(rt).look_mark(context) {
             Some(mark) => mark.word(),
             None => 0,
         }
@@ -216,13 +190,8 @@ impl<T: Tagged + Drop> Contexts<T> for LockedContexts<T> {
         rt: &R,
         seat: &mut LockedSeat,
         core: u8,
-    ) -> Result<Claimed<LockedClaim>, AllocError>
-        ensures seat { seat.new ≡ record seat.old { out = seat.new.out } }
-        ensures out { GetsClaim CountsOut seat.old seat.new result }
-        ensures answer { IfOk result (ClaimsOn self.now.slots (λ claim. claim.place) core) }
-        ensures call { IfOk result (λ claimed. HasCalled T.tag_of (Steps (ClaimsSo seat.old.carrier core claimed))) }
-    {
-        let claimed = self.locked(rt).claim(seat.carrier, core)?;
+    ) -> Result<Claimed<LockedClaim>, AllocError> {
+        let claimed = self.state.lock(rt).claim(seat.carrier, core)?;
         match claimed {
             Claimed::Place(claim) => {
                 seat.gain();
@@ -238,13 +207,8 @@ impl<T: Tagged + Drop> Contexts<T> for LockedContexts<T> {
         rt: &R,
         seat: &mut LockedSeat,
         core: u8,
-    ) -> Result<Claimed<LockedClaim>, AllocError>
-        ensures seat { seat.new ≡ record seat.old { out = seat.new.out } }
-        ensures out { GetsClaim CountsOut seat.old seat.new result }
-        ensures answer { IfOk result (ClaimsWhole (λ claim. claim.place) core) }
-        ensures call { IfOk result (λ claimed. HasCalled T.tag_of (Steps (λ w u. ClaimsWholeCore w u seat.old.carrier core claimed))) }
-    {
-        let claimed = self.locked(rt).claim_alone(seat.carrier, core)?;
+    ) -> Result<Claimed<LockedClaim>, AllocError> {
+        let claimed = self.state.lock(rt).claim_alone(seat.carrier, core)?;
         if let Claimed::Place(_) = &claimed {
             seat.gain();
         }
@@ -256,13 +220,8 @@ impl<T: Tagged + Drop> Contexts<T> for LockedContexts<T> {
         rt: &R,
         seat: &mut LockedSeat,
         claim: LockedClaim,
-    ) -> Result<(), LockedClaim>
-        ensures seat { seat.new ≡ record seat.old { out = seat.new.out } }
-        ensures out { Spends CountsOut (a_claim claim) seat.old seat.new result }
-        ensures handed_back { IfErr result (λ back. back ≡ claim) }
-        ensures call { HasCalled T.tag_of (Steps (GivesBack seat.old.carrier claim result)) }
-    {
-        self.locked(rt).give_back(seat.carrier, claim)?;
+    ) -> Result<(), LockedClaim> {
+        self.state.lock(rt).give_back(seat.carrier, claim)?;
         seat.spend();
         Ok(())
     }
@@ -273,13 +232,8 @@ impl<T: Tagged + Drop> Contexts<T> for LockedContexts<T> {
         seat: &mut LockedSeat,
         claim: LockedClaim,
         value: T,
-    ) -> Result<ThreadId, (LockedClaim, T)>
-        ensures seat { seat.new ≡ record seat.old { out = seat.new.out } }
-        ensures out { Spends CountsOut (a_claim claim) seat.old seat.new result }
-        ensures handed_back { IfErr result (λ back. back ≡ (claim, value)) }
-        ensures call { HasCalled T.tag_of (Posts T.tag_of seat.old.carrier claim value result) }
-    {
-        let id = self.locked(rt).post(seat.carrier, claim, value)?;
+    ) -> Result<ThreadId, (LockedClaim, T)> {
+        let id = self.state.lock(rt).post(seat.carrier, claim, value)?;
         seat.spend();
         Ok(id)
     }
@@ -290,19 +244,15 @@ impl<T: Tagged + Drop> Contexts<T> for LockedContexts<T> {
         seat: &mut LockedSeat,
         core: u8,
         index: u8,
-    ) -> Taken<T, LockedHold>
-        ensures seat { seat.new ≡ record seat.old { out = seat.new.out } }
-        ensures out { GetsThread CountsOut T.tag_of seat.old seat.new result }
-        ensures answer { TakesAt (λ hold. hold.place) (record { core = core; index = index }) result }
-        ensures call { HasCalled T.tag_of (λ v u. TakesFrom (world_of v.table) (world_of u.table) v.values u.values seat.old.carrier (record { core = core; index = index }) result) }
-    {
-        match self.locked(rt).take(seat.carrier, Place { core, index }) {
-            Taken::Run(held) => {
-                seat.gain();
-                Taken::Run(held)
-            }
-            other => other,
+    ) -> Taken<T, LockedHold> {
+        let taken = self
+            .state
+            .lock(rt)
+            .take(seat.carrier, Place { core, index });
+        if let Taken::Run(_) = &taken {
+            seat.gain();
         }
+        taken
     }
 
     fn put_back<R: Wait>(
@@ -312,13 +262,13 @@ impl<T: Tagged + Drop> Contexts<T> for LockedContexts<T> {
         held: Held<T, LockedHold>,
         rest: Rest,
     ) -> Result<Rested, Held<T, LockedHold>>
-        ensures seat { seat.new ≡ record seat.old { out = seat.new.out } }
+        ensures seat { Unit {0} }
+        ensures weight { seat.new.weight ≡ seat.old.weight }
         ensures out { Spends CountsOut (a_thread held.hold (T.tag_of held.value)) seat.old seat.new result }
         ensures answer { IfOk result (RestsAs rest) }
         ensures handed_back { IfErr result (λ back. back ≡ held) }
-        ensures call { HasCalled T.tag_of (PutsBack T.tag_of seat.old.carrier held rest result) }
     {
-        let rested = self.locked(rt).put_back(seat.carrier, held, rest)?;
+        let rested = self.state.lock(rt).put_back(seat.carrier, held, rest)?;
         seat.spend();
         Ok(rested)
     }
@@ -329,63 +279,42 @@ impl<T: Tagged + Drop> Contexts<T> for LockedContexts<T> {
         seat: &mut LockedSeat,
         held: Held<T, LockedHold>,
     ) -> Result<T, Held<T, LockedHold>>
-        ensures seat { seat.new ≡ record seat.old { out = seat.new.out } }
+        ensures seat { Unit {0} }
+        ensures weight { seat.new.weight ≡ seat.old.weight }
         ensures out { Spends CountsOut (a_thread held.hold (T.tag_of held.value)) seat.old seat.new result }
         ensures value { IfOk result (λ value. value ≡ held.value) }
         ensures handed_back { IfErr result (λ back. back ≡ held) }
-        ensures call { HasCalled T.tag_of (Finishes T.tag_of seat.old.carrier held result) }
     {
-        let value = self.locked(rt).finish(seat.carrier, held)?;
+        let value = self.state.lock(rt).finish(seat.carrier, held)?;
         seat.spend();
         Ok(value)
     }
 
-    fn wake<R: Wait>(&self, rt: &R, seat: &mut LockedSeat, id: ThreadId) -> Woken
-        ensures seat { seat.new ≡ seat.old }
-        ensures answer { WakesAs id result }
-        ensures call { HasCalled T.tag_of (Steps (λ w u. Wakes w u id result)) }
-    {
+    fn wake<R: Wait>(&self, rt: &R, seat: &mut LockedSeat, id: ThreadId) -> Woken {
         let _ = seat;
-        self.locked(rt).wake(id)
+        self.state.lock(rt).wake(id)
     }
 
-    fn close_core<R: Wait>(&self, rt: &R, seat: &mut LockedSeat, core: u8) -> u64
-        ensures seat { seat.new ≡ seat.old }
-        ensures word { IsOccupancyWord result }
-        ensures call { HasCalled T.tag_of (Steps (SetsCore (event.CloseCore core) core result)) }
-    {
+    fn close_core<R: Wait>(&self, rt: &R, seat: &mut LockedSeat, core: u8) -> u64 {
         let _ = seat;
-        word_of(self.locked(rt).close_core(core))
+        word_of(self.state.lock(rt).close_core(core))
     }
 
-    fn open_core<R: Wait>(&self, rt: &R, seat: &mut LockedSeat, core: u8) -> u64
-        ensures seat { seat.new ≡ seat.old }
-        ensures word { IsOccupancyWord result }
-        ensures call { HasCalled T.tag_of (Steps (SetsCore (event.OpenCore core) core result)) }
-    {
+    fn open_core<R: Wait>(&self, rt: &R, seat: &mut LockedSeat, core: u8) -> u64 {
         let _ = seat;
-        word_of(self.locked(rt).open_core(core))
+        word_of(self.state.lock(rt).open_core(core))
     }
 
-    fn is_drained<R: Wait>(&self, rt: &R, seat: &mut LockedSeat, core: u8) -> bool
-        ensures seat { seat.new ≡ seat.old }
-        ensures call { HasCalled T.tag_of (Sees (λ v. IsTrue result ↔ IsDrained (world_of v.table) core)) }
-    {
+    fn is_drained<R: Wait>(&self, rt: &R, seat: &mut LockedSeat, core: u8) -> bool {
         let _ = seat;
-        self.locked(rt).is_drained(core)
+        self.state.lock(rt).is_drained(core)
     }
 
-    fn move_one<R: Wait>(&self, rt: &R, seat: &mut LockedSeat, place: Place, to: u8) -> Moved
-        requires apart { to ≢ place.core }
-        ensures seat { seat.new ≡ seat.old }
-        ensures answer { MovesAs self.now.slots result }
-        ensures call { HasCalled T.tag_of (Steps (MovesSo seat.old.carrier place to result)) }
-    {
-        let moved = self.locked(rt).move_one(seat.carrier, place, to);
-        if let Moved::NoRoom(word) = moved {
-            return Moved::NoRoom(no_room_word(word, self.slots));
+    fn move_one<R: Wait>(&self, rt: &R, seat: &mut LockedSeat, place: Place, to: u8) -> Moved {
+        match self.state.lock(rt).move_one(seat.carrier, place, to) {
+            Moved::NoRoom(word) => Moved::NoRoom(no_room_word(word, self.slots)),
+            other => other,
         }
-        moved
     }
 
     fn close<R: Wait>(
@@ -393,11 +322,7 @@ impl<T: Tagged + Drop> Contexts<T> for LockedContexts<T> {
         rt: &R,
         alloc: Global,
         seat: LockedSeat,
-    ) -> Result<Vec<(ThreadId, T)>, (LockedContexts<T>, LockedSeat)>
-        ensures order { IfOk result (λ rest. IsByContext rest.items) }
-        ensures call { IfOk result (λ rest. HasCalled T.tag_of (Sees (Closes T.tag_of rest.items))) }
-        ensures handed_back { IfErr result (λ back. back.1 ≡ seat) }
-    {
+    ) -> Result<Vec<(ThreadId, T)>, (LockedContexts<T>, LockedSeat)> {
         let _ = rt;
         let LockedContexts {
             state,
@@ -405,9 +330,7 @@ impl<T: Tagged + Drop> Contexts<T> for LockedContexts<T> {
             cores,
             slots,
         } = self;
-        let state = state.into_inner();
-        state.is_lawful();
-        match state.close(alloc) {
+        match state.into_inner().close(alloc) {
             Ok(rest) => Ok(rest),
             Err(state) => {
                 let table = LockedContexts {

@@ -2,12 +2,12 @@
 ghost use Rattle.std.specs.Prelude.{◌≡◌, ◌≢◌, ◌*◌, ◌<◌, ◌≤◌, ◌↔◌, ℕ, [], ◌∷◌, Ok, IfOk, OnOk, OnErr, IfErr, IfSome, IfNone, MatchBool, IsTrue, true, false, Some, slice_set};
 ghost use Rattle.arachne_core.specs.ContextTable.{world_of, ShowsCore, IsVacantFrom, Answers, marked};
 ghost use Rattle.arachne_core.specs.World.{Allowed, IsContext, IsPlace, HasClaimed, HoldsIn, IsAtRest, id_of};
+ghost use Rattle.arachne_core.specs.OwnedOnce.{OwnedOnce};
 ghost use Rattle.arachne_core.specs.Run.{IsOpening, IsDrained};
 ghost use Rattle.arachne_core.specs.declared.event.Event.TheVariants as event;
 ghost use Rattle.arachne_contexts.specs.Words.{HasNoFree};
-ghost use Rattle.arachne_locked.specs.AtHome.{HoldsThread};
+ghost use Rattle.arachne_locked.specs.AtHome.{HoldsThread, IsHome};
 ghost use Rattle.arachne_locked.specs.Calls.{Takes, Claims, ClaimsWholeCore, TakesFrom, ends, rests_as, Wakes, Moves, CanMove, IsClaim};
-ghost use Rattle.arachne_locked.specs.Behind.{IsLawful};
 ghost use Rattle.arachne_locked.specs.Closing.{at_rest_below, IsAccounted};
 ghost use Rattle.arachne_contexts.specs.Answers.{IsByContext};
 
@@ -71,9 +71,11 @@ impl<T: Tagged + Drop> TableState<T> {
         Ok(TableState { homes })
     }
 
-    /// Says what holds of each state. It does nothing.
-    pub fn is_lawful(&self)
-        ensures { IsLawful T.tag_of self.now }
+    /// Tells whoever has a table that its World is owned once, and that a value is at home exactly where its context is
+    /// at rest. Nothing is done.
+    pub fn is_owned_once(&self)
+        ensures owned_once { OwnedOnce (world_of self.now.table) }
+        ensures home { IsHome T.tag_of (world_of self.now.table) self.now.values }
     {
         let _ = self.homes.world();
     }
@@ -453,7 +455,7 @@ impl<T: Tagged + Drop> TableState<T> {
         ensures order { IfOk result (λ rest. IsByContext rest.items) }
         ensures handed_back { IfErr result (λ back. back ≡ self) }
     {
-        self.is_lawful();
+        self.is_owned_once();
         let TableState { homes } = self;
         match homes.close(alloc) {
             Ok(rest) => Ok(rest),
