@@ -131,15 +131,20 @@ impl<'p> RunJob for Job<'p> {
 
     ghost forks = { λ j child. IsForking j.thread child };
 
-    ghost tallies = { λ had left old new due new_due. HasTallied had left old.thread new.thread due new_due };
-
     fn slice(
         &mut self,
         left: &mut u32,
         spares: &mut JobSpares<'p>,
         room: &Room,
         openings: &mut Openings,
-    ) -> Result<Slice<Thread<'p>>, JobFault> {
+    ) -> Result<Slice<Thread<'p>>, JobFault>
+        requires { 1 ≤ left.old }
+        ensures tag { tag_of self.new.thread ≡ tag_of self.old.thread }
+        ensures steps { IfOk result (λ slice. UsesSteps slice left.old left.new) }
+        ensures parent { self.new.parent ≡ self.old.parent }
+        ensures left { IfOk result (λ slice. IsLeft (λ j child. IsForking j.thread child) (λ j. pause_of j.thread) slice self.new) }
+        ensures tallied { OnOk result (HasTallied left.old left.new self.old.thread self.new.thread (due_to openings.old.due) (due_to openings.new.due)) }
+    {
         match self.thread.pending() {
             None => {}
             Some(Pending::Joins) => {

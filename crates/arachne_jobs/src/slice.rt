@@ -6,8 +6,6 @@ ghost use Rattle.std.specs.Prelude.{ℕ, List, Option, None, Some};
 ghost use Rattle.arachne_core.specs.declared.thread_id.ThreadId.{ThreadId};
 ghost use Rattle.arachne_machine.specs.declared.pause.Pending.{Pending};
 ghost use Rattle.arachne_machine.specs.declared.pause.Pending.TheVariants as pause;
-ghost use Rattle.arachne_machine.specs.Tallying.{Dues};
-ghost use Rattle.arachne_jobs.specs.Dues.{due_to};
 ghost use Rattle.arachne_jobs.specs.Slices.{IsLeft, IsRequest, MayRest, UsesSteps};
 
 use crate::fault::JobFault;
@@ -103,10 +101,6 @@ pub trait RunJob: RunThread {
     /// The job forks this child, and is not answered.
     ghost forks: { Self → Self.Child → Type 0 };
 
-    /// With these steps left before and after, it came from the one job to the other, and what it tallied made the
-    /// second dues of the first.
-    ghost tallies: { ℕ → ℕ → Self → Self → Dues → Dues → Type 0 };
-
     /// Goes on for at most as many steps as are left, of which fewer are left then. A thread that waits makes none. A
     /// child for which there is no place runs in this job's. What it tallies is due then.
     fn slice(
@@ -120,8 +114,7 @@ pub trait RunJob: RunThread {
         ensures tag { Self.tag_of self.new ≡ Self.tag_of self.old }
         ensures steps { IfOk result (λ slice. UsesSteps slice left.old left.new) }
         ensures parent { Self.parent_of self.new ≡ Self.parent_of self.old }
-        ensures left { IfOk result (λ slice. IsLeft forks Self.pause_of slice self.new) }
-        ensures tallied { OnOk result (tallies left.old left.new self.old self.new (due_to openings.old.due) (due_to openings.new.due)) };
+        ensures left { IfOk result (λ slice. IsLeft forks Self.pause_of slice self.new) };
 
     /// The child becomes a job of its own with this tag, whose parent runs under this id.
     fn fork_off(

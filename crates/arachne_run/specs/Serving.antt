@@ -1,15 +1,11 @@
 -- What a thread asks for, what may come of it, and where it stops.
 use Rattle.std.specs.Prelude.{◌≡◌, ◌≢◌, ℕ, Bool, false, true, if◌then◌else◌, List, Option, None, Some, Result}
 use Rattle.arachne_core.specs.declared.thread_id.ThreadId.{ThreadId}
-use Rattle.arachne_machine.specs.Tallying.{Dues}
 use Rattle.arachne_machine.specs.declared.pause.Pending.{Pending}
 use Rattle.arachne_machine.specs.declared.pause.Pending.TheVariants as pause
 use Rattle.arachne_workers.specs.declared.desk.ThreadStop.{ThreadStop}
 use Rattle.arachne_workers.specs.declared.desk.ThreadStop.TheVariants as stop
-use Rattle.arachne_jobs.specs.Dues.{due_to}
 use Rattle.arachne_jobs.specs.declared.due.Due.{Due}
-use Rattle.arachne_jobs.specs.declared.slice.Slice.{Slice}
-use Rattle.arachne_jobs.specs.declared.slice.Slice.TheVariants as slices
 use Rattle.arachne_ledger.specs.Sums.{raised}
 use Rattle.arachne_sleep.specs.Calls.{AskAnswer, CheckAnswer}
 use Rattle.arachne_sleep.specs.SleepLocks.{ChangesAt}
@@ -65,24 +61,6 @@ sums_after (Tallies ledger amount) sums = raised sums ledger amount
 sums_after (Asks lock) sums = sums
 sums_after (Awaits lock) sums = sums
 sums_after (Frees lock) sums = sums
-
--- the same for what the thread came to in a slice
-abbrev pub sums_behind : {Child : Type 0} → Slice Child → List ℕ → List ℕ
-sums_behind (slices.Tallies ledger amount) sums = raised sums ledger amount
-sums_behind _ sums = sums
-
--- A thread went on as its job says, with steps left, and paused; the share got what was due then, and the amount at
--- which the thread paused, if it did so at a tally.
-pub record GetsTallied {Job Child : Type 0} (tallies : ℕ → ℕ → Job → Job → Dues → Dues → Type 0) (is_left : Slice Child → Job → Type 0)
-    (had left : ℕ) (old : Job) (due : Due) (sums new_sums : List ℕ) : Type 0 where
-  pub slice : Slice Child
-  pub paused : Job
-  pub now_due : Due
-  pub settled : List ℕ
-  pub goes : tallies had left old paused (due_to due) (due_to now_due)
-  pub stops : is_left slice paused
-  pub settles : IsSettled now_due sums settled
-  pub gets : new_sums ≡ sums_behind slice settled
 
 -- this is what a thread with this pause asks for
 abbrev pub IsWantOf : Want → Option Pending → Type 0

@@ -6,8 +6,7 @@ ghost use Rattle.rand_core.specs.Stream.{next_u64};
 ghost use Rattle.arachne_arbiter.specs.Placed.{GetsPlace, IsAtStartOfSome};
 ghost use Rattle.arachne_contexts.specs.Out.{Claim as a_claim, HasOut};
 ghost use Rattle.arachne_spill.specs.Views.{IsPassOf};
-ghost use Rattle.arachne_jobs.specs.Slices.{IsLeft};
-ghost use Rattle.arachne_run.specs.Serving.{GetsTallied, StopsAt};
+ghost use Rattle.arachne_run.specs.Serving.{StopsAt};
 ghost use Rattle.arachne_run.specs.Tokens.{IsOutWith, IsSetUp, IsSpent, thread_in};
 
 use crate::access::{Access, Want};
@@ -63,7 +62,6 @@ pub(crate) fn go_on<H: Wait + Clock, T: RunJob, C: Contexts<T>, R: Rng>(
     ensures stops { IfOk result (λ stop. StopsAt stop (T.pause_of held.new.value)) }
     ensures drawn { IsOk result → forks.new.openings.draws ≡ 0 }
     ensures settled { OnOk result (forks.new.openings.due.amount ≡ 0) }
-    ensures tallied { OnOk result (GetsTallied T.tallies (IsLeft T.forks T.pause_of) left.old left.new held.old.value forks.old.openings.due access.old.sums access.new.sums) }
 {
     let (room, had) = (machine.shared.room(), *left);
     let slice = held

@@ -94,8 +94,6 @@ impl RunJob for Hasty {
 
     ghost forks = { λ h child. h.pending ≡ Some pause.Forks };
 
-    ghost tallies = { λ had left old new due new_due. new_due ≡ due };
-
     fn slice(
         &mut self,
         left: &mut u32,
