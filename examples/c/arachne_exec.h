@@ -116,7 +116,8 @@ uint32_t arachne_exec_join(arachne_exec *exec, arachne_exec *other);
  * where the array has no room for a job of each of the 4,096 places of each shard; NO_MEMORY. */
 arachne_exec_left arachne_exec_end(arachne_exec *exec, uint64_t *left, size_t left_room);
 
-/* Frees what a handle holds. The executor is freed with the last of its handles; a job in hand is lost. */
+/* Frees what a handle holds, and takes no job. The executor is freed with the last of its handles; a job in hand
+ * is lost. */
 void arachne_exec_close(arachne_exec *exec);
 
 /* From now on the seat is this worker, of 0 to 63. DONE; LOST, where another seat has that number; REFUSED,
@@ -171,8 +172,8 @@ uint32_t arachne_exec_wake_up(arachne_exec *exec);
 /* The job in hand is ready again. READY; REFUSED, where none is in hand. */
 arachne_exec_told arachne_exec_rest_ready(arachne_exec *exec);
 
-/* The job in hand waits for a wake. BLOCKED; READY, where it was woken since it was taken; REFUSED, where none
- * is in hand. */
+/* The job in hand waits for a wake. BLOCKED; READY, where a wake has come that no take or start has used up;
+ * REFUSED, where none is in hand. */
 arachne_exec_told arachne_exec_rest_blocked(arachne_exec *exec);
 
 /* The job in hand has ended, and its place is free. DONE; REFUSED, where none is in hand. */

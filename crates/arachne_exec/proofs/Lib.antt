@@ -10,6 +10,7 @@ mod Debts
 mod Rousing
 mod KeepsShown
 mod Sleeping
+mod Splits
 mod Opening
 mod Moves
 mod SleepMoves

@@ -27,6 +27,7 @@ use Rattle.arachne_exec.proofs.Balancing.{balanced-same, balanced-taken, balance
 use Rattle.arachne_exec.proofs.Hearing.{MarksOn, marks-same, hears-on, as-marked, marked-on, hears-mark, hears-clear}
 use Rattle.arachne_exec.proofs.Naming.{Knows, found-word, found-on, knows-less, names-on, found-new, mark-else, names-ended}
 use Rattle.arachne_exec.proofs.KeepsShown.{shows-on, shows-owing}
+use Rattle.arachne_exec.proofs.Splits.{splits-on}
 use Rattle.arachne_exec.proofs.Sleeping.{Unmoved, sleeps-on}
 
 same_place : (p q : ℕ) → p / 64 ≡ q / 64 → p % 64 ≡ q % 64 → p ≡ q
@@ -66,6 +67,7 @@ module _ (shards slots id w : ℕ) where
     pub telling : (ds : List Deed) → Knows (64 * shards) s.words (record k { deeds = ds }) → IsLawful shards (record { words = s.words; homes = s.homes; views = set s.views id (held w (record k { deeds = ds })) })
     telling ds knows = let l : Notes = record k { deeds = ds } in record {
       shared = learns h.shared id w k l mine;
+      seats = splits-on s.views h.seats id w k mine l refl;
       keeper = keeps-view (64 * shards) s h.keeper id (held w k) mine (held w l) refl;
       balance = balanced-same s h.balance id (held w k) (held w l) mine s.words refl refl refl;
       hears = hears-on (64 * shards) s h.hears id (held w k) (held w l) mine s.homes s.words (λ p inside. (refl, λ low. low)) refl refl;
@@ -137,13 +139,14 @@ module _ (shards slots id w : ℕ) where
 
     -- a ready bit that is set: the place was in hand
     module _ (q x y : ℕ) (within : q < 64 * (64 * shards)) (l : Notes) where
-      ready-law : (now : ℕ) → now ≡ bit_or (get_or s.words (ready_at (q / 64)) 0) (2 ^ (q % 64)) → k.hand ≡ (q, x) ∷ l.hand
+      ready-law : (now : ℕ) → now ≡ bit_or (get_or s.words (ready_at (q / 64)) 0) (2 ^ (q % 64)) → l.splits ≡ k.splits → k.hand ≡ (q, x) ∷ l.hand
           → IsBalanced (record { words = set s.words (ready_at (q / 64)) now; homes = set s.homes q (some y); views = set s.views id (held w l) }) → l.woken ≡ k.woken → l.heard ≡ k.heard
           → IsShown (64 * shards) (record { words = set s.words (ready_at (q / 64)) now; homes = set s.homes q (some y); views = set s.views id (held w l) })
           → l.owes ≡ k.owes → l.worker ≡ k.worker → l.seen ≡ k.seen → Unmoved k l → l.ended_at ≡ k.ended_at → Knows (64 * shards) s.words l
           → IsLawful shards (record { words = set s.words (ready_at (q / 64)) now; homes = set s.homes q (some y); views = set s.views id (held w l) })
-      ready-law now is hand balance woken heard shows owes worker seen unmoved ended knows = record {
+      ready-law now is split hand balance woken heard shows owes worker seen unmoved ended knows = record {
         shared = learns h.shared id w k l mine;
+        seats = splits-on s.views h.seats id w k mine l split;
         keeper = subst (λ n. HasOneKeeper (64 * shards) (record { words = set s.words (ready_at (q / 64)) n; homes = set s.homes q (some y); views = set s.views id (held w l) })) (sym is)
             (keeps-ready (64 * shards) s h.keeper id (held w k) mine q within (held w l) x y hand);
         balance = balance;
@@ -183,6 +186,7 @@ module _ (shards slots id w : ℕ) where
         job.1,
         record {
           shared = learns h.shared id w k l mine;
+          seats = splits-on s.views h.seats id w k mine l refl;
           keeper = keeps-take (64 * shards) s h.keeper id (held w k) mine q within (held w l) job.0 there refl;
           balance = balanced-taken s h.balance id (held w k) (held w l) mine _ q job.0 job.1 refl refl refl;
           hears = hears-on (64 * shards) s h.hears id (held w k) (held w l) mine _ _ (unmarked s h k mine i now (λ p e. omega (arith, e))) refl refl;
@@ -217,6 +221,7 @@ module _ (shards slots id w : ℕ) where
         empty,
         record {
           shared = learns h.shared id w k l mine;
+          seats = splits-on s.views h.seats id w k mine l refl;
           keeper = keeps-claim (64 * shards) s h.keeper id (held w k) mine q within (held w l) 0 there refl;
           balance = balanced-taken s h.balance id (held w k) (held w l) mine _ q 0 empty refl refl refl;
           hears = hears-on (64 * shards) s h.hears id (held w k) (held w l) mine _ _ (unmarked s h k mine i now (λ p e. omega (arith, e))) refl refl;
@@ -265,6 +270,7 @@ module _ (shards slots id w : ℕ) where
           tt,
           record {
             shared = learns h.shared id w k l mine;
+            seats = splits-on s.views h.seats id w k mine l refl;
             keeper = keeps-free (64 * shards) s h.keeper id (held w k) mine q within (held w l) x 0 refl hand;
             balance = balanced-ended s h.balance id (held w k) (held w l) mine _ q x (out s h mine) refl (ap (λ j. j ∷ k.ended) (same_job k q x (older k.hand) hand)) hand;
             hears = hears-on (64 * shards) s h.hears id (held w k) (held w l) mine _ _ (unmarked s h k mine i now (λ p e. omega (arith, e))) refl refl;
@@ -282,7 +288,7 @@ module _ (shards slots id w : ℕ) where
           held w l,
           gives,
           tt,
-          ready-law s h k mine q x x within l now refl hand (balanced-put s h.balance id (held w k) (held w l) mine _ q x (out s h mine) refl refl hand) refl refl
+          ready-law s h k mine q x x within l now refl refl hand (balanced-put s h.balance id (held w k) (held w l) mine _ q x (out s h mine) refl refl hand) refl refl
               (ready-first s h k mine q x x within l now shown refl) refl refl refl (refl, refl, refl) refl (λ p inside has. tt),
           λ p at. let same : d ≡ p / 64 = ready_apart d (p / 64) at in (
             λ _. ap (λ c. with m (unshowing (c + 1) (readying k)) xs) same,
@@ -293,7 +299,7 @@ module _ (shards slots id w : ℕ) where
           held w l,
           gives,
           tt,
-          ready-law s h k mine q x x within l now refl hand (balanced-put s h.balance id (held w k) (held w l) mine _ q x (out s h mine) refl refl hand) refl refl
+          ready-law s h k mine q x x within l now refl refl hand (balanced-put s h.balance id (held w k) (held w l) mine _ q x (out s h mine) refl refl hand) refl refl
               (ready-more s h k mine q x x within l now full refl) refl refl refl (refl, refl, refl) refl (λ p inside has. tt),
           λ p at. ((λ empty. absurd (full empty)), λ _. refl),
         ))
@@ -309,6 +315,7 @@ module _ (shards slots id w : ℕ) where
           tt,
           record {
             shared = learns h.shared id w k l mine;
+            seats = splits-on s.views h.seats id w k mine l refl;
             keeper = keeps-block (64 * shards) s h.keeper id (held w k) mine q within (held w l) x x new hand (omega (arith, unwoken, is));
             balance = balanced-put s h.balance id (held w k) (held w l) mine _ q x (out s h mine) refl refl hand;
             hears = hears-on (64 * shards) s h.hears id (held w k) (held w l) mine _ _ (λ p inside. marked-on (64 * shards) s h.hears id (held w k) (held w l) mine s.homes q (mark-room s h mine) new (omega (arith, hit, is), λ low. omega (arith, unwoken, is)) p) refl refl;
@@ -322,11 +329,12 @@ module _ (shards slots id w : ℕ) where
 
     -- a new mark, by who has the place
     module _ (new : ℕ) (clear : new % 2 ≡ 0) (s : Board) (h : IsLawful shards s) (mine : get_elem? s.views id ≡ some (held w k)) (l : Notes) where
-      renewed : new / 2 % 2 ≡ 0 → l.hand ≡ k.hand → l.spawned ≡ k.spawned → l.ended ≡ k.ended → l.woken ≡ k.woken → l.heard ≡ (hearing (get_or s.words (mark_at q) 0 % 2) q k).heard → l.unshown ≡ k.unshown
+      renewed : new / 2 % 2 ≡ 0 → l.splits ≡ k.splits → l.hand ≡ k.hand → l.spawned ≡ k.spawned → l.ended ≡ k.ended → l.woken ≡ k.woken → l.heard ≡ (hearing (get_or s.words (mark_at q) 0 % 2) q k).heard → l.unshown ≡ k.unshown
           → l.owes ≡ k.owes → l.worker ≡ k.worker → l.seen ≡ k.seen → Unmoved k l → CountsEnds (64 * shards) (record { words = set s.words (mark_at q) new; homes = s.homes; views = set s.views id (held w l) })
           → IsLawful shards (record { words = set s.words (mark_at q) new; homes = s.homes; views = set s.views id (held w l) })
-      renewed is_awake same spawned ended woken heard unshown owes worker seen unmoved names = record {
+      renewed is_awake split same spawned ended woken heard unshown owes worker seen unmoved names = record {
         shared = learns h.shared id w k l mine;
+        seats = splits-on s.views h.seats id w k mine l split;
         keeper = keeps-mark (64 * shards) s h.keeper id (held w k) mine q within (held w l) new (is_awake ∙ sym (unblocked-here s h mine)) same;
         balance = balanced-same s h.balance id (held w k) (held w l) mine _ spawned ended same;
         hears = hears-clear (64 * shards) s h.hears id (held w k) (held w l) mine s.homes q (mark-room s h mine) new clear woken heard;
@@ -355,7 +363,7 @@ module _ (shards slots id w : ℕ) where
             held w l,
             keeps,
             tt,
-            renewed new (omega (arith, is)) s h mine l (omega (arith, is)) refl refl refl refl refl refl refl refl refl (refl, refl, refl)
+            renewed new (omega (arith, is)) s h mine l (omega (arith, is)) refl refl refl refl refl refl refl refl refl refl (refl, refl, refl)
                 (ended-once m before found s h mine new l s.homes refl (omega (arith, is, named)) (λ p inside has. found-new (64 * shards) s h.names id (held w k) (held w l) mine s.homes q (mark-room s h mine) new p k.deeds)),
             λ p at. ap (λ z. knowing (held w k, (q, y) ∷ xs) (noted (mark_at q) new (aging z (hearing (n % 2) z k)))) (mark_apart q p at),
           )
@@ -368,6 +376,7 @@ module _ (shards slots id w : ℕ) where
             tt,
             record {
               shared = learns h.shared id w k l mine;
+              seats = splits-on s.views h.seats id w k mine l refl;
               keeper = keeps-block (64 * shards) s h.keeper id (held w k) mine q within (held w l) x 0 new hand (omega (arith, is));
               balance = balanced-ended s h.balance id (held w k) (held w l) mine _ q x (out s h mine) refl (ap (λ j. j ∷ k.ended) (same_job k q x (older k.hand) hand)) hand;
               hears = hears-clear (64 * shards) s h.hears id (held w k) (held w l) mine (set s.homes q (some 0)) q (mark-room s h mine) new (omega (arith, is)) refl refl;
@@ -389,7 +398,7 @@ module _ (shards slots id w : ℕ) where
           held w l,
           keeps,
           tt,
-          renewed now (omega (arith, is)) s h mine l (omega (arith, is)) refl refl refl refl refl refl refl refl refl (refl, refl, refl)
+          renewed now (omega (arith, is)) s h mine l (omega (arith, is)) refl refl refl refl refl refl refl refl refl refl (refl, refl, refl)
               (names-on (64 * shards) s h.names id (held w k) (held w l) mine s.homes _ (λ p inside. as-marked (64 * shards) s h.hears id (held w k) (held w l) mine s.homes q (mark-room s h mine) now (λ z. z / 4) (omega (arith, is)) p) refl
               (knowing-still s h k mine)),
           λ p at. ap (λ z. knowing (held w k, (q, y) ∷ xs) (hearing (n % 2) z k)) (mark_apart q p at),
@@ -405,7 +414,7 @@ module _ (shards slots id w : ℕ) where
         held w l,
         gives,
         tt,
-        ready-law s h k mine q 0 y within l now refl hand (balanced-spawned s h.balance id (held w k) (held w l) mine _ q y away refl refl hand) refl refl
+        ready-law s h k mine q 0 y within l now refl refl hand (balanced-spawned s h.balance id (held w k) (held w l) mine _ q y away refl refl hand) refl refl
             (ready-first s h k mine q 0 y within l now shown refl) refl refl refl (refl, refl, refl) refl (λ p inside has. tt),
         λ p at. let same : d ≡ p / 64 = ready_apart d (p / 64) at in (
           λ _. ap (λ c. with m (unshowing (c + 1) (spawning y k)) xs) same,
@@ -416,7 +425,7 @@ module _ (shards slots id w : ℕ) where
         held w l,
         gives,
         tt,
-        ready-law s h k mine q 0 y within l now refl hand (balanced-spawned s h.balance id (held w k) (held w l) mine _ q y away refl refl hand) refl refl
+        ready-law s h k mine q 0 y within l now refl refl hand (balanced-spawned s h.balance id (held w k) (held w l) mine _ q y away refl refl hand) refl refl
             (ready-more s h k mine q 0 y within l now full refl) refl refl refl (refl, refl, refl) refl (λ p inside has. tt),
         λ p at. ((λ empty. absurd (full empty)), λ _. refl),
       ))
@@ -432,6 +441,7 @@ module _ (shards slots id w : ℕ) where
         tt,
         unchanged l ((q, y) ∷ xs) i s (record {
           shared = learns h.shared id w k l mine;
+          seats = splits-on s.views h.seats id w k mine l refl;
           keeper = keeps-places (64 * shards) s h.keeper id (held w k) mine (held w l) (hands-renumbered (64 * shards) s h.keeper id (held w k) mine (held w l) q 0 y (older k.hand) hand now);
           balance = balanced-begun s h.balance id (held w k) (held w l) mine s.words q y (older k.hand) refl refl hand now;
           hears = hears-on (64 * shards) s h.hears id (held w k) (held w l) mine s.homes s.words (λ p inside. (refl, λ low. low)) refl refl;
@@ -456,6 +466,7 @@ module _ (shards slots id w : ℕ) where
           job.1,
           record {
             shared = learns h.shared id w k l mine;
+            seats = splits-on s.views h.seats id w k mine l refl;
             keeper = keeps-wake (64 * shards) s h.keeper id (held w k) mine q within (held w l) job.0 new is_there (omega (arith, was, now)) refl;
             balance = balanced-taken s h.balance id (held w k) (held w l) mine _ q job.0 job.1 refl refl refl;
             hears = hears-on (64 * shards) s h.hears id (held w k) (held w l) mine _ _
@@ -480,6 +491,7 @@ module _ (shards slots id w : ℕ) where
           tt,
           record {
             shared = learns h.shared id w k l mine;
+            seats = splits-on s.views h.seats id w k mine l refl;
             keeper = keeps-mark (64 * shards) s h.keeper id (held w k) mine q within (held w l) new (omega (arith, was, now) ∙ ap (λ z. z / 2 % 2) (sym hit)) refl;
             balance = balanced-same s h.balance id (held w k) (held w l) mine _ refl refl refl;
             hears = hears-mark (64 * shards) s h.hears id (held w k) (held w l) mine s.homes q (omega (arith, h.keeper.sized, within)) new (omega (arith, hit, was)) (omega (arith, was, now)) refl refl;

@@ -1,5 +1,5 @@
 -- The rule at first, and where seats are split and joined.
-use Rattle.std.proofs.Common.{◌≡◌, ◌≢◌, inl, inr, ⊎_elim, ℕ, zero, suc, ◌+◌, ◌-◌, ◌*◌, ◌/◌, ◌%◌, ◌^◌, ◌≤◌, ◌==◌, min, if◌then◌else◌, List, [], ◌∷◌, ◌++◌, length, get_or, set, sym, refl, ap, ◌∙◌, subst, arith, ◌<◌, map}
+use Rattle.std.proofs.Common.{◌≡◌, ◌≢◌, inl, inr, ⊎_elim, ℕ, zero, suc, ◌+◌, ◌-◌, ◌*◌, ◌/◌, ◌%◌, ◌^◌, ◌≤◌, ◌==◌, min, if◌then◌else◌, List, [], ◌∷◌, ◌++◌, length, length-set, get_or, set, sym, refl, ap, ◌∙◌, subst, arith, ◌<◌, map}
 use Rattle.std.proofs.lemmas.List.{length-map}
 use Rattle.std.proofs.lemmas.List.Sums.{sum_by-cons, sum_by-append}
 use Rattle.std.specs.Int.{bit_at}
@@ -16,10 +16,11 @@ use Rattle.arachne_weights.proofs.Totals.{total-set, total-snoc}
 use Rattle.arachne_exec.specs.declared.view.Notes.{Notes}
 use Rattle.arachne_exec.specs.Layout.{idle_at, ready_at, free_at, mark_at, last_generation}
 use Rattle.arachne_exec.specs.Board.{is_free, is_ready, is_blocked, one, times, places_in, jobs_in, by_all, in_hands, seats_of, is_idle, lies, rises, rouses, ends_at, FoundLast, Board, IsLawful, blank, first_view, is_number, at_home}
-use Rattle.arachne_exec.specs.Changes.{first_of, second_of, together, both_of}
+use Rattle.arachne_exec.specs.Changes.{splitting, first_of, second_of, together, both_of}
 use Rattle.arachne_exec.specs.First.{first_word, AreFirstWords}
 use Rattle.arachne_exec.proofs.Bits.{one-apart}
 use Rattle.arachne_exec.proofs.Naming.{found-longer}
+use Rattle.arachne_exec.proofs.Splits.{splits-more}
 
 full : first_word 8 ≡ 2 ^ 64 - 1
 full = refl
@@ -53,6 +54,7 @@ zero_there (x ∷ xs) (suc i) inside clear = zero_there xs i (omega (arith, insi
 pub opens : (shards : ℕ) (ws xs : List ℕ) → AreFirstWords (64 * shards) ws → length xs ≡ 4096 * shards → ((i : ℕ) → get_or xs i 0 ≡ 0) → IsLawful shards (opening ws xs first_view)
 opens shards ws xs a slots clear = record {
   shared = begins blank;
+  seats = refl;
   keeper = record {
     sized = a.0;
     room = length-map xs some ∙ slots ∙ omega arith;
@@ -104,11 +106,11 @@ opens shards ws xs a slots clear = record {
 -- ---- totals over seats that are split and joined
 
 module _ (f : Notes → ℕ) (none_blank : f blank ≡ 0) where
-  split-total : (views : List (Token Notes)) (id w : ℕ) (k : Notes) → get_elem? views id ≡ some (held w k)
+  split-total : ((l : Notes) → f (splitting l) ≡ f l) → (views : List (Token Notes)) (id w : ℕ) (k : Notes) → get_elem? views id ≡ some (held w k)
       → by_all f (set views id (first_of (held w k)) ++ second_of (held w k) ∷ []) ≡ by_all f views
-  split-total views id w k mine =
+  split-total same views id w k mine =
       let one_ = total-set (λ (t : Token Notes). f t.known) views id (held w k) (first_of (held w k)) mine in
-      let two = total-snoc (λ (t : Token Notes). f t.known) (set views id (first_of (held w k))) (second_of (held w k)) in omega (arith, one_, two, none_blank)
+      let two = total-snoc (λ (t : Token Notes). f t.known) (set views id (first_of (held w k))) (second_of (held w k)) in omega (arith, one_, two, none_blank, same k)
 
   join-total : (views : List (Token Notes)) (id w other x : ℕ) (k l : Notes) → get_elem? views id ≡ some (held w k) → other ≢ id → get_elem? views other ≡ some (held x l)
       → f (together k l) ≡ f k + f l
@@ -121,27 +123,28 @@ module _ (f : Notes → ℕ) (none_blank : f blank ≡ 0) where
 deals-law : (shards id w : ℕ) (k : Notes) (s : Board) → IsLawful shards s → get_elem? s.views id ≡ some (held w k)
     → IsLawful shards (record { words = s.words; homes = s.homes; views = set s.views id (first_of (held w k)) ++ second_of (held w k) ∷ [] })
 deals-law shards id w k s h mine = record {
-  shared = splits h.shared id w k k blank mine;
+  shared = splits h.shared id w k (splitting k) blank mine;
+  seats = splits-more s.views h.seats id w k mine;
   keeper = record {
     sized = h.keeper.sized;
     room = h.keeper.room;
-    kept = λ p inside. let same = split-total (λ l. places_in p l.hand) refl s.views id w k mine in let old = h.keeper.kept p inside in omega (arith, old, same);
-    home = λ p inside none_has. let same = split-total (λ l. places_in p l.hand) refl s.views id w k mine in h.keeper.home p inside (omega (arith, none_has, same));
-    away = λ p inside has. let same = split-total (λ l. places_in p l.hand) refl s.views id w k mine in h.keeper.away p inside (omega (arith, has, same));
+    kept = λ p inside. let same = split-total (λ l. places_in p l.hand) refl (λ l. refl) s.views id w k mine in let old = h.keeper.kept p inside in omega (arith, old, same);
+    home = λ p inside none_has. let same = split-total (λ l. places_in p l.hand) refl (λ l. refl) s.views id w k mine in h.keeper.home p inside (omega (arith, none_has, same));
+    away = λ p inside has. let same = split-total (λ l. places_in p l.hand) refl (λ l. refl) s.views id w k mine in h.keeper.away p inside (omega (arith, has, same));
     empty = h.keeper.empty;
   };
   balance = record {
     balanced = λ job some_job.
-        let a = split-total (λ l. times job l.spawned) refl s.views id w k mine in let b = split-total (λ l. times job l.ended) refl s.views id w k mine in
-        let c = split-total (λ l. jobs_in job l.hand) refl s.views id w k mine in let old = h.balance.balanced job some_job in omega (arith, a, b, c, old);
+        let a = split-total (λ l. times job l.spawned) refl (λ l. refl) s.views id w k mine in let b = split-total (λ l. times job l.ended) refl (λ l. refl) s.views id w k mine in
+        let c = split-total (λ l. jobs_in job l.hand) refl (λ l. refl) s.views id w k mine in let old = h.balance.balanced job some_job in omega (arith, a, b, c, old);
   };
   hears = record {
     marks = λ p inside.
-        let a = split-total (λ l. times p l.woken) refl s.views id w k mine in let b = split-total (λ l. times p l.heard) refl s.views id w k mine in let old = h.hears.marks p inside in omega (arith, a, b, old);
+        let a = split-total (λ l. times p l.woken) refl (λ l. refl) s.views id w k mine in let b = split-total (λ l. times p l.heard) refl (λ l. refl) s.views id w k mine in let old = h.hears.marks p inside in omega (arith, a, b, old);
     unheard = h.hears.unheard;
   };
   names = record {
-    counted = λ p inside. let same = split-total (λ l. times p l.ended_at) refl s.views id w k mine in h.names.counted p inside ∙ ap (min last_generation) (sym same);
+    counted = λ p inside. let same = split-total (λ l. times p l.ended_at) refl (λ l. refl) s.views id w k mine in h.names.counted p inside ∙ ap (min last_generation) (sym same);
     found = λ j x there p inside has. ⊎_elim
         (λ old. ⊎_elim
         (λ t. subst (λ (y : Token Notes). FoundLast s.words p y.known.deeds) t.1 (h.names.found id (held w k) mine p inside (subst (λ (y : Token Notes). 0 < places_in p y.known.hand) (sym t.1) has)))
@@ -151,16 +154,16 @@ deals-law shards id w k s h mine = record {
         (at_snoc (set s.views id (first_of (held w k))) (second_of (held w k)) x j there);
   };
   shows = record {
-    shown = λ c inside some_ready. ⊎_elim (λ set_. inl set_) (λ o. let same = split-total (λ l. one l.unshown (c + 1)) (one_zero c) s.views id w k mine in inr (omega (arith, o, same))) (h.shows.shown c inside some_ready);
+    shown = λ c inside some_ready. ⊎_elim (λ set_. inl set_) (λ o. let same = split-total (λ l. one l.unshown (c + 1)) (one_zero c) (λ l. refl) s.views id w k mine in inr (omega (arith, o, same))) (h.shows.shown c inside some_ready);
   };
   sleep = record {
-    single = λ j low. let same = split-total (λ l. one l.worker (j + 1)) (one_zero j) s.views id w k mine in let old = h.sleep.single j low in omega (arith, old, same);
+    single = λ j low. let same = split-total (λ l. one l.worker (j + 1)) (one_zero j) (λ l. refl) s.views id w k mine in let old = h.sleep.single j low in omega (arith, old, same);
     near = λ j x there. ⊎_elim
         (λ old. ⊎_elim (λ t. subst (λ (y : Token Notes). y.known.worker ≤ 64) t.1 (h.sleep.near id (held w k) mine)) (λ t. h.sleep.near j x t.1) (at_set s.views id j (first_of (held w k)) x old))
         (λ new. subst (λ (y : Token Notes). y.known.worker ≤ 64) new (omega arith))
         (at_snoc (set s.views id (first_of (held w k))) (second_of (held w k)) x j there);
     awake = λ j x there g n is below idle some_ready.
-        let same = split-total (λ l. one l.owes (g + 64 * n + 1)) (one_zero (g + 64 * n)) s.views id w k mine in ⊎_elim
+        let same = split-total (λ l. one l.owes (g + 64 * n + 1)) (one_zero (g + 64 * n)) (λ l. refl) s.views id w k mine in ⊎_elim
         (λ old. ⊎_elim
         (λ t. let is_mine = ap (λ (y : Token Notes). y.known.worker) t.1 ∙ is in let within : n < k.seen = subst (λ (y : Token Notes). n < y.known.seen) (sym t.1) below in
         let was = h.sleep.awake id (held w k) mine g n is_mine within idle some_ready in omega (arith, was, same))
@@ -169,8 +172,8 @@ deals-law shards id w k s h mine = record {
         (λ new. let none_seen : x.known.seen ≡ 0 = ap (λ (y : Token Notes). y.known.seen) (sym new) in absurd (omega (arith, below, none_seen)))
         (at_snoc (set s.views id (first_of (held w k))) (second_of (held w k)) x j there);
     ended = λ j low.
-        let a = split-total (λ l. times j l.lain) refl s.views id w k mine in let b = split-total (λ l. times j l.risen) refl s.views id w k mine in
-        let c = split-total (λ l. times j l.roused) refl s.views id w k mine in let old = h.sleep.ended j low in omega (arith, a, b, c, old);
+        let a = split-total (λ l. times j l.lain) refl (λ l. refl) s.views id w k mine in let b = split-total (λ l. times j l.risen) refl (λ l. refl) s.views id w k mine in
+        let c = split-total (λ l. times j l.roused) refl (λ l. refl) s.views id w k mine in let old = h.sleep.ended j low in omega (arith, a, b, c, old);
   };
 }
 
@@ -185,6 +188,10 @@ module _ (shards id w other x : ℕ) (k l : Notes) (nothing : (l.hand ≡ []) ×
       let hand_of = λ (p : ℕ). join-total (λ m. places_in p m.hand) refl s.views id w other x k l mine apart from (let e = ap (places_in p) nothing.0 in omega (arith, e)) in
       let owes_of = λ (c : ℕ). join-total (λ m. one m.owes (c + 1)) (one_zero c) s.views id w other x k l mine apart from (let e = ap (λ n. one n (c + 1)) nothing.3 ∙ one_zero c in omega (arith, e)) in record {
         shared = joins h.shared id other w x k l (together k l) mine apart from;
+        seats =
+            let same = join-total (λ m. m.splits) refl s.views id w other x k l mine apart from refl in let old = h.seats in
+            let first = length-set s.views id (both_of (held w k) (held x l)) in
+            let second = length-set (set s.views id (both_of (held w k) (held x l))) other (spent blank) in omega (arith, same, old, first, second);
         keeper = record {
           sized = h.keeper.sized;
           room = h.keeper.room;

@@ -20,7 +20,7 @@ Board = State ℕ (Token Notes)
 
 -- a seat that has done nothing
 abbrev pub blank : Notes
-blank = record { hand = []; spawned = []; ended = []; ended_at = []; woken = []; heard = []; lain = []; risen = []; roused = []; deeds = []; unshown = 0; owes = 0; worker = 0; seen = 0 }
+blank = record { hand = []; spawned = []; ended = []; ended_at = []; woken = []; heard = []; lain = []; risen = []; roused = []; deeds = []; unshown = 0; owes = 0; worker = 0; seen = 0; splits = 0 }
 
 -- the first seat has the whole weight
 abbrev pub first_view : Token Notes
@@ -48,6 +48,10 @@ is_number job (some other) = one other job
 -- how often over all seats
 abbrev pub by_all : (Notes → ℕ) → List (Token Notes) → ℕ
 by_all count views = sum_by (λ (t : Token Notes). count t.known) views
+
+-- how often seats were split
+abbrev pub splits_of : List (Token Notes) → ℕ
+splits_of views = by_all (λ (k : Notes). k.splits) views
 
 -- ---- who keeps a place
 
@@ -159,9 +163,10 @@ pub record WakesSleepers (b : Board) : Type 0 where
       → 0 < slice_index b.words (summary_at (worker + 64 * k)) → 0 < owed (worker + 64 * k) b.views
   pub ended : (worker : ℕ) → worker < 64 → lies worker b.views ≡ rises worker b.views + rouses worker b.views + is_idle b.words worker
 
--- the rule of an executor with so many shards
+-- The rule of an executor with so many shards. Each seat but the first was split off another, which counts it.
 pub record IsLawful (shards : ℕ) (b : Board) : Type 0 where
   pub shared : IsReachable blank b.views
+  pub seats : length b.views ≡ 1 + splits_of b.views
   pub keeper : HasOneKeeper (64 * shards) b
   pub balance : IsBalanced b
   pub hears : HearsWakes (64 * shards) b

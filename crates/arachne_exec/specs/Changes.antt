@@ -1,5 +1,5 @@
 -- What a step adds to what a seat knows.
-use Rattle.std.specs.Prelude.{ℕ, zero, suc, Bool, true, false, List, [], ◌∷◌, ◌++◌, map}
+use Rattle.std.specs.Prelude.{ℕ, zero, suc, ◌+◌, Bool, true, false, List, [], ◌∷◌, ◌++◌, map}
 use Rattle.std.specs.Int.{bit_at}
 use Rattle.arachne_weights.specs.declared.token.Token.{Token}
 use Rattle.arachne_weights.specs.Tokens.{held}
@@ -128,8 +128,12 @@ working number k = record k { worker = number; seen = 0 }
 
 -- ---- seats that are split and joined
 
+-- the seat was split once more
+abbrev pub splitting : Notes → Notes
+splitting k = record k { splits = k.splits + 1 }
+
 abbrev pub first_of : Token Notes → Token Notes
-first_of t = held (first_part t.weight) t.known
+first_of t = held (first_part t.weight) (splitting t.known)
 
 abbrev pub second_of : Token Notes → Token Notes
 second_of t = held (second_part t.weight) blank
@@ -146,6 +150,7 @@ together k l = record k {
   risen = k.risen ++ l.risen;
   roused = k.roused ++ l.roused;
   deeds = k.deeds ++ l.deeds;
+  splits = k.splits + l.splits;
 }
 
 abbrev pub both_of : Token Notes → Token Notes → Token Notes

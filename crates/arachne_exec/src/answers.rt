@@ -40,7 +40,7 @@ pub enum SpawnedHere {
 #[derive(Clone, Copy, Debug, PartialEq, Eq)]
 pub enum JobRested {
     Blocked,
-    /// It was woken since it was taken, and is ready.
+    /// A wake had come that no take or `start` has used up: it is ready.
     Ready { unpark: bool },
 }
 

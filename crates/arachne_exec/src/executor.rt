@@ -2,7 +2,7 @@
 ghost use Rattle.std.specs.Prelude.{◌≡◌, ◌*◌, ◌↔◌, ◌≤◌, [], IsTrue, IfOk};
 ghost use Rattle.arachne_weights.specs.Weight.{whole, first_part, second_part, joined};
 ghost use Rattle.arachne_exec.specs.Board.{blank};
-ghost use Rattle.arachne_exec.specs.Changes.{together};
+ghost use Rattle.arachne_exec.specs.Changes.{splitting, together};
 
 use crate::layout::{empty_slots, first_words};
 use crate::seat::{ExecSeat, SeatInCall};
@@ -79,7 +79,7 @@ impl Executor {
 
     fn cut(&self, seat: &mut SeatInCall) -> SeatInCall
         requires own { seat.old.table ≡ self.now.table }
-        ensures first { seat.new ≡ record seat.old { weight = first_part seat.old.weight } }
+        ensures first { seat.new ≡ record seat.old { weight = first_part seat.old.weight; known = splitting seat.old.known } }
         ensures second { result ≡ record { table = seat.old.table; weight = second_part seat.old.weight; known = blank; slots = [] } }
     {
         let _ = self.shards;
@@ -100,7 +100,7 @@ impl Executor {
     /// A seat for another thread, with half the weight and nothing else. At weight 1 or 0 neither keeps any.
     pub fn split(&self, seat: &mut ExecSeat) -> ExecSeat
         requires own { seat.old.table ≡ self.now.table }
-        ensures first { seat.new ≡ record seat.old { weight = first_part seat.old.weight } }
+        ensures first { seat.new ≡ record seat.old { weight = first_part seat.old.weight; known = splitting seat.old.known } }
         ensures second { result ≡ record { table = seat.old.table; weight = second_part seat.old.weight; known = blank } }
     {
         let (first, second) = seat.weight.split();

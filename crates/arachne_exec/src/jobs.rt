@@ -196,7 +196,7 @@ impl Executor {
         self.put_blocked(seat, place, mark)
     }
 
-    /// The newest job in hand waits, unless it was woken since it was taken.
+    /// The newest job in hand waits, unless a wake has come that no take or `start` has used up.
     pub fn rest_blocked(&self, seat: &mut ExecSeat, place: usize) -> JobRested
         requires own { seat.old.table ≡ self.now.table }
         requires place { place < 4096 * self.now.shards }

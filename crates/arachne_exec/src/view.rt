@@ -42,6 +42,8 @@ pub struct Notes {
     /// The number of the worker's summary words, from the first on, that it has found empty since it set its idle bit;
     /// 0 if it has cleared the bit since.
     pub seen: u64,
+    /// How often it was split, and each seat that it has taken in.
+    pub splits: u64,
 }
 
 /// What the table's rule sees of a seat.

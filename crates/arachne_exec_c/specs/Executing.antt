@@ -8,7 +8,7 @@ use Rattle.arachne_weights.specs.Weight.{whole, first_part, second_part, joined}
 use Rattle.arachne_exec.specs.declared.view.Notes.{Notes}
 use Rattle.arachne_exec.specs.Board.{blank}
 use Rattle.arachne_exec.specs.Layout.{others, places_in_word}
-use Rattle.arachne_exec.specs.Changes.{together}
+use Rattle.arachne_exec.specs.Changes.{splitting, together}
 use Rattle.arachne_exec.specs.Seats.{Places, SeatView}
 use Rattle.arachne_exec_c.specs.Codes.{done, refused, no_memory}
 
@@ -82,9 +82,9 @@ pub record IsNew (shards : ℕ) (exec : Exec) : Type 0 where
   pub seated : exec.seat ≡ record { table = exec.executor.table; weight = whole; known = blank }
   pub idle : IsIdle exec
 
--- the parts of a seat that is cut in two: the first keeps what it has, and the second begins with nothing
+-- the parts of a seat that is cut in two: the first keeps what it has and counts the split, and the second begins with nothing
 abbrev pub first_of : Exec → Exec
-first_of exec = record exec { seat = record exec.seat { weight = first_part exec.seat.weight } }
+first_of exec = record exec { seat = record exec.seat { weight = first_part exec.seat.weight; known = splitting exec.seat.known } }
 
 abbrev pub second_of : Exec → Exec
 second_of exec = record {

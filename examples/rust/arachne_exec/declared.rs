@@ -191,7 +191,8 @@ unsafe extern "C" {
     /// joined, or where the array has no room for a job of each of the 4,096 places of each shard; NO_MEMORY.
     pub fn arachne_exec_end(exec: *mut ArachneExec, left: *mut u64, left_room: usize) -> ArachneExecLeft;
 
-    /// Frees what a handle holds. The executor is freed with the last of its handles; a job in hand is lost.
+    /// Frees what a handle holds, and takes no job. The executor is freed with the last of its handles; a job in
+    /// hand is lost.
     pub fn arachne_exec_close(exec: *mut ArachneExec);
 
     /// From now on the seat is this worker, of 0 to 63. DONE; LOST, where another seat has that number; REFUSED,
@@ -247,8 +248,8 @@ unsafe extern "C" {
     /// The job in hand is ready again. READY; REFUSED, where none is in hand.
     pub fn arachne_exec_rest_ready(exec: *mut ArachneExec) -> ArachneExecTold;
 
-    /// The job in hand waits for a wake. BLOCKED; READY, where it was woken since it was taken; REFUSED, where none
-    /// is in hand.
+    /// The job in hand waits for a wake. BLOCKED; READY, where a wake has come that no take or start has used up;
+    /// REFUSED, where none is in hand.
     pub fn arachne_exec_rest_blocked(exec: *mut ArachneExec) -> ArachneExecTold;
 
     /// The job in hand has ended, and its place is free. DONE; REFUSED, where none is in hand.
