@@ -159,7 +159,9 @@ class Builds(unittest.TestCase):
         """A build whose `rt` waits for a process of its own, and that process."""
         waits = self.top / "waits"
         waits.unlink(missing_ok=True)
-        how = {"stdin": subprocess.DEVNULL, "stderr": subprocess.DEVNULL}
+        # (what runs in the background, as by `nohup`, may have been started with these ignored)
+        heed = lambda: [signal.signal(it, signal.SIG_DFL) for it in (signal.SIGINT, signal.SIGHUP)]
+        how = {"stdin": subprocess.DEVNULL, "stderr": subprocess.DEVNULL, "preexec_fn": heed}
         ran = subprocess.Popen(words, cwd=self.top, env=self.place(WAITS=str(waits), **more), **how)
         while not waits.exists() or not waits.read_text().endswith("\n"):
             time.sleep(0.05)
