@@ -4,13 +4,12 @@ ghost use Rattle.std.specs.VecDeque.{deque_capacity, deque_len};
 ghost use Rattle.arachne_pool.specs.Done.{nothing_done};
 ghost use Rattle.arachne_pool.specs.Jobs.{one};
 
-use crate::idle::WasShort;
 use crate::job::PoolJob;
 use crate::orders::PoolOrders;
 use crate::outcome::{Cells, ResultReceiver, WantedResult};
 use crate::spawned::Spawned;
 use crate::statistics::Statistics;
-use crate::tally::{News, Tally};
+use crate::tally::Tally;
 use rand_core::SeedableRng;
 use rand_xoshiro::Xoshiro256PlusPlus;
 use std::alloc::Global;
@@ -115,14 +114,6 @@ impl<J: PoolJob> Bench<J> {
         true
     }
 
-    /// Whether memory was refused since this was asked last.
-    pub(crate) fn take_short(&mut self) -> WasShort
-        ensures asked { result.is_short ≡ self.old.is_short }
-        ensures same { self.new ≡ record self.old { is_short = false } }
-    {
-        WasShort::take(&mut self.is_short)
-    }
-
     /// What was done since it was told last, with so many slices, and so many rounds that found nothing. It is told
     /// now.
     pub(crate) fn take_done(&mut self, slices: u64, rests: u64) -> Statistics
@@ -148,18 +139,18 @@ impl<J: PoolJob> Bench<J> {
         self.told = self.tally;
     }
 
-    /// How many jobs were spawned and have ended since the pool was told last, which it is now.
-    pub(crate) fn news(&mut self) -> News
+    /// Takes the counts of spawned and ended jobs that the pool has not seen yet.
+    pub(crate) fn news(&mut self) -> Tally
         ensures same { self.new ≡ record self.old { told = self.new.tally } }
-        ensures spawned { self.old.told.spawned ≤ self.old.tally.spawned → self.old.told.spawned + result.tally.spawned ≡ self.old.tally.spawned }
-        ensures ended { self.old.told.ended ≤ self.old.tally.ended → self.old.told.ended + result.tally.ended ≡ self.old.tally.ended }
+        ensures spawned { self.old.told.spawned ≤ self.old.tally.spawned → self.old.told.spawned + result.spawned ≡ self.old.tally.spawned }
+        ensures ended { self.old.told.ended ≤ self.old.tally.ended → self.old.told.ended + result.ended ≡ self.old.tally.ended }
     {
         let news = Tally {
             spawned: self.tally.spawned.wrapping_sub(self.told.spawned),
             ended: self.tally.ended.wrapping_sub(self.told.ended),
         };
         self.told = self.tally;
-        News::of(news)
+        news
     }
 }
 

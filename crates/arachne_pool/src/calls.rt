@@ -1,13 +1,12 @@
 //! What a worker does at its pool: it spawns jobs, works, and gets results.
-ghost use Rattle.std.specs.Prelude.{◌≡◌, ◌+◌, ◌<◌, [], IfErr, IfOk, IsSome, OnOk};
+ghost use Rattle.std.specs.Prelude.{◌≡◌, ◌+◌, ◌<◌, ◌↔◌, [], IfErr, IfOk, IfSome, IsNone, IsSome, IsTrue, OnOk};
 
-use crate::came::Came;
 use crate::handle::Handle;
 use crate::job::PoolJob;
 use crate::place::place;
 use crate::pool::Pool;
 use crate::posting::Disowned;
-use crate::rounds::go_on;
+use crate::rounds::{report, run, run_once, run_until};
 use crate::seat::{Call, Seat, idle_seat};
 use crate::spawned::Spawned;
 use crate::spawning::{Refusal, Refused};
@@ -20,11 +19,11 @@ use std::time::Clock;
 
 impl<C: Seats> Pool<C> {
     ghost use Rattle.std.specs.Prelude.{◌⊎◌, None};
-    ghost use Rattle.arachne_pool.specs.Calls.{AnswersFor, HasSeatAfter, TellsDisowned};
+    ghost use Rattle.arachne_pool.specs.Calls.{HasSeatAfter};
     ghost use Rattle.arachne_pool.specs.Grounds.{ground_at};
     ghost use Rattle.arachne_pool.specs.Jobs.{one};
     ghost use Rattle.arachne_pool.specs.Spawning.{HandsBack, IsRefusedUnkept, KeepsLast, KeepsOneAtMost};
-    ghost use Rattle.arachne_pool.specs.Workers.{IsArbiterFor, IsIdleAt, IsWorkerOf, WorksFor};
+    ghost use Rattle.arachne_pool.specs.Workers.{IsWorkerOf, WorksFor};
     ghost use Rattle.arachne_pool.specs.declared.worker.PoolFault.TheVariants.{Token};
 
     /// Spawns a job, which gets a place of the table where a core has one, and else waits for one with the worker. Its
@@ -63,9 +62,11 @@ impl<C: Seats> Pool<C> {
             Ok(begun) => begun,
             Err(job) => return Err(Refused::of(job, Refusal::Memory)),
         };
-        let told = self.live.add(worker.core, bench.news());
+        // Before the job is posted: another worker may run it to its end at once, and its end must not be counted
+        // before its spawn.
+        self.live.add(worker.core, bench.news());
         let handle = Handle::of(receiver);
-        match place::<H, J, C>(rt, self, seat, bench, job, told) {
+        match place::<H, J, C>(rt, self, seat, bench, job) {
             Ok(Some(posted)) => {
                 posted.tell(&self.shared);
                 Ok(handle)
@@ -97,10 +98,14 @@ impl<C: Seats> Pool<C> {
         ensures fault { HasSeatAfter worker.new.seat result }
         ensures same { WorksFor core worker.new }
     {
-        match self.operate(rt, worker, core, Call::Turn, None) {
-            Came::Ran(found) => found,
-            Came::Joined(_) => unreachable!(),
+        let Some(mut kernel) = self.enter(rt, worker, core, Call::Turn) else {
+            return Err(PoolFault::Token);
+        };
+        let found = run_once(&mut kernel);
+        if !self.leave(worker, core, kernel) {
+            return Err(PoolFault::Token);
         }
+        found
     }
 
     /// Works on a core until all jobs of the pool have ended and it isn't kept open, or its workers are to stop. With a
@@ -120,17 +125,20 @@ impl<C: Seats> Pool<C> {
         ensures same { WorksFor core worker.new }
     {
         self.live.works_for(core);
-        match self.operate(rt, worker, core, Call::Work, None) {
-            Came::Ran(Ok(_)) => {
-                self.tell_if_over();
-                Ok(())
-            }
-            Came::Ran(Err(fault)) => {
-                self.stop();
-                Err(fault)
-            }
-            Came::Joined(_) => unreachable!(),
+        let Some(mut kernel) = self.enter(rt, worker, core, Call::Work) else {
+            self.stop();
+            return Err(PoolFault::Token);
+        };
+        let ended = run(&mut kernel);
+        if !self.leave(worker, core, kernel) {
+            self.stop();
+            return Err(PoolFault::Token);
         }
+        match ended {
+            Ok(()) => self.wake_if_over(),
+            Err(_) => self.stop(),
+        }
+        ended
     }
 
     /// Works on a core until the job of this handle has ended. Its result. Where the workers are to stop before, the
@@ -152,67 +160,101 @@ impl<C: Seats> Pool<C> {
         ensures seat { IsSome worker.new.seat ⊎ IfErr result (λ back. back.0 ≡ Token) }
         ensures same { WorksFor core worker.new }
     {
-        let joined = match self.operate(rt, worker, core, Call::Join, Some(handle)) {
-            Came::Joined(joined) => joined,
-            Came::Ran(_) => unreachable!(),
+        let Some(mut kernel) = self.enter(rt, worker, core, Call::Join) else {
+            self.stop();
+            return Err((PoolFault::Token, handle));
         };
+        let joined = run_until(&mut kernel, handle);
+        let has_seat = self.leave(worker, core, kernel);
         match joined {
-            Ok(_) | Err((PoolFault::Stopped, _)) => self.tell_if_over(),
-            Err(_) => self.stop(),
+            Ok(output) => {
+                self.wake_if_over();
+                Ok(output)
+            }
+            Err((fault, handle)) => {
+                let fault = if has_seat { fault } else { PoolFault::Token };
+                if fault != PoolFault::Stopped {
+                    self.stop();
+                }
+                Err((fault, handle))
+            }
         }
-        joined
     }
 
-    /// What a worker does on a core in a call, for the job of a handle if there is one. The worker has nothing
-    /// meanwhile. Without a seat it comes to no more than that.
-    #[inline(always)]
-    fn operate<'a, H: Wait + Clock, J: PoolJob>(
+    /// Begins a call of a worker on a core, with the worker's seat and all else that it has. Returns `None` if it has no
+    /// seat.
+    fn enter<'a, H: Wait + Clock, J: PoolJob>(
         &'a self,
         rt: &'a H,
         worker: &mut Worker<C::Seat, J>,
         core: u8,
         call: Call,
-        handle: Option<Handle<J>>,
-    ) -> Came<J>
+    ) -> Option<CoreWorker<'a, H, Seat<'a, H, J, C>>>
     where
         C: Contexts<Spawned<J>>,
         requires worker { IsWorkerOf C.sits C.idle self.now.table self.now.cores worker.old }
         requires core { core < self.now.cores }
         ensures worker { IsWorkerOf C.sits C.idle self.now.table self.now.cores worker.new }
+        ensures desk { IfSome result (λ kernel. kernel.desk ≡ ground_at self.now.table self.now.cores) }
         ensures same { WorksFor core worker.new }
-        ensures answer { AnswersFor J.is_result handle result }
-        ensures seat { IsSome worker.new.seat ⊎ TellsDisowned result }
+        ensures none { IsNone result → IsNone worker.new.seat }
     {
-        self.leave_core(replace(&mut worker.core, core), core);
-        let Some(seat) = worker.seat.take() else {
-            return Came::failed(PoolFault::Token, handle);
-        };
-        let came = self.serve(rt, worker, seat, call, handle);
-        came.with_seat(worker.seat.is_some())
+        let before = replace(&mut worker.core, core);
+        if before != core && before < self.cores {
+            // What the worker remembers of that core goes with it: whoever works there next looks at every place.
+            self.shared.hint_cores(1 << u32::from(before));
+        }
+        let seat = worker.seat.take()?;
+        let empty = Worker::new(worker.bench.alloc, None, 0);
+        let Worker {
+            bench,
+            agenda,
+            pace,
+            ..
+        } = replace(worker, empty);
+        worker.core = core;
+        Some(CoreWorker {
+            rt,
+            shared: &self.shared,
+            core,
+            slots: self.slots,
+            agenda,
+            slices: 0,
+            pace,
+            desk: Seat {
+                rt,
+                pool: self,
+                core,
+                call,
+                is_broken: false,
+                seat,
+                held: None,
+                blocks: false,
+                has_taken: false,
+                is_drained: false,
+                bench,
+            },
+        })
     }
 
-    /// The same by the worker's seat, on its own core.
-    #[inline(always)]
-    fn serve<'a, H: Wait + Clock, J: PoolJob>(
+    /// Ends a call: the worker has again what it began with. Returns whether it has a seat, which it has unless
+    /// something is out with that.
+    fn leave<'a, H: Wait + Clock, J: PoolJob>(
         &'a self,
-        rt: &'a H,
         worker: &mut Worker<C::Seat, J>,
-        seat: C::Seat,
-        call: Call,
-        handle: Option<Handle<J>>,
-    ) -> Came<J>
+        core: u8,
+        kernel: CoreWorker<'a, H, Seat<'a, H, J, C>>,
+    ) -> bool
     where
         C: Contexts<Spawned<J>>,
-        requires worker { IsWorkerOf C.sits C.idle self.now.table self.now.cores worker.old }
-        requires seat { IsIdleAt C.sits C.idle self.now.table seat }
-        requires core { worker.old.core < self.now.cores }
+        requires desk { kernel.desk ≡ ground_at self.now.table self.now.cores }
+        requires core { core < self.now.cores }
         ensures worker { IsWorkerOf C.sits C.idle self.now.table self.now.cores worker.new }
-        ensures same { WorksFor worker.old.core worker.new }
-        ensures answer { AnswersFor J.is_result handle result }
+        ensures same { WorksFor core worker.new }
+        ensures seat { IsTrue result ↔ IsSome worker.new.seat }
     {
-        let core = worker.core;
-        let mut kernel = self.open(rt, worker, seat, call);
-        let came = go_on(&mut kernel, handle);
+        let mut kernel = kernel;
+        report(&mut kernel, 0);
         let CoreWorker {
             agenda,
             pace,
@@ -234,60 +276,6 @@ impl<C: Seats> Pool<C> {
             agenda,
             pace,
         };
-        came
-    }
-
-    /// What a worker knows of the core that it leaves, if it had one, is told to whoever works there next.
-    fn leave_core(&self, before: u8, now: u8) {
-        if before != now && before < self.cores {
-            self.shared.hint_cores(1 << u32::from(before));
-        }
-    }
-
-    /// What works with a worker, by its seat, on its core. The worker has nothing meanwhile.
-    fn open<'a, H: Wait + Clock, J: PoolJob>(
-        &'a self,
-        rt: &'a H,
-        worker: &mut Worker<C::Seat, J>,
-        seat: C::Seat,
-        call: Call,
-    ) -> CoreWorker<'a, H, Seat<'a, H, J, C>>
-    where
-        C: Contexts<Spawned<J>>,
-        requires seat { IsIdleAt C.sits C.idle self.now.table seat }
-        requires orders { IsArbiterFor self.now.cores worker.old.arbiter }
-        requires core { worker.old.core < self.now.cores }
-        ensures { result.desk ≡ ground_at self.now.table self.now.cores }
-    {
-        let empty = Worker::new(worker.bench.alloc, None, 0);
-        let Worker {
-            bench,
-            core,
-            agenda,
-            pace,
-            ..
-        } = replace(worker, empty);
-        CoreWorker {
-            rt,
-            shared: &self.shared,
-            core,
-            slots: self.slots,
-            agenda,
-            slices: 0,
-            pace,
-            desk: Seat {
-                rt,
-                pool: self,
-                core,
-                call,
-                is_broken: false,
-                seat,
-                held: None,
-                blocks: false,
-                has_taken: false,
-                is_drained: false,
-                bench,
-            },
-        }
+        worker.seat.is_some()
     }
 }

@@ -1,15 +1,15 @@
 //! How many jobs of a pool were spawned and have ended, and what its workers have done, as they tell it.
-use crate::counting::{EndsSeen, JobCounts};
 use crate::statistics::Statistics;
-use crate::tally::News;
+use crate::tally::Tally;
 use crossbeam_utils::CachePadded;
 use std::alloc::{AllocError, Global};
 use std::sync::atomic::{AtomicU64, Ordering};
 
 /// What the workers of one core have told.
 #[derive(Drop)]
-pub(crate) struct CoreCounts {
-    pub(crate) counts: JobCounts,
+struct CoreCounts {
+    spawned: AtomicU64,
+    ended: AtomicU64,
     slices: AtomicU64,
     steps: AtomicU64,
     wakes: AtomicU64,
@@ -23,7 +23,8 @@ impl CoreCounts {
     /// Nothing was told.
     fn new() -> CoreCounts {
         CoreCounts {
-            counts: JobCounts::new(),
+            spawned: AtomicU64::new(0),
+            ended: AtomicU64::new(0),
             slices: AtomicU64::new(0),
             steps: AtomicU64::new(0),
             wakes: AtomicU64::new(0),
@@ -32,13 +33,6 @@ impl CoreCounts {
             worked: AtomicU64::new(0),
         }
     }
-}
-
-/// What a worker had counted is told. [`Live::add`] alone gives one. Each post uses one up, so that a job is told of
-/// before another kernel thread may have it, and so does the end of a job.
-#[derive(Drop)]
-pub(crate) struct AllTold {
-    done: (),
 }
 
 /// What workers have told, for each core on a cache line of its own, and behind these for those that work on none.
@@ -57,14 +51,18 @@ impl Live {
         Ok(Live { told })
     }
 
-    /// So many more were spawned and have ended, by a worker of this core, or of none where there is no such core. A
-    /// job is told of before another kernel thread may have it.
-    pub(crate) fn add(&self, core: u8, news: News) -> AllTold {
-        let news = news.told();
+    /// Adds jobs that were spawned and have ended, by a worker of this core, or of none if there is no such core. A job
+    /// must be added before another worker can run it.
+    pub(crate) fn add(&self, core: u8, news: Tally) {
         if let Some(told) = self.told.get(usize::from(core)).or(self.told.last()) {
-            told.counts.add(news);
+            // Spawns first: `count` must not see the end of a job whose spawn it misses.
+            if news.spawned != 0 {
+                told.spawned.fetch_add(news.spawned, Ordering::SeqCst);
+            }
+            if news.ended != 0 {
+                told.ended.fetch_add(news.ended, Ordering::SeqCst);
+            }
         }
-        AllTold { done: () }
     }
 
     /// A kernel thread comes to `work` for this core.
@@ -121,9 +119,17 @@ impl Live {
         }
     }
 
-    /// How many were spawned and have not ended. Ends are looked at first: so no job lives where the answer is 0.
+    /// Returns how many jobs were spawned and have not ended.
     pub(crate) fn count(&self) -> u64 {
-        let told = self.told.as_slice();
-        EndsSeen::look(told).still_live(told)
+        // Ends first: a job that is spawned or ends between the two looks counts as living, so 0 is never too early.
+        let ended = self.told.iter().fold(
+            0u64,
+            |sum, told| sum.wrapping_add(told.ended.load(Ordering::SeqCst)),
+        );
+        let spawned = self.told.iter().fold(
+            0u64,
+            |sum, told| sum.wrapping_add(told.spawned.load(Ordering::SeqCst)),
+        );
+        spawned.wrapping_sub(ended)
     }
 }

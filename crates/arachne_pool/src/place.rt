@@ -9,7 +9,6 @@ ghost use Rattle.arachne_pool.specs.Jobs.{PartsOne};
 
 use crate::bench::Bench;
 use crate::job::PoolJob;
-use crate::live::AllTold;
 use crate::pool::Pool;
 use crate::posting::{Disowned, Posted, post};
 use crate::spawned::Spawned;
@@ -67,7 +66,6 @@ pub(crate) fn place<H: Wait, J: PoolJob, C: Contexts<Spawned<J>>>(
     seat: &mut C::Seat,
     bench: &mut Bench<J>,
     job: Spawned<J>,
-    told: AllTold,
 ) -> Result<Option<Posted<J>>, Disowned>
     requires seat { C.sits pool.now.table seat.old }
     requires known { IsKnown (C.has pool.now.table) seat.old }
@@ -83,7 +81,7 @@ pub(crate) fn place<H: Wait, J: PoolJob, C: Contexts<Spawned<J>>>(
         bench.near.push_back_reserved(job);
         return Ok(None);
     };
-    let post = post::<H, J, C>(rt, pool, seat, claim, job, told)?;
+    let post = post::<H, J, C>(rt, pool, seat, claim, job)?;
     Ok(Some(post))
 }
 
@@ -93,7 +91,6 @@ pub(crate) fn place_oldest<H: Wait, J: PoolJob, C: Contexts<Spawned<J>>>(
     pool: &Pool<C>,
     seat: &mut C::Seat,
     bench: &mut Bench<J>,
-    told: AllTold,
 ) -> Result<Option<Posted<J>>, Disowned>
     requires seat { C.sits pool.now.table seat.old }
     requires known { IsKnown (C.has pool.now.table) seat.old }
@@ -113,7 +110,7 @@ pub(crate) fn place_oldest<H: Wait, J: PoolJob, C: Contexts<Spawned<J>>>(
     let Some(job) = bench.near.pop_front() else {
         unreachable!()
     };
-    let post = post::<H, J, C>(rt, pool, seat, claim, job, told)?;
+    let post = post::<H, J, C>(rt, pool, seat, claim, job)?;
     Ok(Some(post))
 }
 
@@ -126,7 +123,6 @@ pub(crate) fn post_oldest<H: Wait, J: PoolJob, C: Contexts<Spawned<J>>>(
     seat: &mut C::Seat,
     bench: &mut Bench<J>,
     held: &mut Held<Spawned<J>, C::Hold>,
-    told: AllTold,
 ) -> Result<Option<Posted<J>>, Disowned>
     requires seat { C.sits pool.now.table seat.old }
     requires out { C.has pool.now.table seat.old (thread_in (λ s. s.tag) held.old ∷ []) }
@@ -156,6 +152,6 @@ pub(crate) fn post_oldest<H: Wait, J: PoolJob, C: Contexts<Spawned<J>>>(
             Err(_) => Err(Disowned),
         };
     };
-    let post = post::<H, J, C>(rt, pool, seat, claim, child, told)?;
+    let post = post::<H, J, C>(rt, pool, seat, claim, child)?;
     Ok(Some(post))
 }

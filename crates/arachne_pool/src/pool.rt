@@ -4,7 +4,6 @@ ghost use Rattle.arachne_core.specs.declared.layout.TheConstants.{CORES, SLOTS, 
 ghost use Rattle.arachne_weights.specs.Weight.{whole};
 
 use crate::live::Live;
-use crate::open::{Finished, NoneCome, OpenFlag};
 use crate::statistics::Statistics;
 use arachne_arbiter::Cores;
 use arachne_contexts::Seats;
@@ -30,7 +29,8 @@ pub struct Pool<C: Seats> {
     room: CachePadded<AtomicU64>,
     /// 1 once a job was to have a core for itself.
     exclusive: AtomicU64,
-    open: OpenFlag,
+    /// 1 while jobs may come though none lives.
+    open: AtomicU64,
     ghost counted: { C.core_count table ≡ cores },
     ghost few: { cores ≤ CORES },
     ghost placed: { C.slot_count table ≡ slots },
@@ -66,7 +66,7 @@ impl<C: Seats + Drop> Pool<C> {
             live,
             room: CachePadded::new(AtomicU64::new(1)),
             exclusive: AtomicU64::new(0),
-            open: OpenFlag::new(),
+            open: AtomicU64::new(0),
         };
         Ok((pool, seat))
     }
@@ -106,36 +106,24 @@ impl<C: Seats> Pool<C> {
     /// Jobs may come though none lives, as in a server: from now on `work` goes on without any, until `finish` is
     /// called.
     pub fn keep_open(&self) {
-        self.open.keep();
+        self.open.store(1, Ordering::SeqCst);
     }
 
     /// No more jobs come: from now on `work` returns once none lives.
     pub fn finish(&self) {
-        self.tell_finished(self.open.finish());
+        self.open.store(0, Ordering::SeqCst);
+        // The last job may have ended long ago, and then nobody else wakes the workers.
+        self.wake_if_over();
     }
 
-    /// No more jobs come, so all may be over, and then all workers wake.
-    fn tell_finished(&self, finished: Finished) {
-        finished.is_heeded();
-        self.tell_if_over();
-    }
-
-    /// Whether no job lives, and none is to come.
+    /// Returns whether no job lives, and none is to come.
     pub(crate) fn is_over(&self) -> bool {
-        match self.open.none_come() {
-            Some(none_come) => self.none_lives(none_come),
-            None => false,
-        }
+        // `open` first: a job that came before `finish` is then among those that are counted.
+        self.open.load(Ordering::SeqCst) == 0 && self.live() == 0
     }
 
-    /// Whether no job lives, where none was to come before that is looked at.
-    fn none_lives(&self, none_come: NoneCome) -> bool {
-        let _ = none_come;
-        self.live() == 0
-    }
-
-    /// If no job lives and none is to come, all workers wake, those that sleep and those that are parked.
-    pub(crate) fn tell_if_over(&self) {
+    /// Wakes all workers, sleeping and parked, if no job lives and none is to come.
+    pub(crate) fn wake_if_over(&self) {
         if self.is_over() {
             for core in 0..self.cores {
                 self.shared.hint(Place { core, index: 0 });

@@ -6,7 +6,6 @@ ghost use Rattle.arachne_contexts.specs.Out.{Claim, HasOut};
 ghost use Rattle.arachne_pool.specs.Grounds.{IsSpent};
 
 use crate::job::PoolJob;
-use crate::live::AllTold;
 use crate::pool::Pool;
 use crate::spawned::Spawned;
 use arachne_contexts::{Contexts, Placed};
@@ -58,7 +57,7 @@ impl<J: PoolJob> Posted<J> {
     }
 }
 
-/// A job is posted at a place, once the pool is told of it.
+/// Posts a job at a place. The pool has counted it as spawned.
 #[inline(always)]
 pub(crate) fn post<H: Wait, J: PoolJob, C: Contexts<Spawned<J>>>(
     rt: &H,
@@ -66,7 +65,6 @@ pub(crate) fn post<H: Wait, J: PoolJob, C: Contexts<Spawned<J>>>(
     seat: &mut C::Seat,
     claim: C::Claim,
     job: Spawned<J>,
-    told: AllTold,
 ) -> Result<Posted<J>, Disowned>
     requires seat { C.sits pool.now.table seat.old }
     requires out { HasOut (C.has pool.now.table) (Claim claim) seat.old }
@@ -74,7 +72,6 @@ pub(crate) fn post<H: Wait, J: PoolJob, C: Contexts<Spawned<J>>>(
     ensures out { OnOk result (IsSpent (C.has pool.now.table) (Claim claim) seat.old seat.new) }
     ensures posted { IfOk result (λ posted. posted ≡ job) }
 {
-    let _ = told;
     let place = claim.place();
     let posted = Snapshot::of(&job);
     match pool.table.post(rt, seat, claim, job) {

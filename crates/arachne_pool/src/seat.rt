@@ -3,13 +3,10 @@
 ghost use Rattle.std.specs.Prelude.{◌≡◌, ◌≢◌, ◌≤◌, IfSome, false};
 ghost use Rattle.arachne_pool.specs.Grounds.{in_hand};
 ghost use Rattle.arachne_pool.specs.Workers.{IsIdleAt};
-ghost use Rattle.arachne_pool.specs.declared.stop.JobStop.TheVariants as stopped;
 
 use crate::bench::Bench;
 use crate::ending::end;
-use crate::idle::{WasDrained, WasShort};
 use crate::job::PoolJob;
-use crate::live::AllTold;
 use crate::place::{place_oldest, post_oldest};
 use crate::pool::Pool;
 use crate::posting::{Disowned, Posted};
@@ -114,14 +111,17 @@ impl<'a, H: Wait, J: PoolJob, C: Contexts<Spawned<J>>> Desk for Seat<'a, H, J, C
             *left = 0;
             self.bench.is_short = true;
         }
-        let told = match stop {
-            // The pool is told once the result is left and the place is free (`end`).
-            JobStop::Ends => return Ok(ThreadStop::Ends),
-            stop => self.stops(stop),
-        };
-        match stop.learned(told) {
-            Ok(stop) => Ok(stop),
-            Err(told) => self.post_oldest(told),
+        if stop == JobStop::Ends {
+            // Its end is counted in `end`, once the place is free and the result is left.
+            return Ok(ThreadStop::Ends);
+        }
+        self.blocks = stop.blocks();
+        // Before a child is posted: its end must not be counted before it is.
+        self.pool.live.add(self.core, self.bench.news());
+        match stop {
+            JobStop::Waits | JobStop::Sleeps => Ok(ThreadStop::Blocks),
+            JobStop::LetsGo | JobStop::Short => Ok(ThreadStop::Goes),
+            _ => self.post_oldest(),
         }
     }
 
@@ -165,10 +165,10 @@ impl<'a, H: Wait, J: PoolJob, C: Contexts<Spawned<J>>> Desk for Seat<'a, H, J, C
         };
         self.bench.has_ended = true;
         match end::<H, J, C>(self.rt, self.pool, &mut self.seat, held) {
-            Ok(ended) => Ok(self.tell_of_end(ended)),
+            Ok(ended) => Ok(self.count_end(ended)),
             Err(ended) => {
                 self.is_broken = true;
-                self.tell_of_end(ended);
+                self.count_end(ended);
                 Err(Halt::from(PoolFault::Token))
             }
         }
@@ -235,8 +235,7 @@ impl<'a, H: Wait, J: PoolJob, C: Contexts<Spawned<J>>> Desk for Seat<'a, H, J, C
         }
         self.is_broken = true;
         let bench = &mut self.bench;
-        let told = self.pool.live.add(self.core, bench.news());
-        let posted = place_oldest::<H, J, C>(self.rt, self.pool, &mut self.seat, bench, told)?;
+        let posted = place_oldest::<H, J, C>(self.rt, self.pool, &mut self.seat, bench)?;
         self.is_broken = false;
         let Some(posted) = posted else {
             return Ok(if self.fetch() {
@@ -285,31 +284,25 @@ impl<'a, H: Wait, J: PoolJob, C: Contexts<Spawned<J>>> Desk for Seat<'a, H, J, C
 }
 
 impl<'a, H: Wait, J: PoolJob, C: Contexts<Spawned<J>>> PoolDesk for Seat<'a, H, J, C> {
-    fn call(&self) -> Call {
-        self.call
-    }
-
     fn is_over(&self) -> bool {
         self.pool.is_over()
     }
 
-    fn tell_of_ends(&mut self) {
-        let has_ended = self.bench.has_ended;
-        self.bench.has_ended = false;
-        if has_ended {
-            self.pool.tell_if_over();
+    fn wake_if_over(&mut self) {
+        if replace(&mut self.bench.has_ended, false) {
+            self.pool.wake_if_over();
         }
     }
 
-    fn take_short(&mut self) -> WasShort {
-        self.bench.take_short()
+    fn take_short(&mut self) -> bool {
+        replace(&mut self.bench.is_short, false)
     }
 
-    fn take_drained(&mut self) -> WasDrained {
-        WasDrained::take(&mut self.is_drained)
+    fn take_drained(&mut self) -> bool {
+        replace(&mut self.is_drained, false)
     }
 
-    fn tell_done(&mut self, slices: u64, rests: u64) {
+    fn report(&mut self, slices: u64, rests: u64) {
         self.pool
             .live
             .add_done(self.core, self.bench.take_done(slices, rests));
@@ -332,31 +325,19 @@ impl<'a, H: Wait, J: PoolJob, C: Contexts<Spawned<J>>> Seat<'a, H, J, C> {
             .slice(&mut bench.cells, &mut bench.tally, left, may_post)
     }
 
-    /// A slice of the job in hand stops so, by which it is put back. The pool is told of the jobs that began and ended
-    /// in it, before another kernel thread may have one of them. It has not ended: of an end `tell_of_end` tells.
+    /// Counts the jobs that began and ended up to the end of this one. Returns its parent, if that has to be woken.
     #[inline(always)]
-    fn stops(&mut self, stop: JobStop) -> AllTold
-        requires { stop ≢ stopped.Ends }
-        ensures { self.new ≡ self.old }
-    {
-        self.blocks = stop.blocks();
-        self.pool.live.add(self.core, self.bench.news())
-    }
-
-    /// The pool is told of the jobs that began and ended up to the end of one in hand, which has left its result. Its
-    /// parent, if that is to be woken.
-    #[inline(always)]
-    fn tell_of_end(&mut self, ended: Ended<J>) -> Option<ThreadId>
+    fn count_end(&mut self, ended: Ended<J>) -> Option<ThreadId>
         ensures desk { self.new ≡ self.old }
         ensures parent { result ≡ ended.parent }
     {
-        let told = self.pool.live.add(self.core, self.bench.news());
-        ended.parent(told)
+        self.pool.live.add(self.core, self.bench.news());
+        ended.parent()
     }
 
     /// The oldest child that waits with the job in hand gets a place, if there is one and memory is not refused.
     #[inline(always)]
-    fn post_oldest(&mut self, told: AllTold) -> Result<ThreadStop, Halt>
+    fn post_oldest(&mut self) -> Result<ThreadStop, Halt>
         ensures { self.new ≡ self.old }
     {
         if self.is_broken {
@@ -367,7 +348,7 @@ impl<'a, H: Wait, J: PoolJob, C: Contexts<Spawned<J>>> Seat<'a, H, J, C> {
         };
         self.is_broken = true;
         let bench = &mut self.bench;
-        let posted = post_oldest::<H, J, C>(self.rt, self.pool, &mut self.seat, bench, held, told)?;
+        let posted = post_oldest::<H, J, C>(self.rt, self.pool, &mut self.seat, bench, held)?;
         self.is_broken = false;
         Ok(self.stop_after(posted))
     }

@@ -3,7 +3,6 @@ ghost use Rattle.std.specs.Prelude.{◌≡◌, ◌+◌, ◌<◌, ◌≤◌, [], 
 ghost use Rattle.arachne_pool.specs.Frames.{CountsEach};
 
 use crate::job::PoolJob;
-use crate::live::AllTold;
 use crate::outcome::{Cells, ResultLeft, ResultSender, leave_at};
 use crate::stack::{Jobs, Stack};
 use crate::stop::JobStop;
@@ -182,8 +181,7 @@ impl<J: PoolJob> Spawned<J> {
     }
 }
 
-/// A job that has ended and whose result was left. Only `Spawned::leave` makes one. It can't be dropped, so that the
-/// pool is told of its end.
+/// A job that has ended and whose result was left. Only `Spawned::leave` makes one.
 ///
 /// Contracts see the job as it ended.
 pub(crate) struct Ended<J: PoolJob> {
@@ -206,12 +204,11 @@ impl<J: PoolJob> Model for Ended<J> {
 }
 
 impl<J: PoolJob> Ended<J> {
-    /// The parent, if that is to be woken, once the pool is told.
+    /// Returns the parent, if that has to be woken.
     #[inline(always)]
-    pub(crate) fn parent(self, told: AllTold) -> Option<ThreadId>
+    pub(crate) fn parent(self) -> Option<ThreadId>
         ensures { result ≡ self.parent }
     {
-        let _ = told;
         let Ended {
             left: _,
             job: _,

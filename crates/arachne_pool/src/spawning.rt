@@ -211,9 +211,10 @@ impl<C: Seats> Pool<C> {
         ensures worker { IsWorkerOf C.sits C.idle self.now.table self.now.cores worker.new }
         ensures kept { worker.new ≡ record worker.old { seat = worker.new.seat; told = worker.old.tally } }
     {
-        let told = self.live.add(worker.core, worker.bench.news());
+        // Before the job is posted: its end must not be counted before its spawn.
+        self.live.add(worker.core, worker.bench.news());
         let mut seat = seat;
-        match post::<H, J, C>(rt, self, &mut seat, claim, job, told) {
+        match post::<H, J, C>(rt, self, &mut seat, claim, job) {
             Ok(posted) => {
                 posted.tell(&self.shared);
                 worker.seat = Some(seat);

@@ -1,11 +1,9 @@
 //! Where a slice of a job stops, and what comes of it.
-ghost use Rattle.std.specs.Prelude.{◌≡◌, None, Some, IfOk, OnErr, if◌then◌else◌};
-ghost use Rattle.arachne_pool.specs.Stops.{blocks_after, learned_after, rests_as};
+ghost use Rattle.std.specs.Prelude.{◌≡◌, if◌then◌else◌};
+ghost use Rattle.arachne_pool.specs.Stops.{blocks_after, rests_as};
 
-use crate::live::AllTold;
 use arachne_contexts::Rested;
 use arachne_core::Rest;
-use arachne_workers::ThreadStop;
 
 /// Where a slice of a job stops.
 #[derive(Clone, Copy, Debug, PartialEq, Eq)]
@@ -36,21 +34,6 @@ impl JobStop {
             JobStop::Waits | JobStop::Sleeps => true,
             JobStop::Goes | JobStop::Forks | JobStop::LetsGo | JobStop::Ends | JobStop::Short =>
                 false,
-        }
-    }
-
-    /// What the worker's loop learns of it, once the pool is told of the slice. Nothing yet where the oldest child that
-    /// waits with the job may get a place first.
-    #[inline(always)]
-    pub(crate) fn learned(self, told: AllTold) -> Result<ThreadStop, AllTold>
-        ensures learned { IfOk result (λ stop. learned_after self ≡ Some stop) }
-        ensures places { OnErr result (learned_after self ≡ None) }
-    {
-        match self {
-            JobStop::Goes | JobStop::Forks => Err(told),
-            JobStop::Waits | JobStop::Sleeps => Ok(ThreadStop::Blocks),
-            JobStop::LetsGo | JobStop::Short => Ok(ThreadStop::Goes),
-            JobStop::Ends => Ok(ThreadStop::Ends),
         }
     }
 }

@@ -48,26 +48,3 @@ impl Tally {
         }
     }
 }
-
-/// How many jobs were spawned and have ended of which the pool is to be told. It can't be dropped, so that it is.
-pub(crate) struct News {
-    tally: Tally,
-}
-
-impl News {
-    #[inline(always)]
-    pub(crate) fn of(tally: Tally) -> News
-        ensures { result.tally ≡ tally }
-    {
-        News { tally }
-    }
-
-    /// It is being told.
-    #[inline(always)]
-    pub(crate) fn told(self) -> Tally
-        ensures { result ≡ self.tally }
-    {
-        let News { tally } = self;
-        tally
-    }
-}

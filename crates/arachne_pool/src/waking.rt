@@ -5,7 +5,6 @@ ghost use Rattle.arachne_pool.specs.Waking.{Answers};
 ghost use Rattle.arachne_pool.specs.Workers.{IsIdleAt};
 
 use crate::answer::WakeAnswer;
-use crate::called::Called;
 use crate::job::PoolJob;
 use crate::pool::Pool;
 use crate::spawned::Spawned;
@@ -93,8 +92,7 @@ impl<C: Seats> Pool<C> {
     {
         let seat = &mut waker.seat;
         for _ in rt.forever() {
-            let called = Called::wake::<H, J, C>(rt, &self.table, seat, id);
-            let Some(answer) = WakeAnswer::to(called) else {
+            let Some(answer) = WakeAnswer::of_try::<H, J, C>(rt, &self.table, seat, id) else {
                 continue;
             };
             if answer.woken() == Woken::Woken {

@@ -1,6 +1,6 @@
 use Rattle.std.proofs.Common.{rules}
 use Rattle.arachne_pool.specs.Workers.{IsArbiterFor}
-use Rattle.arachne_pool.proofs.pool.Pool.open.Goals as goal
+use Rattle.arachne_pool.proofs.pool.Pool.enter.Goals as goal
 
 -- the worker's seat is idle, so nothing is out with it
 pub invariant_of-result : goal.invariant_of-result
