@@ -1,4 +1,4 @@
-//! What C is told of an arbiter.
+//! The results that C gets of an arbiter.
 ghost use Rattle.std.specs.Prelude.{◌≡◌};
 ghost use Rattle.arachne_grants_c.specs.ArbiterTold.{action_alone, told_given, told_taken};
 

@@ -1,4 +1,4 @@
-//! What C is told of a call: one set of codes for all of them.
+//! The codes that calls return to C: one set for all of them.
 
 /// It is done.
 pub(crate) const DONE: u32 = 0;

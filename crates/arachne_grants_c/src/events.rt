@@ -1,4 +1,4 @@
-//! Events, and what C is told of each.
+//! Events, and the result of each.
 ghost use Rattle.std.specs.Prelude.{◌≡◌};
 ghost use Rattle.arachne_grants_c.specs.ArbiterTold.{asking, begun, ended, gone, joined, waiting, Changes, HasNumber, HasPlace, IsClient, IsVacant, MayJoin, MayWait};
 
