@@ -1,0 +1,78 @@
+//! A fork and its join: a child on another kernel thread leaves its result in a join cell, and the parent fetches it
+//! there.
+
+ghost use Rattle.std.specs.Prelude.{◌≡◌, ◌*◌, ◌%◌, ◌^◌, IfOk};
+
+use anyhow::Result;
+use arachne_join::{Fits, JoinCell, SendingEnd};
+use std::alloc::{AllocError, Global};
+use std::sync::Wait;
+use std::thread;
+use std::thread::{Parker, Threads};
+
+/// The square of a number, modulo 2^64.
+#[derive(Drop)]
+struct Square(u64);
+
+/// What fits a cell that was made for a number: the square of that number. So a square of another can't be left there.
+impl Fits<u64> for Square {
+    ghost fits = { λ number square. square.0 ≡ number * number % 2 ^ 64 };
+}
+
+type Cell = JoinCell<Square, u64>;
+
+/// How many squares are added up in the end, each by a kernel thread of its own.
+const MANY: u64 = 10_000;
+
+/// The child's part. Its sending end is used up, and the parent is woken.
+fn leave(cell: &Cell, end: SendingEnd<Square, u64>, number: u64, left: &Parker)
+    requires place { end ≡ cell.now.table }
+    requires what_for { cell.now.key ≡ number }
+{
+    end.leave(cell, Square(number.wrapping_mul(number)));
+    left.unpark();
+}
+
+/// The parent's part: it sleeps until the value is there.
+fn fetch<R: Wait>(rt: &R, cell: &Cell, left: &Parker) -> u64
+    ensures { result ≡ cell.now.key * cell.now.key % 2 ^ 64 }
+{
+    for _ in rt.forever() {
+        if let Ok((square, _)) = cell.fetch() {
+            return square.0;
+        }
+        left.park(rt);
+    }
+    unreachable!()
+}
+
+/// The square of a number, which a thread of its own computes.
+fn square_beside<R: Threads + Wait + Sync>(
+    rt: &R,
+    alloc: Global,
+    number: u64,
+) -> Result<u64, AllocError>
+    ensures { IfOk result (λ square. square ≡ number * number % 2 ^ 64) }
+{
+    let (cell, end) = JoinCell::new(alloc, &number)?;
+    let left = Parker::new();
+    let ((), square) = thread::join(
+        rt,
+        || leave(&cell, end, number, &left),
+        || fetch(rt, &cell, &left),
+    );
+    Ok(square)
+}
+
+pub fn show(rt: &HostRuntime) -> Result<()> {
+    for number in [3, 12, 1 << 32] {
+        let square = square_beside(rt, rt.alloc(), number)?;
+        println!(rt; "{square}")?;
+    }
+    let mut sum = 0u64;
+    for number in 0..MANY {
+        sum = sum.wrapping_add(square_beside(rt, rt.alloc(), number)?);
+    }
+    println!(rt; "{sum}")?;
+    Ok(())
+}

@@ -1,0 +1,52 @@
+//! Two kernel threads add the halves of a list to one ledger, and its word is then the sum of the list.
+
+ghost use Rattle.std.specs.Prelude.{◌≡◌, ◌%◌, ◌^◌, [], ◌∷◌, IfSome, sum};
+ghost use Rattle.arachne_ledger.specs.Views.{IsShareOf};
+
+use anyhow::{Result, bail};
+use arachne_ledger::{Ledgers, Share};
+use std::alloc::Global;
+use std::thread;
+use std::thread::Threads;
+
+/// Adds each number to the one ledger, through a share that has added nothing yet.
+fn add_all(ledgers: &Ledgers, mut share: Share, numbers: &[u64]) -> Share
+    requires own { IsShareOf ledgers.now share }
+    requires one { ledgers.now.count ≡ 1 }
+    requires nothing { share.sums ≡ 0 ∷ [] }
+    ensures { result ≡ record share { sums = sum numbers.now ∷ [] } }
+{
+    for number in numbers {
+        ledgers.add(&mut share, 0, *number);
+    }
+    share
+}
+
+/// The sum of the numbers, modulo 2^64. None where memory is refused.
+fn sum_of<R: Threads>(rt: &R, alloc: Global, numbers: &[u64]) -> Option<u64>
+    ensures { IfSome result (λ total. total ≡ sum numbers.now % 2 ^ 64) }
+{
+    let (ledgers, share) = Ledgers::new(alloc, 1).ok()?;
+    let (first, second) = ledgers.split(share);
+    let (left, right) = numbers.split_at(numbers.len() / 2);
+    let (first, second) = thread::join(
+        rt,
+        || add_all(&ledgers, first, left),
+        || add_all(&ledgers, second, right),
+    );
+    let mut share = ledgers.join_shares(first, second);
+    // Whoever has the whole share reads the sum of all that was added.
+    if !share.is_whole() {
+        return None;
+    }
+    Some(ledgers.read(&mut share, 0))
+}
+
+pub fn show(rt: &HostRuntime) -> Result<()> {
+    let numbers: Vec<u64> = (0..10_000u64).collect(rt.alloc())?;
+    let Some(total) = sum_of(rt, rt.alloc(), numbers.as_slice()) else {
+        bail!("memory was refused");
+    };
+    println!(rt; "{total}")?;
+    Ok(())
+}

@@ -1,0 +1,59 @@
+//! Judges samples of a load one after another: when to ask for a core, and when to give one back.
+
+ghost use Rattle.std.specs.Prelude.{◌≡◌, [], IfOk};
+ghost use Rattle.arachne_policy.specs.Advice.{advices};
+ghost use Rattle.arachne_policy.specs.State.{StandsFor};
+
+use anyhow::Result;
+use arachne_policy::{Advice, BadSample, Estimator, Sample};
+use std::alloc::{AllocError, Global};
+use thiserror::Error;
+
+#[derive(Debug, Drop, Error)]
+enum JudgeError {
+    #[error(transparent)]
+    Bad(#[from] BadSample),
+    #[error(transparent)]
+    Memory(#[from(alloc)] AllocError),
+}
+
+/// The advice on each sample after those before it.
+fn judge_all(
+    alloc: Global,
+    mut estimator: Estimator,
+    samples: &[Sample],
+) -> Result<Vec<Advice>, JudgeError>
+    requires { StandsFor estimator [] }
+    ensures { IfOk result (λ answers. answers.items ≡ advices estimator.settings samples.now) }
+{
+    let mut answers = Vec::with_capacity(alloc, samples.len())?;
+    for sample in samples {
+        answers.push(estimator.estimate(*sample)?)?;
+    }
+    Ok(answers)
+}
+
+/// What was measured over a second, in milliseconds, on so many cores.
+fn sample(cores: u64, runnable: u64, busy: u64) -> Sample {
+    Sample {
+        cores,
+        runnable,
+        scans: 100,
+        busy,
+        elapsed: 1000,
+    }
+}
+
+pub fn show(rt: &HostRuntime) -> Result<()> {
+    // On two cores there was too much to run, so a third was asked for; there the work of 1.8 cores is left.
+    let samples = [
+        sample(2, 151, 1900),
+        sample(3, 100, 1810),
+        sample(3, 100, 1809),
+    ];
+    let answers = judge_all(rt.alloc(), Estimator::new(1500, 90, 16), &samples)?;
+    for advice in answers {
+        println!(rt; "{advice}")?;
+    }
+    Ok(())
+}

@@ -1,0 +1,99 @@
+//! Two kernel threads take turns at a sleep lock, a thousand times each.
+
+ghost use Rattle.std.specs.Prelude.{IfSome};
+ghost use Rattle.arachne_sleep.specs.OneHolder.{HasOneHolderAtATime};
+ghost use Rattle.arachne_sleep.specs.Views.{IsSeatOf};
+
+use anyhow::{Result, bail};
+use arachne_core::ThreadId;
+use arachne_sleep::{Asked, History, LockSeat, SleepLock, Tried, Who};
+use std::sync::Wait;
+use std::thread;
+use std::time::{Clock, Duration};
+
+/// Asks for the lock, and comes back once the thread holds it. None where memory is refused.
+fn enter<R: Wait + Clock>(rt: &R, lock: &SleepLock, seat: &mut LockSeat, who: Who) -> Option<()>
+    requires { IsSeatOf lock.now seat.old }
+    ensures { IsSeatOf lock.now seat.new }
+{
+    for _ in rt.forever() {
+        match lock.ask(seat, who) {
+            Tried::Answered(Ok(Asked::Granted(_))) => return Some(()),
+            // Its turn comes: who frees the lock is told the next in line, and may wake it.
+            Tried::Answered(Ok(Asked::Queued { .. })) => break,
+            Tried::Answered(Err(_)) => return None,
+            // Another seat is at the lock for a moment, and nothing has changed: try again.
+            Tried::Contended => thread::sleep(rt, Duration::from_micros(50)),
+        }
+    }
+    for _ in rt.forever() {
+        if let Tried::Answered(Some(_)) = lock.check(seat, who) {
+            return Some(());
+        }
+        thread::sleep(rt, Duration::from_micros(50));
+    }
+    unreachable!()
+}
+
+/// Frees the lock. None where the thread didn't hold it.
+fn leave<R: Wait>(rt: &R, lock: &SleepLock, seat: &mut LockSeat, who: Who) -> Option<()>
+    requires { IsSeatOf lock.now seat.old }
+    ensures { IsSeatOf lock.now seat.new }
+{
+    for _ in rt.forever() {
+        if let Tried::Answered(freed) = lock.free(seat, who) {
+            return freed.ok().map(|_| ());
+        }
+    }
+    unreachable!()
+}
+
+fn take_turns<R: Wait + Clock>(
+    rt: &R,
+    lock: &SleepLock,
+    mut seat: LockSeat,
+    tag: u64,
+) -> Option<LockSeat>
+    requires { IsSeatOf lock.now seat }
+    ensures { IfSome result (IsSeatOf lock.now) }
+{
+    let id = ThreadId {
+        context: 0,
+        generation: tag,
+    };
+    for _ in 0..1000 {
+        enter(rt, lock, &mut seat, Who { tag, id })?;
+        leave(rt, lock, &mut seat, Who { tag, id })?;
+    }
+    Some(seat)
+}
+
+/// The history of a lock that nobody uses any more.
+fn history(lock: SleepLock, seat: LockSeat) -> Option<History>
+    requires { IsSeatOf lock seat }
+    ensures { IfSome result (λ history. HasOneHolderAtATime history.items) }
+{
+    if !lock.is_whole(&seat) {
+        return None;
+    }
+    lock.close(seat).ok()
+}
+
+pub fn show(rt: &HostRuntime) -> Result<()> {
+    let (lock, seat) = SleepLock::new(rt.alloc(), 5)?;
+    let (first, second) = lock.split(seat);
+    let (first, second) = thread::join(
+        rt,
+        || take_turns(rt, &lock, first, 1),
+        || take_turns(rt, &lock, second, 2),
+    );
+    let (Some(first), Some(second)) = (first, second) else {
+        bail!("memory was refused");
+    };
+    let seat = lock.join_seats(first, second);
+    let Some(history) = history(lock, seat) else {
+        bail!("a seat is missing");
+    };
+    println!(rt; "{} events", history.len())?;
+    Ok(())
+}

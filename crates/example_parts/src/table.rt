@@ -1,0 +1,99 @@
+//! Two kernel threads meet at a context table: one posts numbers on core 0, the other takes them there and sums them.
+
+ghost use Rattle.std.specs.Prelude.{◌≡◌, ◌<◌, IfSome};
+
+use anyhow::{Result, bail};
+use arachne_table::{Claimed, Contexts, Tagged, Taken, WordContexts};
+use std::sync::Wait;
+use std::thread;
+use std::time::{Clock, Duration};
+
+/// How many places the core has.
+const PLACES: u8 = 8;
+
+const NUMBERS: u64 = 1000;
+
+/// What the table keeps: any type with a tag, which stays the same while the table has the value.
+#[derive(Drop)]
+struct Parcel(u64);
+
+impl Tagged for Parcel {
+    ghost tag_of = { λ parcel. parcel.0 };
+
+    fn tag(&self) -> u64 {
+        self.0
+    }
+}
+
+/// Posts all numbers, each once there is a place for it. None where memory is refused.
+fn post<C: Contexts<Parcel>, R: Wait + Clock>(rt: &R, table: &C, seat: C::Seat) -> Option<C::Seat>
+    requires seat { C.sits table.now seat × C.idle table.now seat }
+    requires core { 0 < C.core_count table.now }
+    ensures { IfSome result (λ seat. C.sits table.now seat × C.idle table.now seat) }
+{
+    let (mut seat, mut number) = (seat, 0);
+    for _ in rt.forever() {
+        if number == NUMBERS {
+            return Some(seat);
+        }
+        match table.claim(rt, &mut seat, 0).ok()? {
+            Claimed::Place(claim) => {
+                table.post(rt, &mut seat, claim, Parcel(number)).ok()?;
+                number += 1;
+            }
+            // Another seat was quicker: try again.
+            Claimed::Lost(_) => {}
+            Claimed::Full(_) | Claimed::Closed(_) => thread::sleep(rt, Duration::from_micros(50)),
+        }
+    }
+    unreachable!()
+}
+
+/// Takes what is ready until all numbers have come. Their sum.
+fn take_all<C: Contexts<Parcel>, R: Wait + Clock>(
+    rt: &R,
+    table: &C,
+    mut seat: C::Seat,
+) -> Option<(C::Seat, u64)>
+    requires seat { C.sits table.now seat × C.idle table.now seat }
+    requires core { (0 < C.core_count table.now) × (PLACES ≡ C.slot_count table.now) }
+    ensures { IfSome result (λ done. C.sits table.now done.0 × C.idle table.now done.0) }
+{
+    let (mut taken, mut sum) = (0u64, 0u64);
+    for _ in rt.forever() {
+        for index in 0..PLACES {
+            if let Taken::Run(held) = table.take(rt, &mut seat, 0, index) {
+                let Parcel(number) = table.finish(rt, &mut seat, held).ok()?;
+                sum = sum.wrapping_add(number);
+                taken = taken.wrapping_add(1);
+            }
+        }
+        if taken == NUMBERS {
+            return Some((seat, sum));
+        }
+        thread::sleep(rt, Duration::from_micros(50));
+    }
+    unreachable!()
+}
+
+pub fn show(rt: &HostRuntime) -> Result<()> {
+    let (table, seat) = WordContexts::<Parcel>::new(rt.alloc(), 1, PLACES, 0)?;
+    let (first, second) = table.split(seat);
+    let (first, second) = thread::join(
+        rt,
+        || post::<WordContexts<Parcel>, HostRuntime>(rt, &table, first),
+        || take_all::<WordContexts<Parcel>, HostRuntime>(rt, &table, second),
+    );
+    let (Some(first), Some((second, sum))) = (first, second) else {
+        bail!("memory was refused");
+    };
+    let seat = table.join_seats(first, second);
+    if !table.is_whole(&seat) {
+        bail!("a seat is missing");
+    }
+    let Ok(left) = table.close(rt.alloc(), seat) else {
+        bail!("memory was refused");
+    };
+    println!(rt; "the sum is {sum}, and {} are left", left.len())?;
+    Ok(())
+}

@@ -1,5 +1,0 @@
-use Rattle.arachne_sleep.specs.Views.{IsSeatOf}
-use Rattle.example_sleep.proofs.take_turns.Given as goal
-
-abbrev pub invariant-loop : goal.invariant-loop
-invariant-loop g l = IsSeatOf l.lock l.seat
