@@ -89,12 +89,13 @@ fn rescue(shared: &'static Shared, hands: &Hands, stuck: u64) {
                 continue;
             }
             let at = &shared.workers[worker].0;
-            found += shared.fire(worker);
+            let owners = (0..polls.len()).filter(|&owner| shared.keeper(owner) == worker);
+            found += owners.map(|owner| shared.fire(owner)).sum::<usize>();
             if at.polls.load(Relaxed) != *before || at.running.load(Relaxed) == NOBODY {
                 left &= !(1 << worker);
             }
         }
-        for worker in (0..polls.len()).filter(|w| left >> w & 1 == 1) {
+        for worker in (0..polls.len()).filter(|&worker| left >> shared.keeper(worker) & 1 == 1) {
             if all & !left == 0 {
                 found += run_some(shared, hands, worker);
             } else if shared.ready(hands, worker) != 0 {
