@@ -241,7 +241,7 @@ fn ticks() {
     assert!(runtime.block_on(ticking).unwrap_err().is_cancelled());
 }
 
-/// A worker wakes for a timer that is gone as a task comes to its places, which blocks until what it has spawned has run.
+/// A worker wakes for a timer that is gone as a task comes to its places, which blocks until what it spawned has run.
 fn stale() {
     let (runtime, mut waits, due) = (runtime(2 + choose(2)), sleep(40 * MS), now() + 40_000_000);
     let _ = runtime.enter(|| poll(&mut waits, &Arc::default()));

@@ -558,8 +558,8 @@ impl Shared {
 
     /// Takes jobs of workers that don't get on, and fires their timers.
     fn look_at_others(&self, context: &Context, turn: &mut Turn) {
-        // If polls are long, one that runs one doesn't get on either. Before more is taken then, what was taken runs, and
-        // a job of its own behind it; and unless another has been in its poll for long, all that is in line.
+        // If polls are long, one that runs one doesn't get on either. Then more is taken once what was taken has run and
+        // a job of its own behind it, and unless another has been in its poll for long, all that is in line.
         let (active, long_polls) = (self.active.0.load(Relaxed), turn.few() < FEW);
         for other in 0..self.workers.len() {
             let worker = &self.workers[other].0;
