@@ -1,7 +1,7 @@
 //! A worker's loop: runs what is ready, looks at the epoll and its timers, helps others, and sleeps.
 //!
-//! Who has a task and whether a worker may sleep is the core's to say. What is decided here is where a worker looks
-//! next, and whom it is worth to wake.
+//! Which handle has a task and whether a worker may sleep is the core's to say. What is decided here is where a worker
+//! looks next, and whom it is worth to wake.
 
 use crate::core::{place_of, Hands, Job, Rested, Spawned, BLOCK, SHARD};
 use crate::cores::Judge;
