@@ -138,6 +138,25 @@ fn behind() {
     begun.is(8);
 }
 
+/// A worker has a task in hand, makes one ready at its places, and begins a long poll: who is free runs one at once.
+fn apart() {
+    let (runtime, begun) = (runtime(2), Arc::new(Mutex::new(Vec::new())));
+    thread::sleep(choose(12) as u32 * MS);
+    let (begins, since) = (begun.clone(), now());
+    let task = runtime.spawn(async move {
+        let other = begins.clone();
+        spawn(async move {
+            spawn(async move { other.lock().unwrap().push(now()) });
+            spawn(async { thread::sleep(20 * MS) });
+        });
+        yield_now().await;
+        begins.lock().unwrap().push(now());
+    });
+    runtime.block_on(task).unwrap();
+    let late = begun.lock().unwrap()[0] - since;
+    assert!(late < 300_000, "after {} us", late / 1000);
+}
+
 /// A worker loses its processor as it ends a poll, or a little later: all that is ready there begins soon, but for the
 /// one task that it has taken to run.
 fn stands() {
@@ -220,6 +239,63 @@ fn ticks() {
     runtime.block_on(task).unwrap();
     ticking.abort();
     assert!(runtime.block_on(ticking).unwrap_err().is_cancelled());
+}
+
+/// A worker wakes for a timer that is gone as a task comes to its places, which blocks until what it spawned has run.
+fn stale() {
+    let (runtime, mut waits, due) = (runtime(2 + choose(2)), sleep(40 * MS), now() + 40_000_000);
+    let _ = runtime.enter(|| poll(&mut waits, &Arc::default()));
+    thread::sleep(20 * MS);
+    drop(waits);
+    thread::sleep(Duration::from_nanos(due.saturating_sub(now() + choose(40) as u64 * 500)));
+    let task = runtime.spawn(async {
+        let ran = Arc::new(Count::default());
+        let runs = ran.clone();
+        spawn(async move { runs.add() });
+        ran.await_all(1);
+    });
+    runtime.block_on(task).unwrap();
+}
+
+/// A worker whose tasks take some 50 us each and yield helps one that is in a long poll: it soon runs what is next
+/// there, and its own tasks have their turns, however much that poll makes ready.
+fn phases() {
+    let runtime = Builder::new(2).places(512).slices(None).build().unwrap();
+    let (begun, ended) = (Arc::new(Count::default()), Arc::new(Count::default()));
+    let (begins, ends, many) = (begun.clone(), ended.clone(), choose(2) * 80);
+    let task = runtime.spawn(async move {
+        begins.add();
+        // Until the other is busy.
+        thread::sleep(5 * MS);
+        let since = now();
+        let next = spawn(async move {
+            let late = now() - since;
+            assert!(many != 0 || late < SOON, "begun after {} us", late / 1000);
+        });
+        for _ in 0..many {
+            thread::sleep(MS / 10);
+            spawn(async { thread::sleep(MS / 5) });
+        }
+        thread::sleep(20 * MS);
+        ends.add();
+        next.await.unwrap();
+    });
+    begun.await_all(1);
+    let micros = 26 + choose(60) as u64;
+    let spins = |_| {
+        let ended = ended.clone();
+        runtime.spawn(async move {
+            while *ended.0.lock().unwrap() == 0 {
+                let since = now();
+                thread::sleep(Duration::from_micros(micros));
+                yield_now().await;
+                assert!(now() - since < SOON, "a turn took {} us", (now() - since) / 1000);
+            }
+        })
+    };
+    let spins: Vec<_> = (0..2 + choose(3)).map(spins).collect();
+    runtime.block_on(task).unwrap();
+    spins.into_iter().for_each(|spin| runtime.block_on(spin).unwrap());
 }
 
 /// The only worker is in a poll that blocks until what is ready has run: the watcher runs it.
@@ -575,15 +651,18 @@ impl Drop for Leaves {
 
 /// Name, load, and whether its time is exact.
 type Load = (&'static str, fn(), bool);
-const LOADS: [Load; 20] = [
+const LOADS: [Load; 23] = [
     ("sleepers", sleepers, false),
     ("prompt", prompt, true),
     ("returned", returned, false),
     ("hands", hands, false),
     ("behind", behind, true),
+    ("apart", apart, true),
     ("stands", stands, true),
     ("relief", relief, false),
     ("ticks", ticks, false),
+    ("stale", stale, false),
+    ("phases", phases, true),
     ("watcher", watcher, false),
     ("handles", handles, false),
     ("drain", drain, false),

@@ -1,7 +1,7 @@
 //! The standard library's types, each of whose steps is a point.
 
 use super::*;
-use std::ops::{Add, Deref, DerefMut};
+use std::ops::{Deref, DerefMut};
 use std::sync::{LockResult, TryLockError, TryLockResult};
 use std::time::Duration;
 
@@ -285,11 +285,8 @@ impl Instant {
     pub fn saturating_duration_since(&self, other: Instant) -> Duration {
         Duration::from_nanos(self.0.saturating_sub(other.0))
     }
-}
-impl Add<Duration> for Instant {
-    type Output = Instant;
-    fn add(self, duration: Duration) -> Instant {
-        Instant(self.0 + duration.as_nanos() as u64)
+    pub fn checked_add(self, duration: Duration) -> Option<Instant> {
+        self.0.checked_add(u64::try_from(duration.as_nanos()).ok()?).map(Instant)
     }
 }
 

@@ -116,8 +116,8 @@ impl Pool {
         !state.work.is_empty() || state.idle < state.threads
     }
 
-    /// What has not begun is cancelled; what runs is waited for, at most so long. True where all threads have ended.
-    pub(crate) fn close(&self, most: Option<Duration>) -> bool {
+    /// Cancels what has not begun, and waits until all threads have ended.
+    pub(crate) fn close(&self) {
         let mut state = self.state.lock().unwrap();
         state.stop = true;
         let left = std::mem::take(&mut state.work);
@@ -126,15 +126,7 @@ impl Pool {
         // SAFETY: nobody else has them, and none was begun.
         left.into_iter().for_each(|raw| unsafe { task::end(raw) });
         let state = self.state.lock().unwrap();
-        match most {
-            None => {
-                drop(self.changed.wait_while(state, |state| state.threads != 0).unwrap());
-                true
-            }
-            Some(most) => {
-                !self.changed.wait_timeout_while(state, most, |state| state.threads != 0).unwrap().1.timed_out()
-            }
-        }
+        drop(self.changed.wait_while(state, |state| state.threads != 0).unwrap());
     }
 }
 

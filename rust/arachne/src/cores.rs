@@ -233,7 +233,7 @@ impl Shared {
         }
         drop(given_back);
         worker.away.store(false, SeqCst);
-        self.goes_on(false);
+        self.goes_on();
     }
 
     pub(crate) fn set_active(&self, active: usize) {

@@ -1,5 +1,6 @@
 //! An orderly end, and a limit of what is accepted.
 
+use crate::block_on::poll_fn;
 use crate::runtime::Runtime;
 use crate::shared::{here, Context as Worker, Shared};
 use crate::sync::atomic::{AtomicBool, AtomicUsize, Ordering::*};
@@ -57,12 +58,29 @@ pub struct Stopping {
 /// Such polls at most: a task that chooses by chance what to poll first looks at its socket before in one of them.
 const BLIND: u32 = 4;
 
-/// Waits until `Runtime::shutdown_within` is called: a connection that has nothing in flight ends then.
+/// Waits until `Runtime::shutdown_within` is called: a connection that has nothing in flight ends then; see
+/// `Stopping::or`.
 ///
 /// A task that also waits for a socket is told once it has tried to read in the same poll, in whatever order it polls
 /// the two, so that a request that has come by then is read and is in flight. (It is told after a few polls at most.)
 pub fn stopping() -> Stopping {
     Stopping { shared: None, waits: None, blind: 0 }
+}
+
+impl Stopping {
+    /// Returns a future's output, or None if the end has begun and the future is not ready. The future is polled first.
+    ///
+    /// A connection reads by it, `end.or(stream.read(&mut buffer)).await`, with one `let mut end = stopping()`.
+    pub async fn or<F: Future>(&mut self, mut future: F) -> Option<F::Output> {
+        poll_fn(|cx| {
+            // SAFETY: the future is in this function's frame until it is dropped, and nothing else has a name for it.
+            match unsafe { Pin::new_unchecked(&mut future) }.poll(cx) {
+                Poll::Ready(output) => Poll::Ready(Some(output)),
+                Poll::Pending => Pin::new(&mut *self).poll(cx).map(|()| None),
+            }
+        })
+        .await
+    }
 }
 
 impl fmt::Debug for Stopping {
@@ -134,13 +152,13 @@ impl Runtime {
 
     /// Stops accepting (once nobody waits to be accepted `TcpListener::accept` returns an error), `stopping` is ready,
     /// waits until every task has ended but for those of `spawn_background`, and then, or at the deadline, drops those
-    /// that have not. Returns once all kernel threads
-    /// are joined: a poll, or work on the blocking pool, that runs at the deadline is waited for.
+    /// that have not. Returns once all kernel threads are joined: a poll that runs at the deadline, or work on the
+    /// blocking pool, is waited for. A `deadline` beyond the clock's times, such as `Duration::MAX`, is none.
     pub fn shutdown_within(self, deadline: Duration) -> Ended {
-        let until = Instant::now() + deadline;
+        let until = Instant::now().checked_add(deadline);
         self.shared().draining.begin();
         let busy = || self.shared().awaited() != 0 || self.shared().blocking.is_busy();
-        while busy() && Instant::now() < until {
+        while busy() && until.map_or(true, |until| Instant::now() < until) {
             thread::sleep(Duration::from_micros(500));
         }
         let aborted = self.shared().awaited();

@@ -1,12 +1,12 @@
-//! An executor for futures whose scheduling decisions are calls of the proved core `arachne_exec`.
+//! An executor for futures on the proved core `arachne_exec`.
 //!
 //!     let runtime = arachne::Runtime::new(4);
 //!     let task = runtime.spawn(async { 6 * 7 });
 //!     assert_eq!(runtime.block_on(task).unwrap(), 42);
 //!
-//! What is proved is the core: that no two workers have one task in hand, that a waker of a task that has ended wakes no
-//! other, that a task which is ready is shown whenever no call is under way. This crate is only tested. `docs/rust.md`
-//! says which rules it has to keep for the core's promises to reach a program.
+//! What is proved is the core: that no two handles have one task in hand, that a waker of a task that has ended wakes
+//! no other, that a task which is ready is shown whenever no call is under way. This crate, which says who uses which
+//! handle, is only tested. `docs/rust.md` says which rules it has to keep for the core's promises to reach a program.
 
 #![cfg(all(target_os = "linux", target_pointer_width = "64"))]
 #![warn(missing_docs, missing_debug_implementations)]

@@ -379,7 +379,7 @@ impl Runtime {
         }
         self.ended = true;
         entered(shared, || end_all(shared));
-        shared.blocking.close(None);
+        shared.blocking.close();
         entered(shared, || end_all(shared));
         shared.give();
     }

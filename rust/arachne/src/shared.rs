@@ -58,8 +58,6 @@ pub(crate) struct Shared {
     pub(crate) sleepers: Line<AtomicU64>,
     pub(crate) searching: Line<AtomicUsize>,
     pub(crate) active: Line<AtomicUsize>,
-    /// Workers in a poll that takes long, for whom another looks after words and timers.
-    pub(crate) stuck: Line<AtomicU64>,
     /// Tasks that found no place, not yet begun.
     pub(crate) queue: Mutex<VecDeque<Raw>>,
     pub(crate) queued: Line<AtomicUsize>,
@@ -258,7 +256,6 @@ impl Shared {
             sleepers: Line::default(),
             searching: Line::default(),
             active: Line::default(),
-            stuck: Line::default(),
             queue: Mutex::default(),
             queued: Line::default(),
             clogged: AtomicBool::new(false),
@@ -282,7 +279,6 @@ impl Shared {
         counts.ended_elsewhere.store(0, Relaxed);
         all.iter().for_each(|count| count.store(0, Relaxed));
         self.sleepers.0.store(0, SeqCst);
-        self.stuck.0.store(0, SeqCst);
         self.searching.0.store(0, SeqCst);
         self.active.0.store(self.workers.len(), SeqCst);
         self.clogged.store(false, SeqCst);

@@ -1,4 +1,4 @@
-//! The watcher of slow polls: names them, and looks after the ready tasks, sockets and timers of a worker that is in one.
+//! The watcher of slow polls: names them, and looks after the ready tasks, sockets and timers of who is in one.
 
 use crate::core::{Hands, Job, Rested, SHARD};
 use crate::reactor::EVENTS;
@@ -26,12 +26,14 @@ pub(crate) fn run(shared: &'static Shared, hands: Hands, longer: Duration, log: 
     let longer = longer.as_nanos() as u64;
     let mut seen: Vec<Seen> =
         shared.workers.iter().map(|_| Seen { polls: 0, name: NOBODY, since: 0, told: false }).collect();
+    // Workers in a poll that takes long, for whom this one looks after words and timers.
+    let mut stuck = 0;
     while !shared.stop.load(SeqCst) {
-        if shared.stuck.0.load(Relaxed) == 0 {
+        if stuck == 0 {
             thread::sleep(tick);
         }
         let now = now();
-        let mut stuck = 0;
+        stuck = 0;
         for (worker, seen) in seen.iter_mut().enumerate() {
             let age = age_of_poll(shared, worker, seen, now);
             // A worker is relieved before its poll is one to be named: once it was seen in it at three looks.
@@ -44,12 +46,10 @@ pub(crate) fn run(shared: &'static Shared, hands: Hands, longer: Duration, log: 
                 tell(shared, worker, age, log);
             }
         }
-        shared.stuck.0.store(stuck, SeqCst);
         if stuck != 0 {
             rescue(shared, &hands, stuck);
         }
     }
-    shared.stuck.0.store(0, SeqCst);
     shared.root.lock().unwrap().join(hands);
 }
 
@@ -89,12 +89,13 @@ fn rescue(shared: &'static Shared, hands: &Hands, stuck: u64) {
                 continue;
             }
             let at = &shared.workers[worker].0;
-            found += shared.fire(worker);
+            let owners = (0..polls.len()).filter(|&owner| shared.keeper(owner) == worker);
+            found += owners.map(|owner| shared.fire(owner)).sum::<usize>();
             if at.polls.load(Relaxed) != *before || at.running.load(Relaxed) == NOBODY {
                 left &= !(1 << worker);
             }
         }
-        for worker in (0..polls.len()).filter(|w| left >> w & 1 == 1) {
+        for worker in (0..polls.len()).filter(|&worker| left >> shared.keeper(worker) & 1 == 1) {
             if all & !left == 0 {
                 found += run_some(shared, hands, worker);
             } else if shared.ready(hands, worker) != 0 {

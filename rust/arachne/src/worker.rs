@@ -1,7 +1,7 @@
 //! A worker's loop: runs what is ready, looks at the epoll and its timers, helps others, and sleeps.
 //!
-//! Who has a task and whether a worker may sleep is the core's to say. What is decided here is where a worker looks
-//! next, and whom it is worth to wake.
+//! Which handle has a task and whether a worker may sleep is the core's to say. What is decided here is where a worker
+//! looks next, and whom it is worth to wake.
 
 use crate::core::{place_of, Hands, Job, Rested, Spawned, BLOCK, SHARD};
 use crate::cores::Judge;
@@ -77,8 +77,10 @@ pub(crate) struct Turn {
     /// Milliseconds between its looks while it sleeps, and the polls of all workers at the last.
     rests: i32,
     watched: u64,
-    /// Whether it took ready tasks at its last look of one that gets on.
-    helped: bool,
+    /// Whether it had jobs of others to run after its last look.
+    helps: bool,
+    /// It slept and woke by itself, and has not run a job since.
+    unsaid: bool,
 }
 
 impl Turn {
@@ -101,7 +103,8 @@ impl Turn {
             looked: 0,
             rests: 1,
             watched: 0,
-            helped: false,
+            helps: false,
+            unsaid: false,
         }
     }
 
@@ -555,10 +558,9 @@ impl Shared {
 
     /// Takes jobs of workers that don't get on, and fires their timers.
     fn look_at_others(&self, context: &Context, turn: &mut Turn) {
-        // One that runs a long poll doesn't get on either: but what is ready here isn't put off twice in a row.
-        let (active, long_polls) = (self.active.0.load(Relaxed), turn.few() < FEW && !turn.helped);
-        let may_help = turn.few() == FEW || turn.line_left == 0;
-        turn.helped = false;
+        // If polls are long, one that runs one doesn't get on either. Then more is taken once what was taken has run and
+        // a job of its own behind it, and unless another has been in its poll for long, all that is in line.
+        let (active, long_polls) = (self.active.0.load(Relaxed), turn.few() < FEW);
         for other in 0..self.workers.len() {
             let worker = &self.workers[other].0;
             let polls = worker.polls.load(Relaxed);
@@ -580,15 +582,17 @@ impl Shared {
                     self.fire_quietly(context, other);
                 }
             }
+            let lasts = !gets_on && context.looked.get().saturating_sub(turn.since[other]) >= LONG_POLL;
+            let may_help = !long_polls || !turn.helps && (turn.line_left == 0 || lasts);
             if !gets_on && !sleeps && may_help {
-                let lasts = context.looked.get().saturating_sub(turn.since[other]) >= LONG_POLL;
                 self.take_out(context, turn, other, 2, lasts);
             }
             // Who makes something ready for one that sleeps wakes somebody, so that is looked at now and then.
             if (long || !sleeps) && may_help && self.ready(&context.hands, other) != 0 {
-                turn.helped |= self.help(context, turn, other, 2) && !stands;
+                self.help(context, turn, other, 2);
             }
         }
+        turn.helps = turn.first != 0;
     }
 
     /// Takes up to `most` jobs of one of another worker's blocks, which run next here.
@@ -697,8 +701,8 @@ impl Shared {
         }
     }
 
-    /// Runs some of what is ready at other workers' places, or at last in their hands: half of what one has, if that
-    /// is more than one job; else one, if its worker sleeps or doesn't get on.
+    /// Runs some of what is ready at other workers' places, or at last in their hands: half of what one has there, if
+    /// it has more than one job; else one, if its worker sleeps or doesn't get on.
     fn steal(&self, context: &Context, turn: &mut Turn, last: bool) -> bool {
         let count = self.workers.len();
         let offset = context.random() as usize % count;
@@ -708,7 +712,7 @@ impl Shared {
             let waits = if last { worker.hand.waits() } else { 0 };
             let stands = self.sleepers.0.load(Relaxed) >> other & 1 == 1
                 || last && worker.polls.load(Relaxed) == turn.seen[other];
-            let helps = |count: usize| count > 1 || count == 1 && stands;
+            let helps = |count: usize| count != 0 && (ready + waits > 1 || stands);
             if helps(ready) && self.help(context, turn, other, (ready + 1) / 2)
                 || helps(waits) && self.take_out(context, turn, other, (waits + 1) / 2, false)
             {
@@ -731,6 +735,10 @@ impl Shared {
             }
             let mut ran = 0u32;
             while let Some(job) = self.pick(context, &mut turn) {
+                if turn.unsaid {
+                    turn.unsaid = false;
+                    self.goes_on();
+                }
                 self.run(context, &mut turn, job);
                 ran += 1;
                 if ran == most || self.stop.load(Relaxed) {

@@ -111,6 +111,8 @@ fn sleeps_end_in_order_and_not_early() {
     let start = Instant::now();
     runtime.block_on(sleep(5 * MS));
     assert!(start.elapsed() >= 5 * MS);
+    runtime.block_on(arachne::sleep_until(start + 10 * MS));
+    assert!(start.elapsed() >= 10 * MS);
 }
 
 #[test]
@@ -213,7 +215,8 @@ fn permits_are_given_in_order_and_come_back() {
 
 #[test]
 fn a_lock_is_tried_and_left() {
-    let lock = Lock::new(1);
+    let mut lock = Lock::new(0);
+    *lock.get_mut() += 1;
     let guard = lock.try_lock().unwrap();
     assert!(lock.try_lock().is_none());
     let mut waits = lock.lock();
@@ -339,7 +342,7 @@ fn the_end_lets_what_is_in_flight_end() {
     while accepted.load(SeqCst) < 10 {
         thread::yield_now();
     }
-    assert_eq!(runtime.shutdown_within(LONG).aborted, 0);
+    assert_eq!(runtime.shutdown_within(Duration::MAX).aborted, 0);
     for mut client in clients {
         let mut byte = [0];
         client.read_exact(&mut byte).unwrap();
@@ -369,15 +372,15 @@ fn what_has_come_when_the_end_begins_is_read() {
                 let (mut end, mut buffer) = (stopping(), [0; 16]);
                 loop {
                     // Half of them look whether the end has begun before they look at the socket.
-                    let next = arachne::poll_fn(|cx| {
-                        let ends = i % 2 == 0 && std::pin::Pin::new(&mut end).poll(cx).is_ready();
-                        match stream.poll_read(cx, &mut buffer) {
-                            _ if ends => Poll::Ready(0),
-                            Poll::Ready(len) => Poll::Ready(len.unwrap()),
-                            Poll::Pending => std::pin::Pin::new(&mut end).poll(cx).map(|()| 0),
-                        }
+                    let first = arachne::poll_fn(|cx| match std::pin::Pin::new(&mut end).poll(cx) {
+                        Poll::Ready(()) => Poll::Ready(Ok(0)),
+                        Poll::Pending => stream.poll_read(cx, &mut buffer),
                     });
-                    match next.await {
+                    let len = match i % 2 {
+                        0 => first.await,
+                        _ => end.or(stream.read(&mut buffer)).await.unwrap_or(Ok(0)),
+                    };
+                    match len.unwrap() {
                         0 => return,
                         len => stream.write_all(&buffer[..len]).await.unwrap(),
                     }
@@ -459,9 +462,13 @@ fn the_end_waits_for_nothing_in_the_background() {
 #[test]
 fn a_signal_is_heard() {
     let signal = Signal::heard(12).unwrap();
-    let kill = format!("kill -USR2 {}", std::process::id());
-    assert!(std::process::Command::new("sh").args(["-c", &kill]).status().unwrap().success());
+    raise("USR2");
     assert!(signal.wait());
+}
+
+fn raise(signal: &str) {
+    let kill = format!("kill -{signal} {}", std::process::id());
+    assert!(std::process::Command::new("sh").args(["-c", &kill]).status().unwrap().success());
 }
 
 #[test]
@@ -504,6 +511,9 @@ fn an_observed_runtime_lists_its_tasks() {
     while runtime.tasks().iter().filter(|task| waits(task)).count() < 5 {
         thread::sleep(MS);
     }
+    // That signal would end this process otherwise.
+    runtime.list_tasks_at(10).unwrap();
+    raise("USR1");
     for task in runtime.tasks() {
         assert_eq!(task.about.name.unwrap().as_str(), "waits");
         assert!(task.about.spawned.file().ends_with("parts.rs"));
@@ -520,6 +530,13 @@ fn an_observed_runtime_lists_its_tasks() {
     let seen: Vec<_> = counts.0.iter().map(|count| count.load(SeqCst)).collect();
     assert_eq!((seen[0], seen[4]), (7, 7));
     assert!(seen[1] == seen[2] && seen[1] >= 9 && seen[3] >= 1, "{seen:?}");
+}
+
+#[test]
+fn a_pinned_worker_has_one_processor() {
+    let runtime = Builder::new(1).pinned(true).build().unwrap();
+    let task = runtime.spawn(async { thread::available_parallelism().unwrap().get() });
+    assert_eq!(block_on(task).unwrap(), 1);
 }
 
 #[test]
@@ -1020,6 +1037,8 @@ fn what_is_public_is_shown_and_sockets_have_descriptors() {
     let limit = Limit::new(1);
     let runtime = Runtime::new(1);
     let stream = runtime.block_on(net::TcpStream::connect(listener.local_addr().unwrap())).unwrap();
+    let (_, from) = runtime.block_on(arachne::poll_fn(|cx| listener.poll_accept(cx))).unwrap();
+    assert_eq!((from, listener.local_addr().unwrap()), (stream.local_addr().unwrap(), stream.peer_addr().unwrap()));
     // Options are set by the descriptor.
     let options = std::net::TcpStream::from(stream.as_fd().try_clone_to_owned().unwrap());
     options.set_ttl(17).unwrap();

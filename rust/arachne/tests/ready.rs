@@ -1,5 +1,5 @@
 //! Ready tasks behind a poll that takes long: whoever is free runs them, wherever they are.
-use arachne::{block_on, net, spawn, yield_now, Builder, JoinHandle, Runtime};
+use arachne::{block_on, net, sleep, spawn, yield_now, Builder, JoinHandle, Policy, Runtime, Semaphore};
 use std::io::{Read, Write};
 use std::os::unix::net::UnixStream;
 use std::sync::atomic::{AtomicBool, AtomicUsize, Ordering::*};
@@ -381,4 +381,28 @@ fn the_watcher_runs_what_is_behind() {
         }))
         .unwrap();
     }
+}
+
+/// The only core that is left is in a poll: the watcher runs what is at the places of the other, and fires its timers.
+#[test]
+fn the_watcher_looks_after_a_core_that_was_given_back() {
+    let runtime = Builder::new(2).policy(Policy::default()).watch_polls(10 * MS, false).build().unwrap();
+    let (gate, ran) = (Arc::new(Semaphore::new(0)), Arc::new(AtomicUsize::new(0)));
+    let waits = |at| {
+        let (gate, ran) = (gate.clone(), ran.clone());
+        runtime.spawn(async move {
+            match at % 2 {
+                0 => sleep(1500 * MS).await,
+                _ => gate.acquire(1).await.forget(),
+            }
+            ran.fetch_add(1, SeqCst);
+        })
+    };
+    // Of each worker's places.
+    let tasks: Vec<_> = (0..32).map(waits).collect();
+    until("a core that is given back", LONG, || runtime.stats().active == 1);
+    let blocks = runtime.spawn(async move { until("what is ready", LONG, || ran.load(SeqCst) == 32) });
+    thread::sleep(100 * MS);
+    gate.release(16);
+    tasks.into_iter().chain([blocks]).for_each(|task| block_on(task).unwrap());
 }

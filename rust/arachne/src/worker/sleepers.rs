@@ -30,10 +30,8 @@ impl Shared {
         self.searching.0.fetch_sub(1, SeqCst);
         let busy = self.has_queued()
             || (0..self.workers.len()).any(|other| {
-                let ready = self.ready(&context.hands, other);
-                let in_hand = self.workers[other].0.hand.waits();
-                in_hand > 1 && other != context.me
-                    || ready > 1
+                let ready = self.ready(&context.hands, other) as usize;
+                ready + self.workers[other].0.hand.waits() > 1
                     || ready == 1 && self.sleepers.0.load(SeqCst) >> other & 1 == 1
             })
             || !context.worker.hand.is_empty()
@@ -48,8 +46,9 @@ impl Shared {
             self.waits.0.store(NO_ONE, SeqCst);
         }
         let heard = sleeps && self.hear(context, &found, self.room(context, turn)) != 0;
-        if !sleeps || roused || heard || called {
-            self.goes_on(waits);
+        turn.unsaid = sleeps && !roused && !heard && !called;
+        if !turn.unsaid {
+            self.goes_on();
         }
     }
 
@@ -241,10 +240,10 @@ impl Shared {
         self.workers.iter().enumerate().any(|(other, line)| sleepers >> other & 1 == 0 && !line.0.away.load(SeqCst))
     }
 
-    /// A worker that slept has something to do, which may take long. Where it `waited` in the epoll and nobody stands
-    /// in, another is woken to wait there; and of those that look after others one that sleeps for long is woken to
-    /// look more often again.
-    pub(crate) fn goes_on(&self, waited: bool) {
+    /// A worker that slept has something to do, which may take long. If nobody waits in the epoll or stands in, another
+    /// is woken to wait there; and of those that look after others one that sleeps for long is woken to look more often
+    /// again.
+    pub(crate) fn goes_on(&self) {
         if self.sleepers.0.load(SeqCst) == 0 {
             return;
         }
@@ -254,9 +253,9 @@ impl Shared {
             if !looks && self.rests.load(SeqCst) > LONG_REST {
                 self.rouse(deputy);
             }
-        } else if waited {
+        } else if waits == NO_ONE {
             self.rouse_any();
-        } else if waits != NO_ONE && !looks {
+        } else if !looks {
             self.rouse(waits);
         }
     }

@@ -1,17 +1,18 @@
-//! "Five minutes" of docs/rust.md as a whole program: what a connection sends comes back. echo [CORES PORT], on 127.0.0.1.
-//! It ends at SIGTERM, once each connection has ended or a second is over.
+//! "Five minutes" of docs/rust.md as a program: what a connection sends comes back. echo [CORES PORT], on 127.0.0.1.
+//! It ends at SIGTERM: a connection with nothing in flight ends then, and any once five seconds are over.
 use arachne::net::{TcpListener, TcpStream};
 use std::io;
 use std::time::Duration;
 
 async fn serve(stream: TcpStream) -> io::Result<()> {
-    let mut buffer = [0; 4096];
-    loop {
-        match stream.read(&mut buffer).await? {
-            0 => return Ok(()),
+    let (mut buffer, mut end) = ([0; 4096], arachne::stopping());
+    while let Some(read) = end.or(stream.read(&mut buffer)).await {
+        match read? {
+            0 => break,
             len => stream.write_all(&buffer[..len]).await?,
         }
     }
+    Ok(())
 }
 
 fn main() -> io::Result<()> {
@@ -31,6 +32,6 @@ fn main() -> io::Result<()> {
     });
     println!("ready");
     end.wait();
-    runtime.shutdown_within(Duration::from_secs(1));
+    runtime.shutdown_within(Duration::from_secs(5));
     Ok(())
 }

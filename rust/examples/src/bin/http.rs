@@ -14,10 +14,10 @@ fn head(bytes: &[u8]) -> Option<Result<usize, ()>> {
 
 async fn connection(stream: TcpStream) -> io::Result<()> {
     stream.set_nodelay(true)?;
-    let (mut buffer, mut out) = (Buffer::new(), Vec::new());
-    loop {
-        match stream.read(buffer.room()).await? {
-            0 => return Ok(()),
+    let (mut buffer, mut out, mut end) = (Buffer::new(), Vec::new(), arachne::stopping());
+    while let Some(read) = end.or(stream.read(buffer.room())).await {
+        match read? {
+            0 => break,
             n => buffer.len += n,
         }
         let mut at = 0;
@@ -35,6 +35,7 @@ async fn connection(stream: TcpStream) -> io::Result<()> {
         stream.write_all(&out).await?;
         out.clear();
     }
+    Ok(())
 }
 
 fn main() -> io::Result<()> {

@@ -4,42 +4,20 @@
 //! 10 ms says how many are held.
 use arachne::net::{TcpListener, TcpStream};
 use examples::{wait_for_end, Arguments, Buffer, Store};
-use std::future::Future;
 use std::io;
-use std::pin::Pin;
 use std::sync::atomic::{AtomicU64, Ordering::SeqCst};
 use std::sync::mpsc::{channel, Receiver};
 use std::sync::Arc;
-use std::task::{Context, Poll};
 use std::time::{Duration, Instant};
-
-/// Bytes that were read, or None where the runtime is about to end and nothing was there.
-struct ReadOrStop<'a> {
-    stream: &'a TcpStream,
-    room: &'a mut [u8],
-    stopping: &'a mut arachne::Stopping,
-}
-
-impl Future for ReadOrStop<'_> {
-    type Output = io::Result<Option<usize>>;
-    fn poll(mut self: Pin<&mut Self>, cx: &mut Context<'_>) -> Poll<Self::Output> {
-        let this = &mut *self;
-        match this.stream.poll_read(cx, this.room) {
-            Poll::Ready(result) => Poll::Ready(result.map(Some)),
-            Poll::Pending => Pin::new(&mut *this.stopping).poll(cx).map(|()| Ok(None)),
-        }
-    }
-}
 
 /// Commands that were accepted, and those that were answered, of connections that have ended.
 static COMMANDS: [AtomicU64; 2] = [AtomicU64::new(0), AtomicU64::new(0)];
 
 /// Answers what comes until the other side, or this runtime, is about to end.
 async fn answer(stream: &TcpStream, store: &Store, counts: &mut [u64; 2]) -> io::Result<()> {
-    let (mut buffer, mut out, mut stopping) = (Buffer::new(), Vec::new(), arachne::stopping());
+    let (mut buffer, mut out, mut end) = (Buffer::new(), Vec::new(), arachne::stopping());
     while !arachne::is_stopping() {
-        let read = ReadOrStop { stream, room: buffer.room(), stopping: &mut stopping };
-        match read.await? {
+        match end.or(stream.read(buffer.room())).await.transpose()? {
             None | Some(0) => return Ok(()),
             Some(n) => buffer.len += n,
         }
