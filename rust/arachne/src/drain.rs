@@ -120,6 +120,7 @@ impl Drop for Stopping {
 
 /// What `Runtime::shutdown_within` found.
 #[derive(Clone, Copy, PartialEq, Eq, Debug)]
+#[non_exhaustive]
 pub struct Ended {
     /// Tasks that had not ended by the deadline, and were dropped; without those of `spawn_background`.
     pub aborted: u64,

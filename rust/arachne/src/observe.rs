@@ -50,6 +50,7 @@ pub(crate) struct Observer {
 
 /// What a task does at this moment.
 #[derive(Clone, Copy, PartialEq, Eq, Debug)]
+#[non_exhaustive]
 pub enum Doing {
     /// It waits to be woken.
     Waits,
@@ -61,6 +62,7 @@ pub enum Doing {
 
 /// A task that has begun and has not ended.
 #[derive(Clone, Copy, Debug)]
+#[non_exhaustive]
 pub struct TaskInfo {
     /// A number that no other task of the runtime ever has.
     pub id: u64,

@@ -4,6 +4,7 @@ use crate::block_on::block_on;
 use crate::core::{Woken, BLOCK, MOST_SHARDS, SHARD};
 use crate::cores::{Judge, Policy};
 use crate::drain::Signal;
+use crate::handle::Handle;
 use crate::observe::{Hooks, TaskInfo, HISTOGRAM};
 use crate::shared::{entered, is_own, with_hands, Context, Shared};
 use crate::spawn::Refused;
@@ -182,6 +183,7 @@ impl Builder {
 
 /// What the workers have counted.
 #[derive(Clone, Debug, Default)]
+#[non_exhaustive]
 pub struct Stats {
     /// Cores held now.
     pub active: usize,
@@ -213,6 +215,7 @@ pub struct Stats {
 
 /// The counts of one worker.
 #[derive(Clone, Copy, Debug, Default)]
+#[non_exhaustive]
 pub struct WorkerStats {
     /// Polls of tasks.
     pub polls: u64,
@@ -290,6 +293,12 @@ impl Runtime {
         F::Output: Send + 'static,
     {
         self.shared.try_spawn_task(future, About { spawned: Location::caller(), name: None })
+    }
+
+    /// Returns a handle that spawns from any kernel thread, and may outlive the runtime.
+    #[must_use]
+    pub fn handle(&self) -> Handle {
+        Handle::of(self.shared)
     }
 
     /// Runs a future on this kernel thread, with this runtime for its spawns, sockets and timers.
@@ -380,6 +389,7 @@ impl Runtime {
         self.ended = true;
         entered(shared, || end_all(shared));
         shared.blocking.close(None);
+        shared.door.close();
         entered(shared, || end_all(shared));
         shared.give();
     }
