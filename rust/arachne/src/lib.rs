@@ -1,15 +1,28 @@
 //! An executor for futures whose scheduling decisions are calls of the proved core `arachne_exec`.
 //!
-//!     let runtime = arachne::Runtime::new(4);
-//!     let task = runtime.spawn(async { 6 * 7 });
-//!     assert_eq!(runtime.block_on(task).unwrap(), 42);
+//! ```
+//! let runtime = arachne::Runtime::new(4);
+//! let task = runtime.spawn(async { 6 * 7 });
+//! assert_eq!(runtime.block_on(task).unwrap(), 42);
+//! ```
 //!
 //! What is proved is the core: that no two workers have one task in hand, that a waker of a task that has ended wakes no
 //! other, that a task which is ready is shown whenever no call is under way. This crate is only tested. `docs/rust.md`
 //! says which rules it has to keep for the core's promises to reach a program.
+//!
+//! Most names are tokio's, or std's. Outside of a runtime `spawn` and a sleep panic, and a socket that has to wait
+//! returns an error: they belong in a task, or in `Runtime::block_on`. Linux, 64 bits, rustc 1.63 or later.
+//!
+//! | Feature | What |
+//! |---|---|
+//! | (none) | links the proved core, of the folder that `ARACHNE_LIBS` names: `libarachne_exec_c.a`, `liblibc_c.a` |
+//! | `model` | the core's steps by hand in its place: it needs no archive, and it is **not** the proved code |
+//! | `tokio-io` | tokio's `AsyncRead` and `AsyncWrite` for `net::TcpStream` and `net::UnixStream` |
+//! | `futures-io` | the same of futures-io |
 
 #![cfg(all(target_os = "linux", target_pointer_width = "64"))]
-#![warn(missing_docs, missing_debug_implementations)]
+#![deny(missing_docs)]
+#![warn(missing_debug_implementations)]
 
 mod block_on;
 mod blocking;

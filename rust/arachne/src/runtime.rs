@@ -30,6 +30,14 @@ const HANDS: usize = 3 + crate::worker::HAND + crate::hand::FIRST;
 type Starts = Arc<dyn Fn() + Send + Sync>;
 
 /// How a runtime is to be.
+///
+/// ```
+/// # fn main() -> std::io::Result<()> {
+/// let runtime = arachne::Builder::new(2).places(100_000).blocking_threads(16).build()?;
+/// assert_eq!(runtime.block_on(async { 6 * 7 }), 42);
+/// # Ok(())
+/// # }
+/// ```
 #[must_use = "`build` makes the runtime"]
 pub struct Builder {
     cores: usize,
@@ -181,7 +189,7 @@ impl Builder {
     }
 }
 
-/// What the workers have counted.
+/// What the workers have counted; see `Runtime::stats`.
 #[derive(Clone, Debug, Default)]
 #[non_exhaustive]
 pub struct Stats {
@@ -213,7 +221,7 @@ pub struct Stats {
     pub ready_to_taken: Vec<u64>,
 }
 
-/// The counts of one worker.
+/// The counts of one worker; see `Stats::workers`.
 #[derive(Clone, Copy, Debug, Default)]
 #[non_exhaustive]
 pub struct WorkerStats {
@@ -233,6 +241,13 @@ pub struct WorkerStats {
 
 /// Kernel threads that run tasks. Dropped, it ends as by `shutdown`; where one of its own tasks, or its blocking work,
 /// drops it, another kernel thread ends it, and nobody is told when it has ended.
+///
+/// ```
+/// let runtime = arachne::Runtime::new(4);
+/// let task = runtime.spawn(async { 6 * 7 });
+/// assert_eq!(runtime.block_on(task).unwrap(), 42);
+/// assert_eq!(runtime.stats().workers.len(), 4);
+/// ```
 pub struct Runtime {
     shared: &'static Shared,
     threads: Vec<thread::JoinHandle<()>>,

@@ -31,7 +31,7 @@ const ONE: u32 = 64;
 /// A handle on the output, or an abort handle, is there.
 const HELD: u32 = JOINED | !(ONE - 1);
 
-/// The value with which a task panicked.
+/// The value with which a task panicked; see `JoinError::Panicked`.
 pub struct Panic(Box<dyn Any + Send>);
 // SAFETY: by a shared one its text alone is seen, and both types of text are `Sync`.
 unsafe impl Sync for Panic {}
@@ -60,6 +60,13 @@ impl fmt::Debug for Panic {
 }
 
 /// Why a task has no output.
+///
+/// ```
+/// let runtime = arachne::Runtime::new(1);
+/// let error = runtime.block_on(runtime.spawn(async { panic!("on purpose") })).unwrap_err();
+/// assert!(error.is_panic() && !error.is_cancelled());
+/// assert_eq!(error.to_string(), "the task panicked: on purpose");
+/// ```
 #[non_exhaustive]
 pub enum JoinError {
     /// It panicked with this.
@@ -137,6 +144,12 @@ impl fmt::Display for JoinError {
 
 impl std::error::Error for JoinError {}
 
+impl From<JoinError> for std::io::Error {
+    fn from(error: JoinError) -> std::io::Error {
+        std::io::Error::new(std::io::ErrorKind::Other, error)
+    }
+}
+
 struct VTable {
     /// Polls the future; true where it has ended, and the output is laid down.
     poll: unsafe fn(*mut Header, &mut Context<'_>) -> bool,
@@ -158,7 +171,7 @@ pub(crate) struct Header {
     about: About,
 }
 
-/// What is known of a task: where it was spawned, and the name that it was given.
+/// What is known of a task: where it was spawned, and the name that it was given; see `JoinHandle::about`.
 #[derive(Clone, Copy, PartialEq, Eq, Debug)]
 #[non_exhaustive]
 pub struct About {
@@ -169,6 +182,10 @@ pub struct About {
 }
 
 /// A name for tasks. Equal names are one label, and a label is kept for good, so a program has a bounded number.
+///
+/// ```
+/// assert!(std::ptr::eq(arachne::Label::of("sweeper"), arachne::Label::of("sweeper")));
+/// ```
 #[derive(PartialEq, Eq, Debug)]
 pub struct Label(String);
 
@@ -389,6 +406,14 @@ unsafe fn free<F: Future>(header: *mut Header) {
 }
 
 /// A handle on a task's output: a future of it. Dropped, it leaves the task to run on its own.
+///
+/// ```
+/// let runtime = arachne::Runtime::new(2);
+/// let (ends, waits) = (runtime.spawn(async { 42 }), runtime.spawn(std::future::pending::<()>()));
+/// assert_eq!(runtime.block_on(ends).unwrap(), 42);
+/// waits.abort();
+/// assert!(runtime.block_on(waits).unwrap_err().is_cancelled());
+/// ```
 pub struct JoinHandle<T> {
     at: NonNull<Header>,
     of: PhantomData<T>,
@@ -436,7 +461,7 @@ impl<T> JoinHandle<T> {
         }
     }
 
-    /// Where the task was spawned, and its name.
+    /// Returns where the task was spawned, and its name.
     #[must_use]
     pub fn about(&self) -> About {
         self.header().about

@@ -126,6 +126,13 @@ pub fn sleep(duration: Duration) -> Sleep {
 }
 
 /// As `sleep`, until a moment.
+///
+/// ```
+/// use std::time::{Duration, Instant};
+/// let moment = Instant::now() + Duration::from_millis(2);
+/// arachne::Runtime::new(1).block_on(arachne::sleep_until(moment));
+/// assert!(Instant::now() >= moment);
+/// ```
 pub fn sleep_until(moment: Instant) -> Sleep {
     sleep(moment.saturating_duration_since(Instant::now()))
 }
@@ -194,7 +201,7 @@ impl Drop for Sleep {
     }
 }
 
-/// The time was over before the future was ready.
+/// The time was over before the future was ready; see `timeout`.
 #[derive(Clone, Copy, PartialEq, Eq, Debug)]
 pub struct Elapsed;
 
@@ -211,7 +218,7 @@ impl From<Elapsed> for std::io::Error {
     }
 }
 
-/// See `timeout`.
+/// A future that is ready at its time, or sooner; see `timeout`.
 #[must_use = "a timeout does nothing unless it is awaited"]
 #[derive(Debug)]
 pub struct Timeout<F> {
@@ -219,7 +226,13 @@ pub struct Timeout<F> {
     sleep: Sleep,
 }
 
-/// The future's output, or `Elapsed` once so much time is over.
+/// Waits for the future's output, or for `Elapsed` once so much time is over.
+///
+/// ```
+/// use std::time::Duration;
+/// let never = arachne::timeout(Duration::from_millis(2), std::future::pending::<()>());
+/// assert_eq!(arachne::Runtime::new(1).block_on(never), Err(arachne::Elapsed));
+/// ```
 pub fn timeout<F: Future>(duration: Duration, future: F) -> Timeout<F> {
     Timeout { future, sleep: sleep(duration) }
 }

@@ -309,7 +309,9 @@ fn a_handle_spawns_from_any_thread_until_the_runtime_ends() {
         pending::<()>().await
     });
     drop(next);
-    assert!(is_cancelled(block_on(task)));
+    let error = block_on(task).unwrap_err();
+    assert!(error.is_cancelled());
+    assert_eq!(std::io::Error::from(error).to_string(), "the runtime ended before the task did");
     assert_eq!(dropped.load(SeqCst), 1);
 }
 

@@ -55,6 +55,17 @@ impl TcpListener {
 }
 
 /// A connection. Reads and writes take `&self`: one task may read while another writes.
+///
+/// ```no_run
+/// use std::sync::Arc;
+/// # async fn both() -> std::io::Result<()> {
+/// let stream = Arc::new(arachne::net::TcpStream::connect("127.0.0.1:7000").await?);
+/// let (writes, mut buffer) = (stream.clone(), [0; 4096]);
+/// arachne::spawn(async move { writes.write_all(b"hello").await });
+/// let len = stream.read(&mut buffer).await?;
+/// # Ok(())
+/// # }
+/// ```
 pub struct TcpStream(pub(super) Source<std::net::TcpStream>);
 
 impl TcpStream {

@@ -50,6 +50,19 @@ impl UnixListener {
 }
 
 /// A connection between processes of one machine. Reads and writes take `&self`, as of `TcpStream`.
+///
+/// ```
+/// # fn main() -> std::io::Result<()> {
+/// let (near, far) = arachne::net::UnixStream::pair()?;
+/// let mut buffer = [0; 5];
+/// arachne::Runtime::new(1).block_on(async {
+///     near.write_all(b"hello").await?;
+///     far.read_exact(&mut buffer).await
+/// })?;
+/// assert_eq!(&buffer, b"hello");
+/// # Ok(())
+/// # }
+/// ```
 pub struct UnixStream(pub(super) Source<net::UnixStream>);
 
 impl UnixStream {
