@@ -1,5 +1,6 @@
 //! A handle on a runtime, for kernel threads that may outlive it.
 
+use crate::runtime::{Runtime, Stats};
 use crate::shared::{here, Shared};
 use crate::sync::atomic::{AtomicU64, Ordering::*};
 use crate::sync::thread;
@@ -114,6 +115,12 @@ impl Handle {
             Some(handle) => handle,
             None => cancelled(async move { work.expect("work that was not begun")() }, about),
         }
+    }
+
+    /// Returns what the runtime's workers have counted until now, as `Runtime::stats`; nothing once it has ended.
+    #[must_use]
+    pub fn stats(&self) -> Stats {
+        self.shared.door.within(self.turns, || Runtime::stats_of(self.shared)).unwrap_or_default()
     }
 }
 

@@ -59,7 +59,7 @@ pub use handle::Handle;
 pub use interval::{interval, interval_at, Interval, MissedTickBehavior};
 pub use join_set::JoinSet;
 pub use lock::{Guard, Lock, Locking};
-pub use observe::{Doing, Hooks, TaskInfo, HISTOGRAM};
+pub use observe::{Doing, Hooks, TaskInfo};
 pub use runtime::{Builder, Runtime, Stats, WorkerStats};
 pub use semaphore::{Acquire, AcquireError, OwnedSemaphorePermit, Semaphore, SemaphorePermit, TryAcquireError};
 #[cfg(feature = "explore")]

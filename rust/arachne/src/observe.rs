@@ -42,8 +42,8 @@ pub trait Hooks: Send + Sync {
     fn ended(&self, _id: u64) {}
 }
 
-/// The length of `Stats::ready_to_taken`: of it, number i counts times below 2^i microseconds that are in none before.
-pub const HISTOGRAM: usize = 24;
+/// Times from ready to taken: `counts[i]` are those below 2^i microseconds that are in none before.
+pub(crate) const HISTOGRAM: usize = 24;
 
 #[derive(Default)]
 struct Record {

@@ -217,7 +217,8 @@ pub struct Stats {
     pub rescued: u64,
     /// The same of each worker.
     pub workers: Vec<WorkerStats>,
-    /// By power of two of microseconds, how long ready tasks waited to be taken; of an observed runtime alone.
+    /// By power of two of microseconds, how long ready tasks waited to be taken; of an observed runtime alone. Number
+    /// i counts times below 2^i that are in none before.
     pub ready_to_taken: Vec<u64>,
 }
 
@@ -329,7 +330,11 @@ impl Runtime {
     /// Returns what the workers have counted until now.
     #[must_use]
     pub fn stats(&self) -> Stats {
-        let (shared, now) = (self.shared, now());
+        Runtime::stats_of(self.shared)
+    }
+
+    pub(crate) fn stats_of(shared: &Shared) -> Stats {
+        let now = now();
         let counts = &shared.counts;
         let worker = |w: &crate::shared::Worker| WorkerStats {
             polls: w.polls.load(Relaxed),

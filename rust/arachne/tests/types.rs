@@ -296,7 +296,9 @@ fn a_handle_spawns_from_any_thread_until_the_runtime_ends() {
     let current = block_on(within).unwrap();
     assert_eq!(block_on(current.spawn(async { 1 })).unwrap(), 1);
     assert!(Handle::try_current().is_none());
+    assert_eq!((handle.stats().workers.len(), handle.stats().active), (2, 2));
     drop(runtime);
+    assert_eq!((handle.stats().workers.len(), handle.stats().polls), (0, 0));
     // The next runtime of this shape has what the ended one had.
     let (next, (dropped, within)) = (Runtime::new(2), counted());
     for handle in [handle, current] {

@@ -1,12 +1,12 @@
 //! TCP.
 
-use super::{accept, poll_accept, Source, BACKLOG};
+use super::{accept, Source, BACKLOG};
 use crate::block_on::poll_fn;
 use crate::sys;
 use std::io::{self, ErrorKind::WouldBlock};
 use std::net::{SocketAddr, ToSocketAddrs};
 use std::os::unix::io::{AsRawFd, FromRawFd};
-use std::task::{Context, Poll};
+use std::task::Context;
 
 /// A socket that listens.
 ///
@@ -45,12 +45,6 @@ impl TcpListener {
     pub async fn accept(&self) -> io::Result<(TcpStream, SocketAddr)> {
         let (stream, from) = accept(&self.0, |listener| listener.accept()).await?;
         Ok((TcpStream::from_std(stream)?, from))
-    }
-
-    /// As `accept`, by a poll, which doesn't wake its task when the end begins. The task that polled last is woken.
-    pub fn poll_accept(&self, cx: &mut Context<'_>) -> Poll<io::Result<(TcpStream, SocketAddr)>> {
-        let polled = poll_accept(&self.0, cx, |listener| listener.accept());
-        polled.map(|accepted| accepted.and_then(|(stream, from)| Ok((TcpStream::from_std(stream)?, from))))
     }
 }
 
