@@ -15,6 +15,10 @@
 #include <stddef.h>
 #include <stdint.h>
 
+#ifdef __cplusplus
+extern "C" {
+#endif
+
 /* What a call tells: one set of codes for all calls. */
 enum {
     /* It is done. */
@@ -293,4 +297,8 @@ bool arachne_estimator_new(uint64_t up, uint64_t hysteresis, uint64_t max, arach
 /* Judges a sample: STAY, ADD or REMOVE. REFUSED, with nothing changed, where the sample can't have been
  * measured, or the estimator has more than 64 cores. */
 uint32_t arachne_estimator_judge(arachne_estimator *estimator, const arachne_sample *sample);
+
+#ifdef __cplusplus
+}
+#endif
 #endif

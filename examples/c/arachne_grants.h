@@ -14,6 +14,10 @@
 #include <stddef.h>
 #include <stdint.h>
 
+#ifdef __cplusplus
+extern "C" {
+#endif
+
 /* What a call tells: one set of codes for all calls. */
 enum {
     /* It is done. */
@@ -139,4 +143,8 @@ arachne_action arachne_arbiter_give(arachne_arbiter *arbiter);
 
 /* Returns how many cores a client is allowed, and how many it has. */
 arachne_share arachne_arbiter_share(arachne_arbiter *arbiter, size_t client);
+
+#ifdef __cplusplus
+}
+#endif
 #endif

@@ -1,19 +1,31 @@
-//! Links the proved library: ARACHNE_LIBS names the folder that has libarachne_exec_c.a and the kit's liblibc_c.a.
-use std::path::Path;
+//! Links the proved library: ARACHNE_LIBS names the folder that has libarachne_exec_c.a and the kit's liblibc_c.a. If it
+//! is not set, the folder above the crate serves, as `scripts/release` makes it.
+use std::path::{Path, PathBuf};
 
 fn main() {
     println!("cargo:rerun-if-env-changed=ARACHNE_LIBS");
     if std::env::var_os("CARGO_FEATURE_MODEL").is_some() {
         return;
     }
-    let folder = std::env::var("ARACHNE_LIBS").unwrap_or_else(|_| {
-        panic!("ARACHNE_LIBS has to name the folder of libarachne_exec_c.a and liblibc_c.a; or use the feature `model`")
-    });
-    println!("cargo:rustc-link-search=native={}", folder);
+    let above = Path::new(env!("CARGO_MANIFEST_DIR")).join("..");
+    let folder = match std::env::var_os("ARACHNE_LIBS") {
+        Some(folder) => PathBuf::from(folder),
+        None if above.join("libarachne_exec_c.a").exists() => above,
+        None => fail("ARACHNE_LIBS has to name the folder of libarachne_exec_c.a and liblibc_c.a; or use `model`"),
+    };
+    println!("cargo:rustc-link-search=native={}", folder.display());
     for library in ["arachne_exec_c", "libc_c"] {
-        let file = format!("{}/lib{}.a", folder, library);
-        assert!(Path::new(&file).exists(), "there is no {}", file);
-        println!("cargo:rustc-link-lib=static={}", library);
-        println!("cargo:rerun-if-changed={}", file);
+        let file = folder.join(format!("lib{library}.a"));
+        if !file.exists() {
+            fail(&format!("there is no {}", file.display()));
+        }
+        println!("cargo:rustc-link-lib=static={library}");
+        println!("cargo:rerun-if-changed={}", file.display());
     }
+}
+
+/// Without the trace of a panic, which says nothing more.
+fn fail(message: &str) -> ! {
+    eprintln!("arachne: {message}");
+    std::process::exit(1)
 }

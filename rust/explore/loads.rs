@@ -3,9 +3,9 @@
 use arachne::net::Async;
 use arachne::{
     block_on, channel, poll_fn, sleep, spawn, spawn_balanced, spawn_blocking, stopping, timeout, yield_now, Builder,
-    JoinError, JoinHandle, Lock, Policy, Runtime, Semaphore,
+    JoinError, JoinHandle, JoinSet, Lock, Policy, Runtime, Semaphore,
 };
-use explorer::{choose, lose_processor, now, thread, told, Arc, Condvar, Mutex};
+use explorer::{choose, lose_processor, now, thread, told, Arc, Condvar, Instant, Mutex};
 use std::future::Future;
 use std::io::{Read, Write};
 use std::os::unix::net::UnixStream;
@@ -62,12 +62,12 @@ fn prompt() {
     let (runtime, gate) = (runtime(2 + choose(2)), Arc::new(Semaphore::new(0)));
     for _ in 0..3 {
         let wants = gate.clone();
-        let waits = runtime.spawn(async move { wants.acquire(1).await.forget() });
+        let waits = runtime.spawn(async move { wants.acquire().await.unwrap().forget() });
         thread::sleep(choose(12) as u32 * MS);
         let (since, releases) = (now(), gate.clone());
         let task = runtime.spawn(async move {
             let spawned = spawn_balanced(async { yield_now().await });
-            releases.release(1);
+            releases.add_permits(1);
             spawned.await.unwrap();
         });
         runtime.block_on(waits).unwrap();
@@ -103,6 +103,138 @@ impl Wake for Count {
 /// Polls by that waker.
 fn poll<F: Future + Unpin>(future: &mut F, woken: &Arc<Count>) -> Poll<F::Output> {
     Pin::new(future).poll(&mut Context::from_waker(&woken.clone().into()))
+}
+
+struct OnDrop(Arc<Count>);
+impl Drop for OnDrop {
+    fn drop(&mut self) {
+        self.0.add();
+    }
+}
+
+/// Abort handles are made, copied and dropped while their task ends, by whoever is last: what it had is dropped once.
+fn aborts() {
+    let (runtime, dropped) = (runtime(2), Arc::new(Count::default()));
+    let within = OnDrop(dropped.clone());
+    let task = runtime.spawn(async move {
+        yield_now().await;
+        within
+    });
+    let (early, polls) = (task.abort_handle(), choose(3));
+    let copies = early.clone();
+    let other = thread::Builder::new().spawn(move || {
+        let also = copies.clone();
+        if choose(2) == 0 {
+            also.abort();
+        }
+        drop(copies);
+        also.is_finished()
+    });
+    let late = if choose(2) == 0 { Some(task.abort_handle()) } else { None };
+    match polls {
+        0 => drop((task, early)),
+        1 => drop((early, runtime.block_on(task))),
+        _ => drop((late, task)),
+    }
+    let _ = other.unwrap().join().unwrap();
+    drop(runtime);
+    dropped.is(1);
+}
+
+/// Tasks of a set end on workers while another thread joins, aborts and detaches: no end is missed, none is told twice.
+fn sets() {
+    let runtime = runtime(2);
+    let waits = runtime.spawn(async {
+        let mut set = JoinSet::new();
+        for n in 0..3 {
+            set.spawn(async move {
+                if n == choose(3) {
+                    yield_now().await;
+                }
+                n
+            });
+        }
+        if choose(3) == 0 {
+            set.detach_all();
+            set.spawn(async { 3 });
+        }
+        let (wanted, mut joined) = (set.len(), 0);
+        if choose(2) == 0 {
+            set.abort_all();
+        }
+        while let Some(output) = set.join_next().await {
+            joined += output.map_or_else(|error| error.is_cancelled() as usize, |_| 1);
+        }
+        assert_eq!(joined, wanted);
+    });
+    runtime.block_on(waits).unwrap();
+}
+
+/// A semaphore is closed while some wait and permits come: each is told, and what was given comes back.
+fn closing() {
+    let (runtime, permits) = (runtime(2), Arc::new(Semaphore::new(choose(2))));
+    let tasks: Vec<_> = (0..3).map(|_| runtime.spawn(permits.clone().acquire_owned())).collect();
+    let adds = permits.clone();
+    let other = thread::Builder::new().spawn(move || adds.add_permits(1));
+    permits.close();
+    other.unwrap().join().unwrap();
+    let held = tasks.into_iter().map(|task| runtime.block_on(task).unwrap()).collect::<Vec<_>>();
+    let (free, count) = (permits.available_permits(), held.iter().filter(|permit| permit.is_ok()).count());
+    drop(held);
+    assert_eq!(permits.available_permits(), free + count);
+}
+
+/// Handles spawn while their runtime ends, and while another begins that gets its tables: each task ends, or never
+/// begins, and none is the other runtime's.
+fn door() {
+    let (first, dropped) = (runtime(2), Arc::new(Count::default()));
+    let (handle, within) = (first.handle(), dropped.clone());
+    let other = thread::Builder::new().spawn(move || {
+        for _ in 0..2 {
+            let within = OnDrop(within.clone());
+            drop(handle.spawn(async move {
+                let _within = within;
+                std::future::pending::<()>().await
+            }));
+        }
+    });
+    drop(first);
+    let next = runtime(2);
+    next.block_on(next.spawn(async {})).unwrap();
+    other.unwrap().join().unwrap();
+    dropped.is(2);
+    while next.live() != 0 {
+        thread::yield_now();
+    }
+}
+
+/// A sleep is set to another time by a thread while a task waits for it: it is heard soon after the time that was set
+/// last, and never before.
+fn resets() {
+    let runtime = runtime(2);
+    let nap = Arc::new(Mutex::new((sleep(LONG), false)));
+    let waits = nap.clone();
+    let task = runtime.spawn(poll_fn(move |cx| {
+        let mut nap = waits.lock().unwrap();
+        nap.1 = Pin::new(&mut nap.0).poll(cx).is_ready();
+        if nap.1 {
+            Poll::Ready(())
+        } else {
+            Poll::Pending
+        }
+    }));
+    let mut until = 0;
+    for _ in 0..2 {
+        thread::sleep(choose(3) as u32 * MS);
+        let (mut nap, millis) = (nap.lock().unwrap(), 1 + choose(4) as u32);
+        if nap.1 {
+            break;
+        }
+        until = now() + millis as u64 * 1_000_000;
+        Pin::new(&mut nap.0).reset(Instant::now() + millis * MS);
+    }
+    runtime.block_on(task).unwrap();
+    assert!(now() + 100_000 >= until && now() < until + SOON, "{} us", (now() as i64 - until as i64) / 1000);
 }
 
 /// Nanoseconds of virtual time, in which no machine is late, within which what is ready begins.
@@ -197,11 +329,11 @@ fn relief() {
             for _ in 0..2 {
                 let (ran, wants) = (ran.clone(), gate.clone());
                 spawned.push(spawn(async move {
-                    wants.acquire(1).await.forget();
+                    wants.acquire().await.unwrap().forget();
                     ran.add();
                 }));
                 thread::sleep(waits * MS);
-                gate.release(1);
+                gate.add_permits(1);
                 if choose(2) == 0 {
                     yield_now().await;
                 }
@@ -395,8 +527,8 @@ fn shutdown() {
         runtime.spawn(async move {
             let _ends = ends;
             match kind {
-                0 => gate.release(1),
-                1 => gate.acquire(1).await.forget(),
+                0 => gate.add_permits(1),
+                1 => gate.acquire().await.unwrap().forget(),
                 2 => drop(spawn(async { yield_now().await })),
                 _ => sleep(MS).await,
             }
@@ -443,10 +575,10 @@ fn room() {
     let mut tasks: Vec<JoinHandle<()>> = Vec::new();
     for _ in 0..7 {
         let gate = gate.clone();
-        tasks.push(runtime.spawn(async move { gate.acquire(1).await.forget() }));
+        tasks.push(runtime.spawn(async move { gate.acquire().await.unwrap().forget() }));
     }
     tasks.push(runtime.spawn(async {}));
-    tasks.push(runtime.spawn(async move { gate.release(7) }));
+    tasks.push(runtime.spawn(async move { gate.add_permits(7) }));
     for task in tasks {
         runtime.block_on(task).unwrap();
     }
@@ -495,7 +627,7 @@ fn leaving() {
         .map(|me| {
             let (gate, sender, millis) = (gate.clone(), sender.clone(), 1 + choose(3) as u32);
             runtime.spawn(async move {
-                let permit = timeout(millis * MS, gate.acquire(1)).await;
+                let permit = timeout(millis * MS, gate.acquire()).await;
                 if permit.is_ok() {
                     sleep(MS).await;
                 }
@@ -511,7 +643,7 @@ fn leaving() {
     }
     let sent = tasks.into_iter().map(|task| runtime.block_on(task).unwrap()).filter(|&sent| sent).count();
     assert_eq!(sent, received);
-    runtime.block_on(gate.acquire(1)).forget();
+    runtime.block_on(gate.acquire()).unwrap().forget();
 }
 
 /// Timers of a worker, and those of another thread: none early, and none late by more than a millisecond.
@@ -541,13 +673,13 @@ fn cores() {
         .map(|_| {
             let gate = gate.clone();
             runtime.spawn(async move {
-                spawn_balanced(async move { gate.acquire(1).await.forget() }).await.unwrap();
+                spawn_balanced(async move { gate.acquire().await.unwrap().forget() }).await.unwrap();
             })
         })
         .collect();
     thread::sleep((1 + choose(12)) as u32 * MS);
     let since = now();
-    gate.release(2);
+    gate.add_permits(2);
     for task in tasks {
         runtime.block_on(task).unwrap();
     }
@@ -586,7 +718,7 @@ fn sockets() {
         let ((mut near, far), gate) = (UnixStream::pair().unwrap(), Arc::new(Semaphore::new(0)));
         let (far, leaves) = (Async::new(far).unwrap(), gate.clone());
         let task = runtime.spawn(async move {
-            let (mut byte, mut blocked, mut left) = ([0], 0, Box::pin(leaves.acquire(1)));
+            let (mut byte, mut blocked, mut left) = ([0], 0, Box::pin(leaves.acquire()));
             let read = poll_fn(|cx: &mut Context<'_>| {
                 if left.as_mut().poll(cx).is_ready() {
                     return Poll::Ready(None);
@@ -610,7 +742,7 @@ fn sockets() {
         }
         told();
         if round == 0 {
-            gate.release(1);
+            gate.add_permits(1);
         }
         let (read, blocked) = runtime.block_on(task).unwrap();
         assert!(blocked <= 1 && (read == Some(1 - hangs_up as usize) || round == 0 && read.is_none()));
@@ -651,7 +783,7 @@ impl Drop for Leaves {
 
 /// Name, load, and whether its time is exact.
 type Load = (&'static str, fn(), bool);
-const LOADS: [Load; 23] = [
+const LOADS: [Load; 28] = [
     ("sleepers", sleepers, false),
     ("prompt", prompt, true),
     ("returned", returned, false),
@@ -675,6 +807,11 @@ const LOADS: [Load; 23] = [
     ("cores", cores, true),
     ("sockets", sockets, false),
     ("locks", locks, false),
+    ("aborts", aborts, false),
+    ("sets", sets, false),
+    ("closing", closing, false),
+    ("door", door, false),
+    ("resets", resets, true),
 ];
 
 fn main() {

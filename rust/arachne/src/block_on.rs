@@ -36,6 +36,12 @@ pub(crate) fn forget_parker() {
 }
 
 /// Runs a future on this thread, which sleeps while the future waits. Within a task it blocks the worker.
+///
+/// ```
+/// let (sender, receiver) = arachne::channel(1);
+/// std::thread::spawn(move || sender.try_send(42));
+/// assert_eq!(arachne::block_on(receiver.recv()), Some(42));
+/// ```
 pub fn block_on<F: Future>(future: F) -> F::Output {
     let kept = PARKER.with(|parker| parker.borrow_mut().take());
     let parker = kept.unwrap_or_else(|| Arc::new(Parker { thread: thread::current(), woken: AtomicBool::new(false) }));
@@ -56,12 +62,27 @@ pub fn block_on<F: Future>(future: F) -> F::Output {
     }
 }
 
-/// Lets others run first.
+/// A future that is ready at its second poll; see `yield_now`.
 #[must_use = "a yield does nothing unless it is awaited"]
 #[derive(Debug)]
 pub struct Yield(bool);
 
-/// Lets others run first.
+/// Lets others run first: for a task that computes for long, or always finds what it awaits.
+///
+/// ```
+/// let runtime = arachne::Runtime::new(1);
+/// let sums = runtime.spawn(async {
+///     let mut sum = 0u64;
+///     for n in 0..1_000_000 {
+///         sum += n;
+///         if n % 10_000 == 0 {
+///             arachne::yield_now().await;
+///         }
+///     }
+///     sum
+/// });
+/// assert_eq!(runtime.block_on(sums).unwrap(), 499_999_500_000);
+/// ```
 pub fn yield_now() -> Yield {
     Yield(false)
 }
@@ -78,7 +99,7 @@ impl Future for Yield {
     }
 }
 
-/// A future from a function that polls. It may be moved between polls.
+/// A future from a function that polls; see `poll_fn`. It may be moved between polls.
 pub struct PollFn<F>(F);
 impl<F> Unpin for PollFn<F> {}
 
@@ -88,7 +109,18 @@ impl<F> fmt::Debug for PollFn<F> {
     }
 }
 
-/// As std's, which rustc 1.63 lacks.
+/// Returns a future that is ready once this function returns so. As std's, which rustc 1.63 lacks.
+///
+/// ```
+/// use std::task::Poll;
+/// let mut polls = 0;
+/// let third = arachne::poll_fn(|cx| {
+///     polls += 1;
+///     cx.waker().wake_by_ref();
+///     if polls == 3 { Poll::Ready(polls) } else { Poll::Pending }
+/// });
+/// assert_eq!(arachne::block_on(third), 3);
+/// ```
 pub fn poll_fn<T, F: FnMut(&mut Context<'_>) -> Poll<T>>(poll: F) -> PollFn<F> {
     PollFn(poll)
 }

@@ -143,6 +143,14 @@ impl Shared {
 }
 
 /// Runs a closure that may block on a kernel thread of the runtime's pool. What has begun there can't be aborted.
+/// Within it, `block_on` waits for a future.
+///
+/// ```
+/// let runtime = arachne::Runtime::new(1);
+/// let read = || std::fs::read_to_string("/proc/self/status");
+/// let text = runtime.block_on(async { arachne::spawn_blocking(read).await.unwrap() });
+/// assert!(text.is_ok());
+/// ```
 ///
 /// # Panics
 /// Outside of a runtime.

@@ -67,7 +67,15 @@ fn leave(line: &mut VecDeque<Arc<Node>>, node: &Arc<Node>) -> Option<Arc<Node>> 
     }
 }
 
-/// The receivers are gone, or the channel is full: the value comes back.
+/// Why a value was not sent at once; the value comes back.
+///
+/// ```
+/// let (sender, receiver) = arachne::channel(1);
+/// assert_eq!(sender.try_send(1), Ok(()));
+/// assert_eq!(sender.try_send(2), Err(arachne::SendError::Full(2)));
+/// drop(receiver);
+/// assert_eq!(sender.try_send(3), Err(arachne::SendError::Closed(3)));
+/// ```
 #[derive(Clone, Copy, PartialEq, Eq)]
 pub enum SendError<T> {
     /// The receivers are gone.
@@ -94,12 +102,31 @@ impl<T> fmt::Display for SendError<T> {
 }
 impl<T> std::error::Error for SendError<T> {}
 
-/// The end that sends.
+/// The end that sends; see `channel`.
 pub struct Sender<T>(Arc<Mutex<State<T>>>);
-/// The end that receives. Each value goes to one receiver.
+
+/// The end that receives; see `channel`. Each value goes to one receiver.
 pub struct Receiver<T>(Arc<Mutex<State<T>>>);
 
 /// A channel with room for so many values, at least one.
+///
+/// ```
+/// let (sender, receiver) = arachne::channel(16);
+/// let runtime = arachne::Runtime::new(2);
+/// runtime.spawn(async move {
+///     for n in 1..=3 {
+///         sender.send(n).await.expect("a receiver");
+///     }
+/// });
+/// let sum = runtime.block_on(async {
+///     let mut sum = 0;
+///     while let Some(n) = receiver.recv().await {
+///         sum += n;
+///     }
+///     sum
+/// });
+/// assert_eq!(sum, 6);
+/// ```
 #[must_use]
 pub fn channel<T>(room: usize) -> (Sender<T>, Receiver<T>) {
     let state = State {
@@ -178,7 +205,7 @@ impl<T> Receiver<T> {
     }
 }
 
-/// See `Sender::send`. Err(the value) where the receivers are gone.
+/// A future that has sent a value; see `Sender::send`. Its error is the value, if the receivers are gone.
 #[must_use = "a value is sent once its future is awaited"]
 pub struct Send<'a, T> {
     channel: &'a Mutex<State<T>>,
@@ -237,7 +264,7 @@ impl<T> Drop for Send<'_, T> {
     }
 }
 
-/// See `Receiver::recv`.
+/// A future of the next value; see `Receiver::recv`.
 #[must_use = "a value is received once its future is awaited"]
 pub struct Recv<'a, T> {
     channel: &'a Mutex<State<T>>,

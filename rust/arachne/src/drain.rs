@@ -40,12 +40,13 @@ impl Draining {
 }
 
 /// Returns true if this task's runtime is about to end: what is in flight may still end, and nothing new is begun.
+/// Outside of a runtime it returns false.
 #[must_use]
 pub fn is_stopping() -> bool {
     here().map_or(false, |shared| shared.draining.has_begun())
 }
 
-/// A future that is ready once the runtime is about to end.
+/// A future that is ready once the runtime is about to end; see `stopping`.
 #[must_use = "it waits once it is awaited"]
 pub struct Stopping {
     shared: Option<&'static Shared>,
@@ -63,6 +64,17 @@ const BLIND: u32 = 4;
 ///
 /// A task that also waits for a socket is told once it has tried to read in the same poll, in whatever order it polls
 /// the two, so that a request that has come by then is read and is in flight. (It is told after a few polls at most.)
+///
+/// ```
+/// use std::time::Duration;
+/// let runtime = arachne::Runtime::new(1);
+/// let task = runtime.spawn(async {
+///     arachne::stopping().await;
+///     "what was in flight is done"
+/// });
+/// assert_eq!(runtime.shutdown_within(Duration::from_secs(5)).aborted, 0);
+/// assert_eq!(arachne::block_on(task).unwrap(), "what was in flight is done");
+/// ```
 pub fn stopping() -> Stopping {
     Stopping { shared: None, waits: None, blind: 0 }
 }
@@ -138,6 +150,7 @@ impl Drop for Stopping {
 
 /// What `Runtime::shutdown_within` found.
 #[derive(Clone, Copy, PartialEq, Eq, Debug)]
+#[non_exhaustive]
 pub struct Ended {
     /// Tasks that had not ended by the deadline, and were dropped; without those of `spawn_background`.
     pub aborted: u64,
@@ -168,6 +181,16 @@ impl Runtime {
 }
 
 /// A signal that this process hears from now on, in place of what it did at it.
+///
+/// ```no_run
+/// # fn main() -> std::io::Result<()> {
+/// let end = arachne::Signal::heard(15)?;                      // SIGTERM
+/// let runtime = arachne::Builder::new(4).build()?;
+/// end.wait();
+/// runtime.shutdown_within(std::time::Duration::from_secs(5));
+/// # Ok(())
+/// # }
+/// ```
 #[derive(Debug)]
 pub struct Signal(i32);
 
@@ -186,10 +209,18 @@ impl Signal {
 }
 
 /// So many of something at once, and no more: the next one is told at once.
+///
+/// ```
+/// let limit = arachne::Limit::new(1);
+/// let ticket = limit.enter().expect("a place");
+/// assert!(limit.enter().is_none());
+/// drop(ticket);
+/// assert!(limit.enter().is_some());
+/// ```
 #[derive(Clone, Debug)]
 pub struct Limit(Arc<(AtomicUsize, usize)>);
 
-/// A place under a limit, given back when this is dropped.
+/// A place under a limit, given back when this is dropped; see `Limit::enter`.
 #[derive(Debug)]
 #[must_use = "a place is given back when this is dropped"]
 pub struct Ticket(Limit);

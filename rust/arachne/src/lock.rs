@@ -18,7 +18,16 @@ struct Node {
     slot: Slot,
 }
 
-/// A value that one holder at a time has.
+/// A value that one holder at a time has. Its guard may be held while a task waits.
+///
+/// ```
+/// use std::sync::Arc;
+/// let (runtime, count) = (arachne::Runtime::new(2), Arc::new(arachne::Lock::new(0)));
+/// let adds = |count: Arc<arachne::Lock<u32>>| async move { *count.lock().await += 1 };
+/// let tasks: Vec<_> = (0..10).map(|_| runtime.spawn(adds(count.clone()))).collect();
+/// tasks.into_iter().for_each(|task| runtime.block_on(task).unwrap());
+/// assert_eq!(*count.try_lock().unwrap(), 10);
+/// ```
 pub struct Lock<T: ?Sized> {
     core: LockCore,
     value: UnsafeCell<T>,
@@ -85,7 +94,7 @@ impl<T: ?Sized> Lock<T> {
     }
 }
 
-/// A future of a lock's guard.
+/// A future of a lock's guard; see `Lock::lock`.
 #[must_use = "a lock is taken once its future is awaited"]
 pub struct Locking<'a, T: ?Sized> {
     lock: &'a Lock<T>,
@@ -148,7 +157,7 @@ impl<T: ?Sized> Drop for Locking<'_, T> {
     }
 }
 
-/// The lock is held until this is dropped.
+/// The value of a lock, which is held until this is dropped.
 pub struct Guard<'a, T: ?Sized> {
     lock: &'a Lock<T>,
     who: u64,

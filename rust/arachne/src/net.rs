@@ -1,4 +1,7 @@
-//! TCP and other descriptors over the runtime's reactor. A socket belongs to the runtime where it first has to wait.
+//! Sockets and other descriptors over the runtime's reactor. One belongs to the runtime where it first has to wait.
+//!
+//! Names are std's: `bind` and `from_std` don't wait, so they aren't `async`; and reads and writes take `&self`, so one
+//! task may read (by an `Arc`, say) while another writes.
 
 use crate::block_on::poll_fn;
 use crate::drain::is_stopping;
@@ -11,10 +14,17 @@ use crate::waker::is_of_running;
 use std::fmt;
 use std::future::Future;
 use std::io::{self, ErrorKind::WouldBlock, IoSlice, Read, Write};
-use std::net::{Shutdown, SocketAddr, ToSocketAddrs};
-use std::os::unix::io::{AsFd, AsRawFd, BorrowedFd, FromRawFd, RawFd};
+use std::net::Shutdown;
+use std::os::unix::io::{AsFd, AsRawFd, BorrowedFd, RawFd};
 use std::pin::Pin;
 use std::task::{Context, Poll, Waker};
+
+mod tcp;
+mod udp;
+mod unix;
+pub use tcp::{TcpListener, TcpStream};
+pub use udp::UdpSocket;
+pub use unix::{UnixListener, UnixStream};
 
 #[derive(Clone)]
 struct Registered {
@@ -23,11 +33,25 @@ struct Registered {
     key: Key,
 }
 
-/// A socket, and its reactor once it has one.
-struct Source<S: AsRawFd> {
-    socket: S,
+/// A descriptor's reactor, once it has one.
+struct Registration {
+    fd: RawFd,
     at: once::Once<Registered>,
     registering: Mutex<()>,
+}
+
+impl Drop for Registration {
+    fn drop(&mut self) {
+        if let Some(at) = self.at.get() {
+            at.shared.reactor.remove(self.fd, at.key);
+        }
+    }
+}
+
+/// A socket with its registration, which is dropped before the socket is closed.
+struct Source<S: AsRawFd> {
+    of: Registration,
+    socket: S,
 }
 
 /// A value that is written once.
@@ -87,21 +111,28 @@ fn may_read(waker: &Waker) -> bool {
 
 impl<S: AsRawFd> Source<S> {
     fn new(socket: S) -> Source<S> {
-        Source { socket, at: once::Once::new(), registering: Mutex::new(()) }
+        let of = Registration { fd: socket.as_raw_fd(), at: once::Once::new(), registering: Mutex::new(()) };
+        Source { of, socket }
+    }
+
+    /// The socket, which no reactor knows any more.
+    fn into_inner(self) -> S {
+        self.socket
     }
 
     fn registered(&self) -> io::Result<&Registered> {
-        if let Some(at) = self.at.get() {
+        let Registration { at, registering, .. } = &self.of;
+        if let Some(at) = at.get() {
             return Ok(at);
         }
-        let _one = self.registering.lock().unwrap_or_else(|e| e.into_inner());
-        if self.at.get().is_none() {
+        let _one = registering.lock().unwrap_or_else(|e| e.into_inner());
+        if at.get().is_none() {
             let outside = || io::Error::new(io::ErrorKind::Other, "a socket outside of a runtime");
             let shared = here().ok_or_else(outside)?;
-            let (io, key) = shared.reactor.add(self.socket.as_raw_fd(), shared.table)?;
-            self.at.set(Registered { shared, io, key });
+            let (io, key) = shared.reactor.add(self.of.fd, shared.table)?;
+            at.set(Registered { shared, io, key });
         }
-        Ok(self.at.get().expect("registered"))
+        Ok(at.get().expect("registered"))
     }
 
     /// Tries until the descriptor isn't ready. `len` is the room of the try: one that moved less has emptied it, as
@@ -116,7 +147,7 @@ impl<S: AsRawFd> Source<S> {
         moved: impl Fn(&T) -> usize,
     ) -> Poll<io::Result<T>> {
         let may_read = || !reads || may_read(cx.waker());
-        let at = match self.at.get() {
+        let at = match self.of.at.get() {
             Some(at) => at,
             None if !may_read() => self.registered()?,
             None => match attempt(&self.socket) {
@@ -165,191 +196,56 @@ impl<S: AsRawFd> Source<S> {
     }
 }
 
-impl<S: AsRawFd> Drop for Source<S> {
-    fn drop(&mut self) {
-        if let Some(at) = self.at.get() {
-            at.shared.reactor.remove(self.socket.as_raw_fd(), at.key);
-        }
-    }
-}
-
 /// The number of connections that may wait to be accepted. std asks for 128; one beyond tries again after a second.
 const BACKLOG: i32 = 4096;
 
-/// A socket that listens.
-pub struct TcpListener(Source<std::net::TcpListener>);
-
-impl TcpListener {
-    /// Listens at the first of these addresses that is free. Up to 4,096 connections may wait to be accepted, if the
-    /// system's `somaxconn` allows so many.
-    pub fn bind(at: impl ToSocketAddrs) -> io::Result<TcpListener> {
-        let listener = std::net::TcpListener::bind(at)?;
-        sys::listen(listener.as_raw_fd(), BACKLOG)?;
-        TcpListener::from_std(listener)
-    }
-
-    /// Takes a socket that listens already. How many connections may wait at it stays as it is.
-    pub fn from_std(listener: std::net::TcpListener) -> io::Result<TcpListener> {
-        listener.set_nonblocking(true)?;
-        Ok(TcpListener(Source::new(listener)))
-    }
-
-    /// Returns the address at which it listens.
-    pub fn local_addr(&self) -> io::Result<SocketAddr> {
-        self.0.socket.local_addr()
-    }
-
-    /// Waits for a connection. Once the end has begun and nobody waits to be accepted, it returns an error.
-    pub async fn accept(&self) -> io::Result<(TcpStream, SocketAddr)> {
-        let mut stopping = crate::drain::stopping();
-        let (stream, from) = poll_fn(|cx: &mut Context<'_>| {
-            let polled = self.poll_std(cx);
-            if polled.is_pending() && Pin::new(&mut stopping).poll(cx).is_ready() {
-                return self.poll_std(cx);
-            }
-            polled
-        })
-        .await?;
-        Ok((TcpStream::from_std(stream)?, from))
-    }
-
-    /// As `accept`, by a poll, which doesn't wake its task when the end begins. The task that polled last is woken.
-    pub fn poll_accept(&self, cx: &mut Context<'_>) -> Poll<io::Result<(TcpStream, SocketAddr)>> {
-        match self.poll_std(cx) {
-            Poll::Ready(Ok((stream, from))) => Poll::Ready(TcpStream::from_std(stream).map(|stream| (stream, from))),
-            Poll::Ready(Err(error)) => Poll::Ready(Err(error)),
-            Poll::Pending => Poll::Pending,
+/// Accepts by that call. Once the end has begun and nobody waits to be accepted, an error.
+fn poll_accept<S: AsRawFd, T>(
+    listener: &Source<S>,
+    cx: &mut Context<'_>,
+    accept: impl Fn(&S) -> io::Result<T>,
+) -> Poll<io::Result<T>> {
+    loop {
+        let was_stopping = is_stopping();
+        let polled = listener.poll(cx, true, usize::MAX, &accept, |_| usize::MAX);
+        if polled.is_ready() || !is_stopping() {
+            return polled;
         }
-    }
-
-    fn poll_std(&self, cx: &mut Context<'_>) -> Poll<io::Result<(std::net::TcpStream, SocketAddr)>> {
-        loop {
-            let was_stopping = is_stopping();
-            let polled = self.0.poll(cx, true, usize::MAX, |listener| listener.accept(), |_| usize::MAX);
-            if polled.is_ready() || !is_stopping() {
-                return polled;
-            }
-            if was_stopping {
-                // Whoever had connected before was accepted.
-                return Poll::Ready(Err(io::Error::new(io::ErrorKind::Other, "the runtime is about to end")));
-            }
-            // The end began meanwhile. The try may have been put off, so there is one more, which isn't.
+        if was_stopping {
+            // Whoever had connected before was accepted.
+            return Poll::Ready(Err(io::Error::new(io::ErrorKind::Other, "the runtime is about to end")));
         }
+        // The end began meanwhile. The try may have been put off, so there is one more, which isn't.
     }
 }
 
-/// A connection. Reads and writes take `&self`: one task may read while another writes.
-pub struct TcpStream(Source<std::net::TcpStream>);
-
-impl TcpStream {
-    /// Takes a connection, which doesn't block from then on.
-    pub fn from_std(stream: std::net::TcpStream) -> io::Result<TcpStream> {
-        stream.set_nonblocking(true)?;
-        Ok(TcpStream(Source::new(stream)))
-    }
-
-    /// Connects to the first address that answers.
-    pub async fn connect(to: impl ToSocketAddrs) -> io::Result<TcpStream> {
-        let mut last = io::Error::new(io::ErrorKind::InvalidInput, "no address");
-        for to in to.to_socket_addrs()? {
-            match TcpStream::connect_to(&to).await {
-                Ok(stream) => return Ok(stream),
-                Err(error) => last = error,
-            }
+/// As `poll_accept`, woken when the end begins too.
+async fn accept<S: AsRawFd, T>(listener: &Source<S>, accept: impl Fn(&S) -> io::Result<T>) -> io::Result<T> {
+    let mut stopping = crate::drain::stopping();
+    poll_fn(|cx: &mut Context<'_>| {
+        let polled = poll_accept(listener, cx, &accept);
+        if polled.is_pending() && Pin::new(&mut stopping).poll(cx).is_ready() {
+            return poll_accept(listener, cx, &accept);
         }
-        Err(last)
-    }
-
-    async fn connect_to(to: &SocketAddr) -> io::Result<TcpStream> {
-        let fd = sys::start_connect(to)?;
-        // SAFETY: a descriptor of a stream socket, which nobody else has.
-        let stream = TcpStream(Source::new(unsafe { std::net::TcpStream::from_raw_fd(fd) }));
-        let connected = |socket: &std::net::TcpStream| match socket.take_error()? {
-            Some(error) => Err(error),
-            None => match socket.peer_addr() {
-                Err(error) if error.kind() == io::ErrorKind::NotConnected => Err(WouldBlock.into()),
-                other => other.map(drop),
-            },
-        };
-        poll_fn(|cx: &mut Context<'_>| stream.0.poll(cx, false, 0, connected, |_| 0)).await?;
-        Ok(stream)
-    }
-
-    /// Returns the other side's address.
-    pub fn peer_addr(&self) -> io::Result<SocketAddr> {
-        self.0.socket.peer_addr()
-    }
-
-    /// Returns this side's address.
-    pub fn local_addr(&self) -> io::Result<SocketAddr> {
-        self.0.socket.local_addr()
-    }
-
-    /// Sends small pieces at once, and not once the last ones were confirmed (`TCP_NODELAY`).
-    pub fn set_nodelay(&self, nodelay: bool) -> io::Result<()> {
-        self.0.socket.set_nodelay(nodelay)
-    }
-
-    /// Ends reading, writing or both.
-    pub fn shutdown(&self, how: Shutdown) -> io::Result<()> {
-        self.0.socket.shutdown(how)
-    }
-
-    /// As `read`, by a poll. The task that polled last to read is woken.
-    pub fn poll_read(&self, cx: &mut Context<'_>, buffer: &mut [u8]) -> Poll<io::Result<usize>> {
-        let len = buffer.len();
-        self.0.poll(cx, true, len, |mut socket| socket.read(buffer), |&n| n)
-    }
-
-    /// As `write`, by a poll. The task that polled last to write is woken.
-    pub fn poll_write(&self, cx: &mut Context<'_>, bytes: &[u8]) -> Poll<io::Result<usize>> {
-        self.0.poll(cx, false, bytes.len(), |mut socket| socket.write(bytes), |&n| n)
-    }
-
-    /// As `poll_write`, of several pieces in a row.
-    pub fn poll_write_vectored(&self, cx: &mut Context<'_>, bytes: &[IoSlice<'_>]) -> Poll<io::Result<usize>> {
-        let len = bytes.iter().map(|slice| slice.len()).sum();
-        self.0.poll(cx, false, len, |mut socket| socket.write_vectored(bytes), |&n| n)
-    }
-
-    /// At most `buffer.len()` bytes; 0 at the end.
-    pub async fn read(&self, buffer: &mut [u8]) -> io::Result<usize> {
-        poll_fn(|cx: &mut Context<'_>| self.poll_read(cx, buffer)).await
-    }
-
-    /// Fills the buffer; an error if the end comes before.
-    pub async fn read_exact(&self, mut buffer: &mut [u8]) -> io::Result<()> {
-        while !buffer.is_empty() {
-            match self.read(buffer).await? {
-                0 => return Err(io::ErrorKind::UnexpectedEof.into()),
-                n => buffer = &mut buffer[n..],
-            }
-        }
-        Ok(())
-    }
-
-    /// Writes some of the bytes, at least one, once there is room; returns how many.
-    pub async fn write(&self, bytes: &[u8]) -> io::Result<usize> {
-        poll_fn(|cx: &mut Context<'_>| self.poll_write(cx, bytes)).await
-    }
-
-    /// Writes all of the bytes.
-    pub async fn write_all(&self, mut bytes: &[u8]) -> io::Result<()> {
-        while !bytes.is_empty() {
-            match self.write(bytes).await? {
-                0 => return Err(io::ErrorKind::WriteZero.into()),
-                n => bytes = &bytes[n..],
-            }
-        }
-        Ok(())
-    }
+        polled
+    })
+    .await
 }
 
-/// Any descriptor that epoll can watch: a socket of Unix or of UDP, a pipe, an eventfd. Its reads and writes are calls
-/// of `S` that return `WouldBlock` where they would wait.
+/// Any descriptor that epoll can watch: a pipe, an eventfd, a socket of a kind that has no type here. Its reads and
+/// writes are calls of `S` that return `WouldBlock` where they would wait.
 ///
-///     let socket = Async::new(std::net::UdpSocket::bind("127.0.0.1:0")?)?;
-///     let (len, from) = socket.read_with(|socket| socket.recv_from(&mut buffer)).await?;
+/// ```
+/// use std::{io::{Read, Write}, os::unix::net::UnixStream};
+/// # fn main() -> std::io::Result<()> {
+/// let (mut near, far) = UnixStream::pair()?;
+/// near.write_all(b"hello")?;
+/// let (far, mut buffer) = (arachne::net::Async::new(far)?, [0; 5]);
+/// let len = arachne::Runtime::new(1).block_on(far.read_with(|mut far| far.read(&mut buffer)))?;
+/// assert_eq!(&buffer[..len], b"hello");
+/// # Ok(())
+/// # }
+/// ```
 pub struct Async<S: AsRawFd>(Source<S>);
 
 impl<S: AsRawFd> Async<S> {
@@ -362,6 +258,11 @@ impl<S: AsRawFd> Async<S> {
     /// Returns what was taken, for calls that don't wait.
     pub fn get_ref(&self) -> &S {
         &self.0.socket
+    }
+
+    /// Gives back what was taken, which still doesn't block.
+    pub fn into_inner(self) -> S {
+        self.0.into_inner()
     }
 
     /// Calls this until it returns something other than `WouldBlock`, each time once there is something to read.
@@ -394,118 +295,178 @@ impl<S: AsRawFd> Async<S> {
     }
 }
 
-impl fmt::Debug for TcpListener {
-    fn fmt(&self, f: &mut fmt::Formatter<'_>) -> fmt::Result {
-        self.0.socket.fmt(f)
-    }
-}
-
-/// For options that this crate has no call for. What is read or written by the descriptor the runtime doesn't see.
-impl AsRawFd for TcpListener {
-    fn as_raw_fd(&self) -> RawFd {
-        self.0.socket.as_raw_fd()
-    }
-}
-
-/// As `AsRawFd`.
-impl AsFd for TcpListener {
-    fn as_fd(&self) -> BorrowedFd<'_> {
-        self.0.socket.as_fd()
-    }
-}
-
-impl fmt::Debug for TcpStream {
-    fn fmt(&self, f: &mut fmt::Formatter<'_>) -> fmt::Result {
-        self.0.socket.fmt(f)
-    }
-}
-
-/// For options that this crate has no call for. What is read or written by the descriptor the runtime doesn't see.
-impl AsRawFd for TcpStream {
-    fn as_raw_fd(&self) -> RawFd {
-        self.0.socket.as_raw_fd()
-    }
-}
-
-/// As `AsRawFd`.
-impl AsFd for TcpStream {
-    fn as_fd(&self) -> BorrowedFd<'_> {
-        self.0.socket.as_fd()
-    }
-}
-
 impl<S: AsRawFd + fmt::Debug> fmt::Debug for Async<S> {
     fn fmt(&self, f: &mut fmt::Formatter<'_>) -> fmt::Result {
         f.debug_tuple("Async").field(&self.0.socket).finish()
     }
 }
 
-#[cfg(feature = "futures-io")]
-mod futures_traits {
-    use super::*;
+/// What all sockets have: std's as it came, and its descriptor.
+macro_rules! socket {
+    ($name:ident, $std:ty) => {
+        impl $name {
+            /// Takes one of std's, which doesn't block from then on. What else is set there stays as it is.
+            pub fn from_std(socket: $std) -> io::Result<$name> {
+                socket.set_nonblocking(true)?;
+                Ok($name(Source::new(socket)))
+            }
 
-    impl futures_io::AsyncRead for TcpStream {
-        fn poll_read(self: Pin<&mut Self>, cx: &mut Context<'_>, buffer: &mut [u8]) -> Poll<io::Result<usize>> {
-            TcpStream::poll_read(&self, cx, buffer)
-        }
-    }
-    impl futures_io::AsyncWrite for TcpStream {
-        fn poll_write(self: Pin<&mut Self>, cx: &mut Context<'_>, bytes: &[u8]) -> Poll<io::Result<usize>> {
-            TcpStream::poll_write(&self, cx, bytes)
-        }
-        fn poll_flush(self: Pin<&mut Self>, _: &mut Context<'_>) -> Poll<io::Result<()>> {
-            Poll::Ready(Ok(()))
-        }
-        fn poll_close(self: Pin<&mut Self>, _: &mut Context<'_>) -> Poll<io::Result<()>> {
-            Poll::Ready(self.shutdown(Shutdown::Write))
-        }
-    }
-}
-
-#[cfg(feature = "tokio-io")]
-mod tokio_traits {
-    use super::*;
-
-    impl tokio::io::AsyncRead for TcpStream {
-        fn poll_read(
-            self: Pin<&mut Self>,
-            cx: &mut Context<'_>,
-            buffer: &mut tokio::io::ReadBuf<'_>,
-        ) -> Poll<io::Result<()>> {
-            // Not `initialize_unfilled`, which writes zeros to all of the room at each read.
-            // SAFETY: the read writes to these bytes alone, and reads none of them.
-            let room = unsafe { &mut *(buffer.unfilled_mut() as *mut [std::mem::MaybeUninit<u8>] as *mut [u8]) };
-            match TcpStream::poll_read(&self, cx, room) {
-                Poll::Ready(Ok(n)) => {
-                    // SAFETY: the read has written so many.
-                    unsafe { buffer.assume_init(n) };
-                    buffer.advance(n);
-                    Poll::Ready(Ok(()))
-                }
-                Poll::Ready(Err(error)) => Poll::Ready(Err(error)),
-                Poll::Pending => Poll::Pending,
+            /// Gives std's back, which still doesn't block (`set_nonblocking`).
+            pub fn into_std(self) -> io::Result<$std> {
+                Ok(self.0.into_inner())
             }
         }
-    }
-    impl tokio::io::AsyncWrite for TcpStream {
-        fn poll_write(self: Pin<&mut Self>, cx: &mut Context<'_>, bytes: &[u8]) -> Poll<io::Result<usize>> {
-            TcpStream::poll_write(&self, cx, bytes)
+
+        impl fmt::Debug for $name {
+            fn fmt(&self, f: &mut fmt::Formatter<'_>) -> fmt::Result {
+                self.0.socket.fmt(f)
+            }
         }
-        fn poll_write_vectored(
-            self: Pin<&mut Self>,
-            cx: &mut Context<'_>,
-            bytes: &[IoSlice<'_>],
-        ) -> Poll<io::Result<usize>> {
-            TcpStream::poll_write_vectored(&self, cx, bytes)
+
+        /// For options that this crate has no call for. What is read or written by the descriptor the runtime doesn't see.
+        impl AsRawFd for $name {
+            fn as_raw_fd(&self) -> RawFd {
+                self.0.socket.as_raw_fd()
+            }
         }
-        fn is_write_vectored(&self) -> bool {
-            true
+
+        /// As `AsRawFd`.
+        impl AsFd for $name {
+            fn as_fd(&self) -> BorrowedFd<'_> {
+                self.0.socket.as_fd()
+            }
         }
-        fn poll_flush(self: Pin<&mut Self>, _: &mut Context<'_>) -> Poll<io::Result<()>> {
-            Poll::Ready(Ok(()))
-        }
-        fn poll_shutdown(self: Pin<&mut Self>, _: &mut Context<'_>) -> Poll<io::Result<()>> {
-            Poll::Ready(self.shutdown(Shutdown::Write))
-        }
-    }
+    };
 }
+
+/// What a connection has: reads and writes.
+macro_rules! stream {
+    ($name:ident) => {
+        impl $name {
+            /// Ends reading, writing or both.
+            pub fn shutdown(&self, how: Shutdown) -> io::Result<()> {
+                self.0.socket.shutdown(how)
+            }
+
+            /// As `read`, by a poll. The task that polled last to read is woken.
+            pub fn poll_read(&self, cx: &mut Context<'_>, buffer: &mut [u8]) -> Poll<io::Result<usize>> {
+                let len = buffer.len();
+                self.0.poll(cx, true, len, |mut socket| socket.read(buffer), |&n| n)
+            }
+
+            /// As `write`, by a poll. The task that polled last to write is woken.
+            pub fn poll_write(&self, cx: &mut Context<'_>, bytes: &[u8]) -> Poll<io::Result<usize>> {
+                self.0.poll(cx, false, bytes.len(), |mut socket| socket.write(bytes), |&n| n)
+            }
+
+            /// As `poll_write`, of several pieces in a row.
+            pub fn poll_write_vectored(&self, cx: &mut Context<'_>, bytes: &[IoSlice<'_>]) -> Poll<io::Result<usize>> {
+                let len = bytes.iter().map(|slice| slice.len()).sum();
+                self.0.poll(cx, false, len, |mut socket| socket.write_vectored(bytes), |&n| n)
+            }
+
+            /// Reads at most `buffer.len()` bytes, once there are some; returns how many, 0 at the end.
+            pub async fn read(&self, buffer: &mut [u8]) -> io::Result<usize> {
+                poll_fn(|cx: &mut Context<'_>| self.poll_read(cx, buffer)).await
+            }
+
+            /// Fills the buffer. Returns an error if the end comes before.
+            pub async fn read_exact(&self, mut buffer: &mut [u8]) -> io::Result<()> {
+                while !buffer.is_empty() {
+                    match self.read(buffer).await? {
+                        0 => return Err(io::ErrorKind::UnexpectedEof.into()),
+                        n => buffer = &mut buffer[n..],
+                    }
+                }
+                Ok(())
+            }
+
+            /// Writes some of the bytes, at least one, once there is room; returns how many.
+            pub async fn write(&self, bytes: &[u8]) -> io::Result<usize> {
+                poll_fn(|cx: &mut Context<'_>| self.poll_write(cx, bytes)).await
+            }
+
+            /// Writes all of the bytes.
+            pub async fn write_all(&self, mut bytes: &[u8]) -> io::Result<()> {
+                while !bytes.is_empty() {
+                    match self.write(bytes).await? {
+                        0 => return Err(io::ErrorKind::WriteZero.into()),
+                        n => bytes = &bytes[n..],
+                    }
+                }
+                Ok(())
+            }
+        }
+
+        #[cfg(feature = "futures-io")]
+        impl futures_io::AsyncRead for $name {
+            fn poll_read(self: Pin<&mut Self>, cx: &mut Context<'_>, buffer: &mut [u8]) -> Poll<io::Result<usize>> {
+                $name::poll_read(&self, cx, buffer)
+            }
+        }
+        #[cfg(feature = "futures-io")]
+        impl futures_io::AsyncWrite for $name {
+            fn poll_write(self: Pin<&mut Self>, cx: &mut Context<'_>, bytes: &[u8]) -> Poll<io::Result<usize>> {
+                $name::poll_write(&self, cx, bytes)
+            }
+            fn poll_flush(self: Pin<&mut Self>, _: &mut Context<'_>) -> Poll<io::Result<()>> {
+                Poll::Ready(Ok(()))
+            }
+            fn poll_close(self: Pin<&mut Self>, _: &mut Context<'_>) -> Poll<io::Result<()>> {
+                Poll::Ready(self.shutdown(Shutdown::Write))
+            }
+        }
+
+        #[cfg(feature = "tokio-io")]
+        impl tokio::io::AsyncRead for $name {
+            fn poll_read(
+                self: Pin<&mut Self>,
+                cx: &mut Context<'_>,
+                buffer: &mut tokio::io::ReadBuf<'_>,
+            ) -> Poll<io::Result<()>> {
+                // Not `initialize_unfilled`, which writes zeros to all of the room at each read.
+                // SAFETY: the read writes to these bytes alone, and reads none of them.
+                let room = unsafe { &mut *(buffer.unfilled_mut() as *mut [std::mem::MaybeUninit<u8>] as *mut [u8]) };
+                match $name::poll_read(&self, cx, room) {
+                    Poll::Ready(Ok(n)) => {
+                        // SAFETY: the read has written so many.
+                        unsafe { buffer.assume_init(n) };
+                        buffer.advance(n);
+                        Poll::Ready(Ok(()))
+                    }
+                    Poll::Ready(Err(error)) => Poll::Ready(Err(error)),
+                    Poll::Pending => Poll::Pending,
+                }
+            }
+        }
+        #[cfg(feature = "tokio-io")]
+        impl tokio::io::AsyncWrite for $name {
+            fn poll_write(self: Pin<&mut Self>, cx: &mut Context<'_>, bytes: &[u8]) -> Poll<io::Result<usize>> {
+                $name::poll_write(&self, cx, bytes)
+            }
+            fn poll_write_vectored(
+                self: Pin<&mut Self>,
+                cx: &mut Context<'_>,
+                bytes: &[IoSlice<'_>],
+            ) -> Poll<io::Result<usize>> {
+                $name::poll_write_vectored(&self, cx, bytes)
+            }
+            fn is_write_vectored(&self) -> bool {
+                true
+            }
+            fn poll_flush(self: Pin<&mut Self>, _: &mut Context<'_>) -> Poll<io::Result<()>> {
+                Poll::Ready(Ok(()))
+            }
+            fn poll_shutdown(self: Pin<&mut Self>, _: &mut Context<'_>) -> Poll<io::Result<()>> {
+                Poll::Ready(self.shutdown(Shutdown::Write))
+            }
+        }
+    };
+}
+socket!(TcpListener, std::net::TcpListener);
+socket!(TcpStream, std::net::TcpStream);
+stream!(TcpStream);
+socket!(UdpSocket, std::net::UdpSocket);
+socket!(UnixListener, std::os::unix::net::UnixListener);
+socket!(UnixStream, std::os::unix::net::UnixStream);
+stream!(UnixStream);

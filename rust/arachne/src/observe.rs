@@ -14,6 +14,21 @@ use std::time::Duration;
 
 /// What a host may want to hear of its tasks (a tracing library's spans, say). Each is called on the kernel thread that
 /// makes the step; `id` is a number that no other task of the runtime ever has. None may panic.
+///
+/// ```
+/// use std::sync::{Arc, atomic::{AtomicUsize, Ordering::SeqCst}};
+/// #[derive(Default)]
+/// struct Spawns(AtomicUsize);
+/// impl arachne::Hooks for Spawns {
+///     fn spawned(&self, _: &arachne::About) {
+///         self.0.fetch_add(1, SeqCst);
+///     }
+/// }
+/// let spawns = Arc::new(Spawns::default());
+/// let runtime = arachne::Builder::new(1).hooks(spawns.clone()).build().unwrap();
+/// runtime.block_on(runtime.spawn(async {})).unwrap();
+/// assert_eq!(spawns.0.load(SeqCst), 1);
+/// ```
 pub trait Hooks: Send + Sync {
     /// A task was spawned.
     fn spawned(&self, _about: &About) {}
@@ -28,7 +43,7 @@ pub trait Hooks: Send + Sync {
 }
 
 /// Times from ready to taken: `counts[i]` are those below 2^i microseconds that are in none before.
-pub const HISTOGRAM: usize = 24;
+pub(crate) const HISTOGRAM: usize = 24;
 
 #[derive(Default)]
 struct Record {
@@ -48,8 +63,9 @@ pub(crate) struct Observer {
     histogram: [AtomicU64; HISTOGRAM],
 }
 
-/// What a task does at this moment.
+/// What a task does at this moment; see `TaskInfo`.
 #[derive(Clone, Copy, PartialEq, Eq, Debug)]
+#[non_exhaustive]
 pub enum Doing {
     /// It waits to be woken.
     Waits,
@@ -59,8 +75,9 @@ pub enum Doing {
     Runs,
 }
 
-/// A task that has begun and has not ended.
+/// A task that has begun and has not ended; see `Runtime::tasks`.
 #[derive(Clone, Copy, Debug)]
+#[non_exhaustive]
 pub struct TaskInfo {
     /// A number that no other task of the runtime ever has.
     pub id: u64,

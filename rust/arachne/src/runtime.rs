@@ -4,6 +4,7 @@ use crate::block_on::block_on;
 use crate::core::{Woken, BLOCK, MOST_SHARDS, SHARD};
 use crate::cores::{Judge, Policy};
 use crate::drain::Signal;
+use crate::handle::Handle;
 use crate::observe::{Hooks, TaskInfo, HISTOGRAM};
 use crate::shared::{entered, is_own, with_hands, Context, Shared};
 use crate::spawn::Refused;
@@ -29,6 +30,14 @@ const HANDS: usize = 3 + crate::worker::HAND + crate::hand::FIRST;
 type Starts = Arc<dyn Fn() + Send + Sync>;
 
 /// How a runtime is to be.
+///
+/// ```
+/// # fn main() -> std::io::Result<()> {
+/// let runtime = arachne::Builder::new(2).places(100_000).blocking_threads(16).build()?;
+/// assert_eq!(runtime.block_on(async { 6 * 7 }), 42);
+/// # Ok(())
+/// # }
+/// ```
 #[must_use = "`build` makes the runtime"]
 pub struct Builder {
     cores: usize,
@@ -180,8 +189,9 @@ impl Builder {
     }
 }
 
-/// What the workers have counted.
+/// What the workers have counted; see `Runtime::stats`.
 #[derive(Clone, Debug, Default)]
+#[non_exhaustive]
 pub struct Stats {
     /// Cores held now.
     pub active: usize,
@@ -207,12 +217,14 @@ pub struct Stats {
     pub rescued: u64,
     /// The same of each worker.
     pub workers: Vec<WorkerStats>,
-    /// By power of two of microseconds, how long ready tasks waited to be taken; of an observed runtime alone.
+    /// By power of two of microseconds, how long ready tasks waited to be taken; of an observed runtime alone. Number
+    /// i counts times below 2^i that are in none before.
     pub ready_to_taken: Vec<u64>,
 }
 
-/// The counts of one worker.
+/// The counts of one worker; see `Stats::workers`.
 #[derive(Clone, Copy, Debug, Default)]
+#[non_exhaustive]
 pub struct WorkerStats {
     /// Polls of tasks.
     pub polls: u64,
@@ -230,6 +242,13 @@ pub struct WorkerStats {
 
 /// Kernel threads that run tasks. Dropped, it ends as by `shutdown`; where one of its own tasks, or its blocking work,
 /// drops it, another kernel thread ends it, and nobody is told when it has ended.
+///
+/// ```
+/// let runtime = arachne::Runtime::new(4);
+/// let task = runtime.spawn(async { 6 * 7 });
+/// assert_eq!(runtime.block_on(task).unwrap(), 42);
+/// assert_eq!(runtime.stats().workers.len(), 4);
+/// ```
 pub struct Runtime {
     shared: &'static Shared,
     threads: Vec<thread::JoinHandle<()>>,
@@ -292,6 +311,12 @@ impl Runtime {
         self.shared.try_spawn_task(future, About { spawned: Location::caller(), name: None })
     }
 
+    /// Returns a handle that spawns from any kernel thread, and may outlive the runtime.
+    #[must_use]
+    pub fn handle(&self) -> Handle {
+        Handle::of(self.shared)
+    }
+
     /// Runs a future on this kernel thread, with this runtime for its spawns, sockets and timers.
     pub fn block_on<F: Future>(&self, future: F) -> F::Output {
         entered(self.shared, || block_on(future))
@@ -305,7 +330,11 @@ impl Runtime {
     /// Returns what the workers have counted until now.
     #[must_use]
     pub fn stats(&self) -> Stats {
-        let (shared, now) = (self.shared, now());
+        Runtime::stats_of(self.shared)
+    }
+
+    pub(crate) fn stats_of(shared: &Shared) -> Stats {
+        let now = now();
         let counts = &shared.counts;
         let worker = |w: &crate::shared::Worker| WorkerStats {
             polls: w.polls.load(Relaxed),
@@ -380,6 +409,7 @@ impl Runtime {
         self.ended = true;
         entered(shared, || end_all(shared));
         shared.blocking.close();
+        shared.door.close();
         entered(shared, || end_all(shared));
         shared.give();
     }

@@ -1,4 +1,4 @@
-//! A semaphore: so many permits, given in the order in which they were asked for.
+//! A semaphore: so many permits, given in the order in which they were asked for. Names and answers are tokio's.
 
 use crate::reactor::Slot;
 use crate::shared::here;
@@ -19,59 +19,152 @@ struct Node {
 #[derive(Default)]
 struct State {
     permits: usize,
+    closed: bool,
     line: VecDeque<Arc<Node>>,
 }
 
 /// So many permits.
-#[derive(Default)]
+///
+/// ```
+/// use std::sync::Arc;
+/// let (runtime, permits) = (arachne::Runtime::new(2), Arc::new(arachne::Semaphore::new(10)));
+/// runtime.block_on(async {
+///     let permit = permits.clone().acquire_owned().await.unwrap();
+///     let task = arachne::spawn(async move { drop(permit) });     // one of ten at a time
+///     assert!(permits.available_permits() >= 9);
+///     task.await.unwrap();
+/// });
+/// ```
 pub struct Semaphore {
     state: Mutex<State>,
 }
 
 impl fmt::Debug for Semaphore {
     fn fmt(&self, f: &mut fmt::Formatter<'_>) -> fmt::Result {
-        write!(f, "Semaphore({} available)", self.available())
+        write!(f, "Semaphore({} available)", self.available_permits())
     }
 }
+
+/// The semaphore is closed.
+#[derive(Clone, Copy, PartialEq, Eq, Debug)]
+#[non_exhaustive]
+pub struct AcquireError;
+
+impl fmt::Display for AcquireError {
+    fn fmt(&self, f: &mut fmt::Formatter<'_>) -> fmt::Result {
+        f.write_str("the semaphore is closed")
+    }
+}
+impl std::error::Error for AcquireError {}
+
+/// Why permits were not taken at once.
+#[derive(Clone, Copy, PartialEq, Eq, Debug)]
+pub enum TryAcquireError {
+    /// The semaphore is closed.
+    Closed,
+    /// There are not so many, or somebody waits.
+    NoPermits,
+}
+
+impl fmt::Display for TryAcquireError {
+    fn fmt(&self, f: &mut fmt::Formatter<'_>) -> fmt::Result {
+        f.write_str(match self {
+            TryAcquireError::Closed => "the semaphore is closed",
+            TryAcquireError::NoPermits => "there are not so many permits",
+        })
+    }
+}
+impl std::error::Error for TryAcquireError {}
 
 impl Semaphore {
     /// So many permits, which nobody has.
     #[must_use]
     pub fn new(permits: usize) -> Semaphore {
-        Semaphore { state: Mutex::new(State { permits, line: VecDeque::new() }) }
+        Semaphore { state: Mutex::new(State { permits, ..State::default() }) }
     }
 
-    /// Permits that nobody has, whether or not somebody waits for more of them.
+    /// Returns how many permits nobody has, whether or not somebody waits for more of them.
     #[must_use]
-    pub fn available(&self) -> usize {
+    pub fn available_permits(&self) -> usize {
         self.state.lock().unwrap().permits
     }
 
-    /// Waits for so many permits at once, in line.
-    pub fn acquire(&self, wants: usize) -> Acquire<'_> {
-        Acquire { semaphore: self, wants, node: None }
+    /// Waits for a permit, in line. Returns an error if the semaphore is closed.
+    pub fn acquire(&self) -> Acquire<'_> {
+        self.acquire_many(1)
+    }
+
+    /// Waits for `wants` permits at once, in line. Returns an error if the semaphore is closed.
+    pub fn acquire_many(&self, wants: u32) -> Acquire<'_> {
+        Acquire { semaphore: self, wants: wants as usize, node: None }
+    }
+
+    /// As `acquire`, for a permit that may be given to another task.
+    pub async fn acquire_owned(self: Arc<Self>) -> Result<OwnedSemaphorePermit, AcquireError> {
+        self.acquire_many_owned(1).await
+    }
+
+    /// As `acquire_many`, for permits that may be given to another task.
+    pub async fn acquire_many_owned(self: Arc<Self>, wants: u32) -> Result<OwnedSemaphorePermit, AcquireError> {
+        self.acquire_many(wants).await?.forget();
+        Ok(OwnedSemaphorePermit { semaphore: self, count: wants as usize })
+    }
+
+    /// Takes a permit, if one is there and nobody waits.
+    pub fn try_acquire(&self) -> Result<SemaphorePermit<'_>, TryAcquireError> {
+        self.try_acquire_many(1)
     }
 
     /// Takes `wants` permits, if they are there and nobody waits.
-    #[must_use]
-    pub fn try_acquire(&self, wants: usize) -> Option<Permit<'_>> {
-        self.take(wants).then(|| Permit { semaphore: self, count: wants })
+    pub fn try_acquire_many(&self, wants: u32) -> Result<SemaphorePermit<'_>, TryAcquireError> {
+        let count = wants as usize;
+        self.take(count).map(|()| SemaphorePermit { semaphore: self, count })
     }
 
-    fn take(&self, wants: usize) -> bool {
+    /// As `try_acquire`, for a permit that may be given to another task.
+    pub fn try_acquire_owned(self: Arc<Self>) -> Result<OwnedSemaphorePermit, TryAcquireError> {
+        self.try_acquire_many_owned(1)
+    }
+
+    /// As `try_acquire_many`, for permits that may be given to another task.
+    pub fn try_acquire_many_owned(self: Arc<Self>, wants: u32) -> Result<OwnedSemaphorePermit, TryAcquireError> {
+        let count = wants as usize;
+        self.take(count)?;
+        Ok(OwnedSemaphorePermit { semaphore: self, count })
+    }
+
+    fn take(&self, wants: usize) -> Result<(), TryAcquireError> {
         let mut state = self.state.lock().unwrap();
-        let right = state.line.is_empty() && state.permits >= wants;
-        if right {
-            state.permits -= wants;
+        if state.closed {
+            return Err(TryAcquireError::Closed);
         }
-        right
+        if !state.line.is_empty() || state.permits < wants {
+            return Err(TryAcquireError::NoPermits);
+        }
+        state.permits -= wants;
+        Ok(())
     }
 
     /// Adds permits.
-    pub fn release(&self, count: usize) {
+    pub fn add_permits(&self, count: usize) {
         let mut state = self.state.lock().unwrap();
         state.permits += count;
         self.grant(state);
+    }
+
+    /// From now on no permit is given: who waits, or asks, is told so. Permits that are held stay so.
+    pub fn close(&self) {
+        let mut state = self.state.lock().unwrap();
+        state.closed = true;
+        let line = std::mem::take(&mut state.line);
+        drop(state);
+        line.iter().for_each(|node| node.slot.wake());
+    }
+
+    /// Returns true if `close` was called.
+    #[must_use]
+    pub fn is_closed(&self) -> bool {
+        self.state.lock().unwrap().closed
     }
 
     /// Gives the first in line theirs, and wakes them without the lock.
@@ -104,28 +197,35 @@ impl fmt::Debug for Acquire<'_> {
 }
 
 impl<'a> Future for Acquire<'a> {
-    type Output = Permit<'a>;
-    fn poll(mut self: Pin<&mut Self>, cx: &mut Context<'_>) -> Poll<Permit<'a>> {
-        let (semaphore, wants) = (self.semaphore, self.wants);
+    type Output = Result<SemaphorePermit<'a>, AcquireError>;
+    fn poll(mut self: Pin<&mut Self>, cx: &mut Context<'_>) -> Poll<Self::Output> {
+        let (semaphore, count) = (self.semaphore, self.wants);
+        let permit = || Poll::Ready(Ok(SemaphorePermit { semaphore, count }));
         if let Some(node) = &self.node {
             node.slot.set(cx.waker());
             if !node.granted.load(SeqCst) {
-                return Poll::Pending;
+                // Whoever closes takes the line, and then wakes.
+                return if semaphore.is_closed() { Poll::Ready(Err(AcquireError)) } else { Poll::Pending };
             }
             self.node = None;
-            return Poll::Ready(Permit { semaphore, count: wants });
+            return permit();
         }
-        if semaphore.take(wants) {
-            return Poll::Ready(Permit { semaphore, count: wants });
+        match semaphore.take(count) {
+            Ok(()) => return permit(),
+            Err(TryAcquireError::Closed) => return Poll::Ready(Err(AcquireError)),
+            Err(TryAcquireError::NoPermits) => {}
         }
         let table = here().map_or(usize::MAX, |shared| shared.table);
-        let node = Arc::new(Node { wants, granted: AtomicBool::new(false), slot: Slot::new(table) });
+        let node = Arc::new(Node { wants: count, granted: AtomicBool::new(false), slot: Slot::new(table) });
         node.slot.set(cx.waker());
         let mut state = semaphore.state.lock().unwrap();
+        if state.closed {
+            return Poll::Ready(Err(AcquireError));
+        }
         state.line.push_back(node.clone());
         semaphore.grant(state);
         if node.granted.load(SeqCst) {
-            return Poll::Ready(Permit { semaphore, count: wants });
+            return permit();
         }
         self.node = Some(node);
         Poll::Pending
@@ -138,7 +238,9 @@ impl Drop for Acquire<'_> {
             let mut state = self.semaphore.state.lock().unwrap();
             match state.line.iter().position(|other| Arc::ptr_eq(other, &node)) {
                 Some(at) => drop(state.line.remove(at)),
-                None => state.permits += node.wants,
+                None if node.granted.load(SeqCst) => state.permits += node.wants,
+                // The semaphore was closed.
+                None => {}
             }
             self.semaphore.grant(state);
         }
@@ -147,28 +249,41 @@ impl Drop for Acquire<'_> {
 
 /// Permits, given back when this is dropped.
 #[must_use = "permits are given back when this is dropped"]
-pub struct Permit<'a> {
+pub struct SemaphorePermit<'a> {
     semaphore: &'a Semaphore,
     count: usize,
 }
 
-impl fmt::Debug for Permit<'_> {
-    fn fmt(&self, f: &mut fmt::Formatter<'_>) -> fmt::Result {
-        write!(f, "Permit({})", self.count)
-    }
+/// As `SemaphorePermit`, of a semaphore that is shared by an `Arc`.
+#[must_use = "permits are given back when this is dropped"]
+pub struct OwnedSemaphorePermit {
+    semaphore: Arc<Semaphore>,
+    count: usize,
 }
 
-impl Permit<'_> {
-    /// Keeps the permits from being given back.
-    pub fn forget(mut self) {
-        self.count = 0;
-    }
-}
-
-impl Drop for Permit<'_> {
-    fn drop(&mut self) {
-        if self.count != 0 {
-            self.semaphore.release(self.count);
+macro_rules! permit {
+    ($name:literal, $($permit:tt)*) => {
+        impl fmt::Debug for $($permit)* {
+            fn fmt(&self, f: &mut fmt::Formatter<'_>) -> fmt::Result {
+                write!(f, "{}({})", $name, self.count)
+            }
         }
-    }
+
+        impl $($permit)* {
+            /// Keeps the permits from being given back.
+            pub fn forget(mut self) {
+                self.count = 0;
+            }
+        }
+
+        impl Drop for $($permit)* {
+            fn drop(&mut self) {
+                if self.count != 0 {
+                    self.semaphore.add_permits(self.count);
+                }
+            }
+        }
+    };
 }
+permit!("SemaphorePermit", SemaphorePermit<'_>);
+permit!("OwnedSemaphorePermit", OwnedSemaphorePermit);

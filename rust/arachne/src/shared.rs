@@ -4,6 +4,7 @@ use crate::blocking::Pool;
 use crate::core::{Hands, Line, Parking, Root, BLOCK, MOST_SHARDS, NUMBERS, SHARD};
 use crate::drain::Draining;
 use crate::hand::Hand;
+use crate::handle::Door;
 use crate::observe::Observer;
 use crate::reactor::{Bell, Reactor};
 use crate::sync::atomic::{AtomicBool, AtomicI32, AtomicPtr, AtomicU64, AtomicUsize, Ordering::*};
@@ -68,6 +69,7 @@ pub(crate) struct Shared {
     pub(crate) blocking: Pool,
     pub(crate) observer: Observer,
     pub(crate) draining: Draining,
+    pub(crate) door: Door,
     /// Tasks spawned from outside.
     pub(crate) spawned: Line<AtomicU64>,
     /// Tasks that a drain doesn't wait for: how many were spawned, and how many of their futures are dropped.
@@ -264,6 +266,7 @@ impl Shared {
             blocking: Pool::default(),
             observer: Observer::new(if observed { places } else { 0 }),
             draining: Draining::default(),
+            door: Door::default(),
             spawned: Line::default(),
             background: Default::default(),
             counts: Counts::default(),
@@ -285,6 +288,7 @@ impl Shared {
         self.stop.store(false, SeqCst);
         self.observer.reset();
         self.draining.reset();
+        self.door.open();
         self.spawned.0.store(0, SeqCst);
         self.background.0.store(0, SeqCst);
         self.background.1.store(0, SeqCst);

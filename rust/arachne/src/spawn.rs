@@ -13,8 +13,11 @@ use std::task::{self as std_task, Poll};
 /// Tasks from outside that go to one worker before the next one gets some.
 const IN_A_ROW: usize = 16;
 
-/// No place is free, or the runtime's limit is met: the future comes back.
-pub struct Refused<F>(pub F);
+/// No place is free: the future comes back; see `Runtime::try_spawn`.
+pub struct Refused<F>(
+    /// The future.
+    pub F,
+);
 
 impl<F> fmt::Debug for Refused<F> {
     fn fmt(&self, f: &mut fmt::Formatter<'_>) -> fmt::Result {
@@ -204,7 +207,16 @@ impl Shared {
     }
 }
 
-/// Spawns on the runtime whose task or `block_on` this is.
+/// Begins a task of the runtime whose task or `block_on` this is. It runs next on this worker, unless the task that
+/// spawns it goes on for long.
+///
+/// ```
+/// let sum = arachne::Runtime::new(2).block_on(async {
+///     let (one, other) = (arachne::spawn(async { 1 }), arachne::spawn(async { 2 }));
+///     one.await.unwrap() + other.await.unwrap()
+/// });
+/// assert_eq!(sum, 3);
+/// ```
 ///
 /// # Panics
 /// Outside of a runtime.
@@ -219,7 +231,12 @@ where
     here().expect("spawn outside of a runtime").spawn_task(future, about, false)
 }
 
-/// As `spawn`, with a name.
+/// As `spawn`, with a name, which `Runtime::tasks` and the watcher of slow polls say.
+///
+/// ```
+/// let name = arachne::Runtime::new(1).block_on(async { arachne::spawn_named("sweeper", async {}).about().name });
+/// assert_eq!(name.unwrap().as_str(), "sweeper");
+/// ```
 ///
 /// # Panics
 /// Outside of a runtime.
@@ -234,6 +251,15 @@ where
 }
 
 /// As `spawn`, at the workers in turn: for tasks that live long, such as a connection's.
+///
+/// ```
+/// # async fn serve(_: arachne::net::TcpStream) {}
+/// async fn accepts(listener: arachne::net::TcpListener) {
+///     while let Ok((stream, _)) = listener.accept().await {
+///         arachne::spawn_balanced(serve(stream));
+///     }
+/// }
+/// ```
 ///
 /// # Panics
 /// Outside of a runtime.
@@ -250,6 +276,21 @@ where
 /// As `spawn`, for a task that serves the others and doesn't end, such as one that sweeps a store:
 /// `Runtime::shutdown_within` doesn't wait for it. It is dropped once the others have ended, or at the deadline. What
 /// it spawns itself is waited for, unless it is spawned so too.
+///
+/// ```
+/// use std::time::Duration;
+/// let runtime = arachne::Runtime::new(1);
+/// runtime.block_on(async {
+///     arachne::spawn_background(async {
+///         let mut each = arachne::interval(Duration::from_secs(1));
+///         loop {
+///             each.tick().await;
+///             // sweep
+///         }
+///     });
+/// });
+/// assert_eq!(runtime.shutdown_within(Duration::from_secs(60)).aborted, 0);    // at once
+/// ```
 ///
 /// # Panics
 /// Outside of a runtime.

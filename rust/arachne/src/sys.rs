@@ -5,7 +5,9 @@
 use crate::sync::atomic::{AtomicI32, Ordering::*};
 use crate::sync::{clock, told, wait as wait_in};
 use std::io;
+use std::os::unix::ffi::OsStrExt;
 use std::os::unix::io::RawFd;
+use std::path::Path;
 
 #[derive(Clone, Copy)]
 #[cfg_attr(target_arch = "x86_64", repr(C, packed))]
@@ -135,11 +137,28 @@ pub(crate) fn start_connect(to: &std::net::SocketAddr) -> io::Result<RawFd> {
             (10, 28)
         }
     };
-    bytes[..2].copy_from_slice(&family.to_ne_bytes());
+    begin_connect(family, &mut bytes[..len])
+}
+
+/// As `start_connect`, to who listens at a path. `WouldBlock` if as many wait there as may.
+pub(crate) fn connect_unix(path: &Path) -> io::Result<RawFd> {
+    let (path, mut bytes) = (path.as_os_str().as_bytes(), [0u8; 110]);
+    // A byte of zero ends it.
+    if path.is_empty() || path.len() > 107 || path.contains(&0) {
+        return Err(io::ErrorKind::InvalidInput.into());
+    }
+    bytes[2..2 + path.len()].copy_from_slice(path);
+    begin_connect(1, &mut bytes[..3 + path.len()])
+}
+
+/// A stream socket whose connection is made or in progress: to an address that is laid out as its family's, which is
+/// its first two bytes.
+fn begin_connect(family: u16, address: &mut [u8]) -> io::Result<RawFd> {
+    address[..2].copy_from_slice(&family.to_ne_bytes());
     // SAFETY: a call with numbers alone.
     let fd = checked(unsafe { socket(family as i32, 1 | CLOSE_ON_EXEC | NON_BLOCKING, 0) })?;
-    // SAFETY: the address has at least `len` bytes, which are laid out as its family's.
-    match checked(unsafe { connect(fd, bytes.as_ptr(), len) }) {
+    // SAFETY: the address has as many bytes as are said.
+    match checked(unsafe { connect(fd, address.as_ptr(), address.len() as u32) }) {
         Err(error) if error.raw_os_error() != Some(IN_PROGRESS) => {
             close_fd(fd);
             Err(error)

@@ -24,8 +24,14 @@ const WAITING: u32 = 4;
 const SETTLED: u32 = 8;
 /// It is to end at its next turn.
 const ABORTED: u32 = 16;
+/// It had abort handles before it ended: the ender touches the task until it is settled.
+const SHARED: u32 = 32;
+/// One abort handle; the bits from here on count them.
+const ONE: u32 = 64;
+/// A handle on the output, or an abort handle, is there.
+const HELD: u32 = JOINED | !(ONE - 1);
 
-/// The value with which a task panicked.
+/// The value with which a task panicked; see `JoinError::Panicked`.
 pub struct Panic(Box<dyn Any + Send>);
 // SAFETY: by a shared one its text alone is seen, and both types of text are `Sync`.
 unsafe impl Sync for Panic {}
@@ -54,6 +60,14 @@ impl fmt::Debug for Panic {
 }
 
 /// Why a task has no output.
+///
+/// ```
+/// let runtime = arachne::Runtime::new(1);
+/// let error = runtime.block_on(runtime.spawn(async { panic!("on purpose") })).unwrap_err();
+/// assert!(error.is_panic() && !error.is_cancelled());
+/// assert_eq!(error.to_string(), "the task panicked: on purpose");
+/// ```
+#[non_exhaustive]
 pub enum JoinError {
     /// It panicked with this.
     Panicked(Panic),
@@ -130,12 +144,20 @@ impl fmt::Display for JoinError {
 
 impl std::error::Error for JoinError {}
 
+impl From<JoinError> for std::io::Error {
+    fn from(error: JoinError) -> std::io::Error {
+        std::io::Error::new(std::io::ErrorKind::Other, error)
+    }
+}
+
 struct VTable {
     /// Polls the future; true where it has ended, and the output is laid down.
     poll: unsafe fn(*mut Header, &mut Context<'_>) -> bool,
     /// Drops the future, with an error for its output.
     cancel: unsafe fn(*mut Header, JoinError),
     take_output: unsafe fn(*mut Header, *mut ()),
+    /// Drops the output, if nobody has taken it.
+    drop_output: unsafe fn(*mut Header),
     free: unsafe fn(*mut Header),
 }
 
@@ -149,8 +171,9 @@ pub(crate) struct Header {
     about: About,
 }
 
-/// What is known of a task: where it was spawned, and the name that it was given.
+/// What is known of a task: where it was spawned, and the name that it was given; see `JoinHandle::about`.
 #[derive(Clone, Copy, PartialEq, Eq, Debug)]
+#[non_exhaustive]
 pub struct About {
     /// Where it was spawned.
     pub spawned: &'static Location<'static>,
@@ -159,6 +182,10 @@ pub struct About {
 }
 
 /// A name for tasks. Equal names are one label, and a label is kept for good, so a program has a bounded number.
+///
+/// ```
+/// assert!(std::ptr::eq(arachne::Label::of("sweeper"), arachne::Label::of("sweeper")));
+/// ```
 #[derive(PartialEq, Eq, Debug)]
 pub struct Label(String);
 
@@ -217,7 +244,13 @@ where
             state: AtomicU32::new(JOINED),
             table: AtomicU32::new(0),
             name: AtomicU64::new(NOBODY),
-            vtable: &VTable { poll: poll::<F>, cancel: cancel::<F>, take_output: take_output::<F>, free: free::<F> },
+            vtable: &VTable {
+                poll: poll::<F>,
+                cancel: cancel::<F>,
+                take_output: take_output::<F>,
+                drop_output: drop_output::<F>,
+                free: free::<F>,
+            },
             join_waker: UnsafeCell::new(None),
             about,
         },
@@ -285,19 +318,36 @@ pub(crate) unsafe fn about(raw: Raw) -> About {
 
 unsafe fn complete(header: *mut Header) {
     let before = (*header).state.fetch_or(COMPLETE, AcqRel);
-    if before & JOINED == 0 {
+    if before & HELD == 0 {
         ((*header).vtable.free)(header);
-    } else if before & WAITING != 0 {
+    } else if before & (WAITING | SHARED) != 0 {
         // The handle's side leaves the waker alone while COMPLETE is set and SETTLED is not.
-        let waker = (*(*header).join_waker.get()).take();
+        let waker = if before & WAITING != 0 { (*(*header).join_waker.get()).take() } else { None };
         if let Some(waker) = waker {
             let _ = catch_unwind(AssertUnwindSafe(|| waker.wake()));
         }
-        if (*header).state.fetch_or(SETTLED, AcqRel) & JOINED == 0 {
+        if before & JOINED == 0 {
+            ((*header).vtable.drop_output)(header);
+        }
+        if (*header).state.fetch_or(SETTLED, AcqRel) & HELD == 0 {
             ((*header).vtable.free)(header);
         }
     }
     // With neither, the handle has the task for itself from the moment that it sees COMPLETE.
+}
+
+/// Whether the ender has done with a task of that state.
+fn is_settled(state: u32) -> bool {
+    state & COMPLETE != 0 && (state & (WAITING | SHARED) == 0 || state & SETTLED != 0)
+}
+
+/// Ends the task at its next turn, unless it has ended.
+fn abort(header: &Header) {
+    header.state.fetch_or(ABORTED, SeqCst);
+    let name = header.name.load(SeqCst);
+    if name != NOBODY {
+        wake_name(header.table.load(Relaxed) as usize, name);
+    }
 }
 
 unsafe fn poll<F: Future>(header: *mut Header, cx: &mut Context<'_>) -> bool {
@@ -344,12 +394,26 @@ unsafe fn take_output<F: Future>(header: *mut Header, to: *mut ()) {
     }
 }
 
+unsafe fn drop_output<F: Future>(header: *mut Header) {
+    let task = header.cast::<Task<F>>();
+    let output = std::mem::replace(&mut *(*task).stage.get(), Stage::Spent);
+    let _ = catch_unwind(AssertUnwindSafe(|| drop(output)));
+}
+
 unsafe fn free<F: Future>(header: *mut Header) {
     let task = Box::from_raw(header.cast::<Task<F>>());
     let _ = catch_unwind(AssertUnwindSafe(|| drop(task)));
 }
 
 /// A handle on a task's output: a future of it. Dropped, it leaves the task to run on its own.
+///
+/// ```
+/// let runtime = arachne::Runtime::new(2);
+/// let (ends, waits) = (runtime.spawn(async { 42 }), runtime.spawn(std::future::pending::<()>()));
+/// assert_eq!(runtime.block_on(ends).unwrap(), 42);
+/// waits.abort();
+/// assert!(runtime.block_on(waits).unwrap_err().is_cancelled());
+/// ```
 pub struct JoinHandle<T> {
     at: NonNull<Header>,
     of: PhantomData<T>,
@@ -382,24 +446,31 @@ impl<T> JoinHandle<T> {
     /// Ends the task at its next turn: its future is dropped, and the handle's output is `JoinError::Aborted`. A task
     /// that has ended, or ends in the turn that runs, has its output as before.
     pub fn abort(&self) {
-        let header = self.header();
-        header.state.fetch_or(ABORTED, SeqCst);
-        let name = header.name.load(SeqCst);
-        if name != NOBODY {
-            wake_name(header.table.load(Relaxed) as usize, name);
+        abort(self.header());
+    }
+
+    /// Returns a handle that can abort the task and says if it has ended. It doesn't keep the output.
+    #[must_use]
+    pub fn abort_handle(&self) -> AbortHandle {
+        let share = |state| (state & COMPLETE == 0).then_some((state | SHARED) + ONE);
+        match self.header().state.fetch_update(AcqRel, Acquire, share) {
+            Ok(before) if before > u32::MAX / 2 => std::process::abort(),
+            Ok(_) => AbortHandle(Some(self.at)),
+            // One that has ended needs none.
+            Err(_) => AbortHandle(None),
         }
     }
 
-    /// Where the task was spawned, and its name.
+    /// Returns where the task was spawned, and its name.
     #[must_use]
     pub fn about(&self) -> About {
         self.header().about
     }
 }
 
-impl<T> Future for JoinHandle<T> {
-    type Output = Result<T, JoinError>;
-    fn poll(self: Pin<&mut Self>, cx: &mut Context<'_>) -> Poll<Self::Output> {
+impl<T> JoinHandle<T> {
+    /// Returns true if the output is there. Otherwise the waker is woken once it is.
+    pub(crate) fn is_there(&mut self, waker: &Waker) -> bool {
         let header = self.header();
         let mut state = header.state.load(Acquire);
         if state & (COMPLETE | WAITING) == WAITING {
@@ -413,31 +484,131 @@ impl<T> Future for JoinHandle<T> {
             let place = header.join_waker.get();
             // SAFETY: with WAITING clear, and COMPLETE clear when that was seen, the waker is the handle's.
             unsafe {
-                if !matches!(&*place, Some(waker) if waker.will_wake(cx.waker())) {
-                    *place = Some(cx.waker().clone());
+                if !matches!(&*place, Some(old) if old.will_wake(waker)) {
+                    *place = Some(waker.clone());
                 }
             }
             if header.state.fetch_or(WAITING, AcqRel) & COMPLETE == 0 {
-                return Poll::Pending;
+                return false;
             }
             // It ended before it could see who waits, so nobody else reads the waker.
             header.state.fetch_and(!WAITING, AcqRel);
         }
-        let mut output: Poll<Self::Output> = Poll::Pending;
-        let to: *mut Poll<Self::Output> = &mut output;
+        true
+    }
+
+    /// Takes the output, which is there.
+    fn take(&mut self) -> Poll<Result<T, JoinError>> {
+        let mut output: Poll<Result<T, JoinError>> = Poll::Pending;
+        let to: *mut Poll<Result<T, JoinError>> = &mut output;
         // SAFETY: the output is laid down, and of this type; the handle alone takes it.
-        unsafe { (header.vtable.take_output)(self.at.as_ptr(), to.cast()) };
+        unsafe { (self.header().vtable.take_output)(self.at.as_ptr(), to.cast()) };
         output
+    }
+
+    /// The output, if it is there.
+    pub(crate) fn output(mut self) -> Option<Result<T, JoinError>> {
+        match self.is_finished().then(|| self.take())? {
+            Poll::Ready(output) => Some(output),
+            Poll::Pending => None,
+        }
+    }
+}
+
+impl<T> Future for JoinHandle<T> {
+    type Output = Result<T, JoinError>;
+    fn poll(mut self: Pin<&mut Self>, cx: &mut Context<'_>) -> Poll<Self::Output> {
+        if self.is_there(cx.waker()) {
+            self.take()
+        } else {
+            Poll::Pending
+        }
     }
 }
 
 impl<T> Drop for JoinHandle<T> {
     fn drop(&mut self) {
-        let before = self.header().state.fetch_and(!JOINED, AcqRel);
-        // Not ended: the ender frees it. Ended and telling: the ender frees it too.
-        if before & COMPLETE != 0 && (before & WAITING == 0 || before & SETTLED != 0) {
-            // SAFETY: the ender no longer touches it, and the handle is gone.
-            unsafe { (self.header().vtable.free)(self.at.as_ptr()) };
+        let header = self.header();
+        if header.state.load(Relaxed) & SHARED != 0 {
+            // Of one that has ended the output is this handle's; of one that hasn't, its ender drops it.
+            let leave = |state| (state & COMPLETE == 0).then_some(state & !JOINED);
+            if header.state.fetch_update(AcqRel, Acquire, leave).is_ok() {
+                return;
+            }
+            // SAFETY: the output is laid down, and nobody else takes it.
+            unsafe { (header.vtable.drop_output)(self.at.as_ptr()) };
         }
+        // Not ended: the ender frees it. Ended and telling: the ender frees it too, and so do abort handles.
+        let before = header.state.fetch_and(!JOINED, AcqRel);
+        if before & HELD == JOINED && is_settled(before) {
+            // SAFETY: the ender no longer touches it, and the handles are gone.
+            unsafe { (header.vtable.free)(self.at.as_ptr()) };
+        }
+    }
+}
+
+/// A handle that can abort a task, and has nothing of its output; of `JoinHandle::abort_handle` and `JoinSet::spawn`.
+///
+/// ```
+/// let runtime = arachne::Runtime::new(1);
+/// let task = runtime.spawn(std::future::pending::<()>());
+/// let handle = task.abort_handle();
+/// handle.abort();
+/// assert!(runtime.block_on(task).unwrap_err().is_cancelled());
+/// assert!(handle.is_finished());
+/// ```
+pub struct AbortHandle(Option<NonNull<Header>>);
+// SAFETY: what it can do is atomic; whoever is last frees the task, whose output is `Send`.
+unsafe impl Send for AbortHandle {}
+// SAFETY: the same.
+unsafe impl Sync for AbortHandle {}
+
+impl AbortHandle {
+    fn header(&self) -> Option<&Header> {
+        // SAFETY: a task with an abort handle is not freed.
+        self.0.map(|at| unsafe { &*at.as_ptr() })
+    }
+
+    /// Ends the task, as `JoinHandle::abort`.
+    pub fn abort(&self) {
+        if let Some(header) = self.header() {
+            abort(header);
+        }
+    }
+
+    /// Returns true once the task has ended.
+    #[must_use]
+    pub fn is_finished(&self) -> bool {
+        self.header().map_or(true, |header| header.state.load(Acquire) & COMPLETE != 0)
+    }
+}
+
+impl Clone for AbortHandle {
+    fn clone(&self) -> AbortHandle {
+        if let Some(header) = self.header() {
+            // As of an `Arc`: so many are never there, unless they are forgotten.
+            if header.state.fetch_add(ONE, Relaxed) > u32::MAX / 2 {
+                std::process::abort();
+            }
+        }
+        AbortHandle(self.0)
+    }
+}
+
+impl Drop for AbortHandle {
+    fn drop(&mut self) {
+        if let (Some(at), Some(header)) = (self.0, self.header()) {
+            let before = header.state.fetch_sub(ONE, AcqRel);
+            if before & HELD == ONE && is_settled(before) {
+                // SAFETY: the ender no longer touches it, and the handles are gone.
+                unsafe { (header.vtable.free)(at.as_ptr()) };
+            }
+        }
+    }
+}
+
+impl fmt::Debug for AbortHandle {
+    fn fmt(&self, f: &mut fmt::Formatter<'_>) -> fmt::Result {
+        f.debug_struct("AbortHandle").field("is_finished", &self.is_finished()).finish()
     }
 }

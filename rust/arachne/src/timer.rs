@@ -1,6 +1,6 @@
 //! Sleeping and time limits: each worker has its timers, which it looks at when it looks at the epoll.
 
-use crate::shared::{here, Context as Worker, Shared};
+use crate::shared::{here, shared_of, Context as Worker, Shared};
 use crate::sync::atomic::{AtomicU64, Ordering::*};
 use crate::sync::{Instant, Mutex};
 use crate::waker::{name_in, NOBODY};
@@ -68,11 +68,14 @@ impl Timers {
         }
     }
 
-    fn remove(&self, key: Key) {
+    /// Removes one; its waker, unless it was woken.
+    fn remove(&self, key: Key) -> Option<Waker> {
         let mut queue = self.queue.lock().unwrap();
-        if queue.waiting.remove(&key).is_some() {
+        let waker = queue.waiting.remove(&key);
+        if waker.is_some() {
             self.settle(&queue);
         }
+        waker
     }
 
     fn settle(&self, queue: &Queue) {
@@ -102,7 +105,7 @@ struct Waits {
     name: u64,
 }
 
-/// A future that is ready at its time; see `sleep`.
+/// A future that is ready at its time; see `sleep`. It may be moved between polls.
 #[must_use = "a sleep does nothing unless it is awaited"]
 pub struct Sleep {
     at: u64,
@@ -110,12 +113,26 @@ pub struct Sleep {
 }
 
 /// Waits for at least so long; a worker looks at its timers once a millisecond at best.
+///
+/// ```
+/// use std::time::{Duration, Instant};
+/// let begin = Instant::now();
+/// arachne::Runtime::new(1).block_on(arachne::sleep(Duration::from_millis(5)));
+/// assert!(begin.elapsed() >= Duration::from_millis(5));
+/// ```
 pub fn sleep(duration: Duration) -> Sleep {
     let nanos = duration.as_nanos().min(u64::MAX as u128 / 4) as u64;
     Sleep { at: now().saturating_add(nanos), waits: None }
 }
 
 /// As `sleep`, until a moment.
+///
+/// ```
+/// use std::time::{Duration, Instant};
+/// let moment = Instant::now() + Duration::from_millis(2);
+/// arachne::Runtime::new(1).block_on(arachne::sleep_until(moment));
+/// assert!(Instant::now() >= moment);
+/// ```
 pub fn sleep_until(moment: Instant) -> Sleep {
     sleep(moment.saturating_duration_since(Instant::now()))
 }
@@ -127,8 +144,26 @@ impl fmt::Debug for Sleep {
 }
 
 impl Sleep {
-    fn start(&mut self, waker: &Waker) {
-        let shared = here().expect("a sleep outside of a runtime");
+    /// Sets another time, also for who waits now.
+    ///
+    /// ```
+    /// use std::{pin::Pin, time::{Duration, Instant}};
+    /// arachne::Runtime::new(1).block_on(async {
+    ///     let mut sleep = arachne::sleep(Duration::from_secs(60));
+    ///     Pin::new(&mut sleep).reset(Instant::now() + Duration::from_millis(1));
+    ///     sleep.await;
+    /// });
+    /// ```
+    pub fn reset(mut self: Pin<&mut Self>, deadline: Instant) {
+        self.at = sleep_until(deadline).at;
+        if let Some(waits) = self.waits.take() {
+            if let (Some(waker), Some(shared)) = (waits.timers.remove(waits.key), shared_of(waits.table)) {
+                self.start(shared, &waker);
+            }
+        }
+    }
+
+    fn start(&mut self, shared: &'static Shared, waker: &Waker) {
         let me = Worker::with(|worker| worker.filter(|w| std::ptr::eq(w.shared, shared)).map(|w| w.me));
         let worker = &shared.workers[me.unwrap_or(0)].0;
         let (key, first) = worker.timers.add(self.at, waker.clone());
@@ -152,7 +187,7 @@ impl Future for Sleep {
             Some(waits) if waits.timers.renew(waits.key, cx.waker()) => {
                 waits.name = name_in(cx.waker(), waits.table).unwrap_or(NOBODY);
             }
-            _ => self.start(cx.waker()),
+            _ => self.start(here().expect("a sleep outside of a runtime"), cx.waker()),
         }
         Poll::Pending
     }
@@ -166,7 +201,7 @@ impl Drop for Sleep {
     }
 }
 
-/// The time was over before the future was ready.
+/// The time was over before the future was ready; see `timeout`.
 #[derive(Clone, Copy, PartialEq, Eq, Debug)]
 pub struct Elapsed;
 
@@ -183,7 +218,7 @@ impl From<Elapsed> for std::io::Error {
     }
 }
 
-/// See `timeout`.
+/// A future that is ready at its time, or sooner; see `timeout`.
 #[must_use = "a timeout does nothing unless it is awaited"]
 #[derive(Debug)]
 pub struct Timeout<F> {
@@ -191,7 +226,13 @@ pub struct Timeout<F> {
     sleep: Sleep,
 }
 
-/// The future's output, or `Elapsed` once so much time is over.
+/// Waits for the future's output, or for `Elapsed` once so much time is over.
+///
+/// ```
+/// use std::time::Duration;
+/// let never = arachne::timeout(Duration::from_millis(2), std::future::pending::<()>());
+/// assert_eq!(arachne::Runtime::new(1).block_on(never), Err(arachne::Elapsed));
+/// ```
 pub fn timeout<F: Future>(duration: Duration, future: F) -> Timeout<F> {
     Timeout { future, sleep: sleep(duration) }
 }

@@ -77,20 +77,20 @@ fn wakers_of_others_are_freed() {
     let runtime = Runtime::new(1);
     let (sender, receiver) = channel(1);
     let (lock, semaphore) = (Lock::new(()), Semaphore::new(1));
-    let (guard, permit) = (lock.try_lock().unwrap(), semaphore.try_acquire(1).unwrap());
+    let (guard, permit) = (lock.try_lock().unwrap(), semaphore.try_acquire().unwrap());
     frees_its_waker_at_drop(&runtime, "a receiver", receiver.recv());
     frees_its_waker_at_drop(&runtime, "a lock", lock.lock());
-    frees_its_waker_at_drop(&runtime, "a semaphore", semaphore.acquire(1));
+    frees_its_waker_at_drop(&runtime, "a semaphore", semaphore.acquire());
     frees_its_waker_at_drop(&runtime, "a sleep", sleep(LONG));
     frees_its_waker_at_drop(&runtime, "the end", stopping());
     frees_its_waker(&runtime, "a receiver", receiver.recv(), || sender.try_send(1).unwrap());
     frees_its_waker(&runtime, "a lock", lock.lock(), || drop(guard));
-    frees_its_waker(&runtime, "a semaphore", semaphore.acquire(1), || drop(permit));
+    frees_its_waker(&runtime, "a semaphore", semaphore.acquire(), || drop(permit));
     frees_its_waker(&runtime, "a sleep", sleep(200 * MS), || {});
     let gate = Arc::new(Semaphore::new(0));
     let waits = gate.clone();
-    let task = runtime.spawn(async move { waits.acquire(1).await.forget() });
-    frees_its_waker(&runtime, "a handle", task, || gate.release(1));
+    let task = runtime.spawn(async move { waits.acquire().await.unwrap().forget() });
+    frees_its_waker(&runtime, "a handle", task, || gate.add_permits(1));
 }
 
 /// A turn that was given to a future which is dropped before it saw that goes to the next one in line.
@@ -110,12 +110,12 @@ fn a_turn_that_was_given_is_handed_on_at_drop() {
     assert_eq!(poll_once(&mut second), Poll::Ready(Ok(())));
 
     let semaphore = Semaphore::new(0);
-    let (mut first, mut second) = (semaphore.acquire(2), semaphore.acquire(1));
+    let (mut first, mut second) = (semaphore.acquire_many(2), semaphore.acquire());
     assert!(poll_once(&mut first).is_pending() && poll_once(&mut second).is_pending());
-    semaphore.release(2);
+    semaphore.add_permits(2);
     drop(first);
     assert!(poll_once(&mut second).is_ready());
-    assert_eq!(semaphore.available(), 2);
+    assert_eq!(semaphore.available_permits(), 2);
 }
 
 /// Both ends of a channel hear that the other is gone, and what nobody receives any more is dropped.
@@ -320,7 +320,7 @@ fn a_sleeper_is_woken_beside_a_busy_worker() {
     let gates: Vec<_> = (0..64).map(|_| Arc::new(Semaphore::new(0))).collect();
     let wait = |gate: &Arc<Semaphore>| {
         let gate = gate.clone();
-        runtime.spawn(async move { gate.acquire(1).await.forget() })
+        runtime.spawn(async move { gate.acquire().await.unwrap().forget() })
     };
     let tasks: Vec<_> = gates.iter().map(wait).collect();
     while runtime.stats().polls < 64 {
@@ -339,7 +339,7 @@ fn a_sleeper_is_woken_beside_a_busy_worker() {
     }
     for (gate, task) in gates.iter().zip(tasks) {
         thread::sleep(MS / 2);
-        gate.release(1);
+        gate.add_permits(1);
         block_on(task).unwrap();
     }
     ends.store(true, SeqCst);
@@ -402,13 +402,13 @@ fn what_has_no_place_comes_back() {
     let gate = Arc::new(Semaphore::new(0));
     let spawn_one = |_| {
         let gate = gate.clone();
-        runtime.spawn(async move { gate.acquire(1).await.forget() })
+        runtime.spawn(async move { gate.acquire().await.unwrap().forget() })
     };
     let tasks: Vec<_> = (0..4096).map(spawn_one).collect();
     let refused = runtime.try_spawn(async { 7 }).expect_err("there was a place").0;
     assert_eq!(block_on(refused), 7);
     assert_eq!((runtime.live(), runtime.stats().queued), (4096, 0));
-    gate.release(4096);
+    gate.add_permits(4096);
     tasks.into_iter().for_each(|task| block_on(task).unwrap());
     assert_eq!(block_on(runtime.try_spawn(async { 8 }).expect("there is room")).unwrap(), 8);
 }

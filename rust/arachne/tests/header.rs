@@ -5,8 +5,10 @@ use std::path::PathBuf;
 /// The header that came with the archive, or the repository's.
 fn header() -> Option<String> {
     let beside = std::env::var("ARACHNE_LIBS").ok().map(|folder| PathBuf::from(folder).join("arachne_exec.h"));
-    let repository = PathBuf::from(env!("CARGO_MANIFEST_DIR")).join("../../examples/c/arachne_exec.h");
-    beside.into_iter().chain([repository]).find_map(|path| std::fs::read_to_string(path).ok())
+    // In the folder of scripts/release, and in the repository.
+    let places = ["../arachne_exec.h", "../../examples/c/arachne_exec.h"];
+    let places = places.map(|place| PathBuf::from(env!("CARGO_MANIFEST_DIR")).join(place));
+    beside.into_iter().chain(places).find_map(|path| std::fs::read_to_string(path).ok())
 }
 
 fn without_comments(text: &str) -> String {

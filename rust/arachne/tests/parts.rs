@@ -187,22 +187,22 @@ fn a_channel_tells_of_a_missing_end() {
 #[test]
 fn permits_are_given_in_order_and_come_back() {
     let semaphore = Semaphore::new(3);
-    let one = semaphore.try_acquire(2).unwrap();
-    let mut large = semaphore.acquire(3);
-    let mut small = semaphore.acquire(1);
+    let one = semaphore.try_acquire_many(2).unwrap();
+    let mut large = semaphore.acquire_many(3);
+    let mut small = semaphore.acquire();
     assert!(poll_once(&mut large).is_pending());
     assert!(poll_once(&mut small).is_pending(), "the small one went before the large one");
     drop(large);
     assert!(poll_once(&mut small).is_ready(), "one that left held the line up");
     drop(one);
-    assert_eq!(semaphore.available(), 3);
+    assert_eq!(semaphore.available_permits(), 3);
     let runtime = Runtime::new(4);
     let (semaphore, inside) = (Arc::new(Semaphore::new(5)), Arc::new(AtomicUsize::new(0)));
     let tasks: Vec<_> = (0..100)
         .map(|_| {
             let (semaphore, inside) = (semaphore.clone(), inside.clone());
             runtime.spawn(async move {
-                let _permit = semaphore.acquire(1).await;
+                let _permit = semaphore.acquire().await.unwrap();
                 assert!(inside.fetch_add(1, SeqCst) < 5);
                 yield_now().await;
                 inside.fetch_sub(1, SeqCst);
@@ -210,7 +210,7 @@ fn permits_are_given_in_order_and_come_back() {
         })
         .collect();
     tasks.into_iter().for_each(|task| block_on(task).unwrap());
-    assert_eq!(semaphore.available(), 5);
+    assert_eq!(semaphore.available_permits(), 5);
 }
 
 #[test]
@@ -300,7 +300,7 @@ fn what_has_no_place_is_refused_or_waits() {
     let waiting: Vec<_> = (0..places)
         .map(|_| {
             let gate = gate.clone();
-            runtime.spawn(async move { gate.acquire(1).await.forget() })
+            runtime.spawn(async move { gate.acquire().await.unwrap().forget() })
         })
         .collect();
     while runtime.stats().polls < places as u64 {
@@ -310,7 +310,7 @@ fn what_has_no_place_is_refused_or_waits() {
     assert!(runtime.try_spawn(async {}).is_err());
     thread::sleep(5 * MS);
     assert!(queued.iter().all(|task| !task.is_finished()));
-    gate.release(places);
+    gate.add_permits(places);
     let sum: i32 = queued.into_iter().map(|task| block_on(task).unwrap()).sum();
     assert_eq!(sum, 99 * 100 / 2);
     waiting.into_iter().for_each(|task| block_on(task).unwrap());
@@ -415,7 +415,7 @@ fn what_has_come_when_the_end_begins_is_read() {
     }
     streams.iter().chain([&far]).for_each(|stream| ask(stream, 2));
     told.store(true, SeqCst);
-    assert_eq!(runtime.shutdown_within(LONG), arachne::Ended { aborted: 0 });
+    assert_eq!(runtime.shutdown_within(LONG).aborted, 0);
     let lost = streams.iter().filter(|stream| answer(stream).ok() != Some(2)).count();
     assert_eq!(lost, 0, "of {COUNT}");
     assert!(block_on(reads).unwrap());
@@ -444,7 +444,7 @@ fn the_end_waits_for_nothing_in_the_background() {
         ends.fetch_add(1, SeqCst);
     });
     let start = Instant::now();
-    assert_eq!(runtime.shutdown_within(LONG), arachne::Ended { aborted: 0 });
+    assert_eq!(runtime.shutdown_within(LONG).aborted, 0);
     assert!(start.elapsed() < LONG);
     assert_eq!((ended.load(SeqCst), dropped.load(SeqCst)), (1, 2));
     assert!(matches!(block_on(first), Err(JoinError::Cancelled)));
@@ -456,7 +456,7 @@ fn the_end_waits_for_nothing_in_the_background() {
         thread::yield_now();
     }
     assert_eq!(runtime.live(), 2);
-    assert_eq!(runtime.shutdown_within(20 * MS), arachne::Ended { aborted: 1 });
+    assert_eq!(runtime.shutdown_within(20 * MS).aborted, 1);
 }
 
 #[test]
@@ -1016,7 +1016,7 @@ struct Shown<'a> {
     lock: arachne::Guard<'a, u8>,
     locking: arachne::Locking<'a, u8>,
     semaphore: &'a Semaphore,
-    permit: arachne::Permit<'a>,
+    permit: arachne::SemaphorePermit<'a>,
     acquire: arachne::Acquire<'a>,
     send: arachne::Send<'a, u8>,
     recv: arachne::Recv<'a, u8>,
@@ -1050,8 +1050,8 @@ fn what_is_public_is_shown_and_sockets_have_descriptors() {
         lock: lock.try_lock().unwrap(),
         locking: lock.lock(),
         semaphore: &semaphore,
-        permit: semaphore.try_acquire(1).unwrap(),
-        acquire: semaphore.acquire(1),
+        permit: semaphore.try_acquire().unwrap(),
+        acquire: semaphore.acquire(),
         send: sender.send(1),
         recv: receiver.recv(),
         ticket: limit.enter().unwrap(),

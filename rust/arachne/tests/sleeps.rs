@@ -144,10 +144,10 @@ fn a_wake_of_who_waits_is_left_to_it() {
         let waits: Vec<_> = (0..64)
             .map(|_| {
                 let gate = gate.clone();
-                runtime.spawn(async move { gate.acquire(1).await.forget() })
+                runtime.spawn(async move { gate.acquire().await.unwrap().forget() })
             })
             .collect();
-        gate.release(64);
+        gate.add_permits(64);
         waits.into_iter().for_each(|task| block_on(task).unwrap());
         ask(&mut stream, round);
         ends.store(true, SeqCst);

@@ -1,4 +1,6 @@
 //! The part of a server of Redis's protocol that knows nothing of an executor: commands in, answers out.
+#![allow(clippy::result_unit_err, clippy::type_complexity)]
+
 use std::collections::hash_map::{DefaultHasher, HashMap};
 use std::hash::{Hash, Hasher};
 use std::sync::Mutex;
