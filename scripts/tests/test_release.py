@@ -1,4 +1,4 @@
-"""What scripts/release makes, of a repository whose archive stands in for the proved one, over a kit that only answers."""
+"""What scripts/release makes of a repository whose archive stands in for the proved one, over a kit that only answers."""
 import os
 import shutil
 import subprocess

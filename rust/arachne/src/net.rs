@@ -323,7 +323,8 @@ macro_rules! socket {
             }
         }
 
-        /// For options that this crate has no call for. What is read or written by the descriptor the runtime doesn't see.
+        /// For options that this crate has no call for. What is read or written by the descriptor the runtime doesn't
+        /// see.
         impl AsRawFd for $name {
             fn as_raw_fd(&self) -> RawFd {
                 self.0.socket.as_raw_fd()
