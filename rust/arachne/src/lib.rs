@@ -11,6 +11,7 @@
 #![cfg(all(target_os = "linux", target_pointer_width = "64"))]
 #![warn(missing_docs, missing_debug_implementations)]
 
+mod arbiter;
 mod block_on;
 mod blocking;
 mod channel;
@@ -44,7 +45,7 @@ pub use observe::{Doing, Hooks, TaskInfo, HISTOGRAM};
 pub use runtime::{Builder, Runtime, Stats, WorkerStats};
 pub use semaphore::{Acquire, Permit, Semaphore};
 #[cfg(feature = "explore")]
-pub use shared::{forget_runtimes, forget_thread};
+pub use shared::{forget_runtimes, forget_thread, set_active};
 pub use spawn::{spawn, spawn_background, spawn_balanced, spawn_named, Refused};
 pub use task::{About, JoinError, JoinHandle, Label, Panic};
 pub use timer::{sleep, sleep_until, timeout, Elapsed, Sleep, Timeout};
