@@ -52,6 +52,13 @@ fn active(runtime: &Runtime) -> usize {
     runtime.stats().active
 }
 
+/// The numbers of the threads of this process that are workers.
+fn workers() -> Vec<String> {
+    let threads = fs::read_dir("/proc/self/task").unwrap().flatten().map(|it| it.file_name().into_string().unwrap());
+    let name = |it: &String| fs::read_to_string(format!("/proc/self/task/{it}/comm")).unwrap_or_default();
+    threads.filter(|it| name(it).trim().strip_prefix("arachne-").map_or(false, |n| n.parse::<u32>().is_ok())).collect()
+}
+
 /// Processors that the daemon grants: all but one of those that this thread has before it is a client's.
 fn cores() -> usize {
     arachne::available_cores() - 1
@@ -76,6 +83,7 @@ fn cores_go_to_who_is_first_and_come_back() {
 fn a_runtime_goes_on_without_its_daemon_and_joins_the_next() {
     let mut daemon = Daemon::new("next");
     let (path, cores) = (daemon.socket.0.clone(), cores());
+    let all = processors_of(&std::process::id().to_string());
     let (low, of_low) = busy(&daemon, cores, 7);
     becomes("it has all", || low.stats().arbiter && active(&low) == cores);
     let (high, of_high) = busy(&daemon, cores, 0);
@@ -94,6 +102,10 @@ fn a_runtime_goes_on_without_its_daemon_and_joins_the_next() {
         for (runtime, load) in [(&low, &of_low), (&high, &of_high)] {
             becomes("it goes on by itself", || !runtime.stats().arbiter && active(runtime) == cores);
             load.gets_on("it gets on without an arbiter");
+        }
+        // But by cpusets somebody has to be left who removes them.
+        if !with_guardian || std::env::var_os("ARBITER_CPUSET").is_none() {
+            becomes("its workers may run everywhere", || workers().iter().all(|it| processors_of(it) == all));
         }
         daemon = Daemon::at(path.clone(), &[]);
         becomes("both have joined", || [&low, &high].iter().all(|it| it.stats().arbiter));
