@@ -710,6 +710,30 @@ fn returned() {
     }
 }
 
+/// Cores come and go at any time, as an arbiter has it: what is ready by then is run at once.
+fn granted() {
+    let runtime = Builder::new(3).places(12).slices(None).build().unwrap();
+    for _ in 0..3 {
+        let gate = Arc::new(Semaphore::new(0));
+        let waits = || {
+            let gate = gate.clone();
+            runtime.spawn(async move {
+                spawn_balanced(async move { gate.acquire(1).await.forget() }).await.unwrap();
+            })
+        };
+        let tasks = [waits(), waits(), waits()];
+        arachne::set_active(&runtime, 1 + choose(3));
+        thread::sleep(choose(6) as u32 * MS);
+        arachne::set_active(&runtime, 1 + choose(3));
+        let since = now();
+        gate.release(3);
+        for task in tasks {
+            runtime.block_on(task).unwrap();
+        }
+        assert!(now() - since < 300_000, "after {} us", (now() - since) / 1000);
+    }
+}
+
 /// Sockets come and go: what was told of one that is gone isn't told to the next of its number, which would try to read
 /// in vain once more.
 fn sockets() {
@@ -783,7 +807,7 @@ impl Drop for Leaves {
 
 /// Name, load, and whether its time is exact.
 type Load = (&'static str, fn(), bool);
-const LOADS: [Load; 28] = [
+const LOADS: [Load; 29] = [
     ("sleepers", sleepers, false),
     ("prompt", prompt, true),
     ("returned", returned, false),
@@ -805,6 +829,7 @@ const LOADS: [Load; 28] = [
     ("leaving", leaving, false),
     ("timers", timers, true),
     ("cores", cores, true),
+    ("granted", granted, true),
     ("sockets", sockets, false),
     ("locks", locks, false),
     ("aborts", aborts, false),

@@ -83,6 +83,7 @@ impl Pool {
     }
 
     fn work(&self, shared: &'static Shared) {
+        shared.arbiter.unpin();
         let waker = no_waker();
         let mut state = self.state.lock().unwrap();
         loop {

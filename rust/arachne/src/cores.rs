@@ -56,7 +56,11 @@ pub fn available_cores() -> usize {
         return 64;
     }
     let mask = sys::affinity().len().max(1);
-    mask.min(quota().map_or(mask, |quota| (quota + 999) / 1000)).max(1)
+    mask.min(quota().map_or(mask, whole)).max(1)
+}
+
+fn whole(thousandths: usize) -> usize {
+    (thousandths + 999) / 1000
 }
 
 /// What this process's control group, or one above it, allows, in thousandths of a processor.
@@ -93,6 +97,11 @@ fn quota_of(group: &str) -> Option<usize> {
 /// After a core was asked for, the load is judged so many times sooner than else, so many times.
 const SOON: u32 = 4;
 
+/// The least and the most nanoseconds between two judgements under an arbiter.
+const WITH_ARBITER: (u64, u64) = (2_000_000, 5_000_000);
+/// The nanoseconds after a core was asked for of an arbiter in which none goes back: each goes to another process.
+const CALM: u64 = 50_000_000;
+
 /// What one worker judges for all.
 pub(crate) struct Judge {
     estimator: Estimator,
@@ -104,6 +113,8 @@ pub(crate) struct Judge {
     most: usize,
     /// So many judgements are made soon, since a core was asked for.
     soon: u32,
+    /// When a core was last asked for.
+    added: u64,
     /// A load was seen to begin, and is judged by the next sample.
     begins: bool,
 }
@@ -129,13 +140,20 @@ impl Judge {
             looked: 0,
             most,
             soon: 0,
+            added: 0,
             begins: false,
         })
     }
 
-    /// Milliseconds between two judgements, at most 20.
-    pub(crate) fn millis(&self) -> i32 {
-        (self.policy.every.as_millis() as i32).clamp(1, 20)
+    /// Returns the milliseconds between two judgements, at most 20.
+    pub(crate) fn millis(&self, shared: &Shared) -> i32 {
+        ((self.every(1, shared.arbiter.is_up()) / 1_000_000) as i32).clamp(1, 20)
+    }
+
+    /// Returns the nanoseconds between two judgements that are made this many times sooner than else.
+    fn every(&self, times: u32, up: bool) -> u64 {
+        let (least, most) = if up { WITH_ARBITER } else { (0, u64::MAX) };
+        ((self.policy.every.as_nanos() as u64).min(most) / times as u64).max(least)
     }
 
     /// More is ready than makes the core ask for more, and cores were idle for a part of that time: so the load began
@@ -149,18 +167,22 @@ impl Judge {
     pub(crate) fn judge(&mut self, shared: &'static Shared) {
         let now = now();
         let elapsed = now - self.at;
-        let every = self.policy.every.as_nanos() as u64;
-        // Where one more core was asked for, it is soon seen whether another one is wanted.
-        if elapsed < if self.soon != 0 { every / SOON as u64 } else { every } {
+        let up = shared.arbiter.is_up();
+        // If one more core was asked for, it is soon seen whether another one is wanted.
+        if elapsed < self.every(if self.soon != 0 { SOON } else { 1 }, up) {
             return;
         }
         if now - self.looked > 1_000_000_000 {
             self.looked = now;
-            self.most = available_cores().clamp(1, shared.workers.len());
+            let all = shared.workers.len();
+            // An arbiter keeps this worker on one processor, and says how many others there are.
+            let most = if up { quota().map_or(all, whole) } else { available_cores() };
+            self.most = most.clamp(1, all);
         }
         let active = shared.active.0.load(Relaxed);
         shared.counts.core_time.fetch_add(elapsed * active as u64, Relaxed);
-        let sample = sample(&self.last, &totals(shared, active, now), elapsed);
+        // Those that were active all the time: an arbiter grants a core at any time.
+        let sample = sample(&self.last, &totals(shared, active.min(self.last.len()), now), elapsed);
         self.begins = !self.begins && self.is_begin(sample);
         if self.begins {
             (self.last, self.at, self.soon) = (totals(shared, active, now), now, self.soon.max(1));
@@ -173,12 +195,14 @@ impl Judge {
             Some(Advice::Remove) => 0,
             _ => self.soon.saturating_sub(1),
         };
-        if active > self.most || advice == Some(Advice::Remove) && active > self.policy.min_cores {
-            removes.fetch_add(1, Relaxed);
-            shared.set_active(active - 1);
+        let calm = !up || now - self.added > CALM;
+        if active > self.most || advice == Some(Advice::Remove) && active > self.policy.min_cores && calm {
+            removes.fetch_add(shared.want(active - 1) as u64, Relaxed);
         } else if advice == Some(Advice::Add) && active < self.most {
-            adds.fetch_add(1, Relaxed);
-            shared.set_active(active + 1);
+            self.added = now;
+            adds.fetch_add(shared.want(active + 1) as u64, Relaxed);
+        } else if up {
+            shared.want(active.max(self.policy.min_cores).min(self.most));
         }
         self.last = totals(shared, shared.active.0.load(Relaxed), now);
         self.at = now;
@@ -227,22 +251,23 @@ impl Shared {
         let (gate, waits) = &worker.given_back;
         worker.away.store(true, SeqCst);
         self.ring(self.keeper(context.me));
-        let mut given_back = gate.lock().unwrap();
-        while *given_back && !self.stop.load(SeqCst) {
-            given_back = waits.wait(given_back).unwrap();
+        if self.arbiter.is_up() {
+            self.wait_for_core(context.me);
+        } else {
+            let mut given_back = gate.lock().unwrap();
+            while *given_back && !self.stop.load(SeqCst) && !self.arbiter.is_up() {
+                given_back = waits.wait(given_back).unwrap();
+            }
         }
-        drop(given_back);
         worker.away.store(false, SeqCst);
         self.goes_on();
     }
 
     pub(crate) fn set_active(&self, active: usize) {
-        let before = self.active.0.load(Relaxed);
-        let set = |from: usize, to: usize, away: bool| {
-            self.workers[from..to].iter().for_each(|line| *line.0.given_back.0.lock().unwrap() = away);
-        };
-        set(active.min(before), before, true);
-        set(before.min(active), active, false);
+        // With the lock of each: one that is about to wait sees it, and that an arbiter is up, if it is since before.
+        for (number, line) in self.workers.iter().enumerate() {
+            *line.0.given_back.0.lock().unwrap() = number >= active;
+        }
         self.active.0.store(active, SeqCst);
         for (number, worker) in self.workers.iter().enumerate() {
             worker.0.given_back.1.notify_all();

@@ -24,6 +24,7 @@
 #![deny(missing_docs)]
 #![warn(missing_debug_implementations)]
 
+mod arbiter;
 mod block_on;
 mod blocking;
 mod channel;
@@ -63,7 +64,7 @@ pub use observe::{Doing, Hooks, TaskInfo};
 pub use runtime::{Builder, Runtime, Stats, WorkerStats};
 pub use semaphore::{Acquire, AcquireError, OwnedSemaphorePermit, Semaphore, SemaphorePermit, TryAcquireError};
 #[cfg(feature = "explore")]
-pub use shared::{forget_runtimes, forget_thread};
+pub use shared::{forget_runtimes, forget_thread, set_active};
 pub use spawn::{spawn, spawn_background, spawn_balanced, spawn_named, Refused};
 pub use task::{AbortHandle, About, JoinError, JoinHandle, Label, Panic};
 pub use timer::{sleep, sleep_until, timeout, Elapsed, Sleep, Timeout};

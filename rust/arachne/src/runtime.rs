@@ -1,5 +1,6 @@
 //! A runtime: how it is built, what it is asked, and how it ends.
 
+use crate::arbiter::Wish;
 use crate::block_on::block_on;
 use crate::core::{Woken, BLOCK, MOST_SHARDS, SHARD};
 use crate::cores::{Judge, Policy};
@@ -51,6 +52,7 @@ pub struct Builder {
     starts: Option<Starts>,
     slow: Option<Duration>,
     log: bool,
+    arbiter: Option<Wish>,
 }
 
 impl fmt::Debug for Builder {
@@ -74,6 +76,7 @@ impl Builder {
             starts: None,
             slow: None,
             log: true,
+            arbiter: None,
         }
     }
 
@@ -90,7 +93,18 @@ impl Builder {
         self
     }
 
-    /// Keeps each worker on a processor of its own.
+    /// Shares the machine's processors with other processes, by the arbiter (`rust/arbiter`) that listens at `path`.
+    /// Each worker's core is a processor that it grants; the first worker runs without one too. Asked for are as many
+    /// as the policy wants, or else as there are workers. `priority` is 0, which goes first, to 7; `reserved` cores (at
+    /// most 65,535) are this runtime's before others get more than is reserved for them.
+    ///
+    /// Without an arbiter, or if it refuses, all is as it is without this call. It is looked for each second.
+    pub fn arbiter(mut self, path: impl Into<std::path::PathBuf>, priority: u8, reserved: usize) -> Builder {
+        self.arbiter = Some(Wish { path: path.into(), priority, reserved: reserved.min(u16::MAX as usize) });
+        self
+    }
+
+    /// Keeps each worker on a processor of its own, unless an arbiter does.
     pub fn pinned(mut self, pin: bool) -> Builder {
         self.pin = pin;
         self
@@ -149,20 +163,27 @@ impl Builder {
         shared.observer.set_hooks(self.hooks);
         shared.blocking.open(self.blocking);
         let mut runtime = Runtime { shared, threads: Vec::new(), ended: false };
-        let cpus = if self.pin { sys::affinity() } else { Vec::new() };
+        let shares = self.arbiter.is_some();
+        if shares {
+            shared.arbiter.open(self.cores);
+        }
+        let cpus = if self.pin && !shares { sys::affinity() } else { Vec::new() };
         // The watcher is one more, behind the workers.
         let crew = shared.root.lock().unwrap().crew(self.cores + self.slow.is_some() as usize, HANDS);
         let mut crew = crew.ok_or(io::ErrorKind::OutOfMemory)?;
         let watches = crew.drain(self.cores..).next();
         let alone = self.cores == 1 && watches.is_none();
         for (me, hands) in crew.into_iter().enumerate() {
-            let (counts, policy) = (self.policy.is_some(), self.policy.filter(|_| me == 0));
+            let (counts, policy) = (self.policy.is_some() || shares, self.policy.filter(|_| me == 0));
             let cpu = cpus.get(me % cpus.len().max(1)).copied();
             let slice = self.slice.map(|slice| slice.as_nanos() as u64);
             let starts = self.starts.clone();
             let work = move || {
                 cpu.map(sys::pin);
                 slice.map(sys::ask_for_slices);
+                if shares {
+                    shared.arbiter.names(me);
+                }
                 *shared.workers[me].0.account.lock().unwrap() = std::fs::File::open("/proc/thread-self/schedstat").ok();
                 let context = Context::new(shared, me, hands, alone);
                 let judge = policy.and_then(|policy| Judge::new(policy, shared));
@@ -173,6 +194,12 @@ impl Builder {
                 shared.root.lock().unwrap().join(context.hands);
             };
             runtime.threads.push(thread::Builder::new().name(format!("arachne-{me}")).spawn(work)?);
+        }
+        if let Some(wish) = self.arbiter {
+            let first = self.policy.map_or(self.cores, |policy| policy.min_cores.clamp(1, self.cores));
+            let follows = self.policy.is_some();
+            let run = move || shared.run_arbiter(wish, first, follows);
+            runtime.threads.push(thread::Builder::new().name("arachne-arbiter".into()).spawn(run)?);
         }
         if let (Some(longer), Some(hands)) = (self.slow, watches) {
             let log = self.log;
@@ -193,8 +220,10 @@ impl Builder {
 #[derive(Clone, Debug, Default)]
 #[non_exhaustive]
 pub struct Stats {
-    /// Cores held now.
+    /// Cores held now; under an arbiter at least 1, if the first worker has none of its own too.
     pub active: usize,
+    /// An arbiter says how many there may be.
+    pub arbiter: bool,
     /// Polls of tasks.
     pub polls: u64,
     /// Tasks that ended on a worker.
@@ -348,6 +377,7 @@ impl Runtime {
         let sum = |of: fn(&WorkerStats) -> u64| workers.iter().map(of).sum();
         Stats {
             active: shared.active.0.load(Relaxed),
+            arbiter: shared.arbiter.is_up(),
             polls: sum(|w| w.polls),
             ended: sum(|w| w.ended),
             takes: sum(|w| w.takes),
@@ -395,6 +425,7 @@ impl Runtime {
 
     fn end(&mut self) {
         let shared = self.shared;
+        shared.arbiter.close();
         shared.stop.store(true, SeqCst);
         for (number, worker) in shared.workers.iter().enumerate() {
             let gate = worker.0.given_back.0.lock().unwrap();

@@ -1,5 +1,6 @@
 //! What the kernel threads of a runtime share, and what each of them has of its own.
 
+use crate::arbiter::Client;
 use crate::blocking::Pool;
 use crate::core::{Hands, Line, Parking, Root, BLOCK, MOST_SHARDS, NUMBERS, SHARD};
 use crate::drain::Draining;
@@ -23,7 +24,7 @@ use std::ptr;
 #[cfg(feature = "explore")]
 mod explored;
 #[cfg(feature = "explore")]
-pub use explored::{forget_runtimes, forget_thread};
+pub use explored::{forget_runtimes, forget_thread, set_active};
 
 /// Runtimes of a process at a time, as each has wakers of its own.
 pub(crate) const TABLES: usize = 32;
@@ -74,6 +75,8 @@ pub(crate) struct Shared {
     pub(crate) spawned: Line<AtomicU64>,
     /// Tasks that a drain doesn't wait for: how many were spawned, and how many of their futures are dropped.
     pub(crate) background: (AtomicU64, AtomicU64),
+    /// The arbiter by which processes share the machine's cores, if this runtime has one.
+    pub(crate) arbiter: Client,
     pub(crate) counts: Counts,
 }
 
@@ -269,6 +272,7 @@ impl Shared {
             door: Door::default(),
             spawned: Line::default(),
             background: Default::default(),
+            arbiter: Client::default(),
             counts: Counts::default(),
         }))))
     }
@@ -292,6 +296,7 @@ impl Shared {
         self.spawned.0.store(0, SeqCst);
         self.background.0.store(0, SeqCst);
         self.background.1.store(0, SeqCst);
+        self.arbiter.reset();
     }
 
     fn sum(&self, count: fn(&Worker) -> &AtomicU64) -> u64 {

@@ -1,12 +1,13 @@
-//! Linux's calls that the crate needs, declared by hand: epoll, eventfd, sockets, affinity, slices.
+//! Linux's calls that the crate needs, declared by hand: epoll, eventfd, sockets, affinity, slices, a shared page.
 //!
 //! The declarations are those of Linux's C library on 64 bits. The functions around the calls are safe.
 
-use crate::sync::atomic::{AtomicI32, Ordering::*};
+use crate::sync::atomic::{AtomicI32, AtomicU32, Ordering::*};
 use crate::sync::{clock, told, wait as wait_in};
+use std::fs::File;
 use std::io;
 use std::os::unix::ffi::OsStrExt;
-use std::os::unix::io::RawFd;
+use std::os::unix::io::{AsRawFd, FromRawFd, RawFd};
 use std::path::Path;
 
 #[derive(Clone, Copy)]
@@ -35,6 +36,36 @@ extern "C" {
     fn clock_gettime(clock: i32, time: *mut [i64; 2]) -> i32;
     fn signal(number: i32, handler: usize) -> usize;
     fn syscall(number: i64, ...) -> i64;
+    fn recvmsg(fd: i32, header: *mut Header, flags: i32) -> isize;
+    fn mmap(at: *mut u8, len: usize, protection: i32, flags: i32, fd: i32, offset: i64) -> *mut u8;
+}
+
+#[repr(C)]
+struct Piece {
+    base: *mut u8,
+    len: usize,
+}
+
+#[repr(C)]
+struct Header {
+    name: *mut u8,
+    name_len: u32,
+    pieces: *mut Piece,
+    count: usize,
+    control: *mut u8,
+    control_len: usize,
+    flags: i32,
+}
+
+/// A descriptor beside a message: its length, SOL_SOCKET, SCM_RIGHTS, the descriptor.
+#[derive(Default)]
+#[repr(C)]
+struct Rights {
+    len: usize,
+    level: i32,
+    kind: i32,
+    fd: i32,
+    _pad: i32,
 }
 
 pub(crate) const IN: u32 = 1;
@@ -191,10 +222,60 @@ pub(crate) fn affinity() -> Vec<usize> {
 
 /// Keeps this kernel thread on one processor.
 pub(crate) fn pin(cpu: usize) -> bool {
+    set_affinity(0, &[cpu])
+}
+
+/// Keeps a kernel thread of this process on these processors; 0 is the calling one.
+pub(crate) fn set_affinity(thread: u32, cpus: &[usize]) -> bool {
     let mut mask = [0u64; 16];
-    mask[cpu / 64 % 16] = 1 << (cpu % 64);
+    cpus.iter().for_each(|cpu| mask[cpu / 64 % 16] |= 1 << (cpu % 64));
     // SAFETY: the mask has the 128 bytes that are said.
-    unsafe { sched_setaffinity(0, 128, mask.as_ptr()) == 0 }
+    unsafe { sched_setaffinity(thread as i32, 128, mask.as_ptr()) == 0 }
+}
+
+/// Returns the kernel's number of this thread.
+pub(crate) fn thread_number() -> Option<u32> {
+    std::fs::read_link("/proc/thread-self").ok()?.file_name()?.to_str()?.parse().ok()
+}
+
+/// Waits for 16 bytes, and returns them with the descriptor that was sent with them.
+pub(crate) fn receive_with(socket: RawFd) -> io::Result<([u8; 16], Option<File>)> {
+    const ALL: i32 = 0x100;
+    const CLOSE_FD_ON_EXEC: i32 = 0x4000_0000;
+    let (mut bytes, mut rights) = ([0u8; 16], Rights::default());
+    let mut piece = Piece { base: bytes.as_mut_ptr(), len: 16 };
+    let mut header = Header {
+        name: std::ptr::null_mut(),
+        name_len: 0,
+        pieces: &mut piece,
+        count: 1,
+        control: &mut rights as *mut Rights as *mut u8,
+        control_len: 24,
+        flags: 0,
+    };
+    // SAFETY: the header, and the buffers that it names with their lengths, live through the call, which writes them.
+    if unsafe { recvmsg(socket, &mut header, ALL | CLOSE_FD_ON_EXEC) } != 16 {
+        return Err(io::ErrorKind::UnexpectedEof.into());
+    }
+    let has_fd = header.control_len >= 20 && (rights.len, rights.level, rights.kind) == (20, 1, 1);
+    // SAFETY: the kernel has made this descriptor for this call, and nobody else has it.
+    Ok((bytes, has_fd.then(|| unsafe { File::from_raw_fd(rights.fd) })))
+}
+
+/// Maps the first number of a file that another process writes: in the place of an earlier mapping of this function, or
+/// where the kernel chooses, if `at` is null.
+pub(crate) fn map_page(file: &File, at: *mut AtomicU32) -> io::Result<*mut AtomicU32> {
+    const PAGE: usize = 4096;
+    const READ: i32 = 1;
+    const SHARED: i32 = 1;
+    const FIXED: i32 = 0x10;
+    let flags = if at.is_null() { SHARED } else { SHARED | FIXED };
+    // SAFETY: nothing is mapped there but an earlier page, and who reads that reads a number before and after.
+    let mapped = unsafe { mmap(at as *mut u8, PAGE, READ, flags, file.as_raw_fd(), 0) };
+    if mapped as isize == -1 {
+        return Err(io::Error::last_os_error());
+    }
+    Ok(mapped as *mut AtomicU32)
 }
 
 /// To begin with, as rustc 1.63 can't say it within the array.

@@ -65,7 +65,7 @@ pub(crate) struct Turn {
     /// Polls since it last looked out or had nothing to do, and how many take `LOOK_TIME`.
     polls: u32,
     most: u32,
-    /// Looks are counted, and what is ready at them, for the policy.
+    /// Looks are counted, and what is ready at them, for the policy; and at each the arbiter may want cores back.
     counts: bool,
     /// By worker: its polls at the last look, at how many looks in a row it had not got on, and since when.
     seen: Vec<u64>,
@@ -351,7 +351,9 @@ impl Shared {
         if turn.polls >= LOOK_OUT || is_over(turn) {
             let by_time = turn.polls < LOOK_OUT;
             turn.pace(context, now());
-            self.look_out(context, turn, by_time);
+            if !self.look_out(context, turn, by_time) {
+                return None;
+            }
         }
         self.pick_next(context, turn).or_else(|| self.pick_ready(context, turn))
     }
@@ -529,7 +531,9 @@ impl Shared {
     }
 
     /// Looks at epoll and timers, and takes a job of one that doesn't get on or has nobody: whatever is next here.
-    fn look_out(&self, context: &Context, turn: &mut Turn, by_time: bool) {
+    /// Returns false if this worker's core is asked back. Apart, so that what is done at each poll is short.
+    #[inline(never)]
+    fn look_out(&self, context: &Context, turn: &mut Turn, by_time: bool) -> bool {
         if context.worker.hand.line.len() > turn.few() && !self.all_busy() {
             self.rouse_any();
         }
@@ -554,6 +558,7 @@ impl Shared {
             add(&context.worker.runnable, here as u64 + ready as u64);
         }
         self.look_at_others(context, turn);
+        !turn.counts || !self.is_asked_back(context.me)
     }
 
     /// Takes jobs of workers that don't get on, and fires their timers.

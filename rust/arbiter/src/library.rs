@@ -1,6 +1,5 @@
 //! The calls of the proved library `arachne_grants_c`: what a message's bytes say, and the state of the daemon with its
-//! decisions. Every `unsafe` block keeps one rule: the declarations are those of `examples/c/arachne_grants.h`, and a
-//! pointer is to memory that lives through the call.
+//! decisions. The declarations are those of `examples/c/arachne_grants.h`.
 
 #[repr(C)]
 struct Handle {
@@ -74,6 +73,7 @@ pub enum Message {
 
 /// Reads the message that bytes begin with, or says why they begin with none.
 pub fn read(bytes: &[u8]) -> Result<Message, &'static str> {
+    // SAFETY: there are as many bytes as are said.
     let it = unsafe { arachne_message_read(bytes.as_ptr(), bytes.len()) };
     match it.code {
         HELLO => Ok(Message::Hello { priority: it.priority, reserved: it.reserved, most: it.most }),
@@ -101,7 +101,7 @@ impl Move {
     fn of(action: RawAction) -> Option<Move> {
         let RawAction { code, core, client, place } = action;
         let moves = [TAKEN, PLACED, GRANTED].contains(&code);
-        moves.then(|| Move { client, place, core: core as usize, waited: code == GRANTED })
+        moves.then_some(Move { client, place, core: core as usize, waited: code == GRANTED })
     }
 }
 
@@ -112,57 +112,69 @@ impl State {
     /// Of at most 1,024 cores.
     pub fn new(cores: usize) -> Option<State> {
         let mut state = State(Handle { opaque: std::ptr::null_mut() });
+        // SAFETY: the handle holds nothing, and lives through the call.
         let told = unsafe { arachne_arbiter_new(&mut state.0, u32::try_from(cores).ok()?) };
-        (told == DONE).then(|| state)
+        (told == DONE).then_some(state)
     }
 
     /// Each event returns false if it is out of place; then it has changed nothing.
     pub fn hello(&mut self, client: usize, priority: u8, reserved: u32, most: u32) -> bool {
+        // SAFETY: the handle is this one's alone, for which `&mut` vouches.
         unsafe { arachne_arbiter_hello(&mut self.0, client, priority, reserved, most) == DONE }
     }
 
     pub fn ask(&mut self, client: usize, cores: u32) -> bool {
+        // SAFETY: the handle is this one's alone, for which `&mut` vouches.
         unsafe { arachne_arbiter_ask(&mut self.0, client, cores) == DONE }
     }
 
     pub fn leave(&mut self, client: usize) -> bool {
+        // SAFETY: the handle is this one's alone, for which `&mut` vouches.
         unsafe { arachne_arbiter_leave(&mut self.0, client) == DONE }
     }
 
     pub fn join(&mut self, client: usize, place: usize, floats: bool) -> bool {
+        // SAFETY: the handle is this one's alone, for which `&mut` vouches.
         unsafe { arachne_arbiter_join(&mut self.0, client, place, floats) == DONE }
     }
 
     pub fn wait(&mut self, client: usize, place: usize) -> bool {
+        // SAFETY: the handle is this one's alone, for which `&mut` vouches.
         unsafe { arachne_arbiter_wait(&mut self.0, client, place) == DONE }
     }
 
     pub fn end(&mut self, client: usize, place: usize) -> bool {
+        // SAFETY: the handle is this one's alone, for which `&mut` vouches.
         unsafe { arachne_arbiter_end(&mut self.0, client, place) == DONE }
     }
 
     /// Decides how many cores each client is allowed.
     pub fn decide(&mut self) {
+        // SAFETY: the handle is this one's alone, for which `&mut` vouches.
         let _ = unsafe { arachne_arbiter_decide(&mut self.0) };
     }
 
     /// Takes a core of a client that has more than it is allowed, if it can be taken yet.
     pub fn take_back(&mut self, client: usize, late: bool) -> Option<Move> {
+        // SAFETY: the handle is this one's alone, for which `&mut` vouches.
         Move::of(unsafe { arachne_arbiter_take_back(&mut self.0, client, late) })
     }
 
     /// Gives a free core to a client that has less than it is allowed.
     pub fn give(&mut self) -> Option<Move> {
+        // SAFETY: the handle is this one's alone, for which `&mut` vouches.
         Move::of(unsafe { arachne_arbiter_give(&mut self.0) })
     }
 
     pub fn share(&mut self, client: usize) -> Share {
+        // SAFETY: the handle is this one's alone, for which `&mut` vouches.
         unsafe { arachne_arbiter_share(&mut self.0, client) }
     }
 }
 
 impl Drop for State {
     fn drop(&mut self) {
+        // SAFETY: the handle is this one's, and isn't used again.
         unsafe { arachne_arbiter_close(&mut self.0) };
     }
 }

@@ -1,16 +1,21 @@
 //! Grants whole cores to processes:
-//! arbiter SOCKET [--cpuset FOLDER] [--sweep] [--cores LIST] [--keep N] [--open] [--log]
+//! arachne-arbiter run SOCKET [--cpuset FOLDER [--sweep] | --rest GROUP..] [--cores LIST] [--keep N] [--open] [--log]
+//! arachne-arbiter status SOCKET
 //!
 //! Of the processors (LIST, as 0,2-5; else the folder's, or all that it may use) the first N (1) are never granted.
 //! With a FOLDER of cpusets of version 1, granted cores are kept from all processes below it; with --sweep those that
-//! stand in the folder itself are moved below it. Else only clients' threads are moved, by their affinity. --open lets
-//! every user connect. It ends at SIGTERM, and puts all back. `docs/arbiter.md` says more.
+//! stand in the folder itself are moved below it. With a GROUP of version 2, or several, granted cores are kept from
+//! the processes below these. Else only clients' threads are moved, by their affinity. --open lets every user connect.
+//! It ends at SIGTERM, and puts all back. `docs/arbiter.md` and the page arachne-arbiter(8) say more.
 
+mod host;
 mod means;
+mod status;
 mod sys;
 
 use arbiter::library::{read, Message, Move, State};
 use arbiter::protocol::*;
+use host::{Host, WINDOW};
 use means::Means;
 use std::collections::BTreeMap;
 use std::fs;
@@ -18,7 +23,7 @@ use std::io::{self, ErrorKind, Read, Write};
 use std::os::unix::fs::PermissionsExt;
 use std::os::unix::io::AsRawFd;
 use std::os::unix::net::{UnixListener, UnixStream};
-use std::path::PathBuf;
+use std::path::{Path, PathBuf};
 use std::sync::atomic::Ordering::*;
 use std::time::{Duration, Instant};
 
@@ -28,6 +33,8 @@ const PATIENCE: Duration = Duration::from_millis(10);
 /// usual limit), and of one process (64 workers, and its control connection, twice).
 const CONNECTIONS: usize = 300;
 const OF_A_PROCESS: usize = 130;
+/// Messages of a connection, and new connections, that are taken in one turn at most.
+const AT_ONCE: usize = 8;
 /// Clients at most: their numbers in the library's state.
 const CLIENTS: usize = 64;
 /// Users other than root and the daemon's own have these priorities, no reserved cores, and this many clients each.
@@ -51,8 +58,17 @@ struct Connection {
 
 struct Thread {
     id: u32,
+    /// When it began, which tells it from another of its number.
+    began: u64,
     connection: u64,
     core: Option<usize>,
+}
+
+struct Core {
+    cpu: usize,
+    /// The client that has it, and the place of its thread; and since when.
+    owner: Option<(u32, u32)>,
+    since: Instant,
 }
 
 struct Client {
@@ -63,8 +79,13 @@ struct Client {
     ended: fs::File,
     control: u64,
     page: sys::Page,
+    priority: u32,
     least: u32,
+    asked: u32,
     allowed: u32,
+    /// Cores that were given to it, and of those that went, how many went by force.
+    given: u64,
+    forced: u64,
     /// By when it has to have given back what it was asked for.
     until: Option<Instant>,
     /// By their place in its order.
@@ -79,7 +100,9 @@ struct Arbiter {
     log: bool,
     /// Those that are never granted, and those that may be.
     kept: Vec<usize>,
-    cores: Vec<(usize, Option<(u32, u32)>)>,
+    cores: Vec<Core>,
+    /// What the machine's host takes of the cores.
+    host: Host,
     rest: Vec<usize>,
     all: Vec<usize>,
     connections: BTreeMap<u64, Connection>,
@@ -113,7 +136,7 @@ impl Arbiter {
 
     /// Reads what a connection has, a few messages at most.
     fn hear(&mut self, name: u64) {
-        for _ in 0..8 {
+        for _ in 0..AT_ONCE {
             let connection = match self.connections.get_mut(&name) {
                 Some(connection) if !connection.gone => connection,
                 _ => return,
@@ -145,8 +168,9 @@ impl Arbiter {
                 self.join(name, client, thread, place, floats)
             }
             (Role::Control(client), Message::Ask { cores }) => {
-                let number = self.clients.get(client).ok_or("no client")?.number;
-                self.state.ask(number, cores).then(|| ()).ok_or("no client")
+                let client = self.clients.get_mut(client).ok_or("no client")?;
+                client.asked = cores;
+                self.state.ask(client.number, cores).then_some(()).ok_or("no client")
             }
             (&Role::Thread(client, place), Message::Wait) => self.take_back(client, place),
             _ => Err("a message that is out of place"),
@@ -176,8 +200,12 @@ impl Arbiter {
             ended: sys::watch_process(process).map_err(failed)?,
             control: name,
             page: sys::Page::new().map_err(failed)?,
+            priority,
             least,
+            asked: 0,
             allowed: 0,
+            given: 0,
+            forced: 0,
             until: None,
             threads: BTreeMap::new(),
         };
@@ -204,15 +232,16 @@ impl Arbiter {
         let process = self.connections[&name].peer.0;
         let client = self.clients.get(&id).filter(|client| client.process == process).ok_or("no client of it")?;
         let number = client.number;
-        let known = self.clients.values().any(|client| client.threads.values().any(|it| it.id == thread));
-        if known || !is_thread_of(process, thread) {
-            return Err("a thread that isn't one of it, or that is known");
+        let thread = thread_of(process, thread).ok_or("a thread that isn't one of it")?;
+        let began = began(process, thread).ok_or("a thread that has ended")?;
+        if self.clients.values().any(|client| client.threads.values().any(|it| it.id == thread)) {
+            return Err("a thread that is known");
         }
         if !self.state.join(number, place as usize, floats) {
             return Err("two threads of one place");
         }
         let client = self.clients.get_mut(&id).unwrap();
-        client.threads.insert(place, Thread { id: thread, connection: name, core: None });
+        client.threads.insert(place, Thread { id: thread, began, connection: name, core: None });
         self.connections.get_mut(&name).unwrap().role = Role::Thread(id, place);
         let _ = self.means.unplace(thread, &self.rest);
         Ok(())
@@ -239,12 +268,17 @@ impl Arbiter {
     }
 
     fn unplace(&mut self, client: u32, place: u32) {
-        let thread = self.clients.get_mut(&client).and_then(|it| it.threads.get_mut(&place));
-        if let Some((thread, core)) = thread.and_then(|thread| thread.core.take().map(|core| (thread.id, core))) {
-            self.cores[core].1 = None;
-            // It may have ended.
-            let _ = self.means.unplace(thread, &self.rest);
-            self.say(|| format!("core {} back from {client}.{place}", self.cores[core].0));
+        let of = self.clients.get_mut(&client).and_then(|it| Some((it.process, it.threads.get_mut(&place)?)));
+        let (process, thread) = match of {
+            Some(of) => of,
+            None => return,
+        };
+        if let Some(core) = thread.core.take() {
+            (self.cores[core].owner, self.cores[core].since) = (None, Instant::now());
+            if thread.is_of(process) {
+                let _ = self.means.unplace(thread.id, &self.rest);
+            }
+            self.say(|| format!("core {} back from {client}.{place}", self.cores[core].cpu));
         }
     }
 
@@ -255,12 +289,14 @@ impl Arbiter {
             None => return true,
         };
         let (place, core) = (given.place as u32, given.core);
-        let thread = self.clients.get_mut(&id).unwrap().threads.get_mut(&place).unwrap();
-        let (cpu, name, number) = (self.cores[core].0, thread.connection, thread.id);
+        let client = self.clients.get_mut(&id).unwrap();
+        client.given += 1;
+        let thread = client.threads.get_mut(&place).unwrap();
+        let (cpu, name) = (self.cores[core].cpu, thread.connection);
         thread.core = Some(core);
-        self.cores[core].1 = Some((id, place));
+        (self.cores[core].owner, self.cores[core].since) = (Some((id, place)), Instant::now());
         self.update_rest();
-        if self.means.place(number, cpu).is_err() {
+        if !self.set_on_core(core) {
             // It has ended, or may not be moved.
             self.drop_thread(id, place);
             return false;
@@ -272,12 +308,34 @@ impl Arbiter {
         true
     }
 
+    /// Moves the thread that has a core there; while the host takes that processor, into the rest, of which the
+    /// processor is then. Returns false if it can't be moved.
+    fn set_on_core(&self, core: usize) -> bool {
+        let owner = self.cores[core].owner.and_then(|(id, place)| {
+            let client = self.clients.get(&id)?;
+            Some((client.process, client.threads.get(&place)?))
+        });
+        let (process, thread) = match owner {
+            Some(owner) => owner,
+            None => return true,
+        };
+        let moves = || match self.host.takes(core) {
+            true => self.means.unplace(thread.id, &self.rest),
+            false => self.means.place(thread.id, self.cores[core].cpu),
+        };
+        thread.is_of(process) && moves().is_ok()
+    }
+
     fn update_rest(&mut self) {
-        let free = self.cores.iter().filter(|core| core.1.is_none()).map(|core| core.0);
-        let rest: Vec<usize> = self.kept.iter().copied().chain(free).collect();
+        let (cores, host) = (&self.cores, &self.host);
+        let free = (0..cores.len()).filter(|&core| cores[core].owner.is_none() || host.takes(core));
+        let rest: Vec<usize> = self.kept.iter().copied().chain(free.map(|core| cores[core].cpu)).collect();
         if rest != self.rest {
-            let all = self.clients.values().flat_map(|client| client.threads.values());
-            self.means.set_rest(&rest, all.filter(|it| it.core.is_none()).map(|it| it.id));
+            let all = self.clients.values().flat_map(|it| it.threads.values().map(move |thread| (it.process, thread)));
+            let others = all.filter(|(process, thread)| {
+                thread.core.map_or(true, |core| host.takes(core)) && thread.is_of(*process)
+            });
+            self.means.set_rest(&rest, others.map(|(_, thread)| thread.id));
             self.rest = rest;
         }
     }
@@ -324,6 +382,7 @@ impl Arbiter {
         while let Some(taken) = self.state.take_back(number, late) {
             self.unplace(id, taken.place as u32);
             self.forced += late as u64;
+            self.clients.get_mut(&id).unwrap().forced += late as u64;
             left -= 1;
         }
         if left <= share.allowed {
@@ -336,9 +395,12 @@ impl Arbiter {
         if let Some(client) = self.clients.get(&id) {
             self.state.end(client.number, place as usize);
         }
-        if let Some(thread) = self.clients.get_mut(&id).and_then(|client| client.threads.remove(&place)) {
+        let client = self.clients.get_mut(&id);
+        if let Some((process, thread)) = client.and_then(|it| Some((it.process, it.threads.remove(&place)?))) {
             self.connections.remove(&thread.connection);
-            self.means.release(thread.id, &self.all);
+            if thread.is_of(process) {
+                self.means.release(thread.id, &self.all);
+            }
         }
     }
 
@@ -371,42 +433,88 @@ impl Arbiter {
     fn look_round(&mut self) {
         let all =
             self.clients.iter().flat_map(|(&id, it)| it.threads.iter().map(move |(&place, t)| (id, it, place, t)));
-        let ended: Vec<_> = all.filter(|(_, client, _, thread)| !is_thread_of(client.process, thread.id)).collect();
-        let ended: Vec<_> = ended.into_iter().map(|(id, _, place, _)| (id, place)).collect();
+        let ended = all.filter(|(_, client, _, thread)| !thread.is_of(client.process));
+        let ended: Vec<_> = ended.map(|(id, _, place, _)| (id, place)).collect();
         ended.into_iter().for_each(|(id, place)| self.drop_thread(id, place));
-        for &(cpu, owner) in &self.cores {
-            let owner = owner.and_then(|(id, place)| self.clients.get(&id)?.threads.get(&place)).map(|it| it.id);
-            for thread in self.means.strangers(cpu, owner) {
-                let _ = self.means.unplace(thread, &self.rest);
-            }
+        let threads = self.clients.values().flat_map(|client| client.threads.values());
+        let known: Vec<u32> = threads.map(|thread| thread.id).collect();
+        let processes: Vec<u32> = self.clients.values().map(|client| client.process).collect();
+        let cpus: Vec<usize> = self.cores.iter().map(|core| core.cpu).collect();
+        self.means.free_strangers(&cpus, &processes, &known, &self.all);
+    }
+
+    /// While the host takes a processor its thread may run elsewhere, and all others there.
+    fn look_at_host(&mut self) {
+        let changed = self.host.look();
+        if changed.is_empty() {
+            return;
+        }
+        self.update_rest();
+        for core in changed {
+            self.say(|| format!("core {} taken by the host: {}", self.cores[core].cpu, self.host.takes(core)));
+            let _ = self.set_on_core(core);
         }
     }
 
-    fn run(&mut self, listener: UnixListener) -> io::Result<()> {
+    /// Writes who has which core to whoever has connected for that.
+    fn tell_status(&self, stream: UnixStream) {
+        let _ = stream.set_nonblocking(true);
+        let _ = { &stream }.write_all(self.status().as_bytes());
+    }
+
+    fn status(&self) -> String {
+        let mut text = String::new();
+        for (id, client) in &self.clients {
+            let Client { process, user, priority, least, asked, allowed, given, forced, .. } = client;
+            let has = client.threads.values().filter(|thread| thread.core.is_some()).count();
+            text += &format!(
+                "client {id}: process {process}, user {user}, priority {priority}, reserved {least}, asks for {asked}, \
+                 may have {allowed}, has {has}; {given} given, {forced} taken by force\n"
+            );
+        }
+        for (nth, core) in self.cores.iter().enumerate() {
+            let thread = |(id, place)| Some((id, self.clients.get(&id)?.threads.get(&place)?.id));
+            let owner = core.owner.and_then(thread);
+            let owner = owner.map_or("nobody".into(), |(id, thread)| format!("client {id}, thread {thread}"));
+            let host = if self.host.takes(nth) { "; the host takes it" } else { "" };
+            let seconds = core.since.elapsed().as_secs_f64();
+            text += &format!("processor {}: {owner}, for {seconds:.3} s{host}\n", core.cpu);
+        }
+        text
+    }
+
+    fn run(&mut self, listener: UnixListener, readers: UnixListener) -> io::Result<()> {
         listener.set_nonblocking(true)?;
+        readers.set_nonblocking(true)?;
         let mut looked = Instant::now();
         while !sys::ENDS.load(SeqCst) {
             let polled = |fd: i32| sys::Polled { fd, events: 1, seen: 0 };
             let names: Vec<u64> = self.connections.keys().copied().collect();
             let ids: Vec<u32> = self.clients.keys().copied().collect();
-            let mut fds = vec![polled(listener.as_raw_fd())];
+            let mut fds = vec![polled(listener.as_raw_fd()), polled(readers.as_raw_fd())];
             fds.extend(self.connections.values().map(|it| polled(it.stream.as_raw_fd())));
             fds.extend(self.clients.values().map(|it| polled(it.ended.as_raw_fd())));
             let next = self.clients.values().filter_map(|client| client.until).min();
             let next = next.map_or(1000, |at| at.saturating_duration_since(Instant::now()).as_millis() as i32 + 1);
-            sys::wait(&mut fds, next.min(1000));
+            let most = if ids.is_empty() { 1000 } else { WINDOW.as_millis() as i32 };
+            sys::wait(&mut fds, next.min(most));
             if fds[0].seen != 0 {
-                while let Ok((stream, _)) = listener.accept() {
+                for (stream, _) in (0..AT_ONCE).map_while(|_| listener.accept().ok()) {
                     self.accept(stream);
                 }
             }
+            if fds[1].seen != 0 {
+                for (stream, _) in (0..AT_ONCE).map_while(|_| readers.accept().ok()) {
+                    self.tell_status(stream);
+                }
+            }
             for (nth, &id) in ids.iter().enumerate() {
-                if fds[1 + names.len() + nth].seen != 0 {
+                if fds[2 + names.len() + nth].seen != 0 {
                     self.drop_client(id);
                 }
             }
             for (nth, &name) in names.iter().enumerate() {
-                if fds[1 + nth].seen != 0 {
+                if fds[2 + nth].seen != 0 {
                     self.hear(name);
                 }
             }
@@ -414,6 +522,7 @@ impl Arbiter {
                 looked = Instant::now();
                 self.look_round();
             }
+            self.look_at_host();
             self.settle();
         }
         let ids: Vec<u32> = self.clients.keys().copied().collect();
@@ -422,8 +531,39 @@ impl Arbiter {
     }
 }
 
-fn is_thread_of(process: u32, thread: u32) -> bool {
-    fs::metadata(format!("/proc/{process}/task/{thread}")).is_ok()
+impl Thread {
+    /// Returns true if it has not ended, so that its number is no other thread's.
+    fn is_of(&self, process: u32) -> bool {
+        began(process, self.id) == Some(self.began)
+    }
+}
+
+/// Returns when a thread of a process began, in hundredths of a second since the machine did.
+fn began(process: u32, thread: u32) -> Option<u64> {
+    let text = fs::read_to_string(format!("/proc/{process}/task/{thread}/stat")).ok()?;
+    // Its name is in brackets, and may have any letters.
+    text.rsplit_once(')')?.1.split_whitespace().nth(19)?.parse().ok()
+}
+
+/// Threads of a process in a PID namespace of its own at most, as each is looked at when one joins.
+const IN_A_NAMESPACE: usize = 128;
+
+/// Returns the number by which this process knows the thread that another calls by `thread`: not the same if that is in
+/// a PID namespace of its own.
+fn thread_of(process: u32, thread: u32) -> Option<u32> {
+    if names_of(process, process)?.len() <= 1 {
+        return Some(thread);
+    }
+    let all = means::threads_of(process);
+    let is_it = |it: u32| names_of(process, it).and_then(|names| names.last().copied()) == Some(thread);
+    all.into_iter().take(IN_A_NAMESPACE).find(|&it| is_it(it))
+}
+
+/// Returns a thread's numbers in each PID namespace in which it is, from this process's on.
+fn names_of(process: u32, thread: u32) -> Option<Vec<u32>> {
+    let text = fs::read_to_string(format!("/proc/{process}/task/{thread}/status")).ok()?;
+    let line = text.lines().find_map(|line| line.strip_prefix("NSpid:")).unwrap_or("");
+    Some(line.split_whitespace().filter_map(|word| word.parse().ok()).collect())
 }
 
 /// Seconds, to compare what two processes say.
@@ -445,6 +585,7 @@ fn read_list(text: &str) -> Option<Vec<usize>> {
 struct Options {
     socket: PathBuf,
     cpuset: Option<PathBuf>,
+    groups: Vec<PathBuf>,
     sweep: bool,
     cpus: Vec<usize>,
     keep: usize,
@@ -453,13 +594,22 @@ struct Options {
 }
 
 fn options() -> Option<Options> {
-    let mut words = std::env::args().skip(1);
+    let mut words = std::env::args().skip(2);
     let (socket, mut listed) = (words.next()?.into(), false);
-    let mut options =
-        Options { socket, cpuset: None, sweep: false, cpus: sys::affinity(), keep: 1, open: false, log: false };
+    let mut options = Options {
+        socket,
+        cpuset: None,
+        groups: Vec::new(),
+        sweep: false,
+        cpus: sys::affinity(),
+        keep: 1,
+        open: false,
+        log: false,
+    };
     while let Some(word) = words.next() {
         match &*word {
             "--cpuset" => options.cpuset = Some(words.next()?.into()),
+            "--rest" => options.groups.push(words.next()?.into()),
             "--sweep" => options.sweep = true,
             "--cores" => (options.cpus, listed) = (read_list(&words.next()?)?, true),
             "--keep" => options.keep = words.next()?.parse().ok()?,
@@ -472,7 +622,8 @@ fn options() -> Option<Options> {
     if let (Some(folder), false) = (&options.cpuset, listed) {
         options.cpus = read_list(fs::read_to_string(folder.join("cpuset.cpus")).ok()?.trim())?;
     }
-    (options.keep >= 1 && options.keep < options.cpus.len()).then(|| options)
+    let one = options.cpuset.is_none() || options.groups.is_empty();
+    (one && options.keep >= 1 && options.keep < options.cpus.len()).then_some(options)
 }
 
 fn serve(options: &Options) -> io::Result<()> {
@@ -481,10 +632,8 @@ fn serve(options: &Options) -> io::Result<()> {
     if UnixStream::connect(&options.socket).is_ok() {
         return Err(io::Error::new(ErrorKind::AddrInUse, "there is one already"));
     }
-    let _ = fs::remove_file(&options.socket);
-    let means = Means::new(options.cpuset.as_deref(), &options.cpus)?;
-    let listener = UnixListener::bind(&options.socket)?;
-    fs::set_permissions(&options.socket, fs::Permissions::from_mode(if options.open { 0o666 } else { 0o600 }))?;
+    let means = Means::new(options.cpuset.as_deref(), &options.groups, &options.cpus)?;
+    let (listener, readers) = (listen(&options.socket, options)?, listen(&status::path_of(&options.socket), options)?);
     means.admit(std::process::id(), &[]);
     if options.sweep {
         println!("swept {}", means.sweep());
@@ -499,7 +648,8 @@ fn serve(options: &Options) -> io::Result<()> {
         start: Instant::now(),
         log: options.log,
         kept: kept.to_vec(),
-        cores: cores.iter().map(|&cpu| (cpu, None)).collect(),
+        cores: cores.iter().map(|&cpu| Core { cpu, owner: None, since: Instant::now() }).collect(),
+        host: Host::new(cores.to_vec()),
         rest: options.cpus.clone(),
         all: options.cpus.clone(),
         connections: BTreeMap::new(),
@@ -508,20 +658,41 @@ fn serve(options: &Options) -> io::Result<()> {
         forced: 0,
     };
     println!("ready");
-    let ended = arbiter.run(listener);
+    let ended = arbiter.run(listener, readers);
     println!("by force {}, after {:.0} s", arbiter.forced, arbiter.start.elapsed().as_secs_f64());
     ended
 }
 
-/// The daemon is a child of this process, which puts all back if that dies.
+fn listen(path: &Path, options: &Options) -> io::Result<UnixListener> {
+    let _ = fs::remove_file(path);
+    let listener = UnixListener::bind(path)?;
+    fs::set_permissions(path, fs::Permissions::from_mode(if options.open { 0o666 } else { 0o600 }))?;
+    Ok(listener)
+}
+
 fn main() {
-    let options = options().unwrap_or_else(|| {
-        eprintln!("arbiter SOCKET [--cpuset FOLDER] [--sweep] [--cores LIST] [--keep N] [--open] [--log]");
+    let options = match std::env::args().nth(1).as_deref() {
+        Some("run") => options(),
+        Some("status") => match std::env::args().nth(2) {
+            Some(socket) => return status::print(socket.as_ref()).unwrap_or_else(fails),
+            None => None,
+        },
+        _ => None,
+    };
+    guard(&options.unwrap_or_else(|| {
+        eprintln!(
+            "arachne-arbiter run SOCKET [--cpuset FOLDER [--sweep] | --rest GROUP..] [--cores LIST] [--keep N] \
+             [--open] [--log]\narachne-arbiter status SOCKET"
+        );
         std::process::exit(2)
-    });
+    }))
+}
+
+/// The daemon is a child of this process, which puts all back if that dies.
+fn guard(options: &Options) {
     sys::hear_ends();
     if std::env::var_os("ARBITER_SERVES").is_some() {
-        return serve(&options).unwrap_or_else(fails);
+        return serve(options).unwrap_or_else(fails);
     }
     let itself = std::env::current_exe().and_then(|path| {
         std::process::Command::new(path).args(std::env::args_os().skip(1)).env("ARBITER_SERVES", "1").spawn()
@@ -541,7 +712,9 @@ fn main() {
     // If there was one already, all is that one's.
     if status != THERE_IS_ONE {
         let _ = fs::remove_file(&options.socket);
+        let _ = fs::remove_file(status::path_of(&options.socket));
         options.cpuset.as_deref().map(means::restore);
+        means::release_groups(&options.groups);
     }
     std::process::exit(status);
 }
@@ -549,6 +722,6 @@ fn main() {
 const THERE_IS_ONE: i32 = 3;
 
 fn fails<T>(error: io::Error) -> T {
-    eprintln!("arbiter: {error}");
+    eprintln!("arachne-arbiter: {error}");
     std::process::exit(if error.kind() == ErrorKind::AddrInUse { THERE_IS_ONE } else { 1 })
 }

@@ -8,13 +8,15 @@ use std::path::{Path, PathBuf};
 pub enum Means {
     /// Cpusets of version 1, in a folder of their own: `rest`, and `cpuN` for each processor that is to be had.
     Cpusets(PathBuf),
-    /// Only the affinity of clients' threads: other processes run on any processor.
-    Affinity,
+    /// The affinity of clients' threads, and the processors of these groups of version 2, in which other processes are.
+    /// Without a group those run on any processor.
+    Affinity(Vec<PathBuf>),
 }
 
 fn write(file: PathBuf, text: impl ToString) -> io::Result<()> {
     fs::OpenOptions::new()
         .write(true)
+        .truncate(true)
         .open(file)
         .and_then(|mut f| io::Write::write_all(&mut f, text.to_string().as_bytes()))
 }
@@ -27,17 +29,25 @@ fn numbers(file: PathBuf) -> Vec<u32> {
     fs::read_to_string(file).unwrap_or_default().lines().filter_map(|line| line.parse().ok()).collect()
 }
 
-fn threads_of(process: u32) -> Vec<u32> {
+pub fn threads_of(process: u32) -> Vec<u32> {
     let entries = fs::read_dir(format!("/proc/{process}/task")).into_iter().flatten().flatten();
     entries.filter_map(|entry| entry.file_name().to_str()?.parse().ok()).collect()
 }
 
 impl Means {
-    /// Makes cpusets below `parent`, if one is given; what an arbiter that died has left is put right first.
-    pub fn new(parent: Option<&Path>, cpus: &[usize]) -> io::Result<Means> {
+    /// Makes cpusets below `parent`, if one is given; what an arbiter that died has left is put right first. Else keeps
+    /// `groups` on these processors.
+    pub fn new(parent: Option<&Path>, groups: &[PathBuf], cpus: &[usize]) -> io::Result<Means> {
         let parent = match parent {
             Some(parent) => parent,
-            None => return Ok(Means::Affinity),
+            None => {
+                for group in groups {
+                    // Where it is so already, or may not be changed, the next line says whether there are cpusets.
+                    let _ = write(group.join("../cgroup.subtree_control"), "+cpuset");
+                    write(group.join("cpuset.cpus"), list(cpus))?;
+                }
+                return Ok(Means::Affinity(groups.to_vec()));
+            }
         };
         restore(parent);
         let top = parent.join("arbiter");
@@ -62,7 +72,7 @@ impl Means {
                 let all = numbers(top.parent().unwrap().join("cgroup.procs"));
                 all.iter().filter(|process| write(top.join("rest/cgroup.procs"), process).is_ok()).count()
             }
-            Means::Affinity => 0,
+            Means::Affinity(_) => 0,
         }
     }
 
@@ -80,7 +90,7 @@ impl Means {
 
     /// A thread is none of a client's any more.
     pub fn release(&self, thread: u32, all: &[usize]) {
-        if let Means::Affinity = self {
+        if let Means::Affinity(_) = self {
             let _ = sys::set_affinity(thread, all);
         }
     }
@@ -88,14 +98,14 @@ impl Means {
     pub fn place(&self, thread: u32, cpu: usize) -> io::Result<()> {
         match self {
             Means::Cpusets(top) => write(top.join(format!("cpu{cpu}/tasks")), thread),
-            Means::Affinity => sys::set_affinity(thread, &[cpu]),
+            Means::Affinity(_) => sys::set_affinity(thread, &[cpu]),
         }
     }
 
     pub fn unplace(&self, thread: u32, rest: &[usize]) -> io::Result<()> {
         match self {
             Means::Cpusets(top) => write(top.join("rest/tasks"), thread),
-            Means::Affinity => sys::set_affinity(thread, rest),
+            Means::Affinity(_) => sys::set_affinity(thread, rest),
         }
     }
 
@@ -103,20 +113,38 @@ impl Means {
     pub fn set_rest(&self, rest: &[usize], others: impl Iterator<Item = u32>) {
         match self {
             Means::Cpusets(top) => drop(write(top.join("rest/cpuset.cpus"), list(rest))),
-            Means::Affinity => others.for_each(|thread| drop(sys::set_affinity(thread, rest))),
+            Means::Affinity(groups) => {
+                groups.iter().for_each(|group| drop(write(group.join("cpuset.cpus"), list(rest))));
+                others.for_each(|thread| drop(sys::set_affinity(thread, rest)));
+            }
         }
     }
 
-    /// Returns the threads that are on this core and shouldn't be: a thread begins in the set of the one that began it.
-    pub fn strangers(&self, cpu: usize, owner: Option<u32>) -> Vec<u32> {
+    /// Takes those threads off the cores that a client's thread has begun there: each begins in its parent's set, or
+    /// with its affinity. `known` are the clients' own, which are where they should be.
+    pub fn free_strangers(&self, cpus: &[usize], processes: &[u32], known: &[u32], all: &[usize]) {
         match self {
             Means::Cpusets(top) => {
-                let all = numbers(top.join(format!("cpu{cpu}/tasks")));
-                all.into_iter().filter(|&thread| Some(thread) != owner).collect()
+                let there = cpus.iter().flat_map(|cpu| numbers(top.join(format!("cpu{cpu}/tasks"))));
+                for thread in there.filter(|thread| !known.contains(thread)) {
+                    let _ = write(top.join("rest/tasks"), thread);
+                }
             }
-            Means::Affinity => Vec::new(),
+            Means::Affinity(_) => {
+                let others = processes.iter().flat_map(|&process| threads_of(process));
+                for thread in others.filter(|thread| !known.contains(thread)) {
+                    if matches!(sys::affinity_of(thread)[..], [cpu] if cpus.contains(&cpu)) {
+                        let _ = sys::set_affinity(thread, all);
+                    }
+                }
+            }
         }
     }
+}
+
+/// Processes in these groups of version 2 may run on any processor of the groups above them.
+pub fn release_groups(groups: &[PathBuf]) {
+    groups.iter().for_each(|group| drop(write(group.join("cpuset.cpus"), "\n")));
 }
 
 /// Puts back what is in an arbiter's cpusets below `parent`, and removes them. Linux lets go of a set some time after

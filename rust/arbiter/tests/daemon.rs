@@ -1,116 +1,19 @@
 //! The daemon by its protocol, which needs two processors: by affinity, or by cpusets in the folder ARBITER_CPUSET.
+mod common;
+
 use arbiter::protocol::*;
+use common::*;
+use std::cell::Cell;
 use std::env;
 use std::fs;
 use std::io::{BufRead, BufReader, Read, Write};
-use std::ops::Deref;
 use std::os::unix::fs::MetadataExt;
 use std::os::unix::net::UnixStream;
 use std::os::unix::process::CommandExt;
-use std::path::PathBuf;
-use std::process::{Child, Command, Stdio};
+use std::process::{Child, Command};
 use std::sync::mpsc;
 use std::thread;
 use std::time::{Duration, Instant};
-
-/// A daemon's socket, and what a client does there.
-struct Socket(PathBuf);
-
-impl Socket {
-    fn connect(&self) -> UnixStream {
-        let stream = UnixStream::connect(&self.0).unwrap();
-        stream.set_read_timeout(Some(Duration::from_secs(5))).unwrap();
-        stream
-    }
-
-    fn hello(&self, priority: u32, least: u32) -> (UnixStream, [u32; 4]) {
-        let mut stream = self.connect();
-        send(&mut stream, [HELLO, VERSION, priority, least << 16 | 64]);
-        let told = receive(&mut stream).unwrap();
-        (stream, told)
-    }
-
-    /// A kernel thread that lives as long as this test, and its connection.
-    fn thread(&self, client: u32, place: u32, floats: bool) -> UnixStream {
-        let (tell, told) = mpsc::channel();
-        thread::spawn(move || {
-            let link = fs::read_link("/proc/thread-self").unwrap();
-            tell.send(link.file_name().unwrap().to_str().unwrap().parse().unwrap()).unwrap();
-            loop {
-                thread::sleep(Duration::from_secs(100));
-            }
-        });
-        let mut stream = self.connect();
-        send(&mut stream, [JOIN, client, told.recv().unwrap(), place << 1 | floats as u32]);
-        stream
-    }
-}
-
-/// The guardian, whose child is the daemon.
-struct Daemon {
-    guardian: Child,
-    socket: Socket,
-}
-
-impl Deref for Daemon {
-    type Target = Socket;
-
-    fn deref(&self) -> &Socket {
-        &self.socket
-    }
-}
-
-impl Daemon {
-    fn new(name: &str) -> Daemon {
-        Daemon::at(path_of(name), &[])
-    }
-
-    fn at(path: PathBuf, words: &[&str]) -> Daemon {
-        let program = option_env!("CARGO_BIN_EXE_arbiter").map_or_else(|| env::var("ARBITER").unwrap(), str::to_string);
-        let mut command = Command::new(program);
-        command.arg(&path).args(words);
-        if let Some(folder) = env::var_os("ARBITER_CPUSET") {
-            command.arg("--cpuset").arg(folder);
-        }
-        let mut guardian = command.stdout(Stdio::piped()).spawn().unwrap();
-        let mut line = [0; 6];
-        guardian.stdout.as_mut().unwrap().read_exact(&mut line).unwrap();
-        assert_eq!(&line, b"ready\n");
-        Daemon { guardian, socket: Socket(path) }
-    }
-
-    fn child(&self) -> u32 {
-        let id = self.guardian.id();
-        fs::read_to_string(format!("/proc/{id}/task/{id}/children")).unwrap().trim().parse().unwrap()
-    }
-}
-
-impl Drop for Daemon {
-    fn drop(&mut self) {
-        if self.guardian.try_wait().unwrap().is_none() {
-            let _ = Command::new("kill").arg(self.guardian.id().to_string()).status();
-            let _ = self.guardian.wait();
-        }
-        assert!(!self.socket.0.exists(), "the socket is removed");
-    }
-}
-
-fn path_of(name: &str) -> PathBuf {
-    env::temp_dir().join(format!("arbiter-test-{}-{name}", std::process::id()))
-}
-
-fn kill(process: u32) {
-    let _ = Command::new("kill").args(["-9", &process.to_string()]).status();
-}
-
-fn send(stream: &mut UnixStream, words: [u32; 4]) {
-    stream.write_all(&bytes_of(words)).unwrap();
-}
-
-fn receive(stream: &mut UnixStream) -> Option<[u32; 4]> {
-    let mut bytes = [0; SIZE];
-    stream.read_exact(&mut bytes).ok().map(|()| words_of(&bytes))
-}
 
 fn is_refused(stream: &mut UnixStream) -> bool {
     receive(stream).map_or(true, |told| told[0] == REFUSED) && receive(stream).is_none()
@@ -202,17 +105,32 @@ fn what_is_out_of_place_is_refused() {
     assert_eq!(receive(&mut other).unwrap()[0], GRANT, "the client's request of one core counts");
 }
 
+/// A process that has all cores.
+fn client_to_kill(daemon: &Daemon) -> Child {
+    let mut client = other("a_client_to_kill", daemon).spawn().unwrap();
+    let mut lines = BufReader::new(client.stdout.take().unwrap()).lines();
+    assert!(lines.any(|line| line.unwrap().ends_with("granted")));
+    client
+}
+
+#[test]
+fn a_client_that_is_stopped_loses_its_cores_by_force() {
+    let daemon = Daemon::new("stopped");
+    let mut client = client_to_kill(&daemon);
+    assert!(Command::new("kill").args(["-STOP", &client.id().to_string()]).status().unwrap().success());
+    let (mut control, welcome) = daemon.hello(0, 0);
+    let mut thread = daemon.thread(welcome[1], 0, false);
+    send(&mut thread, [WAIT, 0, 0, 0]);
+    send(&mut control, [ASK, 1, 0, 0]);
+    assert_eq!(receive(&mut thread).unwrap()[0], GRANT);
+    client.kill().unwrap();
+    client.wait().unwrap();
+}
+
 #[test]
 fn a_client_that_is_killed_has_no_core() {
     let daemon = Daemon::new("client");
-    let mut client = Command::new(env::current_exe().unwrap())
-        .args(["--exact", "a_client_to_kill", "--ignored", "--nocapture"])
-        .env("ARBITER_OF", &daemon.socket.0)
-        .stdout(Stdio::piped())
-        .spawn()
-        .unwrap();
-    let mut lines = BufReader::new(client.stdout.take().unwrap()).lines();
-    assert!(lines.any(|line| line.unwrap().ends_with("granted")));
+    let mut client = client_to_kill(&daemon);
     let (mut control, welcome) = daemon.hello(5, 0);
     let mut thread = daemon.thread(welcome[1], 0, false);
     send(&mut thread, [WAIT, 0, 0, 0]);
@@ -223,10 +141,10 @@ fn a_client_that_is_killed_has_no_core() {
 }
 
 #[test]
-#[ignore = "the test before runs it, and kills it once it has all cores"]
+#[ignore = "other tests run it, and stop or kill it once it has all cores"]
 fn a_client_to_kill() {
-    let socket = Socket(env::var_os("ARBITER_OF").unwrap().into());
-    let (mut control, welcome) = socket.hello(0, 0);
+    let socket = given();
+    let (mut control, welcome) = socket.hello(1, 0);
     let mut threads: Vec<_> = (0..welcome[2]).map(|place| socket.thread(welcome[1], place, false)).collect();
     threads.iter_mut().for_each(|thread| send(thread, [WAIT, 0, 0, 0]));
     send(&mut control, [ASK, welcome[2], 0, 0]);
@@ -282,6 +200,7 @@ fn a_flood_of_one_client_keeps_no_other_from_its_core() {
     let mut greedy = daemon.thread(welcome[1], 0, false);
     send(&mut greedy, [WAIT, 0, 0, 0]);
     let flood = thread::spawn(move || while control.write_all(&bytes_of([ASK, 1000, 0, 0])).is_ok() {});
+    let mut visitor = other("who_connects_and_asks_for_the_status_all_the_time", &daemon).spawn().unwrap();
     assert_eq!(receive(&mut greedy).unwrap()[0], GRANT);
     let (mut other, welcome) = daemon.hello(5, 0);
     let mut thread = daemon.thread(welcome[1], 0, false);
@@ -290,6 +209,190 @@ fn a_flood_of_one_client_keeps_no_other_from_its_core() {
     assert_eq!(receive(&mut thread).unwrap()[0], GRANT);
     drop(daemon);
     flood.join().unwrap();
+    assert!(visitor.wait().unwrap().success());
+}
+
+#[test]
+#[ignore = "the test before runs it, until its daemon ends"]
+fn who_connects_and_asks_for_the_status_all_the_time() {
+    let (socket, mut readers) = (given().0, given().0.into_os_string());
+    readers.push(".status");
+    while UnixStream::connect(&socket).is_ok() && UnixStream::connect(&readers).is_ok() {}
+}
+
+#[test]
+fn the_status_says_who_has_which_core_and_what_was_moved() {
+    let daemon = Daemon::new("status");
+    let (mut control, welcome) = daemon.hello(5, 1);
+    let mut thread = daemon.thread(welcome[1], 0, false);
+    send(&mut thread, [WAIT, 0, 0, 0]);
+    send(&mut control, [ASK, 1, 0, 0]);
+    let (cpu, text) = (receive(&mut thread).unwrap()[1], status(&daemon));
+    let client = format!("client {}: process {}, user ", welcome[1], std::process::id());
+    assert!(text.contains(&client), "{text}");
+    let rest = ", priority 5, reserved 1, asks for 1, may have 1, has 1; 1 given, 0 taken by force\n";
+    assert!(text.contains(rest), "{text}");
+    assert_eq!(processors_of(&thread_on(&daemon, cpu).to_string()), cpu.to_string());
+    drop(control);
+    becomes("nobody has it", || status(&daemon).contains(&format!("processor {cpu}: nobody, for ")));
+}
+
+/// A thread that begins, says its number, and ends once it is told to.
+fn begin() -> (u32, impl FnOnce()) {
+    let (ends, waits) = mpsc::channel::<()>();
+    let (tell, told) = mpsc::channel();
+    let thread = thread::spawn(move || {
+        let link = fs::read_link("/proc/thread-self").unwrap();
+        tell.send(link.file_name().unwrap().to_str().unwrap().parse().unwrap()).unwrap();
+        let _ = waits.recv();
+    });
+    let end = move || {
+        drop(ends);
+        thread.join().unwrap();
+    };
+    (told.recv().unwrap(), end)
+}
+
+#[test]
+fn a_thread_that_has_the_number_of_one_that_ended_is_not_moved() {
+    let daemon = Daemon::new("number");
+    let (mut control, welcome) = daemon.hello(5, 0);
+    let (number, end) = begin();
+    let mut thread = daemon.connect();
+    send(&mut thread, [JOIN, welcome[1], number, 0]);
+    send(&mut thread, [WAIT, 0, 0, 0]);
+    thread::sleep(Duration::from_millis(50));
+    end();
+    // More than the hundredth of a second by which the kernel says when a thread began.
+    thread::sleep(Duration::from_millis(50));
+    let again = (0..100).find_map(|_| {
+        fs::write("/proc/sys/kernel/ns_last_pid", (number - 1).to_string()).ok()?;
+        Some(begin()).filter(|it| it.0 == number)
+    });
+    let again = match again {
+        Some(again) => again,
+        None => return println!("skipped: no thread can be given a number"),
+    };
+    let before = processors_of(&number.to_string());
+    send(&mut control, [ASK, 1, 0, 0]);
+    assert!(receive(&mut thread).is_none(), "the thread that has ended has no core");
+    assert_eq!(processors_of(&number.to_string()), before);
+    (again.1)();
+}
+
+#[test]
+fn a_thread_that_changes_its_affinity_leaves_its_core_by_affinity_alone() {
+    let daemon = Daemon::new("leaves");
+    let (mut control, welcome) = daemon.hello(5, 0);
+    let mut thread = daemon.thread(welcome[1], 0, false);
+    send(&mut thread, [WAIT, 0, 0, 0]);
+    send(&mut control, [ASK, 1, 0, 0]);
+    let cpu = receive(&mut thread).unwrap()[1].to_string();
+    let id = thread_on(&daemon, cpu.parse().unwrap()).to_string();
+    // The processor that is kept, which is the first of those that this process's first thread may run on.
+    let all = processors_of(&std::process::id().to_string());
+    let kept = all.split(['-', ',']).next().unwrap();
+    let leaves = Command::new("taskset").args(["-cp", kept, &id]).output().unwrap().status.success();
+    assert_eq!(leaves, env::var_os("ARBITER_CPUSET").is_none());
+    assert_eq!(processors_of(&id), if leaves { kept } else { &cpu[..] });
+}
+
+#[test]
+fn a_thread_of_a_container_is_found_by_its_number_there() {
+    let mut unshare = Command::new("unshare");
+    unshare.args(["--pid", "--fork", "--mount-proc"]);
+    let begun = Command::new("unshare").args(["--pid", "--fork", "--mount-proc", "true"]).output();
+    if !begun.map_or(false, |it| it.status.success()) {
+        return println!("skipped: there is no PID namespace to be had");
+    }
+    let daemon = Daemon::new("container");
+    let it = other("a_container", &daemon);
+    let ends = unshare.arg(it.get_program()).args(it.get_args()).env("ARBITER_OF", &daemon.socket.0).status();
+    assert!(ends.unwrap().success());
+}
+
+#[test]
+#[ignore = "the test before runs it in a PID namespace of its own"]
+fn a_container() {
+    let socket = given();
+    let (mut control, welcome) = socket.hello(5, 0);
+    let mut thread = socket.thread(welcome[1], 0, false);
+    send(&mut thread, [WAIT, 0, 0, 0]);
+    send(&mut control, [ASK, 1, 0, 0]);
+    let granted = receive(&mut thread).unwrap();
+    assert_eq!(granted[0], GRANT);
+    let threads = fs::read_dir("/proc/self/task").unwrap().flatten().map(|it| it.file_name().into_string().unwrap());
+    assert_eq!(threads.filter(|it| processors_of(it) == granted[1].to_string()).count(), 1);
+    // A number that no thread has there, though one of the daemon's namespace may.
+    let mut stream = socket.connect();
+    send(&mut stream, [JOIN, welcome[1], 1 << 21, 1 << 1]);
+    assert!(is_refused(&mut stream));
+}
+
+#[test]
+fn while_the_host_takes_a_processor_its_thread_runs_in_the_rest() {
+    let (stat, path) = (path_of("stat"), path_of("host"));
+    // Hundredths of a second of each processor: all, and those that the host has taken.
+    let account = |all: u64, stolen: u64| {
+        let line = |cpu| format!("cpu{cpu} {} 0 0 0 0 0 0 {stolen} 0 0\n", all - stolen);
+        // In one step, as the kernel's.
+        fs::write(path_of("next"), (0..1024).map(line).collect::<String>()).unwrap();
+        fs::rename(path_of("next"), &stat).unwrap();
+    };
+    account(100, 10);
+    let mut command = Command::new(program());
+    command.arg("run").arg(&path).env("ARBITER_STAT", &stat);
+    if let Some(folder) = env::var_os("ARBITER_CPUSET") {
+        command.arg("--cpuset").arg(folder);
+    }
+    let daemon = Daemon::begun(command, path);
+    let (mut control, welcome) = daemon.hello(5, 0);
+    let mut thread = daemon.thread(welcome[1], 0, false);
+    send(&mut thread, [WAIT, 0, 0, 0]);
+    send(&mut control, [ASK, 1, 0, 0]);
+    let cpu = receive(&mut thread).unwrap()[1];
+    let id = thread_on(&daemon, cpu).to_string();
+    assert_eq!(processors_of(&id), cpu.to_string());
+    let all = Cell::new(100);
+    let goes_on = |stolen| {
+        all.set(all.get() + 100);
+        account(all.get(), stolen);
+        thread::sleep(Duration::from_millis(20));
+    };
+    becomes("it may run elsewhere", || {
+        goes_on(all.get() / 2);
+        processors_of(&id) != cpu.to_string()
+    });
+    assert!(status(&daemon).contains("; the host takes it"));
+    assert_eq!(status(&daemon).matches("has 1;").count(), 1, "the core is the client's all the same");
+    let stolen = all.get() / 2;
+    becomes("it is on its core again", || {
+        goes_on(stolen);
+        processors_of(&id) == cpu.to_string()
+    });
+    fs::remove_file(stat).unwrap();
+}
+
+/// What is written to a group's files, which are plain ones here: the kernel has no part in it.
+#[test]
+fn groups_of_version_2_get_the_processors_of_the_rest() {
+    let group = path_of("group");
+    fs::create_dir(&group).unwrap();
+    let processors = || fs::read_to_string(group.join("cpuset.cpus")).unwrap();
+    fs::write(group.join("cpuset.cpus"), "").unwrap();
+    let daemon = Daemon::at(path_of("rest"), &["--rest", group.to_str().unwrap()]);
+    let has = |cpu: u32| processors().split(',').any(|it| it == cpu.to_string());
+    let (mut control, welcome) = daemon.hello(5, 0);
+    let mut thread = daemon.thread(welcome[1], 0, false);
+    send(&mut thread, [WAIT, 0, 0, 0]);
+    send(&mut control, [ASK, 1, 0, 0]);
+    let cpu = receive(&mut thread).unwrap()[1];
+    assert!(!has(cpu), "{}", processors());
+    drop(control);
+    becomes("it is of the rest again", || has(cpu));
+    drop(daemon);
+    assert_eq!(processors(), "\n");
+    fs::remove_dir_all(&group).unwrap();
 }
 
 #[test]
@@ -298,19 +401,14 @@ fn a_user_who_is_not_trusted_has_low_priorities_no_reserve_and_few_clients() {
         return println!("skipped: only root can become another user");
     }
     let daemon = Daemon::at(path_of("stranger"), &["--open"]);
-    let status = Command::new(env::current_exe().unwrap())
-        .args(["--exact", "a_stranger", "--ignored"])
-        .env("ARBITER_OF", &daemon.socket.0)
-        .uid(65534)
-        .status();
-    assert!(status.unwrap().success());
+    assert!(other("a_stranger", &daemon).uid(65534).status().unwrap().success());
     assert_eq!(daemon.hello(0, 1).1[0], WELCOME);
 }
 
 #[test]
 #[ignore = "the test before runs it as another user"]
 fn a_stranger() {
-    let socket = Socket(env::var_os("ARBITER_OF").unwrap().into());
+    let socket = given();
     assert_eq!(socket.hello(3, 0).1[0], REFUSED);
     assert_eq!(socket.hello(4, 1).1[0], REFUSED);
     let clients: Vec<_> = (0..20).map(|_| socket.hello(4, 0)).collect();

@@ -154,22 +154,29 @@ pub fn wait_for_end() {
     let _ = std::io::Read::read_to_end(&mut std::io::stdin(), &mut Vec::new());
 }
 
-/// Arguments of a server: CORES PORT [policy].
+/// Arguments of a server: CORES PORT [policy [SOCKET PRIORITY]], the latter of an arbiter.
 pub struct Arguments {
     pub cores: usize,
     pub port: u16,
     pub follows: bool,
+    pub arbiter: Option<(String, u8)>,
 }
 
 impl Arguments {
     pub fn read() -> Option<Arguments> {
         let mut words = std::env::args().skip(1);
         let (cores, port) = (words.next()?.parse().ok()?, words.next()?.parse().ok()?);
-        Some(Arguments { cores, port, follows: words.next().is_some() })
+        let follows = words.next().is_some();
+        let arbiter = words.next().and_then(|socket| Some((socket, words.next()?.parse().ok()?)));
+        Some(Arguments { cores, port, follows, arbiter })
     }
 
     pub fn runtime(&self) -> std::io::Result<arachne::Runtime> {
         let builder = arachne::Builder::new(self.cores);
+        let builder = match &self.arbiter {
+            Some((socket, priority)) => builder.arbiter(socket, *priority, 0),
+            None => builder,
+        };
         if self.follows { builder.policy(arachne::Policy::default()) } else { builder }.build()
     }
 }

@@ -1,6 +1,12 @@
-//! For the explorer: a run leaves nothing behind for the next one.
+//! For the explorer: a run leaves nothing behind for the next one, and cores come and go as an arbiter has it.
 
 use super::*;
+use crate::runtime::Runtime;
+
+/// From now on this many workers are active.
+pub fn set_active(runtime: &Runtime, active: usize) {
+    runtime.shared().set_active(active);
+}
 
 /// Frees what this thread keeps for its next calls.
 pub fn forget_thread() {

@@ -111,7 +111,7 @@ impl Shared {
         let owners = std::iter::once(context.me).chain(self.lodgers(context.me));
         let mut timeout = timer::rest(self, owners);
         if let Some(judge) = judge {
-            timeout = sooner(timeout, judge.millis());
+            timeout = sooner(timeout, judge.millis(self));
         }
         if waits {
             return self.wait_in_epoll(context, turn, timeout);

@@ -1,5 +1,6 @@
-//! A server whose requests say how long they take, and its client: served EXECUTOR CORES [policy] on arachne or tokio
-//! prints its port, and with `policy` a line at each change of the cores held; it ends with its standard input.
+//! A server whose requests say how long they take, and its client: served EXECUTOR CORES [policy [SOCKET PRIORITY]] on
+//! arachne (SOCKET and PRIORITY are of an arbiter) or tokio prints its port, and with `policy` a line at each change of
+//! the cores held; it ends with its standard input.
 //! served client PORT CONNECTIONS IN-FLIGHT MICROS MILLISECONDS asks with so many in flight on each connection;
 //! served offer PORT RATE MICROS MILLISECONDS sends each of RATE requests a second when it is due, on 32 connections.
 use std::io::{ErrorKind, Read, Write};
@@ -49,8 +50,12 @@ macro_rules! connection {
     }};
 }
 
-fn on_arachne(cores: usize, follows: bool) {
+fn on_arachne(cores: usize, follows: bool, arbiter: Option<&[String]>) {
     let builder = arachne::Builder::new(cores);
+    let builder = match arbiter {
+        Some(words) => builder.arbiter(&words[0], words[1].parse().unwrap(), 0),
+        None => builder,
+    };
     let runtime = if follows { builder.policy(arachne::Policy::default()) } else { builder }.build().unwrap();
     let listener = arachne::net::TcpListener::bind("127.0.0.1:0").unwrap();
     println!("{}", listener.local_addr().unwrap().port());
@@ -182,7 +187,7 @@ fn main() {
         name => {
             let cores = number(1) as usize;
             if name == "arachne" {
-                on_arachne(cores, words.len() > 2)
+                on_arachne(cores, words.len() > 2, words.get(3..5))
             } else {
                 on_tokio(cores)
             }

@@ -1,7 +1,7 @@
-//! GET, SET, INCR, DEL and PING of Redis's protocol on 127.0.0.1: redis CORES PORT [policy]
+//! GET, SET, INCR, DEL and PING of Redis's protocol on 127.0.0.1: redis CORES PORT [policy [SOCKET PRIORITY]]
 //! It ends at SIGTERM or when its standard input ends: what it has read is answered, within a second, and it prints how
 //! many commands were accepted and how many of them answered. With `policy` cores follow the load, and a line each
-//! 10 ms says how many are held.
+//! 10 ms says how many are held; SOCKET and PRIORITY are of an arbiter.
 use arachne::net::{TcpListener, TcpStream};
 use examples::{wait_for_end, Arguments, Buffer, Store};
 use std::io;

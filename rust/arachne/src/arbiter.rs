@@ -1,0 +1,316 @@
+//! The client of an arbiter, the daemon of `rust/arbiter`, which grants whole processors to processes.
+//!
+//! Worker 0 floats: it runs with a core of its own or without one. Each other worker waits for a core on a connection
+//! of its own, and gives it back by waiting again. How many cores there may be is a number on a page that the arbiter
+//! writes: each worker compares it with `active` as it looks out, and a kernel thread that reads the control connection
+//! hears of it while all sleep. Without an arbiter, or once it has gone, the policy decides as ever.
+
+use crate::shared::Shared;
+use crate::sync::atomic::{AtomicBool, AtomicPtr, AtomicU32, AtomicUsize, Ordering::*};
+use crate::sync::{thread, Arc, Condvar, Mutex, MutexGuard};
+use crate::sys;
+use std::io::{self, Read, Write};
+use std::net::Shutdown;
+use std::os::unix::io::AsRawFd;
+use std::os::unix::net::UnixStream;
+use std::path::PathBuf;
+use std::time::Duration;
+
+/// The messages, as `rust/arbiter/src/protocol.rs` has them.
+const SIZE: usize = 16;
+const VERSION: u32 = 1;
+const HELLO: u32 = 1;
+const JOIN: u32 = 2;
+const WAIT: u32 = 3;
+const ASK: u32 = 4;
+const WELCOME: u32 = 5;
+const GRANT: u32 = 6;
+const ALLOWED: u32 = 7;
+const REFUSED: u32 = 8;
+
+/// The time until an arbiter that isn't there is looked for again, and until one that has refused is asked again.
+const AGAIN: Duration = Duration::from_secs(1);
+const REFUSED_AGAIN: Duration = Duration::from_secs(30);
+/// The time until a worker that couldn't use what it heard of the arbiter asks again.
+const SOON: Duration = Duration::from_millis(1);
+
+/// Where the arbiter is, and what it is to know of a runtime.
+#[derive(Clone, Debug)]
+pub(crate) struct Wish {
+    pub(crate) path: PathBuf,
+    pub(crate) priority: u8,
+    pub(crate) reserved: usize,
+}
+
+/// What a runtime's kernel threads share of its arbiter.
+#[derive(Default)]
+pub(crate) struct Client {
+    /// The page's number. Once mapped it is never unmapped.
+    page: AtomicPtr<AtomicU32>,
+    /// An arbiter says how many cores there may be. It changes under `order`.
+    up: AtomicBool,
+    /// The cores that were last asked for.
+    asked: AtomicUsize,
+    /// Held by whoever changes how many workers are active.
+    order: Mutex<()>,
+    state: Mutex<State>,
+    changed: Condvar,
+}
+
+#[derive(Default)]
+struct State {
+    closed: bool,
+    refused: bool,
+    /// The control connection, and behind it one of each worker.
+    streams: Vec<Arc<UnixStream>>,
+    /// By worker, the kernel's number of its thread; 0 until that runs.
+    threads: Vec<u32>,
+    /// Processors that this process had before an arbiter moved threads; none if there is to be no arbiter.
+    cpus: Vec<usize>,
+}
+
+fn send(mut stream: &UnixStream, words: [u32; 4]) -> io::Result<()> {
+    let mut bytes = [0; SIZE];
+    bytes.chunks_exact_mut(4).zip(words).for_each(|(chunk, word)| chunk.copy_from_slice(&word.to_le_bytes()));
+    stream.write_all(&bytes)
+}
+
+fn words_of(bytes: &[u8; SIZE]) -> [u32; 4] {
+    let word = |at: usize| u32::from_le_bytes([bytes[at], bytes[at + 1], bytes[at + 2], bytes[at + 3]]);
+    [word(0), word(4), word(8), word(12)]
+}
+
+fn receive(mut stream: &UnixStream) -> io::Result<[u32; 4]> {
+    let mut bytes = [0; SIZE];
+    stream.read_exact(&mut bytes)?;
+    Ok(words_of(&bytes))
+}
+
+impl Client {
+    /// Begins anew, for a runtime that has no arbiter yet.
+    pub(crate) fn reset(&self) {
+        *self.state.lock().unwrap() = State::default();
+    }
+
+    /// A runtime of this many workers is to have an arbiter. Keeps the processors that this kernel thread may run on.
+    pub(crate) fn open(&self, workers: usize) {
+        let mut state = self.state.lock().unwrap();
+        (state.threads, state.cpus) = (vec![0; workers], sys::affinity());
+    }
+
+    /// Returns true if an arbiter says how many cores there may be.
+    #[inline]
+    pub(crate) fn is_up(&self) -> bool {
+        self.up.load(Acquire)
+    }
+
+    /// Returns how many cores the arbiter allows this runtime; without an arbiter, any number.
+    #[inline]
+    pub(crate) fn limit(&self) -> usize {
+        if !self.is_up() {
+            return usize::MAX;
+        }
+        // SAFETY: a page is mapped before an arbiter is up, and never unmapped.
+        unsafe { (*self.page.load(Relaxed)).load(Relaxed) as usize }
+    }
+
+    /// The kernel thread of a worker runs.
+    pub(crate) fn names(&self, worker: usize) {
+        self.state.lock().unwrap().threads[worker] = sys::thread_number().unwrap_or(u32::MAX);
+        self.changed.notify_all();
+    }
+
+    /// A kernel thread that a worker has begun may run on any processor: it was begun on the worker's.
+    pub(crate) fn unpin(&self) {
+        let state = self.state.lock().unwrap();
+        if !state.cpus.is_empty() {
+            sys::set_affinity(0, &state.cpus);
+        }
+    }
+
+    /// Asks for this many cores; returns true if they are others than before.
+    fn ask(&self, cores: usize) -> bool {
+        if self.asked.swap(cores, SeqCst) == cores {
+            return false;
+        }
+        let control = self.state.lock().unwrap().streams.first().cloned();
+        if !control.map_or(false, |control| send(&control, [ASK, cores as u32, 0, 0]).is_ok()) {
+            // It is full, or gone: who reads there sees the latter.
+            self.asked.store(usize::MAX, SeqCst);
+        }
+        true
+    }
+
+    /// Keeps a connection, so that `close` and `hang_up` end what waits there.
+    fn connect(&self, wish: &Wish) -> io::Result<Arc<UnixStream>> {
+        let stream = Arc::new(UnixStream::connect(&wish.path)?);
+        let mut state = self.state.lock().unwrap();
+        if state.closed {
+            return Err(io::ErrorKind::ConnectionAborted.into());
+        }
+        state.streams.push(stream.clone());
+        Ok(stream)
+    }
+
+    /// Ends all connections, and so the arbiter's account of this runtime.
+    fn hang_up(&self, refused: bool) {
+        let mut state = self.state.lock().unwrap();
+        state.refused |= refused;
+        state.streams.iter().for_each(|stream| drop(stream.shutdown(Shutdown::Both)));
+    }
+
+    /// The runtime ends: nobody waits for a core any more.
+    pub(crate) fn close(&self) {
+        self.state.lock().unwrap().closed = true;
+        self.hang_up(false);
+        self.changed.notify_all();
+    }
+}
+
+impl Shared {
+    /// The policy wants this many cores: those beyond go back, and more are asked for. Returns true if that changes
+    /// something.
+    pub(crate) fn want(&self, cores: usize) -> bool {
+        // Whoever has it changes the same.
+        let _order = match self.arbiter.order.try_lock() {
+            Ok(order) => order,
+            Err(_) => return false,
+        };
+        let (up, active) = (self.arbiter.is_up(), self.active.0.load(SeqCst));
+        let asks = up && self.arbiter.ask(cores);
+        if cores < active || cores > active && !up {
+            self.set_active(cores);
+            return true;
+        }
+        asks
+    }
+
+    /// Gives back the cores of the last workers, but for the first worker's, to have no more than the arbiter allows.
+    fn obey(&self, _order: &MutexGuard<()>, allowed: usize) {
+        if self.arbiter.is_up() && allowed.max(1) < self.active.0.load(SeqCst) {
+            self.set_active(allowed.max(1));
+        }
+    }
+
+    /// Gives back what the arbiter wants back; returns true if this worker's core is of that.
+    pub(crate) fn is_asked_back(&self, me: usize) -> bool {
+        let active = self.active.0.load(Relaxed);
+        if active > 1 && self.arbiter.limit() < active {
+            // Whoever has it looks at the page too, or this worker does at its next look.
+            if let Ok(order) = self.arbiter.order.try_lock() {
+                self.obey(&order, self.arbiter.limit());
+            }
+        }
+        me >= self.active.0.load(Relaxed)
+    }
+
+    /// This worker gives its core back, and waits until one is granted to it, or there is no arbiter any more. The
+    /// caller looks which of these it was.
+    #[cold]
+    pub(crate) fn wait_for_core(&self, me: usize) {
+        let stream = match self.arbiter.state.lock().unwrap().streams.get(me + 1) {
+            Some(stream) => stream.clone(),
+            None => return,
+        };
+        let heard = send(&stream, [WAIT, 0, 0, 0]).and_then(|()| receive(&stream));
+        if !matches!(heard, Ok([GRANT, ..])) {
+            // Of a thread that the arbiter doesn't know any more it is no use to be its client.
+            self.arbiter.hang_up(matches!(heard, Ok([REFUSED, ..])));
+            return thread::sleep(SOON);
+        }
+        let order = self.arbiter.order.lock().unwrap();
+        let active = self.active.0.load(SeqCst);
+        if me == active && me < self.arbiter.limit() {
+            self.set_active(me + 1);
+        } else if me >= active {
+            // It was asked back since; or a worker before this one has lost its core and is yet in a poll, and only the
+            // first workers are active.
+            drop(order);
+            thread::sleep(SOON);
+        }
+    }
+
+    /// The kernel thread that has the control connection. `first` is how many cores are asked for of an arbiter that is
+    /// there from the beginning.
+    pub(crate) fn run_arbiter(&'static self, wish: Wish, first: usize, follows: bool) {
+        sys::ask_for_slices(100_000);
+        let (mut first, mut told) = (Some(first), false);
+        loop {
+            let met = self.meet(&wish, first.take());
+            if let Ok(control) = &met {
+                while let Ok([ALLOWED, allowed, ..]) = receive(control) {
+                    // Not the page's number, which may be greater by now: a worker that was in a poll meanwhile may
+                    // have lost its core, and has to wait for one.
+                    let order = self.arbiter.order.lock().unwrap();
+                    self.obey(&order, allowed as usize);
+                }
+            }
+            let refused = self.part(follows) || met.map_or_else(|error| is_refused(&error), |_| false);
+            if refused && !std::mem::replace(&mut told, true) {
+                eprintln!("arachne: the arbiter at {} refuses this runtime", wish.path.display());
+            }
+            let (state, again) = (self.arbiter.state.lock().unwrap(), if refused { REFUSED_AGAIN } else { AGAIN });
+            let state = self.arbiter.changed.wait_timeout_while(state, again, |state| !state.closed).unwrap().0;
+            if state.closed {
+                return;
+            }
+        }
+    }
+
+    /// Connects: for the runtime, and for each of its workers. Asks for `first` cores, or for as many as there are now.
+    fn meet(&self, wish: &Wish, first: Option<usize>) -> io::Result<Arc<UnixStream>> {
+        let client = &self.arbiter;
+        let state = client.state.lock().unwrap();
+        let begins = |state: &mut State| !state.closed && state.threads.contains(&0);
+        let threads = client.changed.wait_while(state, begins).unwrap().threads.clone();
+        let control = client.connect(wish)?;
+        control.set_write_timeout(Some(SOON))?;
+        send(&control, [HELLO, VERSION, wish.priority as u32, (wish.reserved as u32) << 16 | threads.len() as u32])?;
+        let (bytes, page) = sys::receive_with(control.as_raw_fd())?;
+        let words = words_of(&bytes);
+        let page = match (words[0], page) {
+            (WELCOME, Some(page)) => page,
+            _ => return Err(io::ErrorKind::PermissionDenied.into()),
+        };
+        client.page.store(sys::map_page(&page, client.page.load(SeqCst))?, SeqCst);
+        for (worker, &thread) in threads.iter().enumerate() {
+            let floats = (worker == 0) as u32;
+            send(&*client.connect(wish)?, [JOIN, words[1], thread, (worker as u32) << 1 | floats])?;
+        }
+        let _order = client.order.lock().unwrap();
+        let first = first.unwrap_or_else(|| self.active.0.load(SeqCst));
+        client.up.store(true, SeqCst);
+        self.set_active(1);
+        client.asked.store(usize::MAX, SeqCst);
+        client.ask(first);
+        Ok(control)
+    }
+
+    /// There is no arbiter any more: the policy goes on from here, or else each worker has a core. Threads that were
+    /// kept on their cores by affinity may run everywhere. Returns true if the arbiter has refused a thread.
+    fn part(&self, follows: bool) -> bool {
+        let _order = self.arbiter.order.lock().unwrap();
+        let was_up = self.arbiter.up.swap(false, SeqCst);
+        let mut state = self.arbiter.state.lock().unwrap();
+        state.streams.drain(..).for_each(|stream| drop(stream.shutdown(Shutdown::Both)));
+        let refused = std::mem::take(&mut state.refused);
+        // Workers end only once this is closed: until then their numbers are no other threads'.
+        if was_up && !state.closed {
+            for &thread in &state.threads {
+                // Where the system refuses it, it stays where it was.
+                let _ = sys::set_affinity(thread, &state.cpus);
+            }
+        }
+        drop(state);
+        if was_up && !self.stop.load(SeqCst) {
+            // Those that go on waiting do so for the policy.
+            let active = if follows { self.active.0.load(SeqCst) } else { self.workers.len() };
+            self.set_active(active);
+        }
+        refused
+    }
+}
+
+fn is_refused(error: &io::Error) -> bool {
+    error.kind() == io::ErrorKind::PermissionDenied
+}

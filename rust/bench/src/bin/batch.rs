@@ -1,0 +1,59 @@
+//! A batch program, which computes for as long as it may: batch threads N on N kernel threads; batch arachne CORES
+//! [SOCKET PRIORITY] on a runtime with a policy, and with the arbiter at SOCKET. Each 10 ms it prints the time in
+//! milliseconds, how many units of work, of some 20 us, it has done, and on how many cores it is. It ends with its
+//! standard input.
+use std::sync::atomic::{AtomicU64, Ordering::Relaxed};
+use std::thread;
+use std::time::{Duration, SystemTime};
+
+static DONE: AtomicU64 = AtomicU64::new(0);
+
+fn work(nth: usize) {
+    let mut x = nth as u64 + 1;
+    for _ in 0..10_000 {
+        x ^= x << 13;
+        x ^= x >> 7;
+        x ^= x << 17;
+    }
+    std::hint::black_box(x);
+    DONE.fetch_add(1, Relaxed);
+}
+
+fn runtime(count: usize, arbiter: Option<&[String]>) -> arachne::Runtime {
+    let builder = arachne::Builder::new(count).policy(arachne::Policy::default());
+    let builder = match arbiter {
+        Some(words) => builder.arbiter(&words[0], words[1].parse().expect("a priority"), 0),
+        None => builder,
+    };
+    let runtime = builder.build().expect("a runtime");
+    for nth in 0..8 * count {
+        runtime.spawn(async move {
+            loop {
+                work(nth);
+                arachne::yield_now().await;
+            }
+        });
+    }
+    runtime
+}
+
+fn main() {
+    let words: Vec<String> = std::env::args().skip(1).collect();
+    let count: usize = words[1].parse().expect("batch threads|arachne N [SOCKET PRIORITY]");
+    let runtime = (words[0] == "arachne").then(|| runtime(count, words.get(2..4)));
+    if runtime.is_none() {
+        for nth in 0..count {
+            thread::spawn(move || loop {
+                work(nth);
+            });
+        }
+    }
+    thread::spawn(move || loop {
+        let now = SystemTime::now().duration_since(SystemTime::UNIX_EPOCH).unwrap().as_micros() as f64 / 1e3;
+        let active = runtime.as_ref().map_or(count, |runtime| runtime.stats().active);
+        println!("{now:.1} {} {active}", DONE.load(Relaxed));
+        thread::sleep(Duration::from_millis(10));
+    });
+    examples::wait_for_end();
+    std::process::exit(0);
+}
