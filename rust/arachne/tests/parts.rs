@@ -1037,7 +1037,7 @@ fn what_is_public_is_shown_and_sockets_have_descriptors() {
     let limit = Limit::new(1);
     let runtime = Runtime::new(1);
     let stream = runtime.block_on(net::TcpStream::connect(listener.local_addr().unwrap())).unwrap();
-    let (_, from) = runtime.block_on(arachne::poll_fn(|cx| listener.poll_accept(cx))).unwrap();
+    let (_, from) = runtime.block_on(listener.accept()).unwrap();
     assert_eq!((from, listener.local_addr().unwrap()), (stream.local_addr().unwrap(), stream.peer_addr().unwrap()));
     // Options are set by the descriptor.
     let options = std::net::TcpStream::from(stream.as_fd().try_clone_to_owned().unwrap());
