@@ -392,7 +392,7 @@ fn the_watcher_looks_after_a_core_that_was_given_back() {
         let (gate, ran) = (gate.clone(), ran.clone());
         runtime.spawn(async move {
             match at % 2 {
-                0 => sleep(1500 * MS).await,
+                0 => sleep(3000 * MS).await,
                 _ => gate.acquire(1).await.forget(),
             }
             ran.fetch_add(1, SeqCst);
