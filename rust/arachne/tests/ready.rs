@@ -393,7 +393,7 @@ fn the_watcher_looks_after_a_core_that_was_given_back() {
         runtime.spawn(async move {
             match at % 2 {
                 0 => sleep(3000 * MS).await,
-                _ => gate.acquire(1).await.forget(),
+                _ => gate.acquire().await.unwrap().forget(),
             }
             ran.fetch_add(1, SeqCst);
         })
@@ -403,6 +403,6 @@ fn the_watcher_looks_after_a_core_that_was_given_back() {
     until("a core that is given back", LONG, || runtime.stats().active == 1);
     let blocks = runtime.spawn(async move { until("what is ready", LONG, || ran.load(SeqCst) == 32) });
     thread::sleep(100 * MS);
-    gate.release(16);
+    gate.add_permits(16);
     tasks.into_iter().chain([blocks]).for_each(|task| block_on(task).unwrap());
 }
