@@ -159,7 +159,8 @@ fn cores_follow_the_load_between_two_priorities() {
         let left = cores - 1;
         becomes("the batch has what is left", || active(&server) == 1 && active(&batch) == left.max(1));
         of_batch.gets_on("the batch gets on");
-        let load = Load::of(&server, 8 * cores);
+        // So many that it asks for cores also where other work leaves it little time: the policy judges by the average.
+        let load = Load::of(&server, 100 * cores);
         becomes("the server has all", || active(&server) == cores && active(&batch) == 1);
         load.gets_on("the server gets on");
         of_batch.gets_on("the batch gets on in the rest");
@@ -214,8 +215,8 @@ fn is_free() -> bool {
     processors_of(me) == processors_of(&std::process::id().to_string())
 }
 
-/// The core of a worker is asked back while it is in a poll, which blocks until what it makes ready then has run: by the
-/// other worker, which has nothing else to do and waits for sockets.
+/// The core of a worker is asked back while it is in a poll, which blocks until what it makes ready then has run: by
+/// the other worker, which has nothing else to do and waits for sockets.
 #[test]
 fn what_is_in_hand_is_run_though_the_core_was_asked_back() {
     let all = arachne::available_cores();

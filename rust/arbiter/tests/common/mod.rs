@@ -143,7 +143,7 @@ pub fn processors_of(thread: &str) -> String {
 
 /// Waits until something is so, for a while.
 pub fn becomes(what: &str, is_so: impl Fn() -> bool) {
-    let end = Instant::now() + Duration::from_secs(20);
+    let end = Instant::now() + Duration::from_secs(60);
     while !is_so() {
         assert!(Instant::now() < end, "never: {what}");
         thread::sleep(Duration::from_millis(1));
