@@ -718,7 +718,7 @@ fn granted() {
         let waits = || {
             let gate = gate.clone();
             runtime.spawn(async move {
-                spawn_balanced(async move { gate.acquire(1).await.forget() }).await.unwrap();
+                spawn_balanced(async move { gate.acquire().await.unwrap().forget() }).await.unwrap();
             })
         };
         let tasks = [waits(), waits(), waits()];
@@ -726,7 +726,7 @@ fn granted() {
         thread::sleep(choose(6) as u32 * MS);
         arachne::set_active(&runtime, 1 + choose(3));
         let since = now();
-        gate.release(3);
+        gate.add_permits(3);
         for task in tasks {
             runtime.block_on(task).unwrap();
         }
