@@ -391,6 +391,8 @@ fn the_watcher_looks_after_a_core_that_was_given_back() {
     let waits = |at| {
         let (gate, ran) = (gate.clone(), ran.clone());
         runtime.spawn(async move {
+            // So both workers begin some.
+            thread::sleep(MS);
             match at % 2 {
                 0 => sleep(3000 * MS).await,
                 _ => gate.acquire().await.unwrap().forget(),
