@@ -120,8 +120,7 @@ uint32_t arachne_exec_join(arachne_exec *exec, arachne_exec *other);
  * where the array has no room for a job of each of the 4,096 places of each shard; NO_MEMORY. */
 arachne_exec_left arachne_exec_end(arachne_exec *exec, uint64_t *left, size_t left_room);
 
-/* Frees what a handle holds, and takes no job. The executor is freed with the last of its handles; a job in hand
- * is lost. */
+/* Frees what a handle holds. The executor is freed with the last of its handles; a job in hand is lost. */
 void arachne_exec_close(arachne_exec *exec);
 
 /* From now on the seat is this worker, of 0 to 63. DONE; LOST, where another seat has that number; REFUSED,

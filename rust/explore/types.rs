@@ -290,6 +290,13 @@ impl Instant {
     }
 }
 
+impl std::ops::Add<Duration> for Instant {
+    type Output = Instant;
+    fn add(self, duration: Duration) -> Instant {
+        self.checked_add(duration).expect("a moment that the clock has")
+    }
+}
+
 /// What threads wait for that wait in an epoll.
 const TOLD: usize = 1;
 

@@ -17,7 +17,6 @@ use Rattle.arachne_exec.specs.Layout.{summary_at, ready_at, free_at, mark_at, la
 use Rattle.arachne_exec.specs.Board.{IsLawful, blank}
 use Rattle.arachne_exec.specs.Changes.{older, first_of, second_of, both_of}
 use Rattle.arachne_exec.specs.Steps.{Mine, IsLive, Looks, Takes, TakesMany, Claims, Frees, Readies, Spawns, Begins, Blocks, Renews, Retires, Hears, Wakes, Marks, FindsShown, Shows, Hides, LooksAgain, LooksIdle, Unparks, Rises, Rests, LooksNext, Registers, Leaves}
-use Rattle.arachne_exec.specs.Ending.{LooksLast}
 use Rattle.arachne_exec.specs.Seats.{Places, IsLaidOut, CallView, HasNewest, HasFoundMark}
 use Rattle.arachne_exec.proofs.Opening.{deals, gathers}
 use Rattle.arachne_exec.proofs.Moves.{looks, takes_ready, claims, frees, readies, spawns, begins, blocks_at, renews, retires, hears_wake, wakes, marks}
@@ -55,20 +54,6 @@ module _ (table : TableId) (key n : ℕ) (laid : IsLaidOut table key n) (exec : 
     at-home,
     omega (arith, laid.words, inside, count),
     subst (λ (m : Mine). Allows (IsLawful key) table.slots id m word (λ x. x) (Looks (step table.slots word 0 0 none) m)) (sym whole) (looks key table.slots id me.0.weight me.0.known me.1 word),
-  )
-
-  pub last-look-asks : Asks 0 (λ x. x) (LooksLast (step table.slots 0 0 0 none) me)
-  last-look-asks = (
-    at-home,
-    omega (arith, laid.words),
-    subst (λ (m : Mine). Allows (IsLawful key) table.slots id m 0 (λ x. x) (LooksLast (step table.slots 0 0 0 none) m)) (sym whole)
-        (λ s kept long at wide. let next = looks key table.slots id me.0.weight me.0.known me.1 0 s kept long at wide in (
-          next.0,
-          next.1,
-          next.2,
-          next.3,
-          λ shards sized. record { board = s; lawful = subst (λ (c : ℕ). IsLawful c s) (omega (arith, sized, laid.slots, laid.keyed)) kept; seat = id; there = at },
-        )),
   )
 
   -- ---- the words of a place

@@ -18,6 +18,5 @@ mod Many
 mod Allowed
 mod Told
 mod Leaving
-mod Owing
 mod Chains
 mod Crossing

@@ -390,18 +390,18 @@ module _ (shards slots id w : ℕ) where
             λ p at. ap (λ z. with (held w k, (q, 0) ∷ xs) (ending (aging z (hearing (n % 2) z k))) xs) (mark_apart q p at),
           )
 
-    -- all bits of the mark stay but the lowest two
+    -- all bits of the mark stay but the lowest two, which are cleared
     pub hears_wake : (y : ℕ) → Allows (IsLawful shards) slots id (held w k, (q, y) ∷ xs) (mark_at q) (λ n. bit_and n (2 ^ 64 - 1 - 3)) (Hears (step slots (mark_at q) (2 ^ 64 - 1 - 3) 0 none) (held w k, (q, y) ∷ xs))
     hears_wake y s h _ mine small =
-        let n : ℕ = get_or s.words (mark_at q) 0 in let now : ℕ = bit_and n (2 ^ 64 - 1 - 3) in let l : Notes = hearing (n % 2) q k in
-        let is : now ≡ n / 4 * 4 = and_high_mask 64 2 (omega arith) n small in (
+        let n : ℕ = get_or s.words (mark_at q) 0 in let now : ℕ = bit_and n (2 ^ 64 - 1 - 3) in let l : Notes = noted (mark_at q) (4 * (n / 4)) (hearing (n % 2) q k) in
+        let low : 4 * (n / 4) / 4 ≡ n / 4 = omega arith in let is : now ≡ n / 4 * 4 = and_high_mask 64 2 (omega arith) n small in (
           held w l,
           keeps,
           tt,
           renewed now (omega (arith, is)) s h mine l (omega (arith, is)) refl refl refl refl refl refl refl refl refl refl (refl, refl, refl)
               (names-on (64 * shards) s h.names id (held w k) (held w l) mine s.homes _ (λ p inside. as-marked (64 * shards) s h.hears id (held w k) (held w l) mine s.homes q (mark-room s h mine) now (λ z. z / 4) (omega (arith, is)) p) refl
-              (knowing-still s h k mine)),
-          λ p at. ap (λ z. knowing (held w k, (q, y) ∷ xs) (hearing (n % 2) z k)) (mark_apart q p at),
+              (λ p inside has e. low ∙ ap (λ z. get_or s.words z 0 / 4) e)),
+          λ p at. ap (λ z. knowing (held w k, (q, y) ∷ xs) (noted (mark_at q) (4 * (n / 4)) (hearing (n % 2) z k))) (mark_apart q p at),
         )
 
   -- a job that was laid into the slot of a place which had none

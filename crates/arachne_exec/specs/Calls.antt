@@ -4,6 +4,7 @@ use Rattle.std.specs.Int.{bit_at}
 use Rattle.std.specs.Int.RustNames.{bit_and}
 use Rattle.atomic_table.specs.Table.{rest}
 use Rattle.arachne_exec.specs.declared.view.Notes.{Notes}
+use Rattle.arachne_exec.specs.declared.view.Deed.TheVariants.{Looked, Gained, Readied}
 use Rattle.arachne_exec.specs.declared.answers.HeldJob.{HeldJob}
 use Rattle.arachne_exec.specs.declared.answers.PlacedJob.{PlacedJob}
 use Rattle.arachne_exec.specs.declared.answers.Next.{Next}
@@ -24,7 +25,7 @@ use Rattle.arachne_exec.specs.declared.turns.TakenJob.{TakenJob}
 use Rattle.arachne_exec.specs.Seats.{CallView}
 use Rattle.arachne_exec.specs.Turns.{IsFirstFrom}
 use Rattle.arachne_exec.specs.Layout.{summary_at, ready_at, free_at, mark_at, places_in_word, PicksLowest, worker_of, last_generation, name_of}
-use Rattle.arachne_exec.specs.Changes.{older, gained, gaining, unblocking, readying, blocking, spawning, beginning, ending, aging, marking, hearing, noted, looking, rousing, often, having_seen, lying, rising}
+use Rattle.arachne_exec.specs.Changes.{older, gaining, unblocking, readying, blocking, marking, noted, looking, rousing, often, having_seen, lying, rising, using_up, finishing, roused_more}
 
 -- the worker of a place
 abbrev pub worker_at : ℕ → ℕ
@@ -40,13 +41,17 @@ pub record HasMissed (word : ℕ) (k after : Notes) : Type 0 where
   pub gone : bit_at then index ≡ 0
   pub known : after ≡ noted word then (noted word first k)
 
--- the free bit of a place of the block was found set, and the job was laid there; the name is what its mark says
+-- the job is ready at a place of the block whose free bit was found set; the name is what the place's mark says
 pub record HasPlaced (at : PlacedJob) (block job : ℕ) (k after : Notes) : Type 0 where
   pub there : at.place / 64 ≡ block
   pub free : ℕ
   pub mark : ℕ
   pub named : at.name ≡ name_of at.place mark
-  pub known : after ≡ rousing at.unpark (worker_at at.place) (spawning job (noted (mark_at at.place) mark (gained at.place 0 (noted (free_at block) free k))))
+  pub known : after ≡ record k {
+    spawned = job ∷ k.spawned;
+    roused = roused_more at.unpark (worker_at at.place) k.roused;
+    deeds = Readied at.place ∷ Looked (mark_at at.place) mark ∷ Gained at.place ∷ Looked (free_at block) free ∷ k.deeds;
+  }
 
 -- Full: the block's free word was found empty. Lost: another seat has claimed a place that was found free
 abbrev pub HasSpawned : JobSpawned → ℕ → ℕ → Notes → Notes → Type 0
@@ -54,29 +59,36 @@ HasSpawned (spawned.Placed at) block job k after = HasPlaced at block job k afte
 HasSpawned spawned.Full block job k after = after ≡ noted (free_at block) 0 k
 HasSpawned spawned.Lost block job k after = HasMissed (free_at block) k after
 
--- the free bit of a place of the block was found set, and the job was laid there and is in hand; the name is what its
--- mark says
+-- the job is in hand, at a place of the block whose free bit was found set; the name is what the place's mark says
 pub record HasBegun (job : HeldJob) (block number : ℕ) (k after : Notes) : Type 0 where
   pub there : job.place / 64 ≡ block
   pub given : job.job ≡ number
   pub free : ℕ
   pub mark : ℕ
   pub named : job.name ≡ name_of job.place mark
-  pub known : after ≡ beginning number (noted (mark_at job.place) mark (gained job.place 0 (noted (free_at block) free k)))
+  pub known : after ≡ record k {
+    hand = (job.place, number) ∷ k.hand;
+    spawned = number ∷ k.spawned;
+    deeds = Looked (mark_at job.place) mark ∷ Gained job.place ∷ Looked (free_at block) free ∷ k.deeds;
+  }
 
 abbrev pub HasSpawnedHere : SpawnedHere → ℕ → ℕ → Notes → Notes → Type 0
 HasSpawnedHere (spawned_here.Held job) block number k after = HasBegun job block number k after
 HasSpawnedHere spawned_here.Full block number k after = after ≡ noted (free_at block) 0 k
 HasSpawnedHere spawned_here.Lost block number k after = HasMissed (free_at block) k after
 
--- the ready bit of a place of the block was found set; the name is what its mark says
+-- the job is in hand, from a place of the block whose ready bit was found set; the name is what the place's mark says,
+-- and a wake that the mark says of is used up
 pub record HasTaken (job : HeldJob) (block : ℕ) (k after : Notes) : Type 0 where
   pub there : job.place / 64 ≡ block
   pub ready : ℕ
   pub mark : ℕ
   pub named : job.name ≡ name_of job.place mark
-  pub heard : ℕ
-  pub known : after ≡ hearing (heard % 2) job.place (noted (mark_at job.place) mark (gained job.place job.job (noted (ready_at block) ready k)))
+  pub then : ℕ
+  pub known : after ≡ using_up mark job.place then (record k {
+    hand = (job.place, job.job) ∷ k.hand;
+    deeds = Looked (mark_at job.place) mark ∷ Gained job.place ∷ Looked (ready_at block) ready ∷ k.deeds;
+  })
 
 -- within a call: of the ready places of the block it was the first from that index on; with it whether there was another behind
 pub record HasTakenFrom (from : ℕ) (taken : TakenJob) (block : ℕ) (k after : Notes) : Type 0 where
@@ -97,14 +109,14 @@ abbrev pub HasTakenBits : (bits block pick : ℕ) → CallView → CallView → 
 HasTakenBits bits block pick v after = (jobs : List (ℕ × ℕ)) × (found : ℕ) × (bits ≡ bit_and found pick) × (map (λ (x : ℕ × ℕ). x.0) jobs ≡ places_in_word block bits)
     × (after ≡ record v { known = gaining jobs (noted (ready_at block) found v.known); slots = jobs ++ v.slots })
 
--- the newest job in hand, with the name that its mark says; a wake that the mark said of is used up
+-- the newest job in hand, with the name that its mark says, and a wake that the mark says of is used up
 pub record HasStarted (job : HeldJob) (place : ℕ) (k after : Notes) : Type 0 where
   pub there : job.place ≡ place
   pub newest : k.hand ≡ (place, job.job) ∷ older k.hand
   pub mark : ℕ
   pub named : job.name ≡ name_of place mark
-  pub heard : ℕ
-  pub known : after ≡ hearing (heard % 2) place (noted (mark_at place) mark k)
+  pub then : ℕ
+  pub known : after ≡ using_up mark place then (noted (mark_at place) mark k)
 
 -- the ready word was found empty, or another seat has taken a job that was found ready
 abbrev pub HasTakenNone : ℕ → Notes → Notes → Type 0
@@ -126,13 +138,14 @@ HasRested (rested.Ready unpark) place k after = (mark : ℕ)
     × (((mark % 4 ≢ 0) × (after ≡ rousing unpark (worker_at place) (readying (noted (mark_at place) mark k))))
     ⊎ ((then : ℕ) × (then ≢ mark) × (after ≡ rousing unpark (worker_at place) (readying (noted (mark_at place) then (noted (mark_at place) mark k))))))
 
--- the job of the newest place has ended, and the next one there has the next generation; or there is none any more, and
--- the place is retired
+-- the job of the newest place has ended, and the mark is that of the next generation; or no name has that, and the
+-- place is retired
 pub record HasFinished (place : ℕ) (k after : Notes) : Type 0 where
   pub mark : ℕ
   pub heard : ℕ
-  pub known : ((mark / 4 + 1 < last_generation) × (after ≡ ending (noted (mark_at place) (4 * (mark / 4 + 1)) (aging place (hearing (heard % 2) place (noted (mark_at place) mark k))))))
-      ⊎ ((last_generation ≤ mark / 4 + 1) × (after ≡ ending (aging place (hearing (heard % 2) place (noted (mark_at place) mark k)))))
+  pub known : after ≡ finishing place (heard % 2) after.deeds k
+  pub generation : ((mark / 4 + 1 < last_generation) × (after.deeds ≡ Looked (mark_at place) (4 * (mark / 4 + 1)) ∷ Looked (mark_at place) mark ∷ k.deeds))
+      ⊎ ((last_generation ≤ mark / 4 + 1) × (after.deeds ≡ Looked (mark_at place) mark ∷ k.deeds))
 
 -- the mark at the place was found not to be of this generation; or there is no such place, or no such generation
 abbrev pub IsGone : ℕ → ℕ → ℕ → Notes → Notes → Type 0

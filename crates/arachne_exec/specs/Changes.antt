@@ -1,5 +1,5 @@
 -- What a step adds to what a seat knows.
-use Rattle.std.specs.Prelude.{ℕ, zero, suc, ◌+◌, Bool, true, false, List, [], ◌∷◌, ◌++◌, map}
+use Rattle.std.specs.Prelude.{ℕ, zero, suc, ◌+◌, ◌*◌, ◌/◌, ◌%◌, Bool, true, false, List, [], ◌∷◌, ◌++◌, map}
 use Rattle.std.specs.Int.{bit_at}
 use Rattle.arachne_weights.specs.declared.token.Token.{Token}
 use Rattle.arachne_weights.specs.Tokens.{held}
@@ -7,7 +7,7 @@ use Rattle.arachne_weights.specs.Weight.{first_part, second_part, joined}
 use Rattle.arachne_exec.specs.declared.view.Notes.{Notes}
 use Rattle.arachne_exec.specs.declared.view.Deed.{Deed}
 use Rattle.arachne_exec.specs.declared.view.Deed.TheVariants.{Looked, Gained, Readied, Blocked, Unblocked}
-use Rattle.arachne_exec.specs.Layout.{idle_at}
+use Rattle.arachne_exec.specs.Layout.{idle_at, mark_at}
 use Rattle.arachne_exec.specs.Board.{blank}
 
 abbrev pub older : List (ℕ × ℕ) → List (ℕ × ℕ)
@@ -70,6 +70,29 @@ heard_more (suc n) place heard = place ∷ heard
 
 abbrev pub hearing : ℕ → ℕ → Notes → Notes
 hearing n place k = record k { heard = heard_more n place k.heard }
+
+-- the newest job has ended at a place, where so many wakes (0 or 1) were used up, and these are the deeds then
+abbrev pub finishing : ℕ → ℕ → List Deed → Notes → Notes
+finishing place n deeds k = record k {
+  hand = older k.hand;
+  ended = newest_job k.hand ∷ k.ended;
+  ended_at = place ∷ k.ended_at;
+  heard = heard_more n place k.heard;
+  deeds = deeds;
+}
+
+-- A mark that says of no wake (0 modulo 4) stays. Any other was cleared where that number stood.
+abbrev pub cleared_deeds : ℕ → ℕ → ℕ → List Deed → List Deed
+cleared_deeds zero place found deeds = deeds
+cleared_deeds (suc n) place found deeds = Looked (mark_at place) (4 * (found / 4)) ∷ deeds
+
+abbrev pub cleared_heard : ℕ → ℕ → ℕ → List ℕ → List ℕ
+cleared_heard zero place found heard = heard
+cleared_heard (suc n) place found heard = heard_more (found % 2) place heard
+
+-- a place had this mark, and no wake is left there: one that the mark says of is used up
+abbrev pub using_up : ℕ → ℕ → ℕ → Notes → Notes
+using_up mark place found k = record k { heard = cleared_heard (mark % 4) place found k.heard; deeds = cleared_deeds (mark % 4) place found k.deeds }
 
 -- a number was found in a word, or put into it
 abbrev pub noted : ℕ → ℕ → Notes → Notes

@@ -6,7 +6,7 @@ use lib.ListN.{get_elem?}
 use Rattle.arachne_weights.specs.declared.token.Token.{Token}
 use Rattle.arachne_exec.specs.declared.view.Notes.{Notes}
 use Rattle.arachne_exec.specs.Layout.{numbers_at, summary_at, ready_at, mark_at, in_word}
-use Rattle.arachne_exec.specs.Board.{Board, by_all, times, jobs_in, is_free, is_ready, is_blocked, is_idle, in_hands, unshown_by, owed, ends_at, lies, rises, rouses}
+use Rattle.arachne_exec.specs.Board.{Board, by_all, times, jobs_in, is_free, is_ready, is_blocked, is_idle, in_hands, unshown_by, owed}
 use Rattle.arachne_exec.specs.Calls.{HasSeenAll}
 
 -- the place's job is neither blocked nor in the hand of a seat, and the place isn't free
@@ -31,17 +31,15 @@ HasReady block b = 0 < slice_index b.words (ready_at block)
 abbrev pub IsShownOrOwed : ℕ → Board → Type 0
 IsShownOrOwed block b = (in_word summary_at b.words block ≡ 1) ⊎ (0 < unshown_by block b.views)
 
--- a worker whose seat has set its idle bit, hasn't cleared it since, and has then found all of its summary words empty
-pub record IsDown (shards worker : ℕ) (b : Board) : Type 0 where
+-- a worker whose idle bit is set, and whose seat, if the worker has a shard, has found all of its summary words empty
+-- since it set the bit
+pub record IsParked (shards worker : ℕ) (b : Board) : Type 0 where
   pub seat : ℕ
   pub view : Token Notes
   pub there : get_elem? b.views seat ≡ some view
   pub is_worker : view.known.worker ≡ worker + 1
   pub has_seen : HasSeenAll shards view.known
-
--- the same, and its idle bit is set
-abbrev pub IsParked : (shards worker : ℕ) → Board → Type 0
-IsParked shards worker b = IsDown shards worker b × (is_idle b.words worker ≡ 1)
+  pub idle : is_idle b.words worker ≡ 1
 
 -- a seat in the midst of a call will set the block's bit in the summary word, or look whether its worker sleeps
 abbrev pub IsOwedTo : ℕ → Board → Type 0
@@ -63,10 +61,6 @@ ends job b = by_all (λ (k : Notes). times job k.ended) b.views
 abbrev pub times_in_hand : ℕ → Board → ℕ
 times_in_hand job b = by_all (λ (k : Notes). jobs_in job k.hand) b.views
 
--- as often as a worker lay down it has risen or was roused
-abbrev pub HasEndedAll : ℕ → Board → Type 0
-HasEndedAll worker b = lies worker b.views ≡ rises worker b.views + rouses worker b.views
-
 -- a wake has set the mark at the place, or who had the place in hand has used it up
 abbrev pub wakes : ℕ → Board → ℕ
 wakes place b = by_all (λ (k : Notes). times place k.woken) b.views
@@ -81,10 +75,6 @@ is_marked words place = slice_index words (mark_at place) % 2
 -- the generation that the mark at the place says of
 abbrev pub generation_at : ℕ → Board → ℕ
 generation_at place b = slice_index b.words (mark_at place) / 4
-
--- a job has ended at the place
-abbrev pub times_ended_at : ℕ → Board → ℕ
-times_ended_at place b = ends_at place b.views
 
 -- 1 where no seat has the worker number
 abbrev pub is_unused : List ℕ → ℕ → ℕ

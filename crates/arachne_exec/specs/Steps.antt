@@ -1,5 +1,5 @@
 -- What each kind of step tells the seat that makes it: of the seat before, the number found and the seat after.
-use Rattle.std.specs.Prelude.{◌≡◌, ◌≢◌, ℕ, ◌+◌, ◌-◌, ◌/◌, ◌%◌, ◌^◌, ◌<◌, ◌++◌, map, true, List, ◌∷◌}
+use Rattle.std.specs.Prelude.{◌≡◌, ◌≢◌, ℕ, ◌+◌, ◌-◌, ◌*◌, ◌/◌, ◌%◌, ◌^◌, ◌<◌, ◌++◌, map, true, List, ◌∷◌}
 use Rattle.std.specs.Int.{bit_at}
 use Rattle.std.specs.Int.RustNames.{bit_and}
 use Rattle.atomic_table.specs.Table.{Me, Step, rest}
@@ -78,9 +78,9 @@ Renews step before found after = (place : ℕ) → step.word ≡ mark_at place �
 abbrev pub Retires : Step ℕ → Mine → ℕ → Mine → Type 0
 Retires step before found after = (place : ℕ) → step.word ≡ mark_at place → after ≡ with before (ending (aging place (hearing (found % 2) place before.0.known))) (rest before.1)
 
--- a mark of a wake is used up
+-- the mark says of no wake any more: one that it said of is used up
 abbrev pub Hears : Step ℕ → Mine → ℕ → Mine → Type 0
-Hears step before found after = (place : ℕ) → step.word ≡ mark_at place → after ≡ knowing before (hearing (found % 2) place before.0.known)
+Hears step before found after = (place : ℕ) → step.word ≡ mark_at place → after ≡ knowing before (noted step.word (4 * (found / 4)) (hearing (found % 2) place before.0.known))
 
 -- what the mark was is noted: where it was as expected, the place was blocked and is in the seat's hand
 abbrev pub Wakes : Step ℕ → Mine → ℕ → Mine → Type 0

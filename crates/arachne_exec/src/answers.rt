@@ -48,7 +48,7 @@ pub enum JobRested {
 #[derive(Clone, Copy, Debug, PartialEq, Eq)]
 pub enum Next {
     Run(HeldJob),
-    /// To park: its idle bit is set, and each of its summary words was found empty after that.
+    /// To park: it has set its idle bit, and then found each of its summary words empty.
     Park,
     /// To ask again.
     Again,
@@ -59,7 +59,7 @@ pub enum Next {
 pub enum JobWoken {
     /// The job was blocked, and is ready.
     Ready { unpark: bool },
-    /// The job is ready, and runs after this; or it runs, and is ready at its next rest.
+    /// The job isn't blocked: its mark says of the wake until a take or `start` uses it up, or the job ends.
     Marked,
     /// It was marked before.
     Already,

@@ -1,34 +1,14 @@
-//! The end of a seat, and of an executor: the jobs that were spawned and haven't ended.
+//! The end of an executor: the jobs that were spawned and haven't ended.
 ghost use Rattle.std.specs.Prelude.{◌≡◌, ◌*◌, ◌≤◌, [], vec_len, IfOk, IfErr};
 ghost use Rattle.std.specs.Vec.{vec_capacity};
 ghost use Rattle.arachne_weights.specs.Weight.{whole};
-ghost use Rattle.arachne_exec.specs.Ending.{IsSettled, IsLawfulEnd, IsLawfulSeat};
+ghost use Rattle.arachne_exec.specs.Ending.{IsSettled, IsLawfulEnd};
 
 use crate::executor::Executor;
-use crate::layout::IDLE;
 use crate::seat::{ExecSeat, SeatInCall};
-use crate::steps::LastLook;
 use std::alloc::Global;
 
 impl Executor {
-    /// Drops a seat, by one load. What it has in hand is lost, and no seat is whole any more.
-    pub fn drop_seat(&self, seat: ExecSeat)
-        requires own { seat.table ≡ self.now.table }
-        ensures lawful { IsLawfulSeat self.now.shards seat.weight seat.known }
-    {
-        let ExecSeat { at, .. } = seat;
-        self.look_last(at);
-    }
-
-    fn look_last(&self, seat: SeatInCall)
-        requires own { seat.table ≡ self.now.table }
-        ensures lawful { IsLawfulSeat self.now.shards seat.weight seat.known }
-    {
-        let _ = self.shards;
-        let SeatInCall { mut seat } = seat;
-        self.table.shared.load::<LastLook>(&mut seat, IDLE);
-    }
-
     /// The jobs that were spawned and haven't ended, by place. Where memory for the list is refused, executor and seat
     /// come back.
     pub fn close(self, alloc: Global, seat: ExecSeat) -> Result<Vec<u64>, (Executor, ExecSeat)>

@@ -1,7 +1,7 @@
 //! The way of a job: spawn, take, rest, finish.
-ghost use Rattle.std.specs.Prelude.{◌≡◌, ℕ, ◌*◌, ◌%◌, ◌<◌, IsTrue, IsFalse, IfSome, IfNone};
+ghost use Rattle.std.specs.Prelude.{◌≡◌, ℕ, ◌*◌, ◌<◌, IsTrue, IsFalse, IfSome, IfNone};
 ghost use Rattle.arachne_exec.specs.Layout.{mark_at, name_of};
-ghost use Rattle.arachne_exec.specs.Changes.{readying, hearing, noted, rousing};
+ghost use Rattle.arachne_exec.specs.Changes.{readying, noted, rousing, using_up};
 ghost use Rattle.arachne_exec.specs.Seats.{HasNewest, IsNewest};
 ghost use Rattle.arachne_exec.specs.Calls.{worker_at, HasSpawned, HasSpawnedHere, HandsSpawned, HasTaken, HasTakenFrom, HasTakenNone, HasBlocked, HasSeenWake, HasRested, HasFinished, KeepsHand, HandsOver, LaysDown};
 
@@ -10,61 +10,35 @@ use crate::executor::Executor;
 use crate::layout::{LAST_GENERATION, free_word, mark_word, name_at, ready_word};
 use crate::seat::{ExecSeat, SeatInCall};
 use crate::turns::{First, TakenJob, first_from, has_more, lowest_index};
-use crate::words::Heard;
 
-/// The mark of a place in hand, in which a wake was used up if there was one. [`Executor::refresh`] alone gives one,
-/// and no job that was ready is about to run without.
-#[derive(Drop)]
-pub(crate) struct Refreshed {
-    mark: u64,
-}
-
-impl Refreshed {
-    /// Of a mark that says of no wake.
-    #[inline(always)]
-    fn unmarked(mark: u64) -> Refreshed
-        requires { mark % 4 ≡ 0 }
-        ensures { result.mark ≡ mark }
-    {
-        Refreshed { mark }
-    }
-
-    /// Of a mark that was cleared.
-    #[inline(always)]
-    fn cleared(mark: u64, _: Heard) -> Refreshed
-        ensures { result.mark ≡ mark }
-    {
-        Refreshed { mark }
-    }
-
-    /// The job of this number at the place.
-    #[inline(always)]
-    pub(crate) fn job_at(&self, place: usize, job: u64) -> HeldJob
-        requires { place < 1048576 }
-        ensures { result ≡ record { place = place; name = name_of place self.now.mark; job = job } }
-    {
-        HeldJob {
-            place,
-            name: name_at(place, self.mark),
-            job,
-        }
+/// The job of this number at a place with this mark.
+#[inline(always)]
+pub(crate) fn job_at(place: usize, mark: u64, job: u64) -> HeldJob
+    requires { place < 1048576 }
+    ensures { result ≡ record { place = place; name = name_of place mark; job = job } }
+{
+    HeldJob {
+        place,
+        name: name_at(place, mark),
+        job,
     }
 }
 
 impl Executor {
     /// The mark of the newest place says of no wake from now on. The mark that was found.
-    pub(crate) fn refresh(&self, seat: &mut SeatInCall, place: usize) -> Refreshed
+    pub(crate) fn refresh(&self, seat: &mut SeatInCall, place: usize) -> u64
         requires own { seat.old.table ≡ self.now.table }
         requires place { place < 4096 * self.now.shards }
         requires newest { (job : ℕ) × (inside : ℕ) × HasNewest place job inside seat.old }
-        ensures { (heard : ℕ) × (seat.new ≡ record seat.old { known = hearing (heard % 2) place (noted (mark_at place) result.mark seat.old.known) }) }
+        ensures { (found : ℕ) × (seat.new ≡ record seat.old { known = using_up result place found (noted (mark_at place) result seat.old.known) }) }
     {
         self.few();
         let mark = self.look(seat, mark_word(place));
         if mark % 4 == 0 {
-            return Refreshed::unmarked(mark);
+            return mark;
         }
-        Refreshed::cleared(mark, self.hear(seat, place))
+        self.hear(seat, place);
+        mark
     }
 
     /// Puts a job at a free place of a block, where it is ready: one try.
@@ -113,11 +87,7 @@ impl Executor {
         }
         self.lay(&mut seat.at, place, job);
         let mark = self.begin(&mut seat.at, place, job);
-        SpawnedHere::Held(HeldJob {
-            place,
-            name: name_at(place, mark),
-            job,
-        })
+        SpawnedHere::Held(job_at(place, mark, job))
     }
 
     /// Takes a job that is ready at a block: one try, at the first ready place from this index on, round the block.
@@ -151,7 +121,7 @@ impl Executor {
         let mark = self.refresh(&mut seat.at, place);
         let job = self.lay(&mut seat.at, place, 0);
         self.lay(&mut seat.at, place, job);
-        Some(TakenJob::new(mark.job_at(place, job), has_more(ready, index)))
+        Some(TakenJob::new(job_at(place, mark, job), has_more(ready, index)))
     }
 
     /// Takes a job that is ready at a block, of any worker: one try, at the first ready place behind the index of the

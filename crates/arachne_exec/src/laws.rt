@@ -1,5 +1,5 @@
 //! What holds of an executor between any two steps. The functions do nothing: a law is their contract.
-ghost use Rattle.std.specs.Prelude.{◌≡◌, ◌⊎◌, Bool, ℕ, ◌+◌, ◌*◌, ◌/◌, ◌<◌, ◌≤◌, min};
+ghost use Rattle.std.specs.Prelude.{◌≡◌, Bool, ℕ, ◌+◌, ◌*◌, ◌/◌, ◌<◌, ◌≤◌, min};
 ghost use Rattle.arachne_exec.specs.declared.view.Notes.{Notes};
 ghost use Rattle.arachne_exec.specs.declared.answers.JobRested.{JobRested};
 ghost use Rattle.arachne_exec.specs.declared.answers.JobSpawned.{JobSpawned};
@@ -12,9 +12,9 @@ ghost use Rattle.arachne_exec.specs.Layout.{last_generation, worker_of};
 ghost use Rattle.arachne_exec.specs.Changes.{readying, rousing};
 ghost use Rattle.arachne_exec.specs.Calls.{worker_at, HasSpawned, HasSpawnedHere, HasTaken, HasTakenNone, HasTakenMany, HasStarted, HasRested, HasFinished, HasWoken, HasWokenHere, HasAnswered};
 ghost use Rattle.arachne_exec.specs.Sleeps.{spawn_unparks, rest_unparks, wake_unparks, Rouses, RousesNobody, Sleeps};
-ghost use Rattle.arachne_exec.specs.Board.{Board, IsLawful, at_home, is_ready, is_free, is_blocked, is_idle, seats_of, lies, rises, rouses};
-ghost use Rattle.arachne_exec.specs.Promises.{IsReadyJob, IsEmptyPlace, keepers_of, HasReady, IsShownOrOwed, IsParked, IsDown, AreOwedTo};
-ghost use Rattle.arachne_exec.specs.Promises.{spawns, ends, times_in_hand, wakes, wakes_heard, is_marked, is_unused, HasEndedAll, generation_at, times_ended_at};
+ghost use Rattle.arachne_exec.specs.Board.{Board, IsLawful, at_home, is_ready, is_free, is_blocked, is_idle, seats_of, ends_at, lies, rises, rouses};
+ghost use Rattle.arachne_exec.specs.Promises.{IsReadyJob, IsEmptyPlace, keepers_of, HasReady, IsShownOrOwed, IsParked, AreOwedTo};
+ghost use Rattle.arachne_exec.specs.Promises.{spawns, ends, times_in_hand, wakes, wakes_heard, is_marked, is_unused, generation_at};
 
 use crate::executor::Executor;
 use crate::seat::ExecSeat;
@@ -45,13 +45,10 @@ pub fn sleepers_are_woken()
 {}
 
 /// Each time that a worker lay down it has risen by itself, or a seat has found its idle bit set and cleared it to wake
-/// it, once; or the bit is set. So a worker that is down is parked, and what is ready of its blocks is owed to it, or
-/// it has risen or was roused as often as it lay down.
+/// it, once; or the bit is set. So a worker whose bit is clear has risen or was roused as often as it lay down.
 pub fn sleepers_are_told()
-    ensures once { (shards : ℕ) (b : Board) → IsLawful shards b → (worker : ℕ) → worker < 64
+    ensures { (shards : ℕ) (b : Board) → IsLawful shards b → (worker : ℕ) → worker < 64
         → lies worker b.views ≡ rises worker b.views + rouses worker b.views + is_idle b.words worker }
-    ensures down { (shards : ℕ) (b : Board) → IsLawful shards b → (worker : ℕ) → IsDown shards worker b
-        → (IsParked shards worker b × AreOwedTo shards worker b) ⊎ HasEndedAll worker b }
 {}
 
 /// The answers of calls in the words of that law, by the clauses of the calls: a worker is roused exactly where an
@@ -91,7 +88,7 @@ pub fn wakes_are_heard()
 /// mark has that generation again, and a wake by the name does nothing.
 pub fn names_are_of_one_job()
     ensures { (shards : ℕ) (b : Board) → IsLawful shards b → (place : ℕ) → place < 4096 * shards
-        → generation_at place b ≡ min last_generation (times_ended_at place b) }
+        → generation_at place b ≡ min last_generation (ends_at place b.views) }
 {}
 
 /// No two seats are one worker, and a number whose bit isn't set has a seat.

@@ -1,5 +1,5 @@
 //! What a worker does next, and when it may park.
-ghost use Rattle.std.specs.Prelude.{◌≡◌, ℕ, ◌+◌, ◌*◌, ◌<◌, IsTrue, IsFalse, IfSome, IfNone, OnOk, OnErr};
+ghost use Rattle.std.specs.Prelude.{◌≡◌, ℕ, ◌+◌, ◌*◌, ◌<◌, IsTrue, IsFalse, IfSome, IfNone};
 ghost use Rattle.std.specs.Int.{bit_at};
 ghost use Rattle.arachne_exec.specs.Layout.{numbers_at, worker_of};
 ghost use Rattle.arachne_exec.specs.Changes.{noted, rising, working};
@@ -10,7 +10,6 @@ use crate::executor::Executor;
 use crate::layout::summary_word;
 use crate::rounds::{InTurn, Round};
 use crate::seat::{ExecSeat, SeatInCall};
-use crate::sleepers::Risen;
 
 /// How many of so many shards a worker looks after.
 fn shards_of(worker: usize, shards: usize) -> usize
@@ -48,33 +47,35 @@ impl Executor {
     }
 
     /// The worker is awake, as where it ends its sleep by itself.
-    pub fn wake_up(&self, seat: &mut ExecSeat, worker: usize) -> Risen
+    pub fn wake_up(&self, seat: &mut ExecSeat, worker: usize)
         requires own { seat.old.table ≡ self.now.table }
         requires worker { (seat.old.known.worker ≡ worker + 1) × (worker < 64) }
         ensures { (found : ℕ) × (seat.new ≡ record seat.old { known = rising worker found seat.old.known }) }
     {
-        self.clear_idle(&mut seat.at, worker)
+        self.clear_idle(&mut seat.at, worker);
     }
 
-    /// The worker is idle, unless one of its summary words isn't empty: then it has risen.
-    fn lie_down(&self, seat: &mut SeatInCall, worker: usize) -> Result<(), Risen>
+    /// Returns true if the worker is idle, and false if one of its summary words wasn't empty: then it has risen.
+    fn lie_down(&self, seat: &mut SeatInCall, worker: usize) -> bool
         requires own { seat.old.table ≡ self.now.table }
         requires worker { (seat.old.known.worker ≡ worker + 1) × (worker < 64) }
         ensures seat { seat.new ≡ record seat.old { known = seat.new.known } }
-        ensures parks { OnOk result (HasFoundNone self.now.shards worker seat.old.known seat.new.known) }
-        ensures stays { OnErr result (HasFoundSome self.now.shards worker seat.old.known seat.new.known) }
+        ensures parks { IsTrue result → HasFoundNone self.now.shards worker seat.old.known seat.new.known }
+        ensures stays { IsFalse result → HasFoundSome self.now.shards worker seat.old.known seat.new.known }
     {
         self.few();
         self.set_idle(seat, worker);
         for next in 0..shards_of(worker, self.shards) {
             if !self.sees_none(seat, worker, next) {
-                return Err(self.clear_idle(seat, worker));
+                self.clear_idle(seat, worker);
+                return false;
             }
         }
-        Ok(())
+        true
     }
 
-    /// Whether the worker may park: its idle bit is set, and after that each of its summary words was found empty.
+    /// Returns true if the worker may park: it has set its idle bit, and then found each of its summary words empty.
+    /// Else one wasn't, and it has cleared the bit.
     pub fn may_park(&self, seat: &mut ExecSeat, worker: usize) -> bool
         requires own { seat.old.table ≡ self.now.table }
         requires worker { (seat.old.known.worker ≡ worker + 1) × (worker < 64) }
@@ -82,7 +83,7 @@ impl Executor {
         ensures parks { IsTrue result → HasFoundNone self.now.shards worker seat.old.known seat.new.known }
         ensures stays { IsFalse result → HasFoundSome self.now.shards worker seat.old.known seat.new.known }
     {
-        self.lie_down(&mut seat.at, worker).is_ok()
+        self.lie_down(&mut seat.at, worker)
     }
 
     /// A job that is ready at a shard whose turn it is, the first from the seat's turn on. Bits of blocks that have

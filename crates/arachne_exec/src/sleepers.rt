@@ -28,12 +28,6 @@ impl Hidden {
     }
 }
 
-/// A worker whose idle bit was cleared. Only the step that clears it gives one.
-#[derive(Drop)]
-pub struct Risen {
-    worker: usize,
-}
-
 impl Executor {
     /// Whether the bit of the block is set in the summary word: then it is no longer owed.
     pub(crate) fn finds_shown(&self, seat: &mut SeatInCall, block: usize) -> bool
@@ -129,16 +123,14 @@ impl Executor {
     }
 
     /// The worker is idle no longer.
-    pub(crate) fn clear_idle(&self, seat: &mut SeatInCall, worker: usize) -> Risen
+    pub(crate) fn clear_idle(&self, seat: &mut SeatInCall, worker: usize)
         requires own { seat.old.table ≡ self.now.table }
         requires worker { (seat.old.known.worker ≡ worker + 1) × (worker < 64) }
-        ensures risen { result.worker ≡ worker }
         ensures seat { (found : ℕ) × (seat.new ≡ record seat.old { known = rising worker found seat.old.known }) }
     {
         let _ = self.shards;
         let shared = &self.table.shared;
         shared.fetch_and::<Rise>(&mut seat.seat, IDLE, all_but(worker));
-        Risen { worker }
     }
 
     /// Looks at the worker's next summary word. Whether it is empty.

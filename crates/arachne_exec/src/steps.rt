@@ -214,14 +214,6 @@ impl Play<u64, View> for Unregister {
     ghost then = { Leaves };
 }
 
-pub(crate) struct LastLook;
-
-impl Play<u64, View> for LastLook {
-    ghost use Rattle.arachne_exec.specs.Ending.{LooksLast};
-
-    ghost then = { LooksLast };
-}
-
 /// A new seat gets half the weight, and begins with nothing.
 pub(crate) struct Halve;
 

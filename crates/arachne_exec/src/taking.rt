@@ -7,6 +7,7 @@ ghost use Rattle.arachne_exec.specs.Calls.{HasTakenMany, HasStarted, HandsMany, 
 
 use crate::answers::HeldJob;
 use crate::executor::Executor;
+use crate::jobs::job_at;
 use crate::layout::{all_but, bit, ready_word};
 use crate::seat::ExecSeat;
 use crate::turns::lowest_index;
@@ -65,6 +66,6 @@ impl Executor {
         let mark = self.refresh(&mut seat.at, place);
         let job = self.lay(&mut seat.at, place, 0);
         self.lay(&mut seat.at, place, job);
-        mark.job_at(place, job)
+        job_at(place, mark, job)
     }
 }

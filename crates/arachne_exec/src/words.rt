@@ -15,12 +15,6 @@ use crate::steps::{
     RetirePlace, TakeBit, TakeMany, Wake,
 };
 
-/// A place whose mark was cleared of a wake. [`Executor::hear`] alone gives one.
-#[derive(Drop)]
-pub(crate) struct Heard {
-    place: usize,
-}
-
 impl Executor {
     /// Looks at a word.
     pub(crate) fn look(&self, seat: &mut SeatInCall, word: usize) -> u64
@@ -170,17 +164,15 @@ impl Executor {
     }
 
     /// Clears the mark of a wake at the newest place.
-    pub(crate) fn hear(&self, seat: &mut SeatInCall, place: usize) -> Heard
+    pub(crate) fn hear(&self, seat: &mut SeatInCall, place: usize)
         requires own { seat.old.table ≡ self.now.table }
         requires place { place < 4096 * self.now.shards }
         requires newest { (job : ℕ) × (inside : ℕ) × HasNewest place job inside seat.old }
-        ensures heard { result.place ≡ place }
-        ensures seat { (n : ℕ) × (seat.new ≡ record seat.old { known = hearing (n % 2) place seat.old.known }) }
+        ensures seat { (n : ℕ) × (seat.new ≡ record seat.old { known = noted (mark_at place) (4 * (n / 4)) (hearing (n % 2) place seat.old.known) }) }
     {
         let _ = self.shards;
         let shared = &self.table.shared;
         shared.fetch_and::<Hear>(&mut seat.seat, mark_word(place), u64::MAX - 3);
-        Heard { place }
     }
 
     /// The mark of the newest place says of this generation, and of no wake.

@@ -1,3 +1,4 @@
 pub mod AdderCut
 pub mod ExecCut
+pub mod SeatCut
 pub mod Hands

@@ -3,20 +3,18 @@ use Rattle.std.specs.Prelude.{◌≡◌, ◌≢◌, ◌⊎◌, ℕ, ◌*◌, ◌
 use Rattle.std.specs.declared.option.Option.{Option}
 use Rattle.std.specs.declared.option.Option.TheVariants.{None, Some}
 use Rattle.arachne_weights.specs.Weight.{whole}
-use Rattle.arachne_exec.specs.Ending.{IsSettled, IsLawfulSeat}
+use Rattle.arachne_exec.specs.Ending.{IsSettled, IsLawfulEnd}
 use Rattle.arachne_exec_c.specs.Codes.{done, refused, no_memory}
 use Rattle.arachne_exec_c.specs.Executing.{Exec, IsEmptyHanded}
 use Rattle.arachne_exec_c.specs.declared.exec_told.ArachneExecLeft.{ArachneExecLeft}
 
--- the executor has ended: these jobs are left of what was spawned
+-- the executor has ended: these jobs are left of what was spawned, and the rule allows a board where this seat knows what
+-- it knows
 pub record HasEnded (exec : Exec) (jobs : List ℕ) : Type 0 where
   pub empty : IsEmptyHanded exec
   pub whole_seat : exec.seat.weight ≡ whole
   pub settled : IsSettled exec.seat.known jobs
-
--- the rule of its executor allows a board where a seat knows just what this one does, so that it has done nothing since
-abbrev pub IsLeft : Exec → Type 0
-IsLeft exec = IsLawfulSeat exec.executor.shards exec.seat.weight exec.seat.known
+  pub lawful : IsLawfulEnd exec.executor.shards exec.seat.known
 
 -- the jobs that are left stand at the begin of the array, and the rest of it is as it was
 pub record IsHandedBack (jobs room written : List ℕ) (told : ArachneExecLeft) : Type 0 where

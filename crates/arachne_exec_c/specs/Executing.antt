@@ -107,7 +107,7 @@ IsMade shards None None answer = (answer ≡ no_memory) ⊎ ((answer ≡ refused
 IsMade shards None (Some new) answer = (answer ≡ done) × IsNew shards new
 
 -- The first handle's seat is cut in two, of which the second handle gets the second, where the first holds a seat and the
--- second nothing. Where there is no memory the second part is lost, or nothing has changed.
+-- second nothing. Want of memory changes nothing.
 abbrev pub IsSplit : Option Exec → Option Exec → Option Exec → Option Exec → ℕ → Type 0
 IsSplit None other new other_new answer = (answer ≡ refused) × (new ≡ None) × (other_new ≡ other)
 IsSplit (Some old) (Some other) new other_new answer = (answer ≡ refused) × (new ≡ Some old) × (other_new ≡ Some other)

@@ -15,6 +15,7 @@ use Rattle.arachne_lock.specs.declared.answer.Withdrawn.TheVariants.{Left, Holds
 use Rattle.arachne_lock.specs.declared.answer.Attempt.{Attempt}
 use Rattle.arachne_lock.specs.declared.answer.Attempt.TheVariants.{Answered, Contended}
 use Rattle.arachne_lock.specs.Calls.{AskAnswer, FreeAnswer, WithdrawAnswer, CheckAnswer}
+use Rattle.arachne_lock.specs.Rule.{IsLawfulSeat}
 use Rattle.arachne_lock.specs.Views.{SeatView}
 use Rattle.arachne_exec_c.specs.Codes as code
 use Rattle.arachne_exec_c.specs.Seating.{Seating, HasLock, with_seat}
@@ -55,10 +56,11 @@ told_checked Contended = code_alone code.contended
 told_checked (Answered None) = code_alone code.not_holder
 told_checked (Answered (Some at)) = code_at code.granted at
 
--- The lock gave an answer by the seat, as `arachne_lock` defines it, and C is told that answer. Where the handle holds
--- no seat, or there is no such lock, nothing changes, and C is told so.
+-- The lock gave an answer by the seat, as `arachne_lock` defines it, and C is told that answer; the rule of these locks
+-- allows a board where the seat has done and seen what it has. Where the handle holds no seat, or there is no such lock,
+-- nothing changes, and C is told so.
 pub record IsTold {A : Type 0} (answers : SeatView → A → SeatView → Type 0) (tell : A → ArachneLockTold) (lock : ℕ) (old : Seating) (new : Option Seating) (told : ArachneLockTold) : Type 0 where
-  pub known : HasLock lock old → (seat : SeatView) × (answer : A) × (new ≡ Some (with_seat old seat)) × answers old.seat answer seat × (told ≡ tell answer)
+  pub known : HasLock lock old → (seat : SeatView) × (answer : A) × (new ≡ Some (with_seat old seat)) × answers old.seat answer seat × IsLawfulSeat old.locks.count seat.log × (told ≡ tell answer)
   pub unknown : ¬ HasLock lock old → (new ≡ Some old) × (told ≡ code_alone code.refused)
 
 abbrev pub IsAskTold : ℕ → ℕ → Option Seating → Option Seating → ArachneLockTold → Type 0

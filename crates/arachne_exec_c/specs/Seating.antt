@@ -2,7 +2,7 @@
 use Rattle.std.specs.Prelude.{◌≡◌, ℕ, ◌<◌, ◌≤◌, Bool, true, false}
 use Rattle.std.specs.declared.option.Option.{Option}
 use Rattle.std.specs.declared.option.Option.TheVariants.{None, Some}
-use Rattle.arachne_lock.specs.Views.{LocksView, SeatView, first_seat, second_half, joined_with}
+use Rattle.arachne_lock.specs.Views.{LocksView, SeatView, first_seat, first_half, second_half, joined_with}
 use Rattle.arachne_exec_c.specs.Codes.{done, refused, no_memory}
 
 -- a seat, and the locks that it came from
@@ -22,6 +22,10 @@ HasLock lock seating = lock < seating.locks.count
 abbrev pub with_seat : Seating → SeatView → Seating
 with_seat seating seat = record seating { seat = seat }
 
+-- the parts of a seat that is split
+abbrev pub first_of : Seating → Seating
+first_of seating = with_seat seating (first_half seating.seat)
+
 abbrev pub second_of : Seating → Seating
 second_of seating = with_seat seating (second_half seating.seat)
 
@@ -34,13 +38,13 @@ IsMade count (Some old) new answer = (answer ≡ refused) × (new ≡ Some old)
 IsMade count None None answer = answer ≡ no_memory
 IsMade count None (Some new) answer = (answer ≡ done) × IsNew count new
 
--- The second handle gets a seat more, where the first holds a seat and the second nothing. Want of memory changes
--- nothing.
+-- The first handle's seat is split, and the second handle gets the second part, where the first holds a seat and the
+-- second nothing. Want of memory changes nothing.
 abbrev pub IsSplit : Option Seating → Option Seating → Option Seating → Option Seating → ℕ → Type 0
 IsSplit None other new other_new answer = (answer ≡ refused) × (new ≡ None) × (other_new ≡ other)
 IsSplit (Some old) (Some other) new other_new answer = (answer ≡ refused) × (new ≡ Some old) × (other_new ≡ Some other)
 IsSplit (Some old) None new None answer = (answer ≡ no_memory) × (new ≡ Some old)
-IsSplit (Some old) None new (Some other) answer = (answer ≡ done) × (new ≡ Some old) × (other ≡ second_of old)
+IsSplit (Some old) None new (Some other) answer = (answer ≡ done) × (new ≡ Some (first_of old)) × (other ≡ second_of old)
 
 -- The second handle's seat is joined into the first's, where both hold one.
 abbrev pub IsJoined : Option Seating → Option Seating → Option Seating → Option Seating → ℕ → Type 0

@@ -1,21 +1,19 @@
 //! The exports for the executor.
 ghost use Rattle.std.specs.Prelude.{◌≡◌, ◌%◌, ◌^◌};
-ghost use Rattle.std.specs.Option.{ForSome};
 ghost use Rattle.std.specs.declared.option.Option.TheVariants.{None};
 ghost use Rattle.arachne_exec.specs.Layout.{summary_at, ready_at};
 ghost use Rattle.arachne_exec_c.specs.Codes.{refused};
 ghost use Rattle.arachne_exec_c.specs.Executing.{HasBlock, HasShard, IsEmptyHanded, IsWorker, IsMade, IsSplit, IsJoined};
 ghost use Rattle.arachne_exec_c.specs.ExecHeld.{held, IsOfOne};
-ghost use Rattle.arachne_exec_c.specs.ExecEnd.{IsEndTold, IsLeft};
+ghost use Rattle.arachne_exec_c.specs.ExecEnd.{IsEndTold};
 ghost use Rattle.arachne_exec_c.specs.ExecTold.{IsTold, IsToldOf, Tells, Spawns, SpawnsHere, LooksAt, Takes, TakesMany, Starts, GoesOn, Rests, Yields, Finishes, Wakes, WakesHere, ParksOrNot, WakesUp, Registers, Leaves, MayTake, MayGoOn, MayRegister, code_alone, code_unparking, told_job, told_spawned, told_spawned_here, told_taken, told_next, told_rested, told_woken, told_woken_here, whom};
 
 use crate::codes::{DONE, NO_MEMORY, REFUSED};
 use crate::exec_handle::ArachneExec;
 use crate::exec_holding::{
-    close_held, cut_held, end_held, finish_held, join_held, leave_held, may_park_held, next_held,
-    ready_held, register_held, rest_blocked_held, rest_ready_held, shown_held, spawn_held,
-    spawn_here_held, start_held, take_held, take_many_held, wake_held, wake_here_held,
-    wake_up_held,
+    cut_held, end_held, finish_held, join_held, leave_held, may_park_held, next_held, ready_held,
+    register_held, rest_blocked_held, rest_ready_held, shown_held, spawn_held, spawn_here_held,
+    start_held, take_held, take_many_held, wake_held, wake_here_held, wake_up_held,
 };
 use crate::exec_told::{ArachneExecLeft, ArachneExecTold, code_alone, end_alone};
 use crate::executing::Executing;
@@ -119,16 +117,12 @@ pub extern "C" fn arachne_exec_end(
     told
 }
 
-/// Frees what a handle holds, and takes no job. The executor is freed with the last of its handles; a job in hand is
-/// lost.
+/// Frees what a handle holds. The executor is freed with the last of its handles; a job in hand is lost.
 #[unsafe(no_mangle)]
 pub extern "C" fn arachne_exec_close(alloc: Global, exec: &mut ArachneExec)
-    ensures empty { held exec.new ≡ None }
-    ensures left { ForSome (held exec.old) IsLeft }
+    ensures { held exec.new ≡ None }
 {
-    if let Some(mut value) = exec.take(alloc) {
-        close_held(&mut value);
-    }
+    drop(exec.take(alloc));
 }
 
 /// From now on the seat is this worker, of 0 to 63. DONE; LOST, where another seat has that number; REFUSED, where it

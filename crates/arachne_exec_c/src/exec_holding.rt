@@ -5,7 +5,7 @@ ghost use Rattle.std.specs.declared.option.Option.TheVariants.{None, Some};
 ghost use Rattle.arachne_exec.specs.Layout.{summary_at, ready_at};
 ghost use Rattle.arachne_exec_c.specs.Codes.{refused};
 ghost use Rattle.arachne_exec_c.specs.Executing.{Exec, HasBlock, HasShard, IsEmptyHanded, IsIdle, IsJoined, IsWorker, first_of, second_of};
-ghost use Rattle.arachne_exec_c.specs.ExecEnd.{IsEndTold, IsLeft};
+ghost use Rattle.arachne_exec_c.specs.ExecEnd.{IsEndTold};
 ghost use Rattle.arachne_exec_c.specs.ExecTold.{IsTold, IsToldOf, Tells, Spawns, SpawnsHere, LooksAt, Takes, TakesMany, Starts, GoesOn, Rests, Yields, Finishes, Wakes, WakesHere, ParksOrNot, WakesUp, Registers, Leaves, MayTake, MayGoOn, MayRegister, code_alone, code_unparking, told_job, told_spawned, told_spawned_here, told_taken, told_next, told_rested, told_woken, told_woken_here, whom};
 
 use crate::codes::{AGAIN, DONE, LOST, PARK, REFUSED};
@@ -250,15 +250,6 @@ pub(crate) fn end_held(
             *held = Some(exec);
             end_alone(code)
         }
-    }
-}
-
-/// Drops the seat that is held, if one is.
-pub(crate) fn close_held(held: &mut Option<Executing>)
-    ensures { ForSome held.old IsLeft }
-{
-    if let Some(exec) = held.take() {
-        exec.drop_seat();
     }
 }
 

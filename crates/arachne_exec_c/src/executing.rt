@@ -8,7 +8,7 @@ ghost use Rattle.arachne_exec.specs.Calls.{HasFoundNone, HasFoundSome};
 ghost use Rattle.arachne_exec.specs.Layout.{summary_at, ready_at};
 ghost use Rattle.arachne_exec_c.specs.Executing.{Exec, HasBlock, HasShard, IsEmptyHanded, IsIdle, IsNew, IsNoWorker, IsWorker, now, lowest_place, without_lowest, first_of, second_of, joined_of};
 ghost use Rattle.arachne_exec_c.specs.Codes.{refused, no_memory};
-ghost use Rattle.arachne_exec_c.specs.ExecEnd.{HasEnded, IsLeft};
+ghost use Rattle.arachne_exec_c.specs.ExecEnd.{HasEnded};
 ghost use Rattle.arachne_exec_c.specs.ExecTold.{Spawns, SpawnsHere, LooksAt, Takes, TakesMany, Starts, GoesOn, Rests, Yields, Ends, Wakes, WakesHere, IsTaken, MayTake, MayGoOn, as_worker};
 
 use crate::codes::{NO_MEMORY, REFUSED};
@@ -326,13 +326,6 @@ impl Executing {
                 REFUSED,
             )),
         }
-    }
-
-    pub(crate) fn drop_seat(self)
-        ensures { IsLeft self }
-    {
-        let Executing { executor, seat, .. } = self;
-        executor.drop_seat(seat);
     }
 
     pub(crate) fn join(&mut self, other: Executing)

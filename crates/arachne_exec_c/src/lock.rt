@@ -35,6 +35,7 @@ pub extern "C" fn arachne_locks_new(alloc: Global, locks: &mut ArachneLocks, cou
 /// A seat more, as for another thread, for a handle that holds nothing. DONE; REFUSED, where the first holds nothing or
 /// the second something; NO_MEMORY.
 #[unsafe(no_mangle)]
+#[tactic(auto, using(crate::proofs::SeatCut::is_split))]
 pub extern "C" fn arachne_locks_split(
     alloc: Global,
     locks: &mut ArachneLocks,
@@ -48,14 +49,15 @@ pub extern "C" fn arachne_locks_split(
     let Some(mut mine) = locks.take(alloc) else {
         return REFUSED;
     };
-    let part = split_held(&mut mine);
+    let Ok(mut theirs) = Box::new(alloc, None) else {
+        locks.put(mine);
+        return NO_MEMORY;
+    };
+    let is_split = split_held(&mut mine, &mut theirs);
     locks.put(mine);
-    let Some(part) = part else {
+    if !is_split {
         return NO_MEMORY;
-    };
-    let Ok(theirs) = Box::new(alloc, Some(part)) else {
-        return NO_MEMORY;
-    };
+    }
     other.put(theirs);
     DONE
 }

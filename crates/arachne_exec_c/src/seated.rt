@@ -1,9 +1,11 @@
 //! A seat at somebody's locks, with the locks.
-ghost use Rattle.std.specs.Prelude.{◌≡◌, ◌↔◌, IsTrue, IfOk, IfSome, MatchBool, OnErr};
+ghost use Rattle.std.specs.Prelude.{◌≡◌, ◌↔◌, IsTrue, IfOk, IfErr, MatchBool};
+ghost use Rattle.std.specs.Option.{ForSome};
 ghost use Rattle.std.specs.declared.option.Option.TheVariants.{None, Some};
 ghost use Rattle.arachne_lock.specs.Calls.{AskAnswer, FreeAnswer, WithdrawAnswer, CheckAnswer};
+ghost use Rattle.arachne_lock.specs.Rule.{IsLawfulSeat};
 ghost use Rattle.arachne_exec_c.specs.LockTold.{IsAskTold, IsFreeTold, IsWithdrawTold, IsCheckTold};
-ghost use Rattle.arachne_exec_c.specs.Seating.{Seating, HasLock, IsNew, IsJoined, with_seat, second_of, joined_of};
+ghost use Rattle.arachne_exec_c.specs.Seating.{Seating, HasLock, IsNew, IsJoined, with_seat, first_of, second_of, joined_of};
 
 use crate::codes::{DONE, REFUSED};
 use crate::told::{
@@ -55,6 +57,7 @@ impl Seated {
         requires { HasLock lock self.old }
         ensures stays { self.new ≡ with_seat self.old self.new.seat }
         ensures answer { AskAnswer lock who self.old.seat result self.new.seat }
+        ensures lawful { IsLawfulSeat self.old.locks.count self.new.seat.log }
     {
         self.locks.ask(&mut self.seat, lock, who)
     }
@@ -63,6 +66,7 @@ impl Seated {
         requires { HasLock lock self.old }
         ensures stays { self.new ≡ with_seat self.old self.new.seat }
         ensures answer { FreeAnswer lock who self.old.seat result self.new.seat }
+        ensures lawful { IsLawfulSeat self.old.locks.count self.new.seat.log }
     {
         self.locks.free(&mut self.seat, lock, who)
     }
@@ -71,6 +75,7 @@ impl Seated {
         requires { HasLock lock self.old }
         ensures stays { self.new ≡ with_seat self.old self.new.seat }
         ensures answer { WithdrawAnswer lock who self.old.seat result self.new.seat }
+        ensures lawful { IsLawfulSeat self.old.locks.count self.new.seat.log }
     {
         self.locks.withdraw(&mut self.seat, lock, who)
     }
@@ -79,14 +84,15 @@ impl Seated {
         requires { HasLock lock self.old }
         ensures stays { self.new ≡ with_seat self.old self.new.seat }
         ensures answer { CheckAnswer lock who self.old.seat result self.new.seat }
+        ensures lawful { IsLawfulSeat self.old.locks.count self.new.seat.log }
     {
         self.locks.check(&mut self.seat, lock, who)
     }
 
     /// A seat more. The locks have an owner more then, for which there may be no room.
     fn split(&mut self) -> Result<Seated, AllocError>
-        ensures same { self.new ≡ self.old }
-        ensures ok { IfOk result (λ other. other ≡ second_of self.old) }
+        ensures ok { IfOk result (λ other. (self.new ≡ first_of self.old) × (other ≡ second_of self.old)) }
+        ensures err { IfErr result (λ _. self.new ≡ self.old) }
     {
         let locks = Arc::try_clone(&self.locks)?;
         let seat = self.locks.split(&mut self.seat);
@@ -102,16 +108,22 @@ impl Seated {
     }
 }
 
-/// A seat more of what a handle holds.
-pub(crate) fn split_held(held: &mut Option<Seated>) -> Option<Seated>
-    ensures same { held.new ≡ held.old }
-    ensures other { IfSome result (λ other. IfSome held.old (λ old. other ≡ second_of old)) }
-    ensures nothing { held.old ≡ None → result ≡ None }
+/// Splits what the first holds, and gives the second a seat more. False where there is no room for an owner more.
+pub(crate) fn split_held(mine: &mut Option<Seated>, theirs: &mut Option<Seated>) -> bool
+    requires { theirs.old ≡ None }
+    ensures split { ForSome mine.old (λ old. MatchBool result
+        ((mine.new ≡ Some (first_of old)) × (theirs.new ≡ Some (second_of old)))
+        ((mine.new ≡ mine.old) × (theirs.new ≡ None))) }
+    ensures nothing { mine.old ≡ None → (mine.new ≡ None) × (theirs.new ≡ None) }
 {
-    match held {
-        Some(seated) => seated.split().ok(),
-        None => None,
-    }
+    let Some(seated) = mine else {
+        return false;
+    };
+    let Ok(part) = seated.split() else {
+        return false;
+    };
+    *theirs = Some(part);
+    true
 }
 
 /// Joins what the second holds into what the first holds, where both hold something.

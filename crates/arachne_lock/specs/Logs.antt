@@ -1,5 +1,5 @@
 -- What a seat's log is at first, and after each step.
-use Rattle.std.specs.Prelude.{ℕ, List, [], ◌∷◌, ◌++◌, length}
+use Rattle.std.specs.Prelude.{ℕ, ◌+◌, List, [], ◌∷◌, ◌++◌, length}
 use Rattle.arachne_lock.specs.declared.event.QueueEvent.{QueueEvent}
 use Rattle.arachne_lock.specs.declared.view.EventLog.{EventLog}
 use Rattle.arachne_lock.specs.declared.view.Sight.{Sight}
@@ -8,7 +8,7 @@ use Rattle.arachne_lock.specs.Placed.{placed}
 
 -- nothing done, and nothing seen
 abbrev pub blank_log : EventLog
-blank_log = record { made = []; seen = []; tries = [] }
+blank_log = record { made = []; seen = []; tries = []; splits = 0 }
 
 abbrev pub sight : ℕ → List QueueEvent → Sight
 sight lock history = record { lock = lock; history = history }
@@ -35,10 +35,14 @@ given_back_log l lock history events = record l {
 abbrev pub answered_log : EventLog → ℕ → List QueueEvent → List QueueEvent → EventLog
 answered_log l lock history events = given_back_log (taken_log l lock history) lock history events
 
+-- the seat was split once more
+abbrev pub split_log : EventLog → EventLog
+split_log l = record l { splits = l.splits + 1 }
+
 -- a seat that is cut off has seen what the other has, and done nothing
 abbrev pub cut_log : EventLog → EventLog
-cut_log l = record { made = []; seen = l.seen; tries = [] }
+cut_log l = record { made = []; seen = l.seen; tries = []; splits = 0 }
 
 -- a seat that takes in another
 abbrev pub joined_log : EventLog → EventLog → EventLog
-joined_log l o = record { made = l.made ++ o.made; seen = l.seen ++ o.seen; tries = l.tries ++ o.tries }
+joined_log l o = record { made = l.made ++ o.made; seen = l.seen ++ o.seen; tries = l.tries ++ o.tries; splits = l.splits + o.splits }

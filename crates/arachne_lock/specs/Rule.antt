@@ -1,5 +1,5 @@
 -- What words, slots and views of a set of locks show between any two steps.
-use Rattle.std.specs.Prelude.{◌≡◌, ℕ, ◌<◌, ◌≤◌, ◌==◌, if◌then◌else◌, List, [], All, length, slice_index}
+use Rattle.std.specs.Prelude.{◌≡◌, ℕ, ◌+◌, ◌<◌, ◌≤◌, ◌==◌, if◌then◌else◌, List, [], All, length, slice_index}
 use Rattle.std.specs.List.{sum_by}
 use Rattle.std.specs.declared.option.Option.{Option}
 use Rattle.std.specs.declared.option.Option.TheVariants.{None, Some}
@@ -14,7 +14,7 @@ use Rattle.arachne_lock.specs.declared.view.Sight.{Sight}
 use Rattle.arachne_lock.specs.History.{IsSound}
 use Rattle.arachne_lock.specs.State.{IsLeftBy}
 use Rattle.arachne_lock.specs.Placed.{BeginsWith, StandsIn, times_at, once_below}
-use Rattle.arachne_lock.specs.Logs.{blank_log, cut_log, joined_log}
+use Rattle.arachne_lock.specs.Logs.{blank_log, split_log, cut_log, joined_log}
 use Rattle.arachne_lock.specs.Views.{Guarded, word_of}
 
 abbrev pub Board : Type 0
@@ -43,6 +43,10 @@ guards lock views = sum_by (λ (v : KnownLocks). is_of lock v.out) views
 abbrev pub made_at : ℕ → ℕ → List KnownLocks → ℕ
 made_at lock at views = sum_by (λ (v : KnownLocks). times_at lock at v.log.made) views
 
+-- how often seats were split
+abbrev pub splits_of : List KnownLocks → ℕ
+splits_of views = sum_by (λ (v : KnownLocks). v.log.splits) views
+
 -- the lock's history begins with what was seen of it
 abbrev pub IsSeenIn : Histories → Sight → Type 0
 IsSeenIn histories s = BeginsWith (histories s.lock) s.history
@@ -57,8 +61,9 @@ pub record Fits (histories : Histories) (v : KnownLocks) : Type 0 where
 abbrev pub IsHome : ℕ → List QueueEvent → List (maybe.Option Guarded) → Type 0
 IsHome lock history homes = (guarded : Guarded) × (get_elem? homes lock ≡ some (some guarded)) × IsLeftBy history guarded.lock
 
--- each lock has one history
+-- Each lock has one history, and each seat but the first was split off another, which counts it.
 pub record IsKept (locks : ℕ) (board : Board) : Type 0 where
+  pub seats : length board.views ≡ 1 + splits_of board.views
   pub histories : Histories
   pub counted : length board.words ≡ word_of locks
   pub sound : (lock : ℕ) → IsSound (histories lock)
@@ -77,6 +82,9 @@ blank = idle_known blank_log
 
 abbrev pub first_view : ℕ → KnownLocks
 first_view locks = blank
+
+abbrev pub split_view : KnownLocks → KnownLocks
+split_view v = idle_known (split_log v.log)
 
 abbrev pub second_view : KnownLocks → KnownLocks
 second_view v = idle_known (cut_log v.log)

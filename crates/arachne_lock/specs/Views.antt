@@ -4,7 +4,7 @@ use Rattle.atomic_table.specs.Seated.{TableId}
 use Rattle.arachne_lock.specs.declared.event.QueueEvent.{QueueEvent}
 use Rattle.arachne_lock.specs.declared.view.EventLog.{EventLog}
 use Rattle.arachne_lock.specs.State.{Lock}
-use Rattle.arachne_lock.specs.Logs.{blank_log, cut_log, joined_log}
+use Rattle.arachne_lock.specs.Logs.{blank_log, split_log, cut_log, joined_log}
 
 -- what lies in a lock's slot: its state, and the events that the last call added
 pub record Guarded : Type 0 where
@@ -48,6 +48,10 @@ pub record IsLaidOut (table : TableId) (key count : ℕ) : Type 0 where
 -- a seat of new locks has done and seen nothing
 abbrev pub first_seat : LocksView → SeatView
 first_seat locks = record { table = locks.table; log = blank_log }
+
+-- the parts of a seat that is split: the first counts the split, and the second has seen what the first has
+abbrev pub first_half : SeatView → SeatView
+first_half seat = with_log seat (split_log seat.log)
 
 abbrev pub second_half : SeatView → SeatView
 second_half seat = with_log seat (cut_log seat.log)

@@ -4,7 +4,7 @@ ghost use Rattle.arachne_lock.specs.declared.event.QueueEvent.{QueueEvent};
 ghost use Rattle.arachne_lock.specs.State.{IsAsked, IsFreed, IsWithdrawn, IsChecked};
 ghost use Rattle.arachne_lock.specs.Deeds.{asked_events, freed_events, withdrawn_events};
 ghost use Rattle.arachne_lock.specs.Logs.{contended_log};
-ghost use Rattle.arachne_lock.specs.Views.{Guarded, IsSeatOf, IsLockAt, first_seat, second_half, joined_with, word_of};
+ghost use Rattle.arachne_lock.specs.Views.{Guarded, IsSeatOf, IsLockAt, first_seat, first_half, second_half, joined_with, word_of};
 ghost use Rattle.arachne_lock.specs.Rule.{AreFirstSlots, IsLawfulSeat};
 ghost use Rattle.arachne_lock.specs.Steps.{idle, HasTaken, HasSlot, HasVisited, IsReturnable, IsReturned};
 ghost use Rattle.arachne_lock.specs.Calls.{AskAnswer, FreeAnswer, WithdrawAnswer, CheckAnswer};
@@ -180,7 +180,7 @@ impl Locks {
     /// A seat for another kernel thread, which has seen what this one has and done nothing.
     pub fn split(&self, seat: &mut LockSetSeat) -> LockSetSeat
         requires { IsSeatOf self.now seat.old }
-        ensures first { seat.new ≡ seat.old }
+        ensures first { seat.new ≡ first_half seat.old }
         ensures second { result ≡ second_half seat.old }
     {
         let other = self.table.shared.split_seat::<Divide>(&mut seat.seat);

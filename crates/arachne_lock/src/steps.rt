@@ -35,9 +35,9 @@ impl Play<GuardedLock, KnownLocks> for ReturnGuard {
 pub(crate) struct Divide;
 
 impl Split<KnownLocks> for Divide {
-    ghost use Rattle.arachne_lock.specs.Rule.{second_view};
+    ghost use Rattle.arachne_lock.specs.Rule.{split_view, second_view};
 
-    ghost left = { λ v. v };
+    ghost left = { split_view };
 
     ghost right = { second_view };
 }

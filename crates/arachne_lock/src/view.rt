@@ -29,6 +29,8 @@ pub struct EventLog {
     pub seen: LinkedList<Sight>,
     /// The tries that it made, the newest first.
     pub tries: LinkedList<Try>,
+    /// How often it was split, and each seat that it has taken in.
+    pub splits: u64,
 }
 
 /// A seat's log, and the lock whose state is out with it, if one is.

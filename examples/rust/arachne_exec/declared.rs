@@ -191,8 +191,7 @@ unsafe extern "C" {
     /// joined, or where the array has no room for a job of each of the 4,096 places of each shard; NO_MEMORY.
     pub fn arachne_exec_end(exec: *mut ArachneExec, left: *mut u64, left_room: usize) -> ArachneExecLeft;
 
-    /// Frees what a handle holds, and takes no job. The executor is freed with the last of its handles; a job in
-    /// hand is lost.
+    /// Frees what a handle holds. The executor is freed with the last of its handles; a job in hand is lost.
     pub fn arachne_exec_close(exec: *mut ArachneExec);
 
     /// From now on the seat is this worker, of 0 to 63. DONE; LOST, where another seat has that number; REFUSED,

@@ -358,7 +358,7 @@ impl Hands {
         told.unpark != ARACHNE_NOBODY
     }
 
-    /// A job in hand waits for a wake, unless it was woken since it was taken.
+    /// A job in hand waits for a wake, unless a wake has come that no take or start has used up.
     #[inline]
     pub(crate) fn rest_blocked(&self, job: &Job) -> Rested {
         // SAFETY: a handle.

@@ -95,5 +95,5 @@ returns c = record {
   take_none = λ block k after is. ⊎_elim (λ none. quiet k after _ none refl refl refl) (λ lost. missed k after _ lost) is;
   take_many = λ bits block most k after is. ⊎_elim (λ none. quiet k after _ none.1 refl refl refl) (λ some. quiet k after _ some.9 refl refl refl) is;
   start = λ job place k after is. quiet k after _ is.known refl refl refl;
-  finish = λ place k after is. ⊎_elim (λ next. quiet k after _ next.1 refl refl refl) (λ last. quiet k after _ last.1 refl refl refl) is.known;
+  finish = λ place k after is. quiet k after _ is.known refl refl refl;
 }

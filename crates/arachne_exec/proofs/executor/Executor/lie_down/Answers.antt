@@ -6,7 +6,7 @@ use Rattle.arachne_exec.proofs.executor.Executor.lie_down.Goals as goal
 pub returns-clause-parks : goal.returns-clause-parks
 returns-clause-parks c =
     let lain = c.loop-next.invariant.seen in
-    let known = ap (λ v. v.known) lain.1 in (
+    let known = ap (λ v. v.known) lain.1 in λ parks. (
       lain.0,
       c.loop-next.next,
       known,
@@ -23,7 +23,7 @@ returns-then-not-sees_none-clause-stays c =
     let lain = c.loop-next.invariant.seen in
     let shown = c.if-not-sees_none.ensures.full refl in
     let risen = c.clear_idle.ensures.seat in
-    let inside = c.shards_of-next-end.ensures.none next c.loop-next-test.true in (
+    let inside = c.shards_of-next-end.ensures.none next c.loop-next-test.true in λ stays. (
       lain.0,
       shard,
       shown.0,

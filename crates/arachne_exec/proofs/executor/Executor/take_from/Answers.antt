@@ -3,7 +3,7 @@ use Rattle.atomic_table.specs.Table.{rest}
 use Rattle.arachne_exec.specs.declared.answers.HeldJob.{HeldJob}
 use Rattle.arachne_exec.specs.declared.turns.TakenJob.{TakenJob}
 use Rattle.arachne_exec.specs.Layout.{ready_at, mark_at}
-use Rattle.arachne_exec.specs.Changes.{newest_job, gained, hearing, noted}
+use Rattle.arachne_exec.specs.Changes.{newest_job, gained, noted, using_up}
 use Rattle.arachne_exec.specs.Seats.{CallView, HasNewest}
 use Rattle.arachne_exec.specs.Turns.{IsFirstFrom}
 use Rattle.arachne_exec.specs.Calls.{HasTakenFrom}
@@ -58,14 +58,14 @@ returns-clause-took c =
       took = record {
         there = omega (arith, low);
         ready = c.look-ready.result;
-        mark = c.refresh-mark.result.mark;
+        mark = c.refresh-mark.result;
         named = refl;
-        heard = mark.0;
+        then = mark.0;
         known =
             ap (λ v. v.known) c.lay.ensures.seat
             ∙ ap (λ v. v.known) c.lay-job.ensures.seat
             ∙ ap (λ v. v.known) mark.1
-            ∙ ap (λ k. hearing (mark.0 % 2) place (noted (mark_at place) c.refresh-mark.result.mark k)) held;
+            ∙ ap (λ k. using_up c.refresh-mark.result place mark.0 (noted (mark_at place) c.refresh-mark.result k)) held;
       };
       first = subst (λ (from : ℕ). IsFirstFrom c.look-ready.result from (place % 64)) c.begun-from.ensures (subst (IsFirstFrom c.look-ready.result c.begun-from.result) back c.first_from-index.ensures);
       more = subst (λ (i : ℕ). IsTrue c.has_more.result ↔ (2 * 2 ^ i ≤ c.look-ready.result)) back c.has_more.ensures;

@@ -1,5 +1,0 @@
-use Rattle.arachne_exec.proofs.Allowed.{last-look-asks}
-use Rattle.arachne_exec.proofs.executor.Executor.look_last.Goals as goal
-
-pub load-requires : goal.load-requires
-load-requires c = last-look-asks _ _ _ c.self.invariant _ c.self.view_is _ _ _ c.seat.invariant _ c.seat.view_is c.requires.own
