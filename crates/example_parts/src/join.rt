@@ -64,14 +64,14 @@ fn square_beside<R: Threads + Wait + Sync>(
     Ok(square)
 }
 
-pub fn show(rt: &HostRuntime) -> Result<()> {
+pub fn show<R: Threads + Wait + Sync + Print>(rt: &R, alloc: Global) -> Result<()> {
     for number in [3, 12, 1 << 32] {
-        let square = square_beside(rt, rt.alloc(), number)?;
+        let square = square_beside(rt, alloc, number)?;
         println!(rt; "{square}")?;
     }
     let mut sum = 0u64;
     for number in 0..MANY {
-        sum = sum.wrapping_add(square_beside(rt, rt.alloc(), number)?);
+        sum = sum.wrapping_add(square_beside(rt, alloc, number)?);
     }
     println!(rt; "{sum}")?;
     Ok(())

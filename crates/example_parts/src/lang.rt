@@ -38,8 +38,8 @@ fn meaning(alloc: Global, text: &[u8]) -> Result<Meaning, Refused>
     Ok(meaning)
 }
 
-pub fn show(rt: &HostRuntime) -> Result<()> {
-    let meaning = meaning(rt.alloc(), TEXT.as_bytes())?;
+pub fn show(rt: &impl Print, alloc: Global) -> Result<()> {
+    let meaning = meaning(alloc, TEXT.as_bytes())?;
     println!(rt; "value {}", meaning.value)?;
     for (ledger, total) in meaning.totals.as_slice().iter().enumerate() {
         println!(rt; "ledger {ledger} {total}")?;

@@ -42,9 +42,9 @@ fn sum_of<R: Threads>(rt: &R, alloc: Global, numbers: &[u64]) -> Option<u64>
     Some(ledgers.read(&mut share, 0))
 }
 
-pub fn show(rt: &HostRuntime) -> Result<()> {
-    let numbers: Vec<u64> = (0..10_000u64).collect(rt.alloc())?;
-    let Some(total) = sum_of(rt, rt.alloc(), numbers.as_slice()) else {
+pub fn show<R: Threads + Sync + Print>(rt: &R, alloc: Global) -> Result<()> {
+    let numbers: Vec<u64> = (0..10_000u64).collect(alloc)?;
+    let Some(total) = sum_of(rt, alloc, numbers.as_slice()) else {
         bail!("memory was refused");
     };
     println!(rt; "{total}")?;

@@ -11,10 +11,10 @@ mod table;
 use anyhow::Result;
 
 fn main(rt: HostRuntime) -> Result<()> {
-    lang::show(&rt)?;
-    policy::show(&rt)?;
-    ledger::show(&rt)?;
-    join::show(&rt)?;
-    sleep::show(&rt)?;
-    table::show(&rt)
+    lang::show(&rt, rt.alloc())?;
+    policy::show(&rt, rt.alloc())?;
+    ledger::show(&rt, rt.alloc())?;
+    join::show(&rt, rt.alloc())?;
+    sleep::show(&rt, rt.alloc())?;
+    table::show(&rt, rt.alloc())
 }

@@ -44,14 +44,14 @@ fn sample(cores: u64, runnable: u64, busy: u64) -> Sample {
     }
 }
 
-pub fn show(rt: &HostRuntime) -> Result<()> {
+pub fn show(rt: &impl Print, alloc: Global) -> Result<()> {
     // On two cores there was too much to run, so a third was asked for; there the work of 1.8 cores is left.
     let samples = [
         sample(2, 151, 1900),
         sample(3, 100, 1810),
         sample(3, 100, 1809),
     ];
-    let answers = judge_all(rt.alloc(), Estimator::new(1500, 90, 16), &samples)?;
+    let answers = judge_all(alloc, Estimator::new(1500, 90, 16), &samples)?;
     for advice in answers {
         println!(rt; "{advice}")?;
     }

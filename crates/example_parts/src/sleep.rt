@@ -7,8 +7,10 @@ ghost use Rattle.arachne_sleep.specs.Views.{IsSeatOf};
 use anyhow::{Result, bail};
 use arachne_core::ThreadId;
 use arachne_sleep::{Asked, History, LockSeat, SleepLock, Tried, Who};
+use std::alloc::Global;
 use std::sync::Wait;
 use std::thread;
+use std::thread::Threads;
 use std::time::{Clock, Duration};
 
 /// Asks for the lock, and comes back once the thread holds it. None where memory is refused.
@@ -79,8 +81,8 @@ fn history(lock: SleepLock, seat: LockSeat) -> Option<History>
     lock.close(seat).ok()
 }
 
-pub fn show(rt: &HostRuntime) -> Result<()> {
-    let (lock, seat) = SleepLock::new(rt.alloc(), 5)?;
+pub fn show<R: Threads + Wait + Clock + Sync + Print>(rt: &R, alloc: Global) -> Result<()> {
+    let (lock, seat) = SleepLock::new(alloc, 5)?;
     let (first, second) = lock.split(seat);
     let (first, second) = thread::join(
         rt,

@@ -4,8 +4,10 @@ ghost use Rattle.std.specs.Prelude.{◌≡◌, ◌<◌, IfSome};
 
 use anyhow::{Result, bail};
 use arachne_table::{Claimed, Contexts, Tagged, Taken, WordContexts};
+use std::alloc::Global;
 use std::sync::Wait;
 use std::thread;
+use std::thread::Threads;
 use std::time::{Clock, Duration};
 
 /// How many places the core has.
@@ -76,13 +78,13 @@ fn take_all<C: Contexts<Parcel>, R: Wait + Clock>(
     unreachable!()
 }
 
-pub fn show(rt: &HostRuntime) -> Result<()> {
-    let (table, seat) = WordContexts::<Parcel>::new(rt.alloc(), 1, PLACES, 0)?;
+pub fn show<R: Threads + Wait + Clock + Sync + Print>(rt: &R, alloc: Global) -> Result<()> {
+    let (table, seat) = WordContexts::<Parcel>::new(alloc, 1, PLACES, 0)?;
     let (first, second) = table.split(seat);
     let (first, second) = thread::join(
         rt,
-        || post::<WordContexts<Parcel>, HostRuntime>(rt, &table, first),
-        || take_all::<WordContexts<Parcel>, HostRuntime>(rt, &table, second),
+        || post::<WordContexts<Parcel>, R>(rt, &table, first),
+        || take_all::<WordContexts<Parcel>, R>(rt, &table, second),
     );
     let (Some(first), Some((second, sum))) = (first, second) else {
         bail!("memory was refused");
@@ -91,7 +93,7 @@ pub fn show(rt: &HostRuntime) -> Result<()> {
     if !table.is_whole(&seat) {
         bail!("a seat is missing");
     }
-    let Ok(left) = table.close(rt.alloc(), seat) else {
+    let Ok(left) = table.close(alloc, seat) else {
         bail!("memory was refused");
     };
     println!(rt; "the sum is {sum}, and {} are left", left.len())?;
