@@ -3,7 +3,7 @@ ghost use Rattle.std.specs.Prelude.{◌≡◌, ℕ, ◌+◌, ◌*◌, ◌%◌, �
 ghost use Rattle.arachne_weights.specs.Weight.{whole, first_part, second_part, joined};
 ghost use Rattle.arachne_ledger.specs.Sums.{raised, plus};
 ghost use Rattle.arachne_ledger.specs.Balance.{word_of};
-ghost use Rattle.arachne_ledger.specs.Views.{IsShareOf, IsWhole, IsLawfulEnd};
+ghost use Rattle.arachne_ledger.specs.Views.{IsShareOf, IsWhole};
 
 use crate::share::{Share, View};
 use crate::steps::{Add, Balanced, Deal, Read};
@@ -152,7 +152,6 @@ impl Ledgers {
         requires whole { IsWhole share }
         ensures sums { IfOk result (λ v. v.items ≡ map (λ sum. sum % 2 ^ 64) share.sums) }
         ensures counted { IfOk result (λ v. vec_len v ≡ self.count) }
-        ensures lawful { IfOk result (λ v. IsLawfulEnd self.count share) }
         ensures err { IfErr result (λ r. (r.0 ≡ self) × (r.1 ≡ share)) }
     {
         let Ok(mut totals) = Vec::with_capacity(alloc, self.count) else {

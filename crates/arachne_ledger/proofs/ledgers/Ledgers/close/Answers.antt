@@ -1,8 +1,4 @@
 use Rattle.std.proofs.Common.{◌≡◌, ◌<◌, ◌∙◌, ap, sym, subst, map, take, ◌+◌, ◌%◌, ◌^◌, rules, arith}
-use mathlib.Core.Option.{some}
-use Rattle.arachne_weights.specs.Tokens.{held}
-use Rattle.arachne_weights.specs.Weight.{whole}
-use Rattle.arachne_ledger.specs.Balance.{IsBalanced}
 use Rattle.arachne_ledger.proofs.Seated.{long, settled}
 use Rattle.arachne_ledger.proofs.Sums.{reduced-more}
 use Rattle.arachne_ledger.proofs.ledgers.Ledgers.close.Goals as goal
@@ -20,16 +16,4 @@ loop-ledger-preserved c =
           (reduced-more c.share.inside.seat.me.0.known.sums _ _ _ _ (omega (arith, counted, c.self.invariant.keyed)) (subst (λ xs. c.loop-ledger.totals.items ≡ map (λ sum. sum % 2 ^ 64) (take c.loop-ledger.ledger xs)) (sym sums) c.loop-ledger.invariant.so_far) found (rw c.unwrap.ensures at c.push.ensures.items));
       counted = search rules;
       room = search rules;
-    }
-
-pub returns-clause-lawful : goal.returns-clause-lawful
-returns-clause-lawful c =
-    let end = c.close_with-closed.ensures.values.2 in let weight = ap (λ v. v.weight) c.share.view_is ∙ c.requires.whole in
-    let sums = ap (λ v. v.sums) c.share.view_is in let read = ap (λ v. v.last_read) c.share.view_is in
-    let is : c.share.inside.seat.me.0 ≡ held whole (record { sums = c.args.share.sums; last_read = c.args.share.last_read })
-    = ap (λ m. m.0) c.share.invariant.mine ∙ (λ i. held (weight i) (record { sums = sums i; last_read = read i })) in record {
-      board = end.0;
-      balanced = subst (λ n. IsBalanced n end.0) (c.self.invariant.keyed ∙ ap (λ v. v.count) c.self.view_is) end.1.0;
-      place = c.share.inside.seat.id;
-      there = end.1.1 ∙ ap some is;
     }
