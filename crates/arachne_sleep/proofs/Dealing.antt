@@ -10,6 +10,7 @@ use Rattle.arachne_sleep.specs.declared.event.LockEvent.{LockEvent}
 use Rattle.arachne_sleep.specs.History.{IsSound}
 use Rattle.arachne_sleep.specs.Calls.{IsToldBy}
 use Rattle.arachne_sleep.specs.Views.{SeatView, joined_with}
+use Rattle.arachne_sleep.specs.Rule.{IsLawfulEnd}
 use Rattle.arachne_sleep.specs.SleepLocks.{all_joined}
 
 no-items : {X : Type 0} (xs : List X) → length xs ≡ 0 → xs ≡ []
@@ -106,6 +107,7 @@ are-joined seats others own left a none =
 pub record IsClosedTo (seat : SeatView) (history : List LockEvent) : Type 0 where
   pub sound : IsSound history
   pub told : IsToldBy seat.log history
+  pub lawful : IsLawfulEnd seat.log.number seat
 
 -- the last ones are closed, and what was told of each lies in turn, the last one first
 
@@ -133,7 +135,12 @@ pub all-closed : {X : Type 0} (R : SeatView → X → Type 0) (seats left : List
 all-closed R seats left xs a none =
     subst (λ (zs : List SeatView). AllZip R zs (reverse xs)) (sym (a.seats_are ∙ ap (λ (zs : List SeatView). zs ++ a.closed) (no-items left none))) a.told
 
--- what follows of each history, and of each with its seat
+-- what follows of each seat, of each history, and of each with its seat
+pub each-left : {X : Type 0} (R : SeatView → X → Type 0) (P : SeatView → Type 0) → ((seat : SeatView) (x : X) → R seat x → P seat) → (seats : List SeatView) (xs : List X) → AllZip R seats xs → All P seats
+each-left R P then [] xs all = All-nil P
+each-left R P then (seat ∷ seats) [] all = absurd all
+each-left R P then (seat ∷ seats) (x ∷ xs) all = All-cons P seat seats (then seat x all.0) (each-left R P then seats xs all.1)
+
 pub each-right : {X : Type 0} (R : SeatView → X → Type 0) (P : X → Type 0) → ((seat : SeatView) (x : X) → R seat x → P x) → (seats : List SeatView) (xs : List X) → AllZip R seats xs → All P xs
 each-right R P then [] [] all = All-nil P
 each-right R P then [] (x ∷ xs) all = absurd all

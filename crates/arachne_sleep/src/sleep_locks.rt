@@ -3,6 +3,7 @@ ghost use Rattle.std.specs.Prelude.{◌≡◌, ◌<◌, ◌↔◌, All, IsTrue, 
 ghost use Rattle.std.specs.List.{AllZip};
 ghost use Rattle.arachne_sleep.specs.History.{IsSound};
 ghost use Rattle.arachne_sleep.specs.OneHolder.{HasOneHolderAtATime};
+ghost use Rattle.arachne_sleep.specs.Rule.{IsLawfulEnd};
 ghost use Rattle.arachne_sleep.specs.Views.{IsWhole, whole_seat, first_half, second_half};
 ghost use Rattle.arachne_sleep.specs.Calls.{AskAnswer, FreeAnswer, CheckAnswer, IsToldBy};
 ghost use Rattle.arachne_sleep.specs.SleepLocks.{AreSeatsOf, ChangesAt, all_joined};
@@ -164,6 +165,7 @@ impl SleepLocks {
         ensures sound { IfOk result (λ histories. All (λ history. IsSound history.items) histories.items) }
         ensures one_holder { IfOk result (λ histories. All (λ history. HasOneHolderAtATime history.items) histories.items) }
         ensures told { IfOk result (λ histories. AllZip (λ seat history. IsToldBy seat.log history.items) seats histories.items) }
+        ensures lawful { IfOk result (λ histories. All (λ seat. IsLawfulEnd seat.log.number seat) seats) }
         ensures err { IfErr result (λ back. (back.0 ≡ self) × (back.1 ≡ seats)) }
     {
         let count = self.locks.len();
