@@ -14,6 +14,7 @@ ghost use Rattle.arachne_rule.specs.Layout.{occ_index};
 ghost use Rattle.arachne_rule.specs.Plays.{HasEnded};
 ghost use Rattle.arachne_rule.specs.Views.{blank, joined_known, noted};
 ghost use Rattle.arachne_words.specs.Calls.{looked, ClaimAnswer, ClaimAloneAnswer, TakeAnswer, RestAnswer, HasFinished, WakeAnswer, DrainAnswer, GiveBackAnswer, PostAnswer};
+ghost use Rattle.arachne_words.specs.Ending.{IsLawfulEnd};
 ghost use Rattle.arachne_words.specs.Moves.{MoveAnswer};
 ghost use Rattle.arachne_words.specs.Out.{AreAllLeft, IsOutWith};
 ghost use Rattle.arachne_words.specs.Seats.{HasNothingOut};
@@ -349,6 +350,7 @@ impl<T: Tagged + Drop + Send> Contexts<T> for WordContexts<T> {
         requires idle { HasNothingOut seat.known }
         ensures settled { IfOk result (λ rest. AreAllLeft seat.known (tagged_threads T.tag_of rest.items)) }
         ensures order { IfOk result (λ rest. IsByContext rest.items) }
+        ensures lawful { IfOk result (λ rest. IsLawfulEnd T.tag_of self.shape seat.known) }
         ensures handed_back { IfErr result (λ back. back ≡ (self, seat)) }
     {
         let _ = rt;
