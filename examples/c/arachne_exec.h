@@ -52,13 +52,14 @@ enum {
     ARACHNE_RUN = 13,
     /* The worker has set its idle bit, and then found none of its blocks shown: sleep until somebody unparks it. */
     ARACHNE_PARK = 14,
-    /* No job was found: ask again. */
+    /* No job was found, or a block is shown that may have one: ask again. */
     ARACHNE_AGAIN = 15,
     /* The job is ready. */
     ARACHNE_READY = 16,
     /* The job waits for a wake. */
     ARACHNE_BLOCKED = 17,
-    /* The job has not begun to run since it became ready; or it runs, and is ready again where it would block next. */
+    /* The job is ready, or runs: a take or a start uses the wake up, and else it is ready again where it would block
+     * next. So it is with the name that the next job at a free place will have. */
     ARACHNE_MARKED = 18,
     /* It was marked already. */
     ARACHNE_ALREADY_MARKED = 19,

@@ -1,5 +1,6 @@
-//! Links the proved library: ARACHNE_LIBS names the folder that has libarachne_exec_c.a and the kit's liblibc_c.a. If it
-//! is not set, the folder above the crate serves, as `scripts/release` makes it.
+//! Links the proved library, libarachne_exec_c.a with the kit's liblibc_c.a, from the folder that ARACHNE_LIBS names.
+//!
+//! If that is not set, they are taken from the folder above the crate, where `scripts/release` puts them.
 use std::path::{Path, PathBuf};
 
 fn main() {
@@ -24,7 +25,7 @@ fn main() {
     }
 }
 
-/// Without the trace of a panic, which says nothing more.
+/// Ends the build with a message, without a panic's backtrace.
 fn fail(message: &str) -> ! {
     eprintln!("arachne: {message}");
     std::process::exit(1)

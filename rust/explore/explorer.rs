@@ -1,24 +1,24 @@
-//! An explorer of interleavings: real kernel threads of which one runs at a time, and a seed that says which goes on.
+//! An explorer of interleavings: real threads, of which one runs at a time in an order that a seed determines.
 //!
 //! Each step of an atomic, a lock, a condition variable, an epoll, a clock or a thread is a *point*, at which another
-//! thread may go on. As PCT has it (Burckhardt et al., 2010), each thread has a random priority, the first of those
-//! that can run does, and at a few points of a run whoever runs falls behind all others. Unless the load's time is
-//! *exact*, it may also have no processor for up to 16 ms. Locks and bells are the scheduler's own, so it knows who
-//! waits.
+//! thread may take over. As in PCT (Burckhardt et al., 2010), each thread has a random priority, the runnable thread of
+//! the highest priority runs, and at a few points of a run the running thread drops behind all others. Unless the
+//! load's time is *exact*, it may also lose its processor for up to 16 ms. Locks and bells are the scheduler's own, so
+//! it knows which threads wait.
 //!
-//! Time is virtual. A point takes some nanoseconds, and if nobody can run it jumps to the next who sleeps. If none
-//! does, that is a *hang*, and so is a run of more than `LONGEST`. More than `STEPS` points are a *livelock*. What is
-//! freed is filled with a pattern, and given back after the run: an atomic or a lock that has the pattern, or a block
-//! whose pattern has changed, was used after it was freed. All that a run has allocated it has to free.
+//! Time is virtual. A point takes some nanoseconds, and if no thread can run, time jumps to the next one that sleeps.
+//! If none does, that is a *hang*, and so is a run of more than `LONGEST`. More than `STEPS` points are a *livelock*.
+//! Freed memory keeps a pattern until the end of the run: an atomic or a lock that has the pattern, or a block whose
+//! pattern has changed, was used after it was freed. A run must free all that it has allocated.
 //!
-//! Any of these, a failed assertion and a fault print the last points (`TRACE=1000` for more), where each thread
-//! waits, and the load's name with the seed, which repeats the run. `explore/run` builds and runs it.
+//! Each of these, a failed assertion and a fault print the last points (`TRACE=1000` for more), the point at which each
+//! thread waits, and the load's name with the seed, which repeats the run. `explore/run` builds and runs it.
 //!
-//! The crate takes what its threads share and wait on from `sync.rs` alone, and so does the model of the core, whose
-//! steps on atomics are points like all others. So nothing is assumed of the model, and nothing is said of the proved
-//! library. The explorer doesn't see weak memory orders, as each point is sequentially consistent: no barrier that is
-//! missing, no order that is too weak. Nor does it see what happens between two points to data that isn't atomic, a
-//! condition variable's spurious wakes, or what Linux does in another order than here.
+//! The crate, and the model of the core, use atomics, locks and threads only through `sync.rs`. So the model's steps
+//! are points too, and nothing is assumed of it; the proved library is not tested here. Each point is sequentially
+//! consistent, so the explorer doesn't find a missing barrier or an order that is too weak. Nor does it find data races
+//! on other data between two points, or errors that need a condition variable's spurious wakes or another order of
+//! Linux's calls.
 
 use std::alloc::{GlobalAlloc, Layout, System};
 use std::cell::{Cell, UnsafeCell};
@@ -30,12 +30,12 @@ use std::sync::atomic::{AtomicBool, AtomicPtr, Ordering::*};
 mod types;
 pub use types::*;
 
-/// Threads, points of a run at most, points that are kept for the trace, and the longest run in nanoseconds.
+/// The most threads, the most points of a run, the points kept for the trace, and the longest run in nanoseconds.
 const MOST: usize = 16;
 const STEPS: u64 = 300_000;
 const KEPT: usize = 1 << 12;
 const LONGEST: u64 = 10_000_000_000;
-/// After so many points a thread falls behind all others in any case: it may wait for one of them in a loop.
+/// After this many points a thread always drops behind all others: it may wait for one of them in a loop.
 const PATIENCE: u64 = 3000;
 const START: u64 = 1_000_000_000;
 const NEVER: u64 = u64::MAX;
@@ -53,7 +53,7 @@ type Job = Box<dyn FnOnce() + Send>;
 
 struct Thread {
     state: Cell<State>,
-    /// What it waits for, until when and in which epoll; and whether it was told.
+    /// The object that it waits for, until when, and in which epoll; and true if it was woken.
     on: Cell<usize>,
     until: Cell<u64>,
     epoll: Cell<i32>,
@@ -78,7 +78,7 @@ struct Event {
 }
 const NO_EVENT: Event = Event { thread: 0, what: "", at: None, value: NEVER, now: START };
 
-/// All that the scheduler knows: whoever runs has it for itself.
+/// The scheduler's state. Only the running thread uses it.
 struct World {
     threads: [Thread; MOST],
     count: Cell<usize>,
@@ -91,14 +91,14 @@ struct World {
     switches: Cell<u64>,
     now: Cell<u64>,
     tick: Cell<u64>,
-    /// The next change, the mean number of points between two, and the point at which the thread that runs began to.
+    /// The next change of priority, the mean number of points between two, and the point at which a thread took over.
     change: Cell<u64>,
     gap: Cell<u64>,
     began: Cell<u64>,
     lowest: Cell<u64>,
-    /// A thread that is to lose its processor, from which point on, and for how many nanoseconds.
+    /// The thread that will lose its processor, the point at which it does, and for how many nanoseconds.
     loss: Cell<(usize, u64, u64)>,
-    /// The scheduler looks at this point, at this time, and where somebody was told.
+    /// The scheduler chooses anew at this point, at this time, and whenever a thread was woken.
     alarm: Cell<u64>,
     timer: Cell<u64>,
     stirred: Cell<bool>,
@@ -257,7 +257,7 @@ impl World {
         self.now.set(timer);
     }
 
-    /// This thread waits; whether it was told before its time.
+    /// Lets this thread wait. Returns true if it was woken before its time.
     fn wait(&self, me: usize, on: usize, until: u64, epoll: i32) -> bool {
         let thread = &self.threads[me];
         (thread.on.set(on), thread.until.set(until), thread.epoll.set(epoll), thread.told.set(false));
@@ -325,7 +325,7 @@ impl World {
     }
 }
 
-/// A point of this thread, where it is one of a run.
+/// Makes a point of this thread, if it is one of a run.
 #[inline]
 fn point(what: &'static str, at: &'static Location<'static>) {
     let me = me();
@@ -334,7 +334,7 @@ fn point(what: &'static str, at: &'static Location<'static>) {
     }
 }
 
-/// For the trace: what the step at the last point has seen.
+/// Records for the trace the value that the step at the last point has read.
 #[inline]
 fn seen(value: u64) {
     let world = world();
@@ -344,7 +344,7 @@ fn seen(value: u64) {
 
 // ------------------------------------------------------------------------------------------- a run
 
-/// Ends the process with the last points, where all threads wait, and the seed.
+/// Ends the process, and prints the last points, the point at which each thread waits, and the seed.
 pub fn fail(what: &str) -> ! {
     let world = world();
     HELD.tracks.set(false);
@@ -475,7 +475,7 @@ pub fn choose(count: usize) -> usize {
 
 const PATTERN: u8 = 0xdb;
 
-/// What a run has freed, how many blocks it has allocated and not freed, and whether that is counted now.
+/// The blocks that a run has freed, and the number that it has allocated and not freed; counted only if `tracks`.
 struct Held {
     tracks: Cell<bool>,
     live: Cell<isize>,
@@ -529,7 +529,7 @@ unsafe impl GlobalAlloc for Memory {
     }
 }
 
-/// Fails where this word is of memory that was freed.
+/// Fails if this value lies in memory that was freed.
 #[inline]
 fn check<T>(at: &T) {
     let bytes = at as *const T as *const u8;

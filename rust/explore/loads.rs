@@ -24,7 +24,7 @@ fn runtime(workers: usize) -> Runtime {
     Builder::new(workers).places(4 * workers).slices(None).build().unwrap()
 }
 
-/// A number that a kernel thread may wait for.
+/// A number that a thread can wait for.
 #[derive(Default)]
 struct Count(Mutex<usize>, Condvar);
 
@@ -57,7 +57,7 @@ fn sleepers() {
     }
 }
 
-/// What is spawned, and what is woken, is run at once where workers sleep: no time passes meanwhile.
+/// If workers sleep, spawned and woken tasks run at once: no virtual time passes.
 fn prompt() {
     let (runtime, gate) = (runtime(2 + choose(2)), Arc::new(Semaphore::new(0)));
     for _ in 0..3 {
@@ -76,7 +76,7 @@ fn prompt() {
     }
 }
 
-/// Each of so many tasks blocks its worker until all have begun: so each needs a worker of its own.
+/// As many tasks as workers, each of which blocks its worker until all have begun: each needs a worker of its own.
 fn hands() {
     let (runtime, begun) = (runtime(2), Arc::new(Count::default()));
     for round in 1..3 {
@@ -100,7 +100,7 @@ impl Wake for Count {
     }
 }
 
-/// Polls by that waker.
+/// Polls with this waker.
 fn poll<F: Future + Unpin>(future: &mut F, woken: &Arc<Count>) -> Poll<F::Output> {
     Pin::new(future).poll(&mut Context::from_waker(&woken.clone().into()))
 }
@@ -112,7 +112,7 @@ impl Drop for OnDrop {
     }
 }
 
-/// Abort handles are made, copied and dropped while their task ends, by whoever is last: what it had is dropped once.
+/// Abort handles are made, cloned and dropped while their task ends: its contents are dropped exactly once.
 fn aborts() {
     let (runtime, dropped) = (runtime(2), Arc::new(Count::default()));
     let within = OnDrop(dropped.clone());
@@ -141,7 +141,7 @@ fn aborts() {
     dropped.is(1);
 }
 
-/// Tasks of a set end on workers while another thread joins, aborts and detaches: no end is missed, none is told twice.
+/// Tasks of a set end on workers while another thread joins, aborts and detaches: each end is returned exactly once.
 fn sets() {
     let runtime = runtime(2);
     let waits = runtime.spawn(async {
@@ -170,7 +170,7 @@ fn sets() {
     runtime.block_on(waits).unwrap();
 }
 
-/// A semaphore is closed while some wait and permits come: each is told, and what was given comes back.
+/// A semaphore is closed while tasks wait and permits are added: each task gets an error, and no permit is lost.
 fn closing() {
     let (runtime, permits) = (runtime(2), Arc::new(Semaphore::new(choose(2))));
     let tasks: Vec<_> = (0..3).map(|_| runtime.spawn(permits.clone().acquire_owned())).collect();
@@ -208,8 +208,8 @@ fn door() {
     }
 }
 
-/// A sleep is set to another time by a thread while a task waits for it: it is heard soon after the time that was set
-/// last, and never before.
+/// A thread resets a sleep while a task waits for it: the task is woken soon after the time that was set last, and
+/// never before.
 fn resets() {
     let runtime = runtime(2);
     let nap = Arc::new(Mutex::new((sleep(LONG), false)));
@@ -240,8 +240,8 @@ fn resets() {
 /// Nanoseconds of virtual time, in which no machine is late, within which what is ready begins.
 const SOON: u64 = 5_000_000;
 
-/// What is ready behind a poll that takes 200 ms begins soon: what the poll's worker had in hand, what was to run next
-/// there, and what the poll makes ready.
+/// Ready tasks behind a poll of 200 ms begin soon: those in its worker's hand, the one to run next, and those that the
+/// poll makes ready.
 fn behind() {
     let (runtime, begun) = (runtime(2 + choose(2)), Arc::new(Count::default()));
     let each = begun.clone();
@@ -270,7 +270,7 @@ fn behind() {
     begun.is(8);
 }
 
-/// A worker has a task in hand, makes one ready at its places, and begins a long poll: who is free runs one at once.
+/// A worker has a task in hand, makes one ready in its blocks, and begins a long poll: a free worker runs one at once.
 fn apart() {
     let (runtime, begun) = (runtime(2), Arc::new(Mutex::new(Vec::new())));
     thread::sleep(choose(12) as u32 * MS);
@@ -348,7 +348,7 @@ fn relief() {
     ran.is(4);
 }
 
-/// A worker that wakes each millisecond for its own task looks after one whose poll blocks until what is ready has run.
+/// A worker that wakes each millisecond for its own task looks after one whose poll waits for a ready task to run.
 fn ticks() {
     let (runtime, ran) = (runtime(2), Arc::new(Count::default()));
     let ticking = runtime.spawn(async {
@@ -373,7 +373,7 @@ fn ticks() {
     assert!(runtime.block_on(ticking).unwrap_err().is_cancelled());
 }
 
-/// A worker wakes for a timer that is gone as a task comes to its places, which blocks until what it spawned has run.
+/// A worker wakes for a timer that is gone as a task comes to its blocks, which waits for a task that it has spawned.
 fn stale() {
     let (runtime, mut waits, due) = (runtime(2 + choose(2)), sleep(40 * MS), now() + 40_000_000);
     let _ = runtime.enter(|| poll(&mut waits, &Arc::default()));
@@ -430,7 +430,7 @@ fn phases() {
     spins.into_iter().for_each(|spin| runtime.block_on(spin).unwrap());
 }
 
-/// The only worker is in a poll that blocks until what is ready has run: the watcher runs it.
+/// The only worker is in a poll that waits for a ready task to run: the watcher runs it.
 fn watcher() {
     let runtime = Builder::new(1).places(8).slices(None).watch_polls(10 * MS, false).build().unwrap();
     let ran = Arc::new(Count::default());
@@ -499,8 +499,8 @@ impl Drop for Counted {
     }
 }
 
-/// An orderly end: whoever waits for it is told, also one that begins to wait at that moment, or does so by another
-/// waker, and what it spawns then.
+/// An orderly end: all who wait for it are woken, even one that begins to wait at that moment or changes its waker, and
+/// tasks that are spawned then.
 fn drain() {
     let (runtime, ended) = (runtime(2), Arc::new(Count::default()));
     for yields in 0..2 {
@@ -519,7 +519,7 @@ fn drain() {
     ended.is(2);
 }
 
-/// An end in the midst of all: each task has run, or is dropped, once, and its handle tells which.
+/// A sudden end: each task has run or is dropped, exactly once, and its handle returns which.
 fn shutdown() {
     let (runtime, dropped, gate) = (runtime(2), Arc::new(Count::default()), Arc::new(Semaphore::new(0)));
     let task = |kind: usize| {
@@ -569,7 +569,7 @@ fn own() {
     dropped.await_all(2);
 }
 
-/// More tasks than places, of which all that have one wait for one that has none until another ends.
+/// More tasks than places: all those with a place wait for one that gets its place only when another ends.
 fn room() {
     let (runtime, gate) = (runtime(2), Arc::new(Semaphore::new(0)));
     let mut tasks: Vec<JoinHandle<()>> = Vec::new();
@@ -584,8 +584,8 @@ fn room() {
     }
 }
 
-/// Three senders at a full channel of one: nothing is lost, each one's values are in order, and who was called and
-/// found it full again is next.
+/// Three senders at a full channel of one: no value is lost, each sender's values are in order, and a sender that got
+/// its turn and found the channel full again is next.
 fn channels() {
     let (sender, receiver) = channel(1);
     sender.try_send(0).unwrap();
@@ -620,7 +620,7 @@ fn channels() {
     senders.into_iter().for_each(|task| runtime.block_on(task).unwrap());
 }
 
-/// Who waits leaves when its time is over: no permit and no value is lost.
+/// Waiters leave when their time is over: no permit and no value is lost.
 fn leaving() {
     let (runtime, gate, (sender, receiver)) = (runtime(2), Arc::new(Semaphore::new(1)), channel(1));
     let tasks: Vec<_> = (0..3)
@@ -664,7 +664,7 @@ fn timers() {
     }
 }
 
-/// What is ready at the places of a core that was given back is run at once by whoever looks after them.
+/// Ready tasks in the blocks of a core that was given back are run at once by the worker that looks after them.
 fn cores() {
     let policy = Policy { every: MS, ..Policy::default() };
     let runtime = Builder::new(4).places(16).slices(None).policy(policy).build().unwrap();
@@ -686,7 +686,7 @@ fn cores() {
     assert!(now() - since < 300_000, "after {} us", (now() - since) / 1000);
 }
 
-/// A core is given back while its worker is in a poll that blocks until what it has in hand has run.
+/// A core is given back while its worker is in a poll that waits for the jobs in its own hand to run.
 fn returned() {
     let policy = Policy { every: MS, min_cores: 2, ..Policy::default() };
     let runtime = Builder::new(3).places(12).slices(None).policy(policy).build().unwrap();
@@ -710,7 +710,7 @@ fn returned() {
     }
 }
 
-/// Cores come and go at any time, as an arbiter has it: what is ready by then is run at once.
+/// Cores come and go at any time, as under an arbiter: tasks that are ready by then are run at once.
 fn granted() {
     let runtime = Builder::new(3).places(12).slices(None).build().unwrap();
     for _ in 0..3 {
@@ -734,8 +734,7 @@ fn granted() {
     }
 }
 
-/// Sockets come and go: what was told of one that is gone isn't told to the next of its number, which would try to read
-/// in vain once more.
+/// Sockets come and go: an event of a closed one doesn't reach the next one of its number, which would read in vain.
 fn sockets() {
     let runtime = runtime(2);
     for round in 0..2 {
@@ -773,6 +772,27 @@ fn sockets() {
     }
 }
 
+/// Three tasks wait for one socket, of which one may leave: each of the others reads a byte.
+fn crowd() {
+    let (runtime, (mut near, far)) = (runtime(2), UnixStream::pair().unwrap());
+    let (far, leaves) = (Arc::new(Async::new(far).unwrap()), choose(2) == 0);
+    let tasks: Vec<_> = (0..3)
+        .map(|_| {
+            let far = far.clone();
+            runtime.spawn(async move { far.read_with(|mut far: &UnixStream| far.read(&mut [0])).await.unwrap() })
+        })
+        .collect();
+    if leaves {
+        tasks[choose(3)].abort();
+    }
+    for _ in 0..3 {
+        near.write_all(&[7]).unwrap();
+        told();
+    }
+    let read = tasks.into_iter().map(|task| runtime.block_on(task)).filter(|read| matches!(read, Ok(1))).count();
+    assert!(read == 3 || leaves && read == 2);
+}
+
 /// A lock that three tasks want, one of which may leave the line; and work on the blocking pool.
 fn locks() {
     let (runtime, lock, inside) = (runtime(2), Arc::new(Lock::new(0)), Arc::new(Mutex::new(false)));
@@ -807,7 +827,7 @@ impl Drop for Leaves {
 
 /// Name, load, and whether its time is exact.
 type Load = (&'static str, fn(), bool);
-const LOADS: [Load; 29] = [
+const LOADS: [Load; 30] = [
     ("sleepers", sleepers, false),
     ("prompt", prompt, true),
     ("returned", returned, false),
@@ -831,6 +851,7 @@ const LOADS: [Load; 29] = [
     ("cores", cores, true),
     ("granted", granted, true),
     ("sockets", sockets, false),
+    ("crowd", crowd, false),
     ("locks", locks, false),
     ("aborts", aborts, false),
     ("sets", sets, false),

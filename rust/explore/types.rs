@@ -116,7 +116,7 @@ unsafe impl<T: ?Sized + Send> Sync for Mutex<T> {}
 
 pub struct MutexGuard<'a, T: ?Sized>(&'a Mutex<T>);
 
-/// What waits for this waits for its address.
+/// A thread that waits for this waits for its address.
 fn id<T: ?Sized>(of: &T) -> usize {
     of as *const T as *const u8 as usize
 }
@@ -297,7 +297,7 @@ impl std::ops::Add<Duration> for Instant {
     }
 }
 
-/// What threads wait for that wait in an epoll.
+/// The object that threads in an epoll wait for.
 const TOLD: usize = 1;
 
 #[track_caller]
@@ -314,7 +314,7 @@ pub fn wait(epoll: i32, timeout: i32, mut look: impl FnMut(i32) -> usize) -> usi
     }
 }
 
-/// An epoll may have something to tell.
+/// Announces that an epoll may have an event.
 pub fn told() {
     world().tell(TOLD, false);
 }
@@ -382,6 +382,15 @@ pub mod thread {
         let thread = &world().threads[me()];
         while !thread.parks_on.replace(false) {
             world().wait(me(), id(thread), NEVER, -1);
+        }
+    }
+    #[track_caller]
+    pub fn park_timeout(duration: Duration) {
+        point("park_timeout", Location::caller());
+        let thread = &world().threads[me()];
+        if !thread.parks_on.replace(false) {
+            world().wait(me(), id(thread), after(duration), -1);
+            thread.parks_on.set(false);
         }
     }
     #[track_caller]

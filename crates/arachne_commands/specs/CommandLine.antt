@@ -1,4 +1,4 @@
--- What the words of the command line ask for, as the parser of command lines reads them.
+-- The request that the words of the command line make, by the grammar of the command line.
 use Rattle.std.specs.Prelude.{ℕ, ◌-◌, ◌^◌, ◌==◌, ◌&&◌, not, nat_lt, nat_le, length, Bool, true, false, List, [], ◌∷◌, Option, Some, None, option_and_then, option_map, unwrap_or, if◌then◌else◌, codes, ◌≡◌, ◌⊎◌, ◌≤◌, IsSome, ⊤, Result, Ok, Err}
 use Rattle.std.specs.Option.{option_map_or}
 use Rattle.std.specs.Result.{result_ok, result_err}
@@ -29,16 +29,16 @@ eval_command = with_rule (new_app (codes "eval")) names_flag
 unfoldable pub check_command : App
 check_command = new_app (codes "check")
 
--- the order words of a run, any number of them
+-- the order words of a run, of which there may be any number
 abbrev pub orders_rule : Rule
 orders_rule = record (new_rule (codes "order")) { action = Some Append; value_names = 1 }
 
--- an option with a number up to `most`, and the one that stands where it is not given
+-- an option for a number up to `most`, with a default
 abbrev pub number_option : Text → ℕ → Text → Rule
 number_option name most standard =
     record (new_rule name) { long = Some name; value_names = 1; defaults = standard ∷ []; parser = Some (Unsigned 0 most) }
 
--- a run with the options for its cores, its seed and its quantum alone, and with all
+-- a run with only the options for its cores, its seed and its quantum, and one with all options
 unfoldable pub machine_command : App
 machine_command =
     with_rule (with_rule (with_rule (new_app (codes "run"))
@@ -56,7 +56,7 @@ policy_command =
     (number_option (codes "hysteresis") (2 ^ 64 - 1) (codes "90")))
     (number_option (codes "max") MAX_CORES (codes "16"))
 
--- the program with the command to run a task text alone, and with all commands on task texts
+-- the program with only the command to run a task text, and with all commands on task texts
 unfoldable pub run_alone : App
 run_alone =
     with_subcommand (record (new_app (codes "arachne")) { top = record (new_app (codes "arachne")).top { subcommand_required = true; has_version = true } }) run_command.top
@@ -64,15 +64,15 @@ run_alone =
 unfoldable pub task_commands : App
 task_commands = with_subcommand (with_subcommand run_alone eval_command.top) check_command.top
 
--- the program, which wants one of its commands
+-- the program, which needs one of its commands
 unfoldable pub program : App
 program = with_subcommand task_commands policy_command.top
 
--- a flag is set where its text is "true"
+-- a flag is set if its text is "true"
 abbrev pub is_set : Text → List Row → Bool
 is_set flag rows = option_map_or (λ text. bytes_eq text (codes "true")) (first_of flag rows) false
 
--- the number that a text of digits spells, behind a plus or not, if it fits 64 bits
+-- the number that a text of digits spells, with or without a plus before it, if it fits 64 bits
 unfoldable pub number_of : Text → Option ℕ
 number_of text =
     let digits = without_leading_plus text in
@@ -83,7 +83,7 @@ number_of text =
 abbrev pub number_under : Text → List Row → Option ℕ
 number_under option rows = option_and_then number_of (first_of option rows)
 
--- the settings of samples, with at most 64 cores
+-- the request to judge samples, with at most 64 cores
 abbrev pub policy_by : ℕ → ℕ → ℕ → Option Request
 policy_by up hysteresis max = if nat_le max MAX_CORES then Some (Policy (record { up = up; hysteresis = hysteresis; max = max })) else None
 
@@ -92,7 +92,7 @@ policy_asked rows =
     option_and_then (λ up. option_and_then (λ hysteresis. option_and_then (policy_by up hysteresis)
     (number_under (codes "max") rows)) (number_under (codes "hysteresis") rows)) (number_under (codes "up") rows)
 
--- the words of a run that are to be orders
+-- the order words of a run, each of which must spell an order
 abbrev pub order_words : List Row → List Text
 order_words rows = unwrap_or (all_of (codes "order") rows) []
 
@@ -105,11 +105,11 @@ with_orders rows orders =
     option_and_then (λ cores. option_and_then (λ seed. option_and_then (λ quantum. option_map (run_by (is_set (codes "names") rows) orders cores seed quantum)
     (number_under (codes "slots") rows)) (number_under (codes "quantum") rows)) (number_under (codes "seed") rows)) (number_under (codes "cores") rows)
 
--- a run, where each of its order words is an order
+-- a run, if none of its order words is malformed
 abbrev pub run_asked : List Row → Option Request
 run_asked rows = option_and_then (with_orders rows) (result_ok (orders_of (order_words rows)))
 
--- what a subcommand and its entries ask for
+-- the request of a subcommand and its entries
 abbrev pub request_of : Text → List Row → Option Request
 request_of name rows =
     if bytes_eq name (codes "run") then run_asked rows
@@ -118,26 +118,26 @@ request_of name rows =
     else if bytes_eq name (codes "policy") then policy_asked rows
     else None
 
--- what the subcommand that was met asks for, with its entries
+-- the request of the subcommand that was found, with its entries
 abbrev pub request_met : Option (Text × List Row) → Option Request
 request_met = option_and_then (λ met. request_of met.0 met.1)
 
--- what the words ask for, the first being the program's name
+-- the request that the words make, of which the first is the program's name
 unfoldable pub asked_by : List Text → Option Request
 asked_by words = request_met (subcommand_of program words)
 
--- the index among a run's order words of the first that is no order
+-- the index of the first malformed order word of a run
 abbrev pub no_order_under : Text → List Row → Option ℕ
 no_order_under name rows = if bytes_eq name (codes "run") then result_err (orders_of (order_words rows)) else None
 
 abbrev pub no_order_met : Option (Text × List Row) → Option ℕ
 no_order_met = option_and_then (λ met. no_order_under met.0 met.1)
 
--- where the words ask for a run, the index among its order words of the first that is no order
+-- if the words ask for a run, the index of its first malformed order word
 unfoldable pub no_order_in : List Text → Option ℕ
 no_order_in words = no_order_met (subcommand_of program words)
 
--- the words are such as the program takes: a parse of them fails only for want of memory
+-- the program takes the words: parsing them fails only if memory is refused
 unfoldable pub is_taken : List Text → Bool
 is_taken words = takes program words
 
@@ -153,7 +153,7 @@ abbrev pub IsWantOfMemory : NotAsked → Type 0
 IsWantOfMemory (NoOrder index) = ⊥
 IsWantOfMemory (Refused error) = kind_of error ≡ OutOfMemory
 
--- the first word that is no order has this index, or memory was refused
+-- the first malformed word has this index, or memory was refused
 abbrev pub IsNoOrderAt : Option ℕ → NotAsked → Type 0
 IsNoOrderAt found (NoOrder index) = found ≡ Some index
 IsNoOrderAt found (Refused error) = kind_of error ≡ OutOfMemory
@@ -164,9 +164,9 @@ IsNoOrderAmong words = IsNoOrderAt (result_err (orders_of words))
 abbrev pub IsNoOrderMet : Option (Text × List Row) → NotAsked → Type 0
 IsNoOrderMet met = IsNoOrderAt (no_order_met met)
 
--- Why words are refused: one of them is to be an order, and is none; or the parser of command lines refuses them. If
--- the program takes the words, and they ask for something or have a word that is no order, then it refuses them for
--- want of memory alone.
+-- The reason why words are refused: an order word is malformed, or the parser of command lines refuses them. If the
+-- program takes the words, and they make a request or have a malformed order word, the parser refuses them only if
+-- memory is refused.
 abbrev pub IsUnasked : List Text → NotAsked → Type 0
 IsUnasked words (NoOrder index) = no_order_in words ≡ Some index
 IsUnasked words (Refused error) = is_taken words ≡ true → IsSome (asked_by words) ⊎ IsSome (no_order_in words) → kind_of error ≡ OutOfMemory

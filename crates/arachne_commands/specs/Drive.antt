@@ -1,4 +1,4 @@
--- What a run of the program does to what it reads and writes.
+-- The effect of a run of the program on the streams that it reads and writes.
 use Rattle.std.specs.Prelude.{ℕ, Bool, ◌≡◌, ◌≢◌, ◌<◌, ◌≤◌, List, [], ◌∷◌, ◌++◌, codes, length, take, Option, Some, None, IfSome, IsSome, ⊤}
 use Rattle.std.specs.Io.KnownBytes.{Appends, Keeps}
 use Rattle.arachne_lang.specs.declared.text_fault.TextFault.{TextFault}
@@ -30,7 +30,7 @@ use Rattle.arachne_commands.specs.Output.{output_of}
 use Rattle.arachne_commands.specs.declared.fault.Fault.{Fault}
 use Rattle.arachne_commands.specs.declared.fault.Fault.TheVariants.{InText, InProgram, BadSample, NoOrder, InRun, Memory, TooLong, Read, Write}
 
--- the most bytes that an input may have
+-- the maximum number of bytes of an input
 abbrev pub input_limit : ℕ
 input_limit = 33554432
 
@@ -41,19 +41,18 @@ pub record IsProgramOf (input : List ℕ) (source : Source) : Type 0 where
   pub spelled : text_of source ≡ input
   pub checked : IsChecked source
 
--- The input is the text of these samples, which are good by these settings.
+-- The input is the text of these samples, which can be judged with these settings.
 pub record AreSamplesOf (input : List ℕ) (settings : Settings) (judged : List Sample) : Type 0 where
   pub within : length input ≤ input_limit
   pub in_range : AreInRange judged
   pub spelled : samples_text judged ≡ input
   pub good : AreGood settings judged
 
--- what is printed of the meaning of the input's program
+-- the output for the meaning of the input's program
 abbrev pub IsPrintedMeaning : Bool → List ℕ → List ℕ → Type 0
 IsPrintedMeaning names input output = (source : Source) × IsProgramOf input source × (output ≡ output_of names (meaning_of source))
 
--- What is to be written where this is asked and this is the input. A run, which its settings have to allow, writes what
--- an evaluation writes.
+-- The output for this request and this input. A run, which its settings must allow, has the output of an evaluation.
 abbrev pub IsAnswer : Request → List ℕ → List ℕ → Type 0
 IsAnswer (Run settings) input output = MayRun settings × IsPrintedMeaning settings.names input output
 IsAnswer (Eval names) input output = IsPrintedMeaning names input output
@@ -74,7 +73,7 @@ IsProgramFault (Eval names) input fault = (source : Source) × IsAccepted source
 IsProgramFault Check input fault = (source : Source) × IsAccepted source × (text_of source ≡ input) × (verdict_of source ≡ Err fault)
 IsProgramFault (Policy settings) input fault = ⊥
 
--- the line of the first bad one of the input's samples
+-- the line of the first bad sample of the input
 abbrev pub IsSampleFault : Request → List ℕ → ℕ → Type 0
 IsSampleFault (Run settings) input line = ⊥
 IsSampleFault (Eval names) input line = ⊥
@@ -82,14 +81,14 @@ IsSampleFault Check input line = ⊥
 IsSampleFault (Policy settings) input line =
     (judged : List Sample) × AreInRange judged × (samples_text judged ≡ input) × IsFirstBadLine settings judged line
 
--- why a run of the input's program has no report
+-- the reason why a run of the input's program has no report
 abbrev pub IsRunFault : Request → List ℕ → RunFault → Type 0
 IsRunFault (Run settings) input fault = (source : Source) × IsProgramOf input source × IsRefusal settings fault
 IsRunFault (Eval names) input fault = ⊥
 IsRunFault Check input fault = ⊥
 IsRunFault (Policy settings) input fault = ⊥
 
--- Why a fault is reported where this is asked. Of memory and of streams that fail nothing can be said.
+-- The cause of a fault that is reported for this request. Nothing is said of refused memory and of streams that fail.
 abbrev pub IsCause : Request → List ℕ → Fault → Type 0
 IsCause request input (InText text.Memory) = ⊤
 IsCause request input (InText fault) = (length input ≤ input_limit) × IsTextFault request input fault
@@ -102,28 +101,28 @@ IsCause request input Memory = ⊤
 IsCause request input Read = ⊤
 IsCause request input Write = ⊤
 
--- Memory alone may be wanting before the words are understood.
+-- Before the words are understood, the only fault is that memory was refused.
 abbrev pub IsCauseFor : Option Request → List ℕ → Fault → Type 0
 IsCauseFor None input fault = fault ≡ Memory
 IsCauseFor (Some request) input fault = IsCause request input fault
 
--- known bytes grow by a front of these
+-- bytes, if they are known, grow by a prefix of these
 abbrev pub AppendsFront : Option (List ℕ) → Option (List ℕ) → List ℕ → Type 0
 AppendsFront None new bytes = ⊤
 AppendsFront (Some old) new bytes = (n : ℕ) × (new ≡ Some (old ++ take n bytes))
 
--- Where these are the words and this is to be read, the output grows by what the words ask for.
+-- If the input is known, the words make a request, and the output grows by the answer to it.
 abbrev pub IsAnswered : List (List ℕ) → Option (List ℕ) → Option (List ℕ) → Option (List ℕ) → Type 0
 IsAnswered words input before after =
     IfSome input (λ known. (request : Request) × (asked_by words ≡ Some request) × (text : List ℕ) × IsAnswer request known text × Appends before after text)
 
--- It grows by a front of that.
+-- Like `IsAnswered`, but the output grows only by a prefix of the answer.
 abbrev pub IsCutShort : List (List ℕ) → Option (List ℕ) → Option (List ℕ) → Option (List ℕ) → Type 0
 IsCutShort words input before after =
     IfSome input (λ known. (request : Request) × (asked_by words ≡ Some request) × (text : List ℕ) × IsAnswer request known text × AppendsFront before after text)
 
--- There is this fault, and it has a cause. Only where writing failed is there something on the output, and that is a
--- front of what was to be written.
+-- There is this fault, and it has a cause. The output is unchanged unless writing failed, and then it has grown by a
+-- prefix of the answer. Unless memory was refused, the words make a request.
 abbrev pub IsAtFault : List (List ℕ) → Option (List ℕ) → Option (List ℕ) → Option (List ℕ) → Fault → Type 0
 IsAtFault words input before after fault =
     IfSome input (λ known. IsCauseFor (asked_by words) known fault)
@@ -131,18 +130,18 @@ IsAtFault words input before after fault =
     × (fault ≡ Write → IsCutShort words input before after)
     × ((fault ≢ Memory) → IsSome (asked_by words))
 
--- There is such a fault, and the faults stream has taken its line, or a front of it.
+-- There is such a fault, and the faults stream has grown by its line or a prefix of it.
 abbrev pub HasToldFault : List (List ℕ) → Option (List ℕ) → (before after told_before told_after : Option (List ℕ)) → Type 0
 HasToldFault words input before after told_before told_after =
     (fault : Fault) × IsAtFault words input before after fault × AppendsFront told_before told_after (fault_line fault)
 
--- Where one of the words of a run is to be an order and is none, the faults stream has taken the line of the first such
--- word, or a front of it.
+-- If a run has a malformed order word, the faults stream has grown by the line of the first such word, or a prefix of
+-- it.
 abbrev pub HasToldNoOrder : List (List ℕ) → Option (List ℕ) → Option (List ℕ) → Type 0
 HasToldNoOrder words before after = (index : ℕ) → no_order_in words ≡ Some index → AppendsFront before after (fault_line (NoOrder index))
 
--- Why words are refused with status 2, and what is on the faults stream then: a word that is no order, with its line;
--- of the parser of command lines only that it did not want for memory.
+-- The reason why words are refused with status 2, and the effect on the faults stream: a malformed order word, with its
+-- line. If the parser of command lines refuses them, it is only said that memory was not the reason.
 abbrev pub IsTold : NotAsked → Option (List ℕ) → Option (List ℕ) → Type 0
 IsTold (NoOrderAt index) before after = AppendsFront before after (fault_line (NoOrder index))
 IsTold (Refused error) before after = kind_of error ≢ OutOfMemory

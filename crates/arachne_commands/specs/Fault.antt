@@ -1,4 +1,4 @@
--- The line that a fault prints.
+-- The line that is printed for a fault.
 use Rattle.std.specs.Prelude.{ℕ, List, [], ◌∷◌, ◌++◌, codes, decimal}
 use Rattle.arachne_lang.specs.declared.text_fault.TextFault.TheVariants as text
 use Rattle.arachne_lang.specs.declared.check_fault.CheckFault.TheVariants as check
@@ -68,7 +68,7 @@ fault_place (NoOrder index) = place.Order index
 fault_place (InRun (run.Orders fault)) = place.Order fault.index
 fault_place _ = place.Nowhere
 
--- what a fault's line says behind its number
+-- the part of a fault's line that follows its number
 abbrev pub place_words : Where → List ℕ
 place_words place.Nowhere = []
 place_words (place.At byte) = codes " at " ++ decimal byte

@@ -1,4 +1,4 @@
--- What is printed of samples that are judged, and which line has the first bad one.
+-- The output for samples, and the line of the first bad one.
 use Rattle.std.specs.Prelude.{ℕ, ◌+◌, ◌≡◌, true, false, List, [], ◌∷◌, ◌++◌, length}
 use Rattle.std.specs.List.{AllByRecursion, flat_map}
 use Rattle.arachne_policy.specs.declared.samples.Sample.{Sample}
@@ -9,7 +9,7 @@ use Rattle.arachne_commands.specs.declared.judging.Settings.{Settings}
 use Rattle.arachne_commands.specs.declared.fault.Fault.{Fault}
 use Rattle.arachne_commands.specs.declared.fault.Fault.TheVariants.{BadSample, Memory}
 
--- the settings, as the definitions of the advice have them
+-- the settings in the form that the definitions of the advice use
 abbrev pub bounds_of : Settings → Bounds
 bounds_of settings = record { up = settings.up; hysteresis = settings.hysteresis; max = settings.max }
 
@@ -35,7 +35,7 @@ pub record IsFirstBadLine (settings : Settings) (samples : List Sample) (line : 
   pub is_bad : is_good settings.max bad ≡ false
   pub counted : line ≡ length before + 1
 
--- why samples are not judged: a bad one, or want of memory
+-- the reason why samples are not judged: a bad one, or refused memory
 abbrev pub IsUnjudged : Settings → List Sample → Fault → Type 0
 IsUnjudged settings samples (BadSample line) = IsFirstBadLine settings samples line
 IsUnjudged settings samples fault = fault ≡ Memory

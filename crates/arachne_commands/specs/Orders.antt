@@ -10,7 +10,7 @@ abbrev pub kind_word : OrderKind → List ℕ
 kind_word Grant = codes "grant"
 kind_word Release = codes "release"
 
--- after how many slices, what, and which core
+-- an order as a word: the number of slices, the kind, and the core
 abbrev pub order_word : CoreOrder → List ℕ
 order_word order = numeral order.after ++ codes ":" ++ kind_word order.kind ++ codes ":" ++ numeral order.core
 
@@ -19,14 +19,14 @@ pub record FitsWords (order : CoreOrder) : Type 0 where
   pub after : order.after < 2 ^ 64
   pub core : order.core < 2 ^ 64
 
--- the kind that was read with what is behind its colon, if the text begins with one
+-- the result of reading a kind and its colon at the front of the text: the kind, and the rest after the colon
 abbrev pub HasReadKind : List ℕ → Option (OrderKind × List ℕ) → Type 0
 HasReadKind text read = (kind : OrderKind) (rest : List ℕ) → (read ≡ Some (kind, rest)) ↔ (text ≡ kind_word kind ++ codes ":" ++ rest)
 
--- ---- the order that a word spells; `order_of word ≡ Some order` exactly where `order_word order ≡ word`, and both
--- numbers fit
+-- ---- the order that a word spells; `order_of word ≡ Some order` exactly if `order_word order ≡ word` and both numbers
+-- fit
 
--- a kind and its colon, and what is behind
+-- a kind and its colon, and the rest after them
 abbrev pub release_at : Result (List ℕ) Halt → Option (OrderKind × List ℕ)
 release_at (Ok rest) = Some (Release, rest)
 release_at (Err halt) = None
@@ -58,7 +58,7 @@ with_after (Err halt) = None
 unfoldable pub order_of : List ℕ → Option CoreOrder
 order_of word = with_after (number_at (2 ^ 64) (codes ":") word)
 
--- an order before these, or before the word that is none
+-- an order before these, or before the malformed word
 abbrev pub and_orders : Option CoreOrder → Result (List CoreOrder) ℕ → Result (List CoreOrder) ℕ
 and_orders None others = Err 0
 and_orders (Some order) (Ok orders) = Ok (order ∷ orders)

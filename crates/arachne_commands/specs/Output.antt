@@ -1,29 +1,29 @@
--- What the program prints of a meaning.
+-- The output for a meaning.
 use Rattle.std.specs.Prelude.{ℕ, ◌+◌, Bool, if◌then◌else◌, List, [], ◌∷◌, ◌++◌, length, map, codes, decimal}
 use Rattle.std.specs.List.{flat_map}
 use Rattle.arachne_lang.specs.Spelling.{after_spaces}
 use Rattle.arachne_lang.specs.declared.meaning.Line.{Line}
 use Rattle.arachne_lang.specs.declared.meaning.Meaning.{Meaning}
 
--- a word and numbers, with one space between, and a newline
+-- a word and numbers, separated by one space, and a newline
 abbrev pub line_of : List ℕ → List ℕ → List ℕ
 line_of word numbers = word ++ after_spaces (map decimal numbers) ++ 10 ∷ []
 
--- a line for each total, with the ledger's number, from this number on
+-- a line for each total, with the ledger's number, which is counted from this one
 abbrev pub ledger_lines : ℕ → List ℕ → List ℕ
 ledger_lines ledger [] = []
 ledger_lines ledger (total ∷ totals) = line_of (codes "ledger") (ledger ∷ total ∷ []) ++ ledger_lines (ledger + 1) totals
 
--- a slash and the number of each fork; the root's is a slash alone
+-- a slash and the number of each fork; the root's name is only a slash
 abbrev pub name_text : List ℕ → List ℕ
 name_text [] = 47 ∷ []
 name_text (fork ∷ forks) = flat_map (λ number. 47 ∷ decimal number) (fork ∷ forks)
 
--- a thread's name, and how often it held each lock
+-- a thread's name, and the number of times that it held each lock
 abbrev pub thread_line : Line → List ℕ
 thread_line thread = line_of (codes "thread " ++ name_text thread.name) thread.holds
 
--- the value, the total of each ledger, how many threads there were, and their lines where the names are wanted
+-- the value, the total of each ledger, the number of threads, and a line for each if the names are wanted
 abbrev pub output_of : Bool → Meaning → List ℕ
 output_of names meaning =
     line_of (codes "value") (meaning.value ∷ [])

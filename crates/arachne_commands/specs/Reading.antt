@@ -1,4 +1,4 @@
--- What private readers give, as functions on the bytes of a text. No contract of a public call speaks of these.
+-- The results of private readers, as functions on the bytes of a text. No contract of a public call cites these.
 use Rattle.std.specs.Prelude.{ℕ, ◌≡◌, ◌-◌, ◌^◌, List, [], ◌∷◌, length, Result, Ok, Err, codes}
 use Rattle.arachne_lang.specs.declared.text_fault.TextFault.{TextFault}
 use Rattle.arachne_lang.specs.declared.text_fault.TextFault.TheVariants as fault
@@ -12,21 +12,21 @@ abbrev pub halt_of : ReadingStop → Halt
 halt_of (stop.Departs rest) = Departs rest.now
 halt_of (stop.Overflows rest) = Overflows rest.now
 
--- what a reader of the code returned, seen by view, is what reading gives
+-- the result of a reader of the code, seen by view, is that of the definition
 abbrev pub Gives : {A B : Type 0} → (A → B) → Result A ReadingStop → Result B Halt → Type 0
 Gives view (Ok x) read = read ≡ Ok (view x)
 Gives view (Err stop) read = read ≡ Err (halt_of stop)
 
--- the fault that the code makes of a stop within this text
+-- the fault that the code reports for a stop within this text
 abbrev pub fault_within : List ℕ → ReadingStop → TextFault
 fault_within text (stop.Departs rest) = fault.Syntax (length text - length rest.now)
 fault_within text (stop.Overflows rest) = fault.Number (length text - length rest.now)
 
--- a number of 64 bits, and what ends it
+-- a number of 64 bits, and the bytes that end it
 abbrev pub word_number_at : List ℕ → List ℕ → Reading ℕ
 word_number_at end bytes = number_at (2 ^ 64) end bytes
 
--- a line
+-- the sample of a line
 unfoldable pub sample_at : List ℕ → Reading Sample
 sample_at bytes = do
   cores ← word_number_at (codes " ") bytes

@@ -1,4 +1,4 @@
--- Which settings a run goes by, why it is refused, and from what the choices of its cores begin.
+-- The settings of a run, the reasons why it is refused, and the seeds of its cores' choices.
 use Rattle.std.specs.Prelude.{◌≡◌, ◌≤◌, ◌⊎◌, true, ◌+◌, ◌%◌, ◌^◌, ℕ, List, map, None, Some}
 use Rattle.std.specs.List.{range_with_len}
 use Rattle.rand_xoshiro.specs.SplitMix64.{splitmix_seed}
@@ -12,30 +12,30 @@ use Rattle.arachne_run.specs.declared.fault.RunFault.TheVariants.{Worker}
 use Rattle.arachne_run.specs.declared.fault.WorkerFault.TheVariants.{Memory}
 use Rattle.arachne_commands.specs.declared.command_line.RunSettings.{RunSettings}
 
--- Settings that are refused are refused for the first fault that they have, and for their orders' first fault where
--- they have no other; or for want of memory. A fault of settings is told of no others than those that have it. Of what
--- a run meets on its way nothing is said.
+-- Settings that are refused are refused for their first fault, or for their orders' first fault if they have no other,
+-- or because memory was refused. A fault of settings is reported only for settings that have it. Nothing is said of
+-- faults that a run meets on its way.
 pub record IsRefusal (settings : RunSettings) (fault : RunFault) : Type 0 where
   pub of_settings : (first : RunFault) → refusal_of settings.cores settings.quantum settings.slots settings.cores ≡ Some first → (fault ≡ first) ⊎ (fault ≡ Worker Memory)
   pub of_orders : refusal_of settings.cores settings.quantum settings.slots settings.cores ≡ None → (AreInOrder settings.cores settings.orders → ⊥)
       → IsFirstOrderFault settings.cores settings.orders fault ⊎ (fault ≡ Worker Memory)
   pub of_setup : is_of_setup fault ≡ true → IsSetupFault settings.cores settings.quantum settings.slots settings.cores settings.orders fault
 
--- A run by these settings may begin: none of its numbers is refused, and its orders are in order.
+-- A run with these settings may begin: none of its numbers is refused, and its orders are in order.
 pub record MayRun (settings : RunSettings) : Type 0 where
   pub numbers : refusal_of settings.cores settings.quantum settings.slots settings.cores ≡ None
   pub in_order : AreInOrder settings.cores settings.orders
 
--- the generator of a core's choices, which begins from the number `seed + core`
+-- the generator of a core's choices, whose seed is `seed + core`
 abbrev pub chooser_of : ℕ → ℕ → List ℕ
 chooser_of seed core = of_seed (splitmix_seed 32 ((seed + core) % 2 ^ 64))
 
--- those of the first cores
+-- the generators of the first cores
 abbrev pub choosers_of : ℕ → ℕ → List (List ℕ)
 choosers_of seed cores = map (chooser_of seed) (range_with_len 0 cores)
 
--- A run goes as the settings say, and each of its cores has its own chooser. Too many cores have none: they are refused
--- before anything is chosen.
+-- A run has these settings, and each of its cores has its own chooser. Nothing is said of the choosers if there are too
+-- many cores, which are refused before anything is chosen.
 pub record IsSetUpBy (settings : RunSettings) (setup : Setup) (made : List (List ℕ)) : Type 0 where
   pub cores : setup.cores ≡ settings.cores
   pub slots : setup.slots ≡ settings.slots

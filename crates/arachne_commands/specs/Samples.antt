@@ -7,11 +7,11 @@ use Rattle.arachne_lang.specs.Spelling.{line, numeral}
 use Rattle.arachne_lang.specs.Text.{byte_of}
 use Rattle.arachne_policy.specs.declared.samples.Sample.{Sample}
 
--- a line of five numbers, with one space between and a newline behind
+-- a line of five numbers, separated by one space, with a newline at the end
 abbrev pub sample_line : Sample → List ℕ
 sample_line s = line (numeral s.cores) (s.runnable ∷ s.scans ∷ s.busy ∷ s.elapsed ∷ [])
 
--- The text of a list of samples. The shape is all of these, with numbers of any length.
+-- The text of a list of samples. All of these texts, with numbers of any length, are the shape of a text of samples.
 abbrev pub samples_text : List Sample → List ℕ
 samples_text [] = []
 samples_text (s ∷ samples) = sample_line s ++ samples_text samples
@@ -28,11 +28,11 @@ pub record FitsWords (s : Sample) : Type 0 where
 abbrev pub AreInRange : List Sample → Type 0
 AreInRange samples = AllByRecursion FitsWords samples
 
--- the bytes begin the text of some samples
+-- the bytes are a prefix of the text of some samples
 abbrev pub Begins : List ℕ → Type 0
 Begins bytes = (samples : List Sample) × (rest : List ℕ) × (samples_text samples ≡ bytes ++ rest)
 
--- the bytes begin the text of some samples that are in range
+-- the bytes are a prefix of the text of some samples that are in range
 abbrev pub BeginsInRange : List ℕ → Type 0
 BeginsInRange bytes = (samples : List Sample) × (rest : List ℕ) × AreInRange samples × (samples_text samples ≡ bytes ++ rest)
 
@@ -40,20 +40,20 @@ BeginsInRange bytes = (samples : List Sample) × (rest : List ℕ) × AreInRange
 abbrev pub IsText : List ℕ → Type 0
 IsText bytes = (samples : List Sample) × (samples_text samples ≡ bytes)
 
--- The input has this fault. It has no header to miss, and nothing in it nests.
+-- The input has this fault. A text of samples has no header that it could lack, and nothing in it nests.
 abbrev pub HasFault : List ℕ → TextFault → Type 0
 HasFault bytes Memory = ⊥
 HasFault bytes (Header at) = ⊥
 HasFault bytes (Nesting at) = ⊥
--- it is no text of the shape, and its longest front that begins one has this length
+-- it is no text of the shape, and its longest prefix that begins one has this length
 HasFault bytes (Syntax at) =
     ¬ IsText bytes × (at ≤ length bytes) × Begins (take at bytes)
     × ((longer : ℕ) → longer ≤ length bytes → Begins (take longer bytes) → longer ≤ at)
--- this byte is the first digit that brings a number over its range
+-- this byte is the first digit with which a number leaves its range
 HasFault bytes (Overflow at) =
     (at < length bytes) × Begins (take (at + 1) bytes) × BeginsInRange (take at bytes) × ¬ BeginsInRange (take (at + 1) bytes)
 
--- It is the fault with the least byte, and the only one there.
+-- The input has this fault, and no other one at an earlier byte or at the same one.
 pub record IsFirstFault (bytes : List ℕ) (fault : TextFault) : Type 0 where
   pub has : HasFault bytes fault
   pub first : (other : TextFault) → HasFault bytes other → (byte_of fault < byte_of other) ⊎ (other ≡ fault)

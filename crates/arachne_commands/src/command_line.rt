@@ -1,4 +1,4 @@
-//! The command line: how the parser sees it, and what its words ask for.
+//! The command line: its grammar for the parser, and the request that its words make.
 ghost use Rattle.std.specs.Prelude.{◌≡◌, IfOk, IfErr, IfSome, map, None, Ok, Some, true, false};
 ghost use Rattle.arachne_commands.specs.CommandLine.{IsAllowed, IsNoOrderAmong, IsNoOrderMet, IsUnasked, asked_by, check_command, eval_command, is_set, machine_command, names_flag, no_order_met, number_option, number_under, order_words, orders_rule, policy_asked, policy_command, program, request_met, run_alone, run_asked, run_command, task_commands, with_orders};
 ghost use Rattle.arachne_commands.specs.Orders.{orders_of};
@@ -16,42 +16,42 @@ use clap::{Arg, ArgAction, ArgMatches, Command, Error};
 use std::alloc::{AllocError, Global};
 use std::convert::AsStr;
 
-/// What the words of the command line ask for.
+/// A request that the words of the command line make.
 #[derive(Debug, Drop, PartialEq, Eq)]
 pub enum Request {
-    /// To run a program on several cores.
+    /// Run a program on several cores.
     Run(RunSettings),
-    /// To evaluate a program, and to print a line for each of its threads where their names are wanted.
+    /// Evaluate a program and, with `names`, print a line for each of its threads.
     Eval { names: bool },
-    /// To say whether a program may run.
+    /// Say whether a program may run.
     Check,
-    /// To judge samples by these settings.
+    /// Judge samples with these settings.
     Policy(Settings),
 }
 
-/// How a program is run.
+/// The settings of a run.
 #[derive(Debug, Drop, PartialEq, Eq)]
 pub struct RunSettings {
-    /// How many cores there are. Any number: the run refuses what it cannot do.
+    /// The number of cores. Any number is taken here: the run refuses those that it cannot have.
     pub cores: u64,
-    /// From which the choices of each core begin.
+    /// The seed of the choices of all cores.
     pub seed: u64,
-    /// The most steps of a slice. Any number, as of cores.
+    /// The maximum number of steps of a slice. Any number is taken, as for `cores`.
     pub quantum: u64,
-    /// For how many threads each core has places. Any number, as of cores.
+    /// The number of threads for which each core has a place. Any number is taken, as for `cores`.
     pub slots: u64,
-    /// Whether a line for each thread is printed.
+    /// True if a line for each thread is printed.
     pub names: bool,
-    /// When cores are taken back and granted again.
+    /// The orders by which cores are taken back and granted again.
     pub orders: Sequence<CoreOrder>,
 }
 
-/// Why the words ask for nothing.
+/// The reason why the words make no request.
 #[derive(Debug, Drop)]
 pub enum NotAsked {
-    /// The first word that is to be an order and is none has this index among the order words.
+    /// The order word of this index is the first malformed one.
     NoOrder { index: usize },
-    /// The parser of command lines refused them, or memory was refused. The error has the text to show.
+    /// The parser of command lines refused the words, or memory was refused. The error has the text to print.
     Refused(Error),
 }
 
@@ -65,7 +65,7 @@ impl From<AllocError> for NotAsked {
     }
 }
 
-/// The command line of the program.
+/// Returns the command line of the program.
 #[tactic(auto, unfolding(crate::specs::CommandLine::program))]
 fn command<'a>(alloc: Global) -> Result<Command<'a>, AllocError>
     ensures { IfOk result (λ command. app_of command ≡ program) }
@@ -76,7 +76,7 @@ fn command<'a>(alloc: Global) -> Result<Command<'a>, AllocError>
     Ok(arachne)
 }
 
-/// The program with the subcommands that read a task text.
+/// Returns the program with the subcommands that read a task text.
 #[tactic(auto, unfolding(crate::specs::CommandLine::task_commands))]
 fn task_commands<'a>(alloc: Global) -> Result<Command<'a>, AllocError>
     ensures { IfOk result (λ command. app_of command ≡ task_commands) }
@@ -88,7 +88,7 @@ fn task_commands<'a>(alloc: Global) -> Result<Command<'a>, AllocError>
     Ok(arachne)
 }
 
-/// The program with the subcommand that runs a program alone.
+/// Returns the program with `run` as its only subcommand.
 #[tactic(auto, unfolding(crate::specs::CommandLine::run_alone))]
 fn run_alone<'a>(alloc: Global) -> Result<Command<'a>, AllocError>
     ensures { IfOk result (λ command. app_of command ≡ run_alone) }
@@ -105,7 +105,7 @@ fn run_alone<'a>(alloc: Global) -> Result<Command<'a>, AllocError>
     Ok(arachne)
 }
 
-/// The flag that asks for the names of threads.
+/// Returns the flag that asks for the names of threads.
 fn names_flag<'a>(alloc: Global) -> Arg<'a>
     ensures rule { rule_of result ≡ names_flag }
     ensures local { result.global ≡ false }
@@ -116,7 +116,7 @@ fn names_flag<'a>(alloc: Global) -> Arg<'a>
         .help("Print a line for each thread")
 }
 
-/// The order words, any number of them.
+/// Returns the argument for order words, of which there may be any number.
 fn order_words<'a>(alloc: Global) -> Arg<'a>
     ensures rule { rule_of result ≡ orders_rule }
     ensures local { result.global ≡ false }
@@ -129,7 +129,7 @@ fn order_words<'a>(alloc: Global) -> Arg<'a>
         )
 }
 
-/// The subcommand that runs a program.
+/// Returns the subcommand that runs a program.
 #[tactic(auto, unfolding(crate::specs::CommandLine::run_command))]
 fn run_command<'a>(alloc: Global) -> Result<Command<'a>, AllocError>
     ensures app { IfOk result (λ command. app_of command ≡ run_command) }
@@ -149,7 +149,7 @@ fn run_command<'a>(alloc: Global) -> Result<Command<'a>, AllocError>
     Ok(run)
 }
 
-/// The same with the options for its cores, its seed and its quantum alone.
+/// Returns the subcommand that runs a program, with only the options for its cores, its seed and its quantum.
 #[tactic(auto, unfolding(crate::specs::CommandLine::machine_command))]
 fn machine_command<'a>(alloc: Global) -> Result<Command<'a>, AllocError>
     ensures app { IfOk result (λ command. app_of command ≡ machine_command) }
@@ -187,7 +187,7 @@ fn machine_command<'a>(alloc: Global) -> Result<Command<'a>, AllocError>
     Ok(run)
 }
 
-/// The subcommand that evaluates a program.
+/// Returns the subcommand that evaluates a program.
 #[tactic(auto, unfolding(crate::specs::CommandLine::eval_command))]
 fn eval_command<'a>(alloc: Global) -> Result<Command<'a>, AllocError>
     ensures app { IfOk result (λ command. app_of command ≡ eval_command) }
@@ -203,7 +203,7 @@ fn eval_command<'a>(alloc: Global) -> Result<Command<'a>, AllocError>
     Ok(eval)
 }
 
-/// The subcommand that checks a program.
+/// Returns the subcommand that checks a program.
 #[tactic(auto, unfolding(crate::specs::CommandLine::check_command))]
 fn check_command<'a>(alloc: Global) -> Command<'a>
     ensures app { app_of result ≡ check_command }
@@ -216,7 +216,7 @@ fn check_command<'a>(alloc: Global) -> Command<'a>
         )
 }
 
-/// An option with a number up to `most`, and the one that stands where it is not given.
+/// Returns an option for a number up to `most`, with `standard` as its default.
 fn number_option<'a>(
     alloc: Global,
     name: &'a str,
@@ -235,7 +235,7 @@ fn number_option<'a>(
         .help(help)
 }
 
-/// The subcommand that judges samples.
+/// Returns the subcommand that judges samples.
 #[tactic(auto, unfolding(crate::specs::CommandLine::policy_command))]
 fn policy_command<'a>(alloc: Global) -> Result<Command<'a>, AllocError>
     ensures app { IfOk result (λ command. app_of command ≡ policy_command) }
@@ -273,7 +273,7 @@ fn policy_command<'a>(alloc: Global) -> Result<Command<'a>, AllocError>
     Ok(policy)
 }
 
-/// Whether a flag is set.
+/// Returns whether a flag is set.
 fn is_flag_set(matches: &ArgMatches<'_>, flag: &str) -> bool
     ensures { result ≡ is_set flag.now (rows_of (found_of matches.now)) }
 {
@@ -283,7 +283,7 @@ fn is_flag_set(matches: &ArgMatches<'_>, flag: &str) -> bool
     }
 }
 
-/// The number of an option.
+/// Returns the number of an option, if it has one that fits 64 bits.
 fn number_in(matches: &ArgMatches<'_>, option: &str) -> Option<u64>
     ensures { result ≡ number_under option.now (rows_of (found_of matches.now)) }
 {
@@ -296,7 +296,7 @@ fn number_in(matches: &ArgMatches<'_>, option: &str) -> Option<u64>
     }
 }
 
-/// What is asked of samples, where no more than 64 cores are to be had.
+/// Returns the request to judge samples, if it asks for at most 64 cores.
 fn policy_in(matches: &ArgMatches<'_>) -> Option<Request>
     ensures asked { result ≡ policy_asked (rows_of (found_of matches.now)) }
     ensures allowed { IfSome result IsAllowed }
@@ -314,7 +314,9 @@ fn policy_in(matches: &ArgMatches<'_>) -> Option<Request>
     }))
 }
 
-/// The orders that the words spell.
+/// Returns the orders that the words spell.
+///
+/// Fails with the index of the first malformed word, or if memory is refused.
 fn orders_in(alloc: Global, words: &[&str]) -> Result<Sequence<CoreOrder>, NotAsked>
     ensures orders { IfOk result (λ orders. orders_of (map (λ word. word.now) words.now) ≡ Ok orders) }
     ensures none { IfErr result (IsNoOrderAmong (map (λ word. word.now) words.now)) }
@@ -331,7 +333,7 @@ fn orders_in(alloc: Global, words: &[&str]) -> Result<Sequence<CoreOrder>, NotAs
     Ok(Sequence::from(orders))
 }
 
-/// The orders that the order words spell.
+/// Returns the orders that the order words spell. Fails as `orders_in` does.
 fn orders_met(alloc: Global, matches: &ArgMatches<'_>) -> Result<Sequence<CoreOrder>, NotAsked>
     ensures orders { IfOk result (λ orders. orders_of (order_words (rows_of (found_of matches.now))) ≡ Ok orders) }
     ensures none { IfErr result (IsNoOrderAmong (order_words (rows_of (found_of matches.now)))) }
@@ -342,7 +344,7 @@ fn orders_met(alloc: Global, matches: &ArgMatches<'_>) -> Result<Sequence<CoreOr
     }
 }
 
-/// What is asked of a run, where each of its order words is an order.
+/// Returns the request for a run. Fails if one of its order words is malformed, or if memory is refused.
 fn run_in(alloc: Global, matches: &ArgMatches<'_>) -> Result<Option<Request>, NotAsked>
     ensures asked { IfOk result (λ request. request ≡ run_asked (rows_of (found_of matches.now))) }
     ensures allowed { IfOk result (λ request. IfSome request IsAllowed) }
@@ -353,7 +355,7 @@ fn run_in(alloc: Global, matches: &ArgMatches<'_>) -> Result<Option<Request>, No
     Ok(run_by(matches, orders))
 }
 
-/// What is asked of a run with these orders.
+/// Returns the request for a run with these orders.
 fn run_by(matches: &ArgMatches<'_>, orders: Sequence<CoreOrder>) -> Option<Request>
     ensures asked { result ≡ with_orders (rows_of (found_of matches.now)) orders }
     ensures allowed { IfSome result IsAllowed }
@@ -372,7 +374,7 @@ fn run_by(matches: &ArgMatches<'_>, orders: Sequence<CoreOrder>) -> Option<Reque
     }))
 }
 
-/// What the subcommand asks for, if it is one that the program has.
+/// Returns the request of the subcommand, if the program has that subcommand.
 fn request_in(alloc: Global, matches: &ArgMatches<'_>) -> Result<Option<Request>, NotAsked>
     ensures asked { IfOk result (λ request. request ≡ request_met (subcommand_rows_of matches.now)) }
     ensures allowed { IfOk result (λ request. IfSome request IsAllowed) }
@@ -393,7 +395,9 @@ fn request_in(alloc: Global, matches: &ArgMatches<'_>) -> Result<Option<Request>
     }
 }
 
-/// What the words ask for, the first being the program's own name.
+/// Returns the request that the words make. The first word is the program's own name.
+///
+/// Fails if the program does not take the words, if an order word is malformed, or if memory is refused.
 pub fn read_words<'a, S: AsStr>(alloc: Global, words: &'a [S]) -> Result<Request, NotAsked>
     ensures asked { IfOk result (λ request. asked_by (map S.text words.entry.now) ≡ Some request) }
     ensures allowed { IfOk result IsAllowed }

@@ -1,4 +1,4 @@
-//! Why the program fails, and the line that it prints of that.
+//! The reasons why the program fails, and the line that it prints for each.
 ghost use Rattle.std.specs.Prelude.{◌≡◌};
 ghost use Rattle.arachne_commands.specs.Fault.{fault_number, fault_place};
 ghost use Rattle.arachne_commands.specs.declared.fault.Fault.TheVariants.{InRun, InText, InProgram, Memory};
@@ -9,7 +9,7 @@ use arachne_run::{RunFault, WorkerFault};
 use std::alloc::AllocError;
 use std::fmt;
 
-/// Why the program does not end well: with status 2 where a word is no order, else with status 1.
+/// The reason why the program fails. The program's status is 2 if an order word is malformed, else 1.
 #[derive(Clone, Copy, Debug, PartialEq, Eq)]
 pub enum Fault {
     /// The text was refused.
@@ -18,7 +18,7 @@ pub enum Fault {
     InProgram(CheckFault),
     /// The first sample that cannot be judged is on this line.
     BadSample { line: usize },
-    /// The first word of a run that is to be an order and is none has this index among the order words.
+    /// The order word of this index is the first malformed one of a run.
     NoOrder { index: usize },
     /// The run was refused, or has no report.
     InRun(RunFault),
@@ -64,7 +64,7 @@ impl From<AllocError> for Fault {
     }
 }
 
-/// The place of a fault, as its line names it behind the number.
+/// The place of a fault, which its line names after the number.
 #[derive(Clone, Copy)]
 enum Where {
     Nowhere,
@@ -92,7 +92,7 @@ impl fmt::Display for Where {
 }
 
 impl Fault {
-    /// Returns its number.
+    /// Returns the fault's number.
     fn number(self) -> u8
         ensures { result ≡ fault_number self }
     {
@@ -134,7 +134,7 @@ impl Fault {
         }
     }
 
-    /// Returns its place.
+    /// Returns the fault's place.
     fn place(self) -> Where
         ensures { result ≡ fault_place self }
     {

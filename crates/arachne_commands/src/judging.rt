@@ -1,4 +1,4 @@
-//! Judging samples one after another.
+//! Judges samples one after another.
 
 ghost use Rattle.std.specs.Prelude.{◌≡◌, ◌≢◌, ◌≤◌, length, IfOk, IfErr, string_bytes};
 ghost use Rattle.arachne_policy.specs.declared.limits.TheConstants.{MAX_CORES};
@@ -12,8 +12,8 @@ use arachne_policy::{Estimator, Sample};
 use std::alloc::Global;
 use std::fmt::Write;
 
-/// By what samples are judged: the load over which a core is asked for, the hysteresis of giving one back, and the most
-/// cores.
+/// The settings for judging samples: the load above which a core is requested, the hysteresis for giving one back, and
+/// the maximum number of cores.
 #[derive(Clone, Copy, Debug, PartialEq, Eq)]
 pub struct Settings {
     pub up: u64,
@@ -21,13 +21,13 @@ pub struct Settings {
     pub max: u8,
 }
 
-/// What is to be written for the text of samples. All of it is read before any sample is judged.
+/// Returns the output for a text of samples. The whole text is read before any sample is judged.
 pub fn judgement(alloc: Global, text: &[u8], settings: Settings) -> Result<String, Fault>
     requires within { length text.now ≤ input_limit }
     requires most { settings.max ≤ MAX_CORES }
     ensures answers { IfOk result (λ output. IsAnswer (Request.Policy settings) text.now (string_bytes output)) }
     ensures cause { IfErr result (λ fault. (fault ≢ Fault.Write) × IsCause (Request.Policy settings) text.now fault) }
-    // The text was read before.
+    // By then the text has been read.
     ensures not_read { IfErr result (λ fault. fault ≢ Fault.Read) }
 {
     let samples = match read_samples(alloc, text) {
@@ -37,7 +37,9 @@ pub fn judgement(alloc: Global, text: &[u8], settings: Settings) -> Result<Strin
     judge(alloc, settings, samples.as_slice())
 }
 
-/// A line with the advice on each sample after those before it. A bad sample ends it.
+/// Returns a line for each sample, with the advice on it after those before it.
+///
+/// Fails at the first sample that cannot be judged, or if memory is refused.
 fn judge(alloc: Global, settings: Settings, samples: &[Sample]) -> Result<String, Fault>
     requires { settings.max ≤ MAX_CORES }
     ensures good { IfOk result (λ text. AreGood settings samples.now) }

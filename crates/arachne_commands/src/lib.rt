@@ -1,5 +1,5 @@
-//! What the program `arachne` does, over any words, reader and writers: it runs, evaluates and checks programs of
-//! the task language, and judges samples of a load.
+//! The program `arachne` over any words, reader and writers: it runs, evaluates and checks programs of the task
+//! language, and judges samples of a load.
 #![tactic(auto)]
 
 mod command_line;

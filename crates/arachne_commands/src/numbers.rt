@@ -1,23 +1,23 @@
-//! Numbers and words at the front of a text, for samples and orders.
+//! Reads numbers and words at the front of a text, for samples and orders.
 ghost use Rattle.std.specs.Prelude.{◌≡◌, ◌+◌, ◌*◌, ◌^◌};
 ghost use Rattle.arachne_lang.specs.Reading.{digits_at, figures_at, number_at, word_at};
 ghost use Rattle.arachne_commands.specs.Reading.{Gives};
 
 use arachne_lang::TextFault;
 
-/// Why reading stops, with the bytes that are left, from the one where it stops.
+/// The reason why reading stops, with the bytes from there on.
 #[derive(Clone, Copy)]
 pub enum ReadingStop<'t> {
-    /// The text departs from the grammar, or ends before it should.
+    /// The text departs from the grammar, or ends too early.
     Departs(&'t [u8]),
-    /// A digit brings a number over its range.
+    /// The next digit takes a number out of its range.
     Overflows(&'t [u8]),
 }
 
 impl<'t> ReadingStop<'t> {
     ghost use Rattle.arachne_commands.specs.Reading.{fault_within};
 
-    /// The fault of the whole text that this is, where what is left is left of that text.
+    /// Returns the fault for this stop, with its place in the whole `text`.
     pub fn fault(self, text: &[u8]) -> TextFault
         ensures { result ≡ fault_within text.now self.entry }
     {
@@ -32,7 +32,7 @@ impl<'t> ReadingStop<'t> {
     }
 }
 
-/// The text behind this word.
+/// Reads this word. Returns the text after it.
 pub fn word<'t>(text: &'t [u8], word: &[u8]) -> Result<&'t [u8], ReadingStop<'t>>
     ensures { Gives (λ rest. rest.now) result (word_at word.now text.now) }
 {
@@ -45,7 +45,7 @@ pub fn word<'t>(text: &'t [u8], word: &[u8]) -> Result<&'t [u8], ReadingStop<'t>
     }
 }
 
-/// A number, what ends it, and the text behind that.
+/// Reads a number and then `end`. Returns the number and the text after `end`.
 pub fn number<'t>(text: &'t [u8], end: &[u8]) -> Result<(u64, &'t [u8]), ReadingStop<'t>>
     ensures { Gives (λ read. (read.0, read.1.now)) result (number_at (2 ^ 64) end.now text.now) }
 {
@@ -54,7 +54,9 @@ pub fn number<'t>(text: &'t [u8], end: &[u8]) -> Result<(u64, &'t [u8]), Reading
     Ok((value, rest))
 }
 
-/// The number at the front of the text, and the text behind it. A zero ends at once.
+/// Reads the number at the front of the text. Returns the number and the text after it.
+///
+/// If the first digit is a zero, the number ends there.
 pub fn figures(text: &[u8]) -> Result<(u64, &[u8]), ReadingStop<'_>>
     ensures { Gives (λ read. (read.0, read.1.now)) result (figures_at (2 ^ 64) text.now) }
 {
@@ -65,7 +67,7 @@ pub fn figures(text: &[u8]) -> Result<(u64, &[u8]), ReadingStop<'_>>
     }
 }
 
-/// The number whose first digits have this value, and whose others are the next ones of the text.
+/// Reads the remaining digits of a number whose first digits have this value.
 fn digits(value: u64, text: &[u8]) -> Result<(u64, &[u8]), ReadingStop<'_>>
     ensures { Gives (λ read. (read.0, read.1.now)) result (digits_at (2 ^ 64) value text.now) }
 {

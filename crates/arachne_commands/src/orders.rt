@@ -1,4 +1,4 @@
-//! Reading the words of core orders.
+//! Reads the words of core orders.
 
 ghost use Rattle.std.specs.Prelude.{◌≡◌, ◌↔◌, ℕ, List, Some, option_map};
 ghost use Rattle.arachne_policy.specs.declared.orders.CoreOrder.{CoreOrder as Order};
@@ -8,7 +8,7 @@ ghost use Rattle.arachne_commands.specs.Orders.{FitsWords, HasReadKind, order_wo
 use crate::numbers::{figures, number, word};
 use arachne_policy::{CoreOrder, OrderKind};
 
-/// The order that a word of the command line spells, as `250:grant:3`. None where it spells none.
+/// Returns the order that a word of the command line spells, such as `250:grant:3`, if it spells one.
 pub fn read_order(spelled: &str) -> Option<CoreOrder>
     ensures { (order : Order) → (result ≡ Some order) ↔ (FitsWords order × (order_word order ≡ spelled.now)) }
 {
@@ -27,7 +27,7 @@ pub fn read_order(spelled: &str) -> Option<CoreOrder>
     Some(CoreOrder { after, kind, core })
 }
 
-/// What an order does, and the text behind the colon.
+/// Reads the kind of an order and its colon. Returns the kind and the text after the colon.
 fn kind(text: &[u8]) -> Option<(OrderKind, &[u8])>
     ensures { HasReadKind text.now (option_map {U = Kind × List ℕ} (λ read. (read.0, read.1.now)) result) }
 {

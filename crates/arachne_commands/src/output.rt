@@ -1,4 +1,4 @@
-//! What is printed of a meaning or of a run's report.
+//! The printed output for the meaning of a program or for a run's report.
 ghost use Rattle.std.specs.Prelude.{◌≡◌, ◌++◌, OnOk, IfOk, map, string_bytes};
 ghost use Rattle.std.specs.List.{flat_map};
 ghost use Rattle.arachne_commands.specs.Output.{output_of, ledger_lines, thread_line, name_text};
@@ -8,7 +8,7 @@ use arachne_machine::{ThreadLine, ThreadLines};
 use std::alloc::{AllocError, Global};
 use std::fmt::Write;
 
-/// What is printed of a thread: its name, and how often it held each lock.
+/// A thread that can be printed: its name, and the number of times that it held each lock.
 pub trait PrintedThread {
     ghost use Rattle.arachne_lang.specs.declared.meaning.Line.{Line as Shown};
 
@@ -47,7 +47,7 @@ impl PrintedThread for ThreadLine {
     }
 }
 
-/// Threads of which lines are printed.
+/// Threads that can be printed, each on a line.
 pub trait PrintedThreads {
     ghost use Rattle.std.specs.Prelude.{List, length, string_bytes};
     ghost use Rattle.arachne_lang.specs.declared.meaning.Line.{Line as Shown};
@@ -58,7 +58,7 @@ pub trait PrintedThreads {
     fn count(&self) -> usize
         ensures { result ≡ length (all_shown self.now) };
 
-    /// Writes a line for each.
+    /// Writes a line for each thread.
     fn write(&self, text: &mut String) -> Result<(), AllocError>
         ensures { OnOk result (string_bytes text.new ≡ string_bytes text.old ++ flat_map thread_line (all_shown self.now)) };
 }
@@ -96,8 +96,9 @@ impl PrintedThreads for ThreadLines {
     }
 }
 
-/// What is printed of a value, the totals of the ledgers and the threads, with a line for each thread where the names
-/// are wanted.
+/// Returns the output for a value, the totals of the ledgers and the threads.
+///
+/// With `names` it has a line for each thread.
 pub fn render<T: PrintedThreads>(
     alloc: Global,
     value: u64,

@@ -18,7 +18,7 @@ use std::sync::Wait;
 use std::thread::Threads;
 use std::time::Clock;
 
-/// What a run ends with. `main` can neither make one of its own nor let it go.
+/// The status with which the program ends. `main` can neither make nor drop one.
 pub struct Status {
     code: u8,
 }
@@ -44,13 +44,13 @@ pub fn run<R: Threads + Wait + Clock + Sync + Env + Alloc<A = Global> + Input + 
     }
 }
 
-/// The words of the command line of the process.
+/// Returns the words of the process's command line.
 fn words<R: Env + Alloc<A = Global>>(rt: &R) -> io::Result<Vec<String>> {
     let words = env::args(rt)?;
     Ok(words.collect(rt.alloc())?)
 }
 
-/// Runs the program on these words and streams, and ends with the status of `drive`, whose clauses these are.
+/// Runs the program on these words and streams. The status and the clauses are those of `drive`.
 pub fn run_on<R: Threads + Wait + Clock + Sync, S: AsStr, I: Read, W: Write, E: Write>(
     rt: &R,
     alloc: Global,
@@ -76,7 +76,7 @@ pub fn run_on<R: Threads + Wait + Clock + Sync, S: AsStr, I: Read, W: Write, E: 
     }
 }
 
-/// Ends the program where its words cannot be had, with the status of `refuse_words`, whose clauses these are.
+/// Ends the program if its words cannot be read. The status and the clauses are those of `refuse_words`.
 pub fn run_without_words<E: Write>(error: &io::Error, faults: &mut E) -> Status
     ensures memory { error_kind error.now ≡ ErrorKind.OutOfMemory
         → (result.code ≡ 1) × AppendsFront (E.contents faults.old) (E.contents faults.new) (fault_line Fault.Memory) }

@@ -1,4 +1,4 @@
-//! One run of the program, on any words and streams, with its status.
+//! One run of the program on any words and streams, and its status.
 ghost use Rattle.std.specs.Prelude.{◌≡◌, ◌⊎◌, ◌≢◌, ◌≤◌, length, IfOk, IfErr, IfSome, OnOk, OnErr, IsSome, ◌+◌, Bool, List, ℕ, map, Some, None, true, string_bytes};
 ghost use Rattle.std.specs.Io.KnownBytes.{Appends, Consumes, Keeps};
 ghost use Rattle.std.specs.IoError.{error_kind};
@@ -25,7 +25,7 @@ use std::sync::Wait;
 use std::thread::Threads;
 use std::time::Clock;
 
-/// The status where all went well, where there was a fault, and where the words ask for nothing.
+/// The statuses of the program: all went well, there was a fault, or the words make no request.
 pub const DONE: u8 = 0;
 
 pub const FAULT: u8 = 1;
@@ -35,7 +35,7 @@ pub const WORDS: u8 = 2;
 /// Room for the line of any fault.
 const LINE: usize = 64;
 
-/// What is to be written for an input.
+/// Reads the input, and returns the output for a request on it.
 fn answer<R: Threads + Wait + Clock + Sync, I: Read>(
     rt: &R,
     alloc: Global,
@@ -56,7 +56,7 @@ fn answer<R: Threads + Wait + Clock + Sync, I: Read>(
     }
 }
 
-/// What is to be written for a text that is run.
+/// Returns the output of a run of the text's program.
 fn run_of<R: Threads + Wait + Clock + Sync>(
     rt: &R,
     alloc: Global,
@@ -81,7 +81,7 @@ fn run_of<R: Threads + Wait + Clock + Sync>(
     Ok(output)
 }
 
-/// What is to be written for a text that is evaluated.
+/// Returns the output of an evaluation of the text's program.
 fn evaluation(alloc: Global, text: &[u8], names: bool) -> Result<String, Fault>
     requires { length text.now ≤ input_limit }
     ensures answers { IfOk result (λ output. IsAnswer (Request.Eval names) text.now (string_bytes output)) }
@@ -100,7 +100,7 @@ fn evaluation(alloc: Global, text: &[u8], names: bool) -> Result<String, Fault>
     Ok(output)
 }
 
-/// What is to be written for a text that is checked.
+/// Returns the output of a check of the text's program.
 fn verdict(alloc: Global, text: &[u8]) -> Result<String, Fault>
     requires { length text.now ≤ input_limit }
     ensures answers { IfOk result (λ output. IsAnswer Request.Check text.now (string_bytes output)) }
@@ -112,7 +112,7 @@ fn verdict(alloc: Global, text: &[u8]) -> Result<String, Fault>
     Ok(output)
 }
 
-/// The program that a text spells, if it may run.
+/// Returns the program that a text spells, if it may run.
 fn checked_program(alloc: Global, text: &[u8]) -> Result<Program, Fault>
     requires { length text.now ≤ input_limit }
     ensures program { IfOk result (λ program. IsProgramOf text.now (source_of program)) }
@@ -126,7 +126,7 @@ fn checked_program(alloc: Global, text: &[u8]) -> Result<Program, Fault>
     Ok(program)
 }
 
-/// Writes all of the output, and flushes it once.
+/// Writes the whole output, and flushes it once. Fails at the first error of the writer.
 fn finish<W: Write>(output: &mut W, text: &str) -> Result<(), Fault>
     ensures ok { OnOk result (Appends (W.contents output.old) (W.contents output.new) text.now) }
     ensures front { OnErr result (AppendsFront (W.contents output.old) (W.contents output.new) text.now) }
@@ -139,7 +139,7 @@ fn finish<W: Write>(output: &mut W, text: &str) -> Result<(), Fault>
     }
 }
 
-/// Writes the line of a fault, as far as the writer takes it, and answers the status of a fault. It takes no memory.
+/// Writes the line of a fault, as far as the writer takes it. Returns the status of a fault. Takes no memory.
 pub fn refuse<W: Write>(faults: &mut W, fault: Fault) -> u8
     ensures status { result ≡ 1 }
     ensures line { AppendsFront (W.contents faults.old) (W.contents faults.new) (fault_line fault) }
@@ -151,8 +151,8 @@ pub fn refuse<W: Write>(faults: &mut W, fault: Fault) -> u8
     FAULT
 }
 
-/// Says why the words of the command line could not be had, and answers the status: that of a fault where memory was
-/// refused.
+/// Writes why the words of the command line could not be read. Returns the status, which is that of a fault if memory
+/// was refused.
 pub fn refuse_words<W: Write>(faults: &mut W, error: &io::Error) -> u8
     ensures memory { error_kind error.now ≡ StreamFault.OutOfMemory
         → (result ≡ 1) × AppendsFront (W.contents faults.old) (W.contents faults.new) (fault_line Fault.Memory) }
@@ -165,7 +165,8 @@ pub fn refuse_words<W: Write>(faults: &mut W, error: &io::Error) -> u8
     WORDS
 }
 
-/// Says why the words ask for nothing, and answers the status: that of a fault where memory was refused.
+/// Writes why the words of the command line make no request. Returns the status, which is that of a fault if memory was
+/// refused.
 fn refuse_request<W: Write>(faults: &mut W, why: &NotAsked) -> u8
     ensures some { 1 ≤ result }
     ensures most { result ≤ 2 }
@@ -187,10 +188,12 @@ fn refuse_request<W: Write>(faults: &mut W, why: &NotAsked) -> u8
     }
 }
 
-/// Runs the program on the words of the command line, the first being its own name, and on these streams. The answer is
-/// the status: 0 where all went well; 1 where there was a fault, whose line goes to the faults stream; and 2 where a
-/// word of a run is no order, with the fault's line, or the words were not understood, which `clap`'s text on the
-/// faults stream explains. Nothing is on the output before all is known. A run may wait, and starts threads.
+/// Runs the program on the words of the command line and on these streams. Returns the status.
+///
+/// The first word is the program's own name. The status is 0 if all went well, and 1 if there was a fault, whose line
+/// goes to the faults stream. It is 2 if an order word of a run is malformed, with the line of that fault, or if the
+/// words were not understood, with the text of `clap`. Nothing is written to the output before all of it is known. A
+/// run may wait, and starts threads.
 pub fn drive<R: Threads + Wait + Clock + Sync, S: AsStr, I: Read, W: Write, E: Write>(
     rt: &R,
     alloc: Global,
@@ -199,17 +202,17 @@ pub fn drive<R: Threads + Wait + Clock + Sync, S: AsStr, I: Read, W: Write, E: W
     output: &mut W,
     faults: &mut E,
 ) -> u8
-    // What the words ask for is written, and nothing on the faults stream.
+    // The output that the words ask for is written, and nothing is written to the faults stream.
     ensures done { result ≡ 0 → IsAnswered (map S.text words.entry.now) (I.remaining input.old) (W.contents output.old) (W.contents output.new) }
     ensures quiet { result ≡ 0 → Keeps (E.contents faults.old) (E.contents faults.new) }
-    // A fault's line is on the faults stream, as far as that took it.
+    // A fault's line is on the faults stream, as far as the stream took it.
     ensures fault { result ≡ 1 → HasToldFault (map S.text words.entry.now) (I.remaining input.old)
         (W.contents output.old) (W.contents output.new) (E.contents faults.old) (E.contents faults.new) }
     ensures reads { (bytes : List ℕ) × Consumes (I.remaining input.old) (I.remaining input.new) bytes × (length bytes ≤ input_limit + 1) }
     ensures unread { result ≡ 2 → Keeps (I.remaining input.old) (I.remaining input.new) }
-    // Words that the program takes, and that ask for something, are not refused.
+    // Words that the program takes and that make a request are not refused.
     ensures words { result ≡ 2 → is_taken (map S.text words.entry.now) ≡ true → asked_by (map S.text words.entry.now) ≡ None }
-    // Where the program takes the words of a run, and one that is to be an order is none, the first of these is told.
+    // If the program takes the words of a run, its first malformed order word is reported.
     ensures no_order { result ≡ 2 → is_taken (map S.text words.entry.now) ≡ true
         → HasToldNoOrder (map S.text words.entry.now) (E.contents faults.old) (E.contents faults.new) }
     ensures refused { result ≡ 2 → Keeps (W.contents output.old) (W.contents output.new) }

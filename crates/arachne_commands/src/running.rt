@@ -1,4 +1,4 @@
-//! Running a program on the cores that the command line asks for.
+//! Runs a program on the cores that the command line asks for.
 ghost use Rattle.std.specs.Prelude.{◌≡◌, ◌≤◌, IfOk, IfErr, IsOk};
 ghost use Rattle.arachne_core.specs.declared.layout.TheConstants.{CORES};
 ghost use Rattle.arachne_lang.specs.Program.{source_of};
@@ -19,7 +19,7 @@ use std::sync::Wait;
 use std::thread::Threads;
 use std::time::Clock;
 
-/// Runs a program as the settings say, over a table on atomic words.
+/// Runs a program with these settings, over a table on atomic words.
 pub fn run_program<'p, R: Threads + Wait + Clock + Sync>(
     rt: &R,
     alloc: Global,
@@ -38,7 +38,7 @@ pub fn run_program<'p, R: Threads + Wait + Clock + Sync>(
     )
 }
 
-/// How a run goes by the settings, and the choosers of its cores.
+/// Returns the setup of a run with these settings, and the choosers of its cores.
 fn set_up(
     alloc: Global,
     settings: RunSettings,
@@ -63,15 +63,16 @@ fn set_up(
     Ok((setup, choosers))
 }
 
-/// How many cores get a chooser: each, and of too many none, since the run refuses them before it looks at its
-/// choosers.
+/// Returns the number of choosers for this number of cores: one for each, but none if there are too many cores.
+///
+/// The run refuses too many cores before it looks at the choosers.
 fn served(cores: u64) -> u64
     ensures { cores ≤ CORES → result ≡ cores }
 {
     if cores > u64::from(CORES) { 0 } else { cores }
 }
 
-/// The choosers of so many cores. That of core k begins from the number `seed + k`.
+/// Returns the choosers of `cores` cores. The seed of core k is `seed + k`.
 fn choosers(alloc: Global, seed: u64, cores: u64) -> Result<Vec<Xoshiro256PlusPlus>, AllocError>
     ensures { IfOk result (λ choosers. choosers.items ≡ choosers_of seed cores) }
 {

@@ -1,4 +1,4 @@
-//! Reading the text of samples.
+//! Reads the text of samples.
 
 ghost use Rattle.std.specs.Prelude.{◌≡◌, ◌⊎◌, List, IfOk, IfErr, IsErrAnd, MatchResult};
 ghost use Rattle.arachne_lang.specs.declared.text_fault.TextFault.{TextFault as Fault};
@@ -11,17 +11,18 @@ use arachne_lang::TextFault;
 use arachne_policy::Sample;
 use std::alloc::Global;
 
-/// The samples that the text spells, all of the text: a line of five numbers each. Linear in the bytes; memory is taken
-/// for the samples alone.
+/// Reads the samples of the whole text, a line of five numbers each.
+///
+/// Takes time linear in the bytes, and memory only for the samples.
 pub fn read_samples(alloc: Global, text: &[u8]) -> Result<Vec<Sample>, TextFault>
-    // The text is the spelling of what is read, whose numbers are in range.
+    // The text is the spelling of the samples, whose numbers are in range.
     ensures accepted { IfOk result (λ samples. AreInRange samples.items × (samples_text samples.items ≡ text.now)) }
-    // What is in range is read, unless memory is refused.
+    // Any spelling of samples in range is read, unless memory is refused.
     ensures every_text { (samples : List Measured) → AreInRange samples → samples_text samples ≡ text.now
         → MatchResult result (λ read. read.items ≡ samples) IsOfMemory }
     // A fault is the first one of the text, unless memory is refused.
     ensures first_fault { IfErr result (λ fault. (fault ≡ TextFault.Memory) ⊎ IsFirstFault text.now fault) }
-    // A text with a first fault is refused by it, unless memory is refused.
+    // A text with a first fault is refused with that fault, unless memory is refused.
     ensures every_fault { (first : Fault) → IsFirstFault text.now first → IsErrAnd result (λ fault. (fault ≡ TextFault.Memory) ⊎ (fault ≡ first)) }
 {
     let mut samples = Vec::new(alloc);
@@ -39,7 +40,7 @@ pub fn read_samples(alloc: Global, text: &[u8]) -> Result<Vec<Sample>, TextFault
     Ok(samples)
 }
 
-/// The sample of a line, and the text behind it.
+/// Reads the sample of a line. Returns the sample and the text after it.
 #[tactic(auto, unfolding(crate::specs::Reading::sample_at))]
 fn line(text: &[u8]) -> Result<(Sample, &[u8]), ReadingStop<'_>>
     ensures { Gives (λ read. (read.0, read.1.now)) result (sample_at text.now) }

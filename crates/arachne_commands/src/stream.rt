@@ -1,4 +1,4 @@
-//! Reading a whole input up to its limit, and writing bytes.
+//! Reads a whole input up to its limit, and writes bytes.
 ghost use Rattle.std.specs.Prelude.{◌≡◌, ◌≢◌, ◌≤◌, ◌+◌, List, ℕ, length, OnOk, OnErr, IfOk, IfErr, IfSome};
 ghost use Rattle.std.specs.Io.KnownBytes.{Appends, Consumes};
 ghost use Rattle.arachne_commands.specs.declared.command_line.Request.{Request};
@@ -8,13 +8,15 @@ use crate::fault::Fault;
 use std::alloc::Global;
 use std::io::{Read, Write};
 
-/// The most bytes that an input may have.
+/// The maximum number of bytes of an input.
 pub const INPUT_LIMIT: usize = 33_554_432;
 
-/// How many bytes are asked for at a time.
+/// The maximum number of bytes of a read.
 const CHUNK: usize = 65_536;
 
-/// Reads all there is, and at most one byte more than the limit. Each error of the reader ends it.
+/// Reads the whole input, and at most one byte more than the limit.
+///
+/// Fails at the first error of the reader, if memory is refused, or if the input is longer than the limit.
 pub fn read_input<R: Read>(alloc: Global, input: &mut R) -> Result<Vec<u8>, Fault>
     ensures whole { IfOk result (λ bytes. IfSome (R.remaining input.old) (λ text. bytes.items ≡ text)) }
     ensures within { IfOk result (λ bytes. length bytes.items ≤ input_limit) }
@@ -39,7 +41,9 @@ pub fn read_input<R: Read>(alloc: Global, input: &mut R) -> Result<Vec<u8>, Faul
     Err(Fault::TooLong)
 }
 
-/// Writes the bytes. Each error of the writer ends it, and so does a write of no byte.
+/// Writes all of the bytes.
+///
+/// Fails at the first error of the writer, or if a write takes no byte. Then a prefix of the bytes has been written.
 pub fn write_bytes<W: Write>(writer: &mut W, bytes: &[u8]) -> Result<(), Fault>
     ensures ok { OnOk result (Appends (W.contents writer.old) (W.contents writer.new) bytes.now) }
     ensures err { IfErr result (λ fault. fault ≡ Fault.Write) }

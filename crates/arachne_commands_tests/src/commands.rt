@@ -1,4 +1,4 @@
-//! What the program does, over words, readers and writers.
+//! Tests of the program over words, readers and writers.
 use crate::commands::fakes::{Script, Tray};
 use arachne_commands::{Status, refuse_words, run as run_process, run_on, run_without_words};
 use std::alloc::Global;
@@ -16,7 +16,7 @@ mod shortage;
 mod spelling;
 mod streams;
 
-/// The words of a test's own process ask for nothing, so that the program has nothing to do but to refuse them.
+/// The words of a test's own process make no request, so that the program can only refuse them.
 #[test]
 fn program_ends_with_the_status(rt: HostRuntime) {
     assert_eq!(rt;
@@ -25,7 +25,7 @@ fn program_ends_with_the_status(rt: HostRuntime) {
     );
 }
 
-/// The status that a process of the program ends with. It says nothing of what is read and written.
+/// Returns the status of a process of the program. It has no contract on the streams.
 fn process_status_of<R: Threads + Wait + Clock + Sync>(
     rt: &R,
     alloc: Global,
@@ -37,7 +37,7 @@ fn process_status_of<R: Threads + Wait + Clock + Sync>(
     run_on(rt, alloc, words, input, output, faults)
 }
 
-/// The run ends with this code. Only where it ends well is there an output, and no fault.
+/// Checks that a run ends with this code. There is an output only if it is 0, and a fault only if it is not.
 fn assert_code<R: Abort + Eprint + Threads + Wait + Clock + Sync>(
     rt: &R,
     alloc: Global,
@@ -55,7 +55,7 @@ fn assert_code<R: Abort + Eprint + Threads + Wait + Clock + Sync>(
     assert!(rt; is_right, "{word}");
 }
 
-/// Words with texts, and the exit codes: texts that may run, texts that are refused, and words that are not understood.
+/// Words with texts and exit codes: texts that may run, texts that are refused, and words that are not understood.
 const CODES: &[(&str, &str, u8)] = &[
     ("eval", "arachne 1\nledgers 0\nlocks 0\n(num 7)\n", 0),
     ("check", "arachne 1\nledgers 0\nlocks 0\n(num 7)\n", 0),
@@ -71,13 +71,13 @@ fn runs_end_with_their_status(rt: HostRuntime) {
     }
 }
 
-/// Why words cannot be had, the code, and the front of what is told.
+/// The error with which the words cannot be read, the exit code, and the beginning of the printed text.
 const NO_WORDS: &[(ErrorKind, u8, &str)] = &[
     (ErrorKind::OutOfMemory, 1, "fault 30\n"),
     (ErrorKind::InvalidData, 2, "error: "),
 ];
 
-/// Words that cannot be had end with this code, by themselves and as a process, and this is told.
+/// Checks the code and the text for words that cannot be read, by the call itself and as a process.
 fn assert_without_words<R: Abort + Eprint>(
     rt: &R,
     alloc: Global,

@@ -1,4 +1,4 @@
-//! Tests of the program's commands, by public calls alone. What they test is proved without them.
+//! Tests of the program's commands by public calls only. No proof depends on them.
 #![tactic(auto)]
 
 #[cfg(test)]

@@ -1,5 +1,5 @@
 -- What an executor's seat may do on its table, with the words and masks that a call has computed.
-use Rattle.std.proofs.Common.{◌≡◌, ℕ, ◌+◌, ◌-◌, ◌*◌, ◌/◌, ◌%◌, ◌^◌, ◌<◌, ◌≤◌, [], ◌∷◌, true, false, eqb, sym, ap, ◌∙◌, subst, arith}
+use Rattle.std.proofs.Common.{◌≡◌, ℕ, ◌+◌, ◌-◌, ◌*◌, ◌/◌, ◌%◌, ◌^◌, ◌<◌, ◌≤◌, [], ◌∷◌, true, false, eqb, refl, sym, ap, ◌∙◌, subst, arith}
 use Rattle.std.specs.Int.{bit_at}
 use Rattle.std.specs.Int.RustNames.{bit_and, bit_or}
 use Rattle.std.proofs.lemmas.Bool.{eqb-true, eq-eqb, false≢true}
@@ -110,15 +110,15 @@ module _ (table : TableId) (key n : ℕ) (laid : IsLaidOut table key n) (exec : 
             (renews key table.slots id me.0.weight me.0.known q x (rest view.slots) hand low mark has_found.1.1 (known-is ∙ has_found.1.2) y new (omega (arith, has_found.0, is)) (omega (arith, now, is))),
       )
 
-    module _ (x : ℕ) where
-      pub free-asks : HasNewest q x 0 view → (mask : ℕ) → word ≡ free_at (q / 64) → mask ≡ 2 ^ (q % 64) → Asks word (λ z. bit_or z mask) (Frees (step table.slots word mask 0 none) me)
-      free-asks has mask e o = (
-        at-home,
-        free-inside e,
-        subst (λ (z : ℕ × ℕ × Mine). Allows (IsLawful key) table.slots id z.2 z.0 (λ a. bit_or a z.1) (Frees (step table.slots z.0 z.1 0 none) z.2)) (λ i. (sym e i, sym o i, sym (mine x 0 has) i))
-            (frees key table.slots id me.0.weight me.0.known q x (rest view.slots) (hand x 0 has) low),
-      )
+    pub free-asks : HasNewest q 0 0 view → (mask : ℕ) → word ≡ free_at (q / 64) → mask ≡ 2 ^ (q % 64) → Asks word (λ z. bit_or z mask) (Frees (step table.slots word mask 0 none) me)
+    free-asks has mask e o = (
+      at-home,
+      free-inside e,
+      subst (λ (z : ℕ × ℕ × Mine). Allows (IsLawful key) table.slots id z.2 z.0 (λ a. bit_or a z.1) (Frees (step table.slots z.0 z.1 0 none) z.2)) (λ i. (sym e i, sym o i, sym (mine 0 0 has) i))
+          (frees key table.slots id me.0.weight me.0.known q 0 (rest view.slots) (hand 0 0 has) low refl),
+    )
 
+    module _ (x : ℕ) where
       pub ready-asks : HasNewest q x x view → view.known.unshown ≡ 0 → (mask : ℕ) → word ≡ ready_at (q / 64) → mask ≡ 2 ^ (q % 64) → Asks word (λ z. bit_or z mask) (Readies (step table.slots word mask 0 none) me)
       ready-asks has shown mask e o = (
         at-home,

@@ -1,11 +1,10 @@
 -- What a seat knows after several steps of a call.
-use Rattle.std.proofs.Common.{◌≡◌, ◌≢◌, ℕ, zero, suc, ◌+◌, ◌*◌, ◌/◌, ◌%◌, ◌<◌, List, refl, sym, ap, ◌∙◌, arith}
+use Rattle.std.proofs.Common.{◌≡◌, ◌≢◌, ℕ, zero, suc, ◌+◌, ◌*◌, ◌/◌, ◌%◌, ◌<◌, ◌≤◌, ◌⊎◌, List, ◌∷◌, ◌++◌, refl, sym, subst, ap, ◌∙◌, arith}
 use Rattle.std.specs.Int.{bit_at}
 use Rattle.arachne_exec.specs.declared.view.Notes.{Notes}
-use Rattle.arachne_exec.specs.declared.view.Deed.{Deed}
-use Rattle.arachne_exec.specs.Layout.{mark_at}
-use Rattle.arachne_exec.specs.Changes.{noted, hearing, finishing, cleared_heard, cleared_deeds, using_up}
-use Rattle.arachne_exec.specs.Calls.{HasMissed}
+use Rattle.arachne_exec.specs.Layout.{mark_at, last_generation}
+use Rattle.arachne_exec.specs.Changes.{older, newest_job, heard_more, noted, hearing, cleared_heard, cleared_looks, using_up}
+use Rattle.arachne_exec.specs.Calls.{HasMissed, HasFinished}
 
 -- a bit of a block's word that was found set, and then clear
 pub missed : (at : ℕ → ℕ) (block index first then : ℕ) (k looked after : Notes) → index < 64 → bit_at first index ≡ 1 → looked ≡ noted (at block) first k → bit_at then ((64 * block + index) % 64) ≡ 0
@@ -21,15 +20,25 @@ missed at block index first then k looked after low was saw gone cleared =
       known = cleared ∙ (λ i. noted (at (row i)) then (saw i));
     }
 
--- a job has ended, and what was done is what the seat's deeds say
-pub ended : (place n : ℕ) (deeds : List Deed) (k after : Notes) → after ≡ finishing place n deeds k → (after ≡ finishing place n after.deeds k) × (after.deeds ≡ deeds)
-ended place n deeds k after e = let same = ap (λ (z : Notes). z.deeds) e in (e ∙ ap (λ (d : List Deed). finishing place n d k) (sym same), same)
+-- a job has ended
+abbrev finished : ℕ → ℕ → ℕ → List (ℕ × ℕ) → List ℕ → Notes → Notes
+finished place mark n then blocked k = record k {
+  hand = older k.hand;
+  ended = (place, newest_job k.hand) ∷ k.ended;
+  heard = heard_more (n % 2) place k.heard;
+  blocked = blocked;
+  looks = then ++ (mark_at place, mark) ∷ k.looks;
+}
+
+pub ended : (place mark n : ℕ) (then : List (ℕ × ℕ)) (blocked : List ℕ) (k after : Notes) → after ≡ finished place mark n then blocked k
+    → ((mark / 4 + 1 < last_generation) × (blocked ≡ k.blocked)) ⊎ ((last_generation ≤ mark / 4 + 1) × (blocked ≡ place ∷ k.blocked)) → HasFinished place k after
+ended place mark n then blocked k after e last = subst (HasFinished place k) (sym e) (record { mark = mark; then = then; found = refl; heard = n; known = refl; retired = last })
 
 -- a mark that says of no wake stays, and another is cleared
 pub unmarked : (mark place then : ℕ) (k : Notes) → mark % 4 ≡ 0 → using_up mark place then k ≡ k
-unmarked mark place then k e = λ i. record k { heard = cleared_heard (e i) place then k.heard; deeds = cleared_deeds (e i) place then k.deeds }
+unmarked mark place then k e = λ i. record k { heard = cleared_heard (e i) place then k.heard; looks = cleared_looks (e i) place then k.looks }
 
-cleared-some : (low place then : ℕ) (k : Notes) → low ≢ 0 → record k { heard = cleared_heard low place then k.heard; deeds = cleared_deeds low place then k.deeds } ≡ noted (mark_at place) (4 * (then / 4)) (hearing (then % 2) place k)
+cleared-some : (low place then : ℕ) (k : Notes) → low ≢ 0 → record k { heard = cleared_heard low place then k.heard; looks = cleared_looks low place then k.looks } ≡ noted (mark_at place) (4 * (then / 4)) (hearing (then % 2) place k)
 cleared-some zero place then k ne = absurd (ne refl)
 cleared-some (suc n) place then k ne = refl
 

@@ -1,5 +1,6 @@
--- Each kind of step keeps that each mark of a wake was used up or is there.
-use Rattle.std.proofs.Common.{◌≡◌, ◌≢◌, ℕ, zero, suc, ◌+◌, ◌*◌, ◌%◌, ◌<◌, List, ◌∷◌, length, get_or, set, sym, ap, ◌∙◌, subst, arith, get_or-set_same, get_or-set_other}
+-- Each kind of step keeps that each mark of a wake was used up or is there, and that each job that was blocked was
+-- unblocked or is blocked.
+use Rattle.std.proofs.Common.{◌≡◌, ◌≢◌, ℕ, zero, suc, ◌+◌, ◌*◌, ◌/◌, ◌%◌, ◌<◌, List, length, get_or, set, sym, ap, ◌∙◌, subst, arith, get_or-set_same, get_or-set_other}
 use mathlib.Core.Logic.{dite}
 use mathlib.Core.Option.{some}
 use mathlib.Core.Option as maybe
@@ -15,27 +16,34 @@ use Rattle.arachne_exec.proofs.Bits.{one-same, one-apart}
 use Rattle.arachne_exec.proofs.Balancing.{more-times}
 use Rattle.arachne_exec.proofs.Keeping.{mark_apart}
 
--- a mark that is used up or not
-heard-times : (p n q : ℕ) (xs : List ℕ) → n < 2 → times p (heard_more n q xs) ≡ n * one q p + times p xs
-heard-times p zero q xs low = omega arith
-heard-times p (suc zero) q xs low = more-times p q xs ∙ omega arith
-heard-times p (suc (suc n)) q xs low = absurd (omega (arith, low))
+-- one more, or none
+times-more : (p n q : ℕ) (xs : List ℕ) → n < 2 → times p (heard_more n q xs) ≡ n * one q p + times p xs
+times-more p zero q xs low = omega arith
+times-more p (suc zero) q xs low = more-times p q xs ∙ omega arith
+times-more p (suc (suc n)) q xs low = absurd (omega (arith, low))
 
--- a mark says of a wake as before, and isn't newly both blocked and woken
-abbrev pub MarksOn : ℕ → ℕ → Type 0
-MarksOn was now = (now % 2 ≡ was % 2) × (was % 4 < 3 → now % 4 < 3)
+-- it has neither marked a job as woken nor used up such a mark, and has neither blocked nor unblocked one
+abbrev pub KeepsMarks : Notes → Notes → Type 0
+KeepsMarks k l = (l.woken ≡ k.woken) × (l.heard ≡ k.heard) × (l.blocked ≡ k.blocked) × (l.unblocked ≡ k.unblocked)
 
-pub marks-same : (was now : ℕ) → now ≡ was → MarksOn was now
-marks-same was now e = (ap (λ x. x % 2) e, λ low. omega (arith, e, low))
+-- these are new: how often the place was marked, the mark used up, the place blocked, and unblocked
+pub record MarksMore (q a c d e : ℕ) (k l : Notes) : Type 0 where
+  pub woken : l.woken ≡ heard_more a q k.woken
+  pub heard : l.heard ≡ heard_more c q k.heard
+  pub blocked : l.blocked ≡ heard_more d q k.blocked
+  pub unblocked : l.unblocked ≡ heard_more e q k.unblocked
 
 module _ (blocks : ℕ) (b : Board) (r : HearsWakes blocks b) (h : ℕ) (v u : Token Notes) (mine : get_elem? b.views h ≡ some v) (homes : List (maybe.Option ℕ)) where
-  pub hears-on : (ws : List ℕ) → ((p : ℕ) → p < 64 * blocks → MarksOn (get_or b.words (mark_at p) 0) (get_or ws (mark_at p) 0)) → u.known.woken ≡ v.known.woken → u.known.heard ≡ v.known.heard
+  pub hears-on : (ws : List ℕ) → ((p : ℕ) → p < 64 * blocks → get_or ws (mark_at p) 0 % 4 ≡ get_or b.words (mark_at p) 0 % 4) → KeepsMarks v.known u.known
       → HearsWakes blocks (record { words = ws; homes = homes; views = set b.views h u })
-  hears-on ws marks woken heard = record {
+  hears-on ws same marks = record {
     marks = λ p inside.
         let one_ = total-set (λ (t : Token Notes). times p t.known.woken) b.views h v u mine in let two = total-set (λ (t : Token Notes). times p t.known.heard) b.views h v u mine in
-        let w = ap (times p) woken in let d = ap (times p) heard in let m = (marks p inside).0 in let old = r.marks p inside in omega (arith, one_, two, w, d, m, old);
-    unheard = λ p inside. (marks p inside).1 (r.unheard p inside);
+        let w = ap (times p) marks.0 in let d = ap (times p) marks.1 in let m = same p inside in let old = r.marks p inside in omega (arith, one_, two, w, d, m, old);
+    rests = λ p inside.
+        let one_ = total-set (λ (t : Token Notes). times p t.known.blocked) b.views h v u mine in let two = total-set (λ (t : Token Notes). times p t.known.unblocked) b.views h v u mine in
+        let w = ap (times p) marks.2 in let d = ap (times p) marks.3 in let m = same p inside in let old = r.rests p inside in omega (arith, one_, two, w, d, m, old);
+    unheard = λ p inside. let m = same p inside in let old = r.unheard p inside in omega (arith, m, old);
   }
 
   module _ (q : ℕ) (room : mark_at q < length b.words) (m : ℕ) where
@@ -57,35 +65,25 @@ module _ (blocks : ℕ) (b : Board) (r : HearsWakes blocks b) (h : ℕ) (v u : T
         (λ e. ap f (here p e) ∙ same ∙ ap f (sym (there p e)))
         (λ ne. ap f (else-same p ne))
 
-    pub marked-on : MarksOn old m → (p : ℕ) → MarksOn (get_or b.words (mark_at p) 0) (get_or (set b.words (mark_at q) m) (mark_at p) 0)
-    marked-on on p = dite (ℕ_discrete q p)
-        (λ e. subst (λ (z : ℕ × ℕ). MarksOn z.0 z.1) (λ i. (sym (there p e) i, sym (here p e) i)) on)
-        (λ ne. marks-same (get_or b.words (mark_at p) 0) (get_or (set b.words (mark_at q) m) (mark_at p) 0) (else-same p ne))
-
-    never-both : m % 4 < 3 → (p : ℕ) → p < 64 * blocks → get_or (set b.words (mark_at q) m) (mark_at p) 0 % 4 < 3
-    never-both low p inside = dite (ℕ_discrete q p)
-        (λ e. let is = here p e in omega (arith, is, low))
-        (λ ne. let is = else-same p ne in let was = r.unheard p inside in omega (arith, is, was))
-
-    pub hears-mark : old % 2 ≡ 0 → m % 4 ≡ 1 → u.known.woken ≡ q ∷ v.known.woken → u.known.heard ≡ v.known.heard
-        → HearsWakes blocks (record { words = set b.words (mark_at q) m; homes = homes; views = set b.views h u })
-    hears-mark was now woken heard = record {
-      marks = λ p inside.
-          let one_ = total-set (λ (t : Token Notes). times p t.known.woken) b.views h v u mine in let two = total-set (λ (t : Token Notes). times p t.known.heard) b.views h v u mine in
-          let w = ap (times p) woken ∙ more-times p q v.known.woken in let d = ap (times p) heard in let before = r.marks p inside in dite (ℕ_discrete q p)
-          (λ e. let x = one-same q p e in let a = ap (λ y. y % 2) (here p e) in let c = ap (λ y. y % 2) (there p e) in omega (arith, one_, two, w, d, before, x, a, c, was, now))
-          (λ ne. let x = one-apart q p ne in let a = ap (λ y. y % 2) (else-same p ne) in omega (arith, one_, two, w, d, before, x, a));
-      unheard = never-both (omega (arith, now));
-    }
-
-    pub hears-clear : m % 2 ≡ 0 → u.known.woken ≡ v.known.woken → u.known.heard ≡ heard_more (old % 2) q v.known.heard
-        → HearsWakes blocks (record { words = set b.words (mark_at q) m; homes = homes; views = set b.views h u })
-    hears-clear now woken heard = record {
-      marks = λ p inside.
-          let one_ = total-set (λ (t : Token Notes). times p t.known.woken) b.views h v u mine in let two = total-set (λ (t : Token Notes). times p t.known.heard) b.views h v u mine in
-          let w = ap (times p) woken in let d = ap (times p) heard ∙ heard-times p (old % 2) q v.known.heard (omega arith) in let before = r.marks p inside in dite (ℕ_discrete q p)
-          (λ e. let x : old % 2 * one q p ≡ old % 2 = ap (λ y. old % 2 * y) (one-same q p e) ∙ omega arith in
-          let a = ap (λ y. y % 2) (here p e) in let c = ap (λ y. y % 2) (there p e) in omega (arith, one_, two, w, d, before, x, a, c, now))
-          (λ ne. let x : old % 2 * one q p ≡ 0 = ap (λ y. old % 2 * y) (one-apart q p ne) ∙ omega arith in let a = ap (λ y. y % 2) (else-same p ne) in omega (arith, one_, two, w, d, before, x, a));
-      unheard = never-both (omega (arith, now));
-    }
+    module _ (a c d e : ℕ) (few : (a < 2) × (c < 2) × (d < 2) × (e < 2)) (noted : MarksMore q a c d e v.known u.known) where
+      -- the mark is another, and what it says more or less is noted
+      pub hears-mark : a + old % 2 ≡ c + m % 2 → d + old / 2 % 2 ≡ e + m / 2 % 2 → m % 4 < 3 → HearsWakes blocks (record { words = set b.words (mark_at q) m; homes = homes; views = set b.views h u })
+      hears-mark marks rests low = record {
+        marks = λ p inside.
+            let one_ = total-set (λ (t : Token Notes). times p t.known.woken) b.views h v u mine in let two = total-set (λ (t : Token Notes). times p t.known.heard) b.views h v u mine in
+            let w = ap (times p) noted.woken ∙ times-more p a q v.known.woken few.0 in let g = ap (times p) noted.heard ∙ times-more p c q v.known.heard few.1 in let before = r.marks p inside in dite (ℕ_discrete q p)
+            (λ s. let x : a * one q p ≡ a = ap (λ y. a * y) (one-same q p s) ∙ omega arith in let y : c * one q p ≡ c = ap (λ y. c * y) (one-same q p s) ∙ omega arith in
+            let i = ap (λ y. y % 2) (here p s) in let j = ap (λ y. y % 2) (there p s) in omega (arith, one_, two, w, g, before, x, y, i, j, marks))
+            (λ ne. let x : a * one q p ≡ 0 = ap (λ y. a * y) (one-apart q p ne) ∙ omega arith in let y : c * one q p ≡ 0 = ap (λ y. c * y) (one-apart q p ne) ∙ omega arith in
+            let i = ap (λ y. y % 2) (else-same p ne) in omega (arith, one_, two, w, g, before, x, y, i));
+        rests = λ p inside.
+            let one_ = total-set (λ (t : Token Notes). times p t.known.blocked) b.views h v u mine in let two = total-set (λ (t : Token Notes). times p t.known.unblocked) b.views h v u mine in
+            let w = ap (times p) noted.blocked ∙ times-more p d q v.known.blocked few.2 in let g = ap (times p) noted.unblocked ∙ times-more p e q v.known.unblocked few.3 in let before = r.rests p inside in dite (ℕ_discrete q p)
+            (λ s. let x : d * one q p ≡ d = ap (λ y. d * y) (one-same q p s) ∙ omega arith in let y : e * one q p ≡ e = ap (λ y. e * y) (one-same q p s) ∙ omega arith in
+            let i = ap (λ y. y / 2 % 2) (here p s) in let j = ap (λ y. y / 2 % 2) (there p s) in omega (arith, one_, two, w, g, before, x, y, i, j, rests))
+            (λ ne. let x : d * one q p ≡ 0 = ap (λ y. d * y) (one-apart q p ne) ∙ omega arith in let y : e * one q p ≡ 0 = ap (λ y. e * y) (one-apart q p ne) ∙ omega arith in
+            let i = ap (λ y. y / 2 % 2) (else-same p ne) in omega (arith, one_, two, w, g, before, x, y, i));
+        unheard = λ p inside. dite (ℕ_discrete q p)
+            (λ s. let is = here p s in omega (arith, is, low))
+            (λ ne. let is = else-same p ne in let was = r.unheard p inside in omega (arith, is, was));
+      }

@@ -246,14 +246,14 @@ module _ (blocks : ℕ) (b : Board) (r : HasOneKeeper blocks b) (h : ℕ) (v : T
     }
 
     -- a mark that is blocked as before
-    pub keeps-mark : (u : Token Notes) (m : ℕ) → m / 2 % 2 ≡ is_blocked b.words q → u.known.hand ≡ v.known.hand
+    pub keeps-mark : (u : Token Notes) (m : ℕ) → m / 2 % 2 ≡ is_blocked b.words q → ((p : ℕ) → in_hands p (set b.views h u) ≡ in_hands p b.views)
         → HasOneKeeper blocks (record { words = set b.words (mark_at q) m; homes = b.homes; views = set b.views h u })
-    keeps-mark u m same places = record {
+    keeps-mark u m same hands = record {
       sized = length-set b.words (mark_at q) m ∙ r.sized;
       room = r.room;
-      kept = λ p inside. omega (arith, r.kept p inside, free_else_mark m p, ready_else_mark m p, as_blocked m same p, hands-same u places p);
-      home = λ p inside none_has. r.home p inside (sym (hands-same u places p) ∙ none_has);
-      away = λ p inside has. let same = hands-same u places p in r.away p inside (omega (arith, same, has));
+      kept = λ p inside. omega (arith, r.kept p inside, free_else_mark m p, ready_else_mark m p, as_blocked m same p, hands p);
+      home = λ p inside none_has. r.home p inside (sym (hands p) ∙ none_has);
+      away = λ p inside has. let same = hands p in r.away p inside (omega (arith, same, has));
       empty = λ p inside e. r.empty p inside (sym (free_else_mark m p) ∙ e);
     }
 

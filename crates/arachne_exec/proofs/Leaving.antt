@@ -87,7 +87,7 @@ all-settled shards k none left words slots n ends past so_far =
     let at = λ (p : ℕ) (inside : p < length s.homes). h.keeper.home p (omega (arith, inside, h.keeper.room)) (nothing p) in
     let home = λ (job : ℕ). same-home job s.homes slots long (λ p inside. ((at p inside).0, (at p inside).1, values p (at p inside).0 (at p inside).1)) in record {
       settled = λ job some_job.
-          let a = alone (λ l. times job l.spawned) refl in let b = alone (λ l. times job l.ended) refl in let c = alone (λ l. jobs_in job l.hand) refl ∙ ap (jobs_in job) none in
+          let a = alone (λ l. jobs_in job l.spawned) refl in let b = alone (λ l. jobs_in job l.ended) refl in let c = alone (λ l. jobs_in job l.hand) refl ∙ ap (jobs_in job) none in
           let old = h.balance.balanced job some_job in let lie = home job in let jobs = so_far.jobs job some_job in let rest = ap (times job) (drop-past slots n past) in
           let d : jobs_in job [] ≡ 0 = refl in let z : times job [] ≡ 0 = refl in omega (arith, a, b, c, d, z, old, lie, jobs, rest);
       numbers = so_far.numbers;

@@ -6,6 +6,7 @@ mod Keeping
 mod Balancing
 mod Hearing
 mod Naming
+mod OneJob
 mod Debts
 mod Rousing
 mod KeepsShown

@@ -1,5 +1,5 @@
 -- Several ready bits of a block that are cleared in one step.
-use Rattle.std.proofs.Common.{◌≡◌, ◌≢◌, ◌⊎◌, inl, inr, ⊎_elim, ℕ, zero, suc, ◌+◌, ◌-◌, ◌*◌, ◌/◌, ◌%◌, ◌^◌, ◌<◌, ◌≤◌, List, [], ◌∷◌, ◌++◌, map, length, get_or, set, if◌then◌else◌, sym, refl, ap, ◌∙◌, subst, arith, get_or-set_same}
+use Rattle.std.proofs.Common.{◌≡◌, ◌≢◌, ◌⊎◌, inl, inr, ⊎_elim, ℕ, zero, suc, ◌+◌, ◌-◌, ◌*◌, ◌/◌, ◌%◌, ◌^◌, ◌<◌, ◌≤◌, List, [], ◌∷◌, ◌++◌, map, get_or, set, if◌then◌else◌, sym, refl, ap, ◌∙◌, subst, arith, get_or-set_same}
 use Rattle.std.specs.Int.{bit_at, w64}
 use Rattle.std.specs.Int.RustNames.{bit_and}
 use Rattle.std.proofs.lemmas.List.{set-set}
@@ -11,17 +11,17 @@ use mathlib.Core.Logic.{dite}
 use mathlib.Core.Option.{some, none, some-ne-none}
 use native.Mathlib.Decide.{ℕ_discrete}
 use lib.ListN.{get_elem?}
-use Rattle.atomic_table.specs.Table.{Act, keeps, chain, step, Allows, stepped, homes_after, carried_after, Valid}
+use Rattle.atomic_table.specs.Table.{Act, keeps, takes, chain, step, Allows, stepped, homes_after, carried_after, Valid}
 use Rattle.arachne_weights.specs.declared.token.Token.{Token}
 use Rattle.arachne_weights.specs.Tokens.{held}
 use Rattle.arachne_exec.specs.declared.view.Notes.{Notes}
 use Rattle.arachne_exec.specs.Layout.{ready_at, others, places_from, places_in_word}
-use Rattle.arachne_exec.specs.Board.{Board, IsLawful}
+use Rattle.arachne_exec.specs.Board.{Board, FoundLast, IsLawful}
 use Rattle.arachne_exec.specs.Changes.{gaining, noted}
 use Rattle.arachne_exec.specs.Steps.{TakesMany}
 use Rattle.arachne_exec.proofs.Bits.{clear_same, clear_other, clear_le, not_one}
 use Rattle.arachne_exec.proofs.Keeping.{ready_apart}
-use Rattle.arachne_exec.proofs.Moves.{takes_ready, noting}
+use Rattle.arachne_exec.proofs.Moves.{ready-job, taken-law, noting}
 
 -- what two words have in common is within the first
 pub and_within : (word other : ℕ) → bit_and word (bit_and word other) ≡ bit_and word other
@@ -46,8 +46,9 @@ record Cleared (shards id w block pick : ℕ) (s : Board) (k : Notes) (xs : List
   pub valid : Valid s.homes xs act
   pub lawful : IsLawful shards (stepped s (ready_at block) word id xs (held w (gaining jobs k)) act)
 
-module _ (shards id w block pick : ℕ) (inside : block < 64 * shards) (s : Board) (h : IsLawful shards s) (k l : Notes) (xs : List (ℕ × ℕ)) (mine : get_elem? s.views id ≡ some (held w k))
-    (small : get_or s.words (ready_at block) 0 < 2 ^ 64) (start : IsLawful shards (stepped s (ready_at block) (get_or s.words (ready_at block) 0) id xs (held w l) keeps)) where
+module _ (shards slots id w block pick : ℕ) (inside : block < 64 * shards) (s : Board) (h : IsLawful shards s) (k l : Notes) (xs : List (ℕ × ℕ)) (mine : get_elem? s.views id ≡ some (held w k))
+    (small : get_or s.words (ready_at block) 0 < 2 ^ 64) (start : IsLawful shards (stepped s (ready_at block) (get_or s.words (ready_at block) 0) id xs (held w l) keeps))
+    (latest : (ws : List ℕ) (p : ℕ) → FoundLast ws p l.looks) where
   n : ℕ
   n = get_or s.words (ready_at block) 0
 
@@ -58,19 +59,20 @@ module _ (shards id w block pick : ℕ) (inside : block < 64 * shards) (s : Boar
       let both = bit_at_and (get_or s.words (ready_at block) 0) pick i in
       let set_there : bit_at (get_or s.words (ready_at block) 0) i ≡ 1 = omega (arith, both, there, bit_at-lt (get_or s.words (ready_at block) 0) i, bit_at-lt pick i) in
       let picked : bit_at pick i ≡ 1 = omega (arith, both, there, bit_at-lt (get_or s.words (ready_at block) 0) i, bit_at-lt pick i) in
-      let seat : Token Notes = held w (gaining c.jobs l) in let carried : List (ℕ × ℕ) = carried_after xs c.act in
+      let seat : Token Notes = held w (gaining c.jobs l) in
       let t : Board = stepped s (ready_at block) c.word id xs seat c.act in
       let word_is : get_or t.words (ready_at block) 0 ≡ c.word = get_or-set_same s.words (ready_at block) c.word 0 (omega (arith, h.keeper.sized, inside)) in
       let word_at : get_or t.words (ready_at (q / 64)) 0 ≡ c.word = ap (λ b. get_or t.words (ready_at b) 0) row ∙ word_is in
       let bit_there : bit_at (get_or t.words (ready_at (q / 64)) 0) (q % 64) ≡ 1 = (λ j. bit_at (word_at j) (col j)) ∙ c.kept i low (inl (omega arith)) ∙ set_there in
-      let taken = takes_ready shards (length t.homes) id w (gaining c.jobs l) carried q (omega (arith, inside, low)) t c.lawful refl (set_mine s.views id (held w k) seat mine) (omega (arith, word_at, c.below)) in
-      let told = (taken.4 q refl refl).0 bit_there in
+      let come = set_mine s.views id (held w k) seat mine in let within : q < 64 * (64 * shards) = omega (arith, inside, low) in
+      let job = ready-job shards slots id w t c.lawful (gaining c.jobs l) come q within bit_there in
+      let law = taken-law shards slots id w t c.lawful (gaining c.jobs l) come q within bit_there l.looks (latest t.words) in
       let now : ℕ = bit_and c.word (others i) in
       let words = (λ j. set t.words (ready_at (row j)) (bit_and (word_at j) (others (col j)))) ∙ set-set s.words (ready_at block) c.word now in
-      let views = set-set s.views id seat taken.0 ∙ ap (λ (m : Token Notes × List (ℕ × ℕ)). set s.views id m.0) told.1 in
+      let views = set-set s.views id seat (held w (gaining ((q, job.0) ∷ c.jobs) l)) in
       record {
-        jobs = (q, told.0) ∷ c.jobs;
-        act = chain c.act taken.1;
+        jobs = (q, job.0) ∷ c.jobs;
+        act = chain c.act (takes q job.0);
         word = now;
         places = ap (λ ps. (64 * block + i) ∷ ps) c.places
             ∙ sym (ap (λ b. if b then (64 * block + i) ∷ places_from block (bit_and (get_or s.words (ready_at block) 0) pick) (suc i) more else places_from block (bit_and (get_or s.words (ready_at block) 0) pick) (suc i) more)
@@ -82,9 +84,9 @@ module _ (shards id w block pick : ℕ) (inside : block < 64 * shards) (s : Boar
         gone = λ j from inner is. dite (ℕ_discrete j i)
             (λ e. ap (bit_at now) e ∙ clear_same c.word i low)
             (λ ne. clear_other c.word i low j inner ne ∙ c.gone j (let apart : ¬ (j ≡ i) = ne in omega (arith, from, apart)) inner is);
-        carried = ap (λ (m : Token Notes × List (ℕ × ℕ)). m.1) told.1 ∙ ap (λ (zs : List (ℕ × ℕ)). (q, told.0) ∷ zs) c.carried;
-        valid = (c.valid, taken.2);
-        lawful = subst (λ (z : List ℕ × List (Token Notes)). IsLawful shards (record { words = z.0; homes = homes_after s.homes xs (chain c.act taken.1); views = z.1 })) (λ j. (words j, views j)) taken.3;
+        carried = ap (λ (zs : List (ℕ × ℕ)). (q, job.0) ∷ zs) c.carried;
+        valid = (c.valid, job.1);
+        lawful = subst (λ (z : List ℕ × List (Token Notes)). IsLawful shards (record { words = z.0; homes = homes_after s.homes xs (chain c.act (takes q job.0)); views = z.1 })) (λ j. (words j, views j)) law;
       }
 
   -- it isn't
@@ -137,7 +139,7 @@ pub takes_many : (shards slots id w : ℕ) (k : Notes) (xs : List (ℕ × ℕ)) 
     → Allows (IsLawful shards) slots id (held w k, xs) (ready_at block) (λ n. bit_and n (2 ^ 64 - 1 - pick)) (TakesMany (step slots (ready_at block) (2 ^ 64 - 1 - pick) 0 none) (held w k, xs))
 takes_many shards slots id w k xs block pick inside low s h _ mine small =
     let n : ℕ = get_or s.words (ready_at block) 0 in let l : Notes = noted (ready_at block) n k in
-    let c = all shards id w block pick inside s h k l xs mine small (noting shards slots id w s h k mine xs (ready_at block)) 64 0 refl in
+    let c = all shards slots id w block pick inside s h k l xs mine small (noting shards slots id w s h k mine xs (ready_at block)) (λ ws p e. absurd (omega (arith, e))) 64 0 refl in
     let is = same_word (get_or s.words (ready_at block) 0) pick c.word small low c.below c.kept c.gone in (
       held w (gaining c.jobs l),
       c.act,

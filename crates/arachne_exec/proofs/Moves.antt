@@ -16,15 +16,14 @@ use Rattle.atomic_table.proofs.Lists.{exchanged}
 use Rattle.arachne_weights.specs.declared.token.Token.{Token}
 use Rattle.arachne_weights.specs.Tokens.{held, learns}
 use Rattle.arachne_exec.specs.declared.view.Notes.{Notes}
-use Rattle.arachne_exec.specs.declared.view.Deed.{Deed}
 use Rattle.arachne_exec.specs.Layout.{idle_at, numbers_at, summary_at, ready_at, free_at, mark_at, last_generation, retired, others, in_word}
-use Rattle.arachne_exec.specs.Board.{is_blocked, Board, HasOneKeeper, IsBalanced, IsShown, FoundLast, CountsEnds, ends_at, places_in, WakesSleepers, IsLawful}
-use Rattle.arachne_exec.specs.Changes.{older, newest_job, newest_place, gained, unblocking, readying, blocking, spawning, beginning, ending, aging, marking, hearing, noted, unshowing}
+use Rattle.arachne_exec.specs.Board.{is_blocked, Board, HasOneKeeper, IsBalanced, IsShown, FoundLast, CountsEnds, ends_at, places_in, in_hands, WakesSleepers, IsLawful}
+use Rattle.arachne_exec.specs.Changes.{older, newest_job, newest_place, gained, unblocking, laying_down, blocking, spawning, beginning, ending, marking, hearing, noted, unshowing}
 use Rattle.arachne_exec.specs.Steps.{Mine, with, knowing, Looks, Takes, Claims, Frees, Readies, Spawns, Begins, Blocks, Renews, Retires, Hears, Wakes, Marks}
 use Rattle.arachne_exec.proofs.Bits.{one-same, same_others, clear_le, unset, not_one}
-use Rattle.arachne_exec.proofs.Keeping.{ready_apart, free_apart, mark_apart, in-hand, home-of-ready, home-of-blocked, keeps-take, keeps-claim, keeps-ready, keeps-free, keeps-block, keeps-wake, keeps-mark, keeps-places, keeps-view, hands-renumbered, places-cons, no-more, no-other}
-use Rattle.arachne_exec.proofs.Balancing.{balanced-same, balanced-taken, balanced-put, balanced-spawned, balanced-begun, balanced-ended}
-use Rattle.arachne_exec.proofs.Hearing.{MarksOn, marks-same, hears-on, as-marked, marked-on, hears-mark, hears-clear}
+use Rattle.arachne_exec.proofs.Keeping.{ready_apart, free_apart, mark_apart, in-hand, home-of-ready, home-of-blocked, keeps-take, keeps-claim, keeps-ready, keeps-free, keeps-block, keeps-wake, keeps-mark, keeps-places, keeps-view, hands-same, hands-renumbered, places-cons, no-more, no-other}
+use Rattle.arachne_exec.proofs.Balancing.{balanced-same, balanced-taken, balanced-put, balanced-spawned, balanced-begun, balanced-ended, balanced-retired}
+use Rattle.arachne_exec.proofs.Hearing.{KeepsMarks, MarksMore, hears-on, as-marked, hears-mark}
 use Rattle.arachne_exec.proofs.Naming.{Knows, found-word, found-on, knows-less, names-on, found-new, mark-else, names-ended}
 use Rattle.arachne_exec.proofs.KeepsShown.{shows-on, shows-owing}
 use Rattle.arachne_exec.proofs.Splits.{splits-on}
@@ -49,8 +48,8 @@ was_set n k i e = let both = bit_at_and n (others k) i in let low = bit_at-lt n 
 pub some_number : (n : ℕ) → n ≢ 0 → 0 < n
 some_number n d = let apart : ¬ (n ≡ 0) = d in omega (arith, apart)
 
-same_job : (k : Notes) (q x : ℕ) (ys : List (ℕ × ℕ)) → k.hand ≡ (q, x) ∷ ys → newest_job k.hand ≡ x
-same_job k q x ys e = ap newest_job e
+one-spawned : (k : Notes) (q x y : ℕ) → k.hand ≡ (q, x) ∷ older k.hand → ◌≡◌ {A = List (ℕ × ℕ)} ((newest_place k.hand, y) ∷ k.spawned) ((q, y) ∷ k.spawned)
+one-spawned k q x y hand = ap (λ (zs : List (ℕ × ℕ)). (newest_place zs, y) ∷ k.spawned) hand
 
 module _ (shards slots id w : ℕ) where
   -- ---- a step that changes no word
@@ -63,35 +62,35 @@ module _ (shards slots id w : ℕ) where
     t : Token Notes
     t = held w k
 
-    -- what it has done is noted
-    pub telling : (ds : List Deed) → Knows (64 * shards) s.words (record k { deeds = ds }) → IsLawful shards (record { words = s.words; homes = s.homes; views = set s.views id (held w (record k { deeds = ds })) })
-    telling ds knows = let l : Notes = record k { deeds = ds } in record {
+    -- what it has found is noted
+    pub telling : (ds : List (ℕ × ℕ)) → Knows (64 * shards) s.words (record k { looks = ds }) → IsLawful shards (record { words = s.words; homes = s.homes; views = set s.views id (held w (record k { looks = ds })) })
+    telling ds knows = let l : Notes = record k { looks = ds } in record {
       shared = learns h.shared id w k l mine;
       seats = splits-on s.views h.seats id w k mine l refl;
       keeper = keeps-view (64 * shards) s h.keeper id (held w k) mine (held w l) refl;
       balance = balanced-same s h.balance id (held w k) (held w l) mine s.words refl refl refl;
-      hears = hears-on (64 * shards) s h.hears id (held w k) (held w l) mine s.homes s.words (λ p inside. (refl, λ low. low)) refl refl;
+      hears = hears-on (64 * shards) s h.hears id (held w k) (held w l) mine s.homes s.words (λ p inside. refl) (refl, refl, refl, refl);
       names = names-on (64 * shards) s h.names id (held w k) (held w l) mine s.homes s.words (λ p inside. refl) refl knows;
       shows = shows-on (64 * shards) s h.shows id (held w k) (held w l) mine s.words s.homes (λ c r. r) (λ c. refl) refl;
       sleep = sleeps-on s h.sleep id (held w k) (held w l) mine s.words s.homes refl refl (λ c r. r) refl refl refl (refl, refl, refl);
     }
 
     pub noting : (xs : List (ℕ × ℕ)) (i : ℕ) → IsLawful shards (stepped s i (get_or s.words i 0) id xs (held w (noted i (get_or s.words i 0) k)) keeps)
-    noting xs i = unchanged (noted i (get_or s.words i 0) k) xs i s (telling _ (λ p inside has. found-word s.words p i k.deeds))
+    noting xs i = unchanged (noted i (get_or s.words i 0) k) xs i s (telling _ (λ p inside has. found-word s.words p i k.looks))
 
     -- what it has found last
     pub knowing-still : Knows (64 * shards) s.words k
     knowing-still p inside has = h.names.found id (held w k) mine p inside has
 
     pub stays : (xs : List (ℕ × ℕ)) (i : ℕ) → IsLawful shards (stepped s i (get_or s.words i 0) id xs (held w k) keeps)
-    stays xs i = unchanged k xs i s (telling k.deeds knowing-still)
+    stays xs i = unchanged k xs i s (telling k.looks knowing-still)
 
     -- ---- what a word that is written leaves as it was
 
     module _ (i now : ℕ) where
       -- a word that is no mark
-      pub unmarked : ((p : ℕ) → mark_at p ≢ i) → (p : ℕ) → p < 64 * (64 * shards) → MarksOn (get_or s.words (mark_at p) 0) (get_or (set s.words i now) (mark_at p) 0)
-      unmarked never p inside = marks-same (get_or s.words (mark_at p) 0) (get_or (set s.words i now) (mark_at p) 0) (get_or-set_other s.words i (mark_at p) now 0 (never p))
+      pub unmarked : ((p : ℕ) → mark_at p ≢ i) → (p : ℕ) → p < 64 * (64 * shards) → get_or (set s.words i now) (mark_at p) 0 % 4 ≡ get_or s.words (mark_at p) 0 % 4
+      unmarked never p inside = ap (λ x. x % 4) (get_or-set_other s.words i (mark_at p) now 0 (never p))
 
       pub ageless : ((p : ℕ) → mark_at p ≢ i) → (p : ℕ) → p < 64 * (64 * shards) → get_or (set s.words i now) (mark_at p) 0 / 4 ≡ get_or s.words (mark_at p) 0 / 4
       ageless never p inside = ap (λ x. x / 4) (get_or-set_other s.words i (mark_at p) now 0 (never p))
@@ -140,17 +139,17 @@ module _ (shards slots id w : ℕ) where
     -- a ready bit that is set: the place was in hand
     module _ (q x y : ℕ) (within : q < 64 * (64 * shards)) (l : Notes) where
       ready-law : (now : ℕ) → now ≡ bit_or (get_or s.words (ready_at (q / 64)) 0) (2 ^ (q % 64)) → l.splits ≡ k.splits → k.hand ≡ (q, x) ∷ l.hand
-          → IsBalanced (record { words = set s.words (ready_at (q / 64)) now; homes = set s.homes q (some y); views = set s.views id (held w l) }) → l.woken ≡ k.woken → l.heard ≡ k.heard
+          → IsBalanced (record { words = set s.words (ready_at (q / 64)) now; homes = set s.homes q (some y); views = set s.views id (held w l) }) → KeepsMarks k l
           → IsShown (64 * shards) (record { words = set s.words (ready_at (q / 64)) now; homes = set s.homes q (some y); views = set s.views id (held w l) })
-          → l.owes ≡ k.owes → l.worker ≡ k.worker → l.seen ≡ k.seen → Unmoved k l → l.ended_at ≡ k.ended_at → Knows (64 * shards) s.words l
+          → l.owes ≡ k.owes → l.worker ≡ k.worker → l.seen ≡ k.seen → Unmoved k l → l.ended ≡ k.ended → Knows (64 * shards) s.words l
           → IsLawful shards (record { words = set s.words (ready_at (q / 64)) now; homes = set s.homes q (some y); views = set s.views id (held w l) })
-      ready-law now is split hand balance woken heard shows owes worker seen unmoved ended knows = record {
+      ready-law now is split hand balance marks shows owes worker seen unmoved ended knows = record {
         shared = learns h.shared id w k l mine;
         seats = splits-on s.views h.seats id w k mine l split;
         keeper = subst (λ n. HasOneKeeper (64 * shards) (record { words = set s.words (ready_at (q / 64)) n; homes = set s.homes q (some y); views = set s.views id (held w l) })) (sym is)
             (keeps-ready (64 * shards) s h.keeper id (held w k) mine q within (held w l) x y hand);
         balance = balance;
-        hears = hears-on (64 * shards) s h.hears id (held w k) (held w l) mine (set s.homes q (some y)) (set s.words (ready_at (q / 64)) now) (unmarked (ready_at (q / 64)) now (λ p e. omega (arith, e))) woken heard;
+        hears = hears-on (64 * shards) s h.hears id (held w k) (held w l) mine (set s.homes q (some y)) (set s.words (ready_at (q / 64)) now) (unmarked (ready_at (q / 64)) now (λ p e. omega (arith, e))) marks;
         names = names-on (64 * shards) s h.names id (held w k) (held w l) mine _ _ (ageless (ready_at (q / 64)) now (λ p e. omega (arith, e))) ended knows;
         shows = shows;
         sleep = quiet-sleep (ready_at (q / 64)) now l (set s.homes q (some y)) (λ e. omega (arith, e)) (λ e. omega (arith, e)) (λ c e. omega (arith, e)) owes worker seen unmoved;
@@ -176,27 +175,37 @@ module _ (shards slots id w : ℕ) where
   pub looks : (k : Notes) (xs : List (ℕ × ℕ)) (i : ℕ) → Allows (IsLawful shards) slots id (held w k, xs) i (λ n. n) (Looks (step slots i 0 0 none) (held w k, xs))
   looks k xs i s h _ mine _ = (held w (noted i (get_or s.words i 0) k), keeps, tt, noting s h k mine xs i, refl)
 
+  -- a ready place that comes to the seat with its job
+  module _ (s : Board) (h : IsLawful shards s) (k : Notes) (mine : get_elem? s.views id ≡ some (held w k)) (q : ℕ) (within : q < 64 * (64 * shards)) (there : bit_at (get_or s.words (ready_at (q / 64)) 0) (q % 64) ≡ 1) where
+    pub ready-job : (job : ℕ) × (get_elem? s.homes q ≡ some (some job))
+    ready-job = home-of-ready (64 * shards) s h.keeper id (held w k) mine q within there
+
+    pub taken-law : (ds : List (ℕ × ℕ)) → ((p : ℕ) → FoundLast s.words p ds) → let now : ℕ = bit_and (get_or s.words (ready_at (q / 64)) 0) (others (q % 64)) in
+        IsLawful shards (record { words = set s.words (ready_at (q / 64)) now; homes = set s.homes q none; views = set s.views id (held w (gained q ready-job.0 (record k { looks = ds }))) })
+    taken-law ds knows =
+        let i : ℕ = ready_at (q / 64) in let now : ℕ = bit_and (get_or s.words i 0) (others (q % 64)) in let l : Notes = gained q ready-job.0 (record k { looks = ds }) in record {
+          shared = learns h.shared id w k l mine;
+          seats = splits-on s.views h.seats id w k mine l refl;
+          keeper = keeps-take (64 * shards) s h.keeper id (held w k) mine q within (held w l) ready-job.0 there refl;
+          balance = balanced-taken s h.balance id (held w k) (held w l) mine _ q ready-job.0 ready-job.1 refl refl refl;
+          hears = hears-on (64 * shards) s h.hears id (held w k) (held w l) mine _ _ (unmarked s h k mine i now (λ p e. omega (arith, e))) (refl, refl, refl, refl);
+          names = names-on (64 * shards) s h.names id (held w k) (held w l) mine _ _ (ageless s h k mine i now (λ p e. omega (arith, e))) refl (λ p inside has. knows p);
+          shows = shows-on (64 * shards) s h.shows id (held w k) (held w l) mine _ _ (fallen s h k mine (q / 64) (omega (arith, within)) now (clear_le (get_or s.words i 0) (q % 64) (omega arith)))
+              (same_shown s h k mine i now (λ c e. omega (arith, e))) refl;
+          sleep = quiet-sleep s h k mine i now l (set s.homes q none) (λ e. omega (arith, e)) (λ e. omega (arith, e)) (λ c e. omega (arith, e)) refl refl refl (refl, refl, refl);
+        }
+
   pub takes_ready : (k : Notes) (xs : List (ℕ × ℕ)) (q : ℕ) → q < 64 * (64 * shards)
       → Allows (IsLawful shards) slots id (held w k, xs) (ready_at (q / 64)) (λ n. bit_and n (others (q % 64))) (Takes (step slots (ready_at (q / 64)) (others (q % 64)) 0 none) (held w k, xs))
   takes_ready k xs q within s h _ mine small =
       let i : ℕ = ready_at (q / 64) in let n : ℕ = get_or s.words i 0 in let now : ℕ = bit_and n (others (q % 64)) in let m : Mine = (held w k, xs) in dite (ℕ_discrete (bit_at n (q % 64)) 1)
-      (λ there. let job = home-of-ready (64 * shards) s h.keeper id (held w k) mine q within there in let l : Notes = gained q job.0 k in (
-        held w l,
+      (λ there. let job = ready-job s h k mine q within there in (
+        held w (gained q job.0 (noted i n k)),
         takes q job.0,
         job.1,
-        record {
-          shared = learns h.shared id w k l mine;
-          seats = splits-on s.views h.seats id w k mine l refl;
-          keeper = keeps-take (64 * shards) s h.keeper id (held w k) mine q within (held w l) job.0 there refl;
-          balance = balanced-taken s h.balance id (held w k) (held w l) mine _ q job.0 job.1 refl refl refl;
-          hears = hears-on (64 * shards) s h.hears id (held w k) (held w l) mine _ _ (unmarked s h k mine i now (λ p e. omega (arith, e))) refl refl;
-          names = names-on (64 * shards) s h.names id (held w k) (held w l) mine _ _ (ageless s h k mine i now (λ p e. omega (arith, e))) refl (λ p inside has. tt);
-          shows = shows-on (64 * shards) s h.shows id (held w k) (held w l) mine _ _ (fallen s h k mine (q / 64) (omega (arith, within)) now (clear_le n (q % 64) (omega arith)))
-              (same_shown s h k mine i now (λ c e. omega (arith, e))) refl;
-          sleep = quiet-sleep s h k mine i now l (set s.homes q none) (λ e. omega (arith, e)) (λ e. omega (arith, e)) (λ c e. omega (arith, e)) refl refl refl (refl, refl, refl);
-        },
+        taken-law s h k mine q within there ((i, n) ∷ k.looks) (λ p. found-word s.words p i k.looks),
         λ p at first. let same = same_bits p q (ready_apart (q / 64) (p / 64) at) first in (
-          λ _. (job.0, ap (λ x. with m (gained x job.0 k) ((x, job.0) ∷ xs)) (sym same)),
+          λ _. (job.0, ap (λ x. with m (gained x job.0 (noted i n k)) ((x, job.0) ∷ xs)) (sym same)),
           λ none_there. absurd (clash n (q % 64) there (subst (λ x. bit_at n (x % 64) ≡ 0) same none_there)),
         ),
       ))
@@ -215,7 +224,7 @@ module _ (shards slots id w : ℕ) where
       → Allows (IsLawful shards) slots id (held w k, xs) (free_at (q / 64)) (λ n. bit_and n (others (q % 64))) (Claims free_at (step slots (free_at (q / 64)) (others (q % 64)) 0 none) (held w k, xs))
   claims k xs q within s h _ mine small =
       let i : ℕ = free_at (q / 64) in let n : ℕ = get_or s.words i 0 in let now : ℕ = bit_and n (others (q % 64)) in let m : Mine = (held w k, xs) in dite (ℕ_discrete (bit_at n (q % 64)) 1)
-      (λ there. let empty = h.keeper.empty q within there in let l : Notes = gained q 0 k in (
+      (λ there. let empty = h.keeper.empty q within there in let l : Notes = gained q 0 (noted i n k) in (
         held w l,
         takes q 0,
         empty,
@@ -224,13 +233,13 @@ module _ (shards slots id w : ℕ) where
           seats = splits-on s.views h.seats id w k mine l refl;
           keeper = keeps-claim (64 * shards) s h.keeper id (held w k) mine q within (held w l) 0 there refl;
           balance = balanced-taken s h.balance id (held w k) (held w l) mine _ q 0 empty refl refl refl;
-          hears = hears-on (64 * shards) s h.hears id (held w k) (held w l) mine _ _ (unmarked s h k mine i now (λ p e. omega (arith, e))) refl refl;
-          names = names-on (64 * shards) s h.names id (held w k) (held w l) mine _ _ (ageless s h k mine i now (λ p e. omega (arith, e))) refl (λ p inside has. tt);
+          hears = hears-on (64 * shards) s h.hears id (held w k) (held w l) mine _ _ (unmarked s h k mine i now (λ p e. omega (arith, e))) (refl, refl, refl, refl);
+          names = names-on (64 * shards) s h.names id (held w k) (held w l) mine _ _ (ageless s h k mine i now (λ p e. omega (arith, e))) refl (λ p inside has. found-word s.words p i k.looks);
           shows = quiet-shows s h k mine i now l (set s.homes q none) (λ c e. omega (arith, e)) (λ c e. omega (arith, e)) refl;
           sleep = quiet-sleep s h k mine i now l (set s.homes q none) (λ e. omega (arith, e)) (λ e. omega (arith, e)) (λ c e. omega (arith, e)) refl refl refl (refl, refl, refl);
         },
         λ p at first. let same = same_bits p q (free_apart (q / 64) (p / 64) at) first in (
-          λ _. ap (λ x. with m (gained x 0 k) ((x, 0) ∷ xs)) (sym same),
+          λ _. ap (λ x. with m (gained x 0 (noted i n k)) ((x, 0) ∷ xs)) (sym same),
           λ none_there. absurd (clash n (q % 64) there (subst (λ x. bit_at n (x % 64) ≡ 0) same none_there)),
         ),
       ))
@@ -258,13 +267,16 @@ module _ (shards slots id w : ℕ) where
       mark-room : mark_at q < length s.words
       mark-room = omega (arith, h.keeper.sized, within)
 
+    one-ended : ◌≡◌ {A = List (ℕ × ℕ)} ((q, newest_job k.hand) ∷ k.ended) ((q, x) ∷ k.ended)
+    one-ended = ap (λ (zs : List (ℕ × ℕ)). (q, newest_job zs) ∷ k.ended) hand
+
     -- the hand without the newest place
     older-less : (p : ℕ) → places_in p (older k.hand) ≤ places_in p k.hand
     older-less p = let more = ap (places_in p) hand ∙ places-cons p q x (older k.hand) in omega (arith, more)
 
-    pub frees : Allows (IsLawful shards) slots id (held w k, (q, 0) ∷ xs) (free_at (q / 64)) (λ n. bit_or n (2 ^ (q % 64))) (Frees (step slots (free_at (q / 64)) (2 ^ (q % 64)) 0 none) (held w k, (q, 0) ∷ xs))
-    frees s h _ mine small =
-        let i : ℕ = free_at (q / 64) in let now : ℕ = bit_or (get_or s.words i 0) (2 ^ (q % 64)) in let l : Notes = ending k in (
+    pub frees : x ≡ 0 → Allows (IsLawful shards) slots id (held w k, (q, 0) ∷ xs) (free_at (q / 64)) (λ n. bit_or n (2 ^ (q % 64))) (Frees (step slots (free_at (q / 64)) (2 ^ (q % 64)) 0 none) (held w k, (q, 0) ∷ xs))
+    frees nothing s h _ mine small =
+        let i : ℕ = free_at (q / 64) in let now : ℕ = bit_or (get_or s.words i 0) (2 ^ (q % 64)) in let l : Notes = laying_down k in (
           held w l,
           gives,
           tt,
@@ -272,8 +284,8 @@ module _ (shards slots id w : ℕ) where
             shared = learns h.shared id w k l mine;
             seats = splits-on s.views h.seats id w k mine l refl;
             keeper = keeps-free (64 * shards) s h.keeper id (held w k) mine q within (held w l) x 0 refl hand;
-            balance = balanced-ended s h.balance id (held w k) (held w l) mine _ q x (out s h mine) refl (ap (λ j. j ∷ k.ended) (same_job k q x (older k.hand) hand)) hand;
-            hears = hears-on (64 * shards) s h.hears id (held w k) (held w l) mine _ _ (unmarked s h k mine i now (λ p e. omega (arith, e))) refl refl;
+            balance = balanced-put s h.balance id (held w k) (held w l) mine _ q 0 (out s h mine) refl refl (hand ∙ ap (λ j. (q, j) ∷ older k.hand) nothing);
+            hears = hears-on (64 * shards) s h.hears id (held w k) (held w l) mine _ _ (unmarked s h k mine i now (λ p e. omega (arith, e))) (refl, refl, refl, refl);
             names = names-on (64 * shards) s h.names id (held w k) (held w l) mine _ _ (ageless s h k mine i now (λ p e. omega (arith, e))) refl (knows-less (64 * shards) s h.names id (held w k) (held w l) mine refl older-less);
             shows = quiet-shows s h k mine i now l (set s.homes q (some 0)) (λ c e. omega (arith, e)) (λ c e. omega (arith, e)) refl;
             sleep = quiet-sleep s h k mine i now l (set s.homes q (some 0)) (λ e. omega (arith, e)) (λ e. omega (arith, e)) (λ c e. omega (arith, e)) refl refl refl (refl, refl, refl);
@@ -284,23 +296,23 @@ module _ (shards slots id w : ℕ) where
     pub readies : k.unshown ≡ 0 → Allows (IsLawful shards) slots id (held w k, (q, x) ∷ xs) (ready_at (q / 64)) (λ n. bit_or n (2 ^ (q % 64))) (Readies (step slots (ready_at (q / 64)) (2 ^ (q % 64)) 0 none) (held w k, (q, x) ∷ xs))
     readies shown s h _ mine small =
         let d : ℕ = q / 64 in let n : ℕ = get_or s.words (ready_at d) 0 in let now : ℕ = bit_or n (2 ^ (q % 64)) in let m : Mine = (held w k, (q, x) ∷ xs) in dite (ℕ_discrete n 0)
-        (λ empty. let l : Notes = unshowing (d + 1) (readying k) in (
+        (λ empty. let l : Notes = unshowing (d + 1) (laying_down k) in (
           held w l,
           gives,
           tt,
-          ready-law s h k mine q x x within l now refl refl hand (balanced-put s h.balance id (held w k) (held w l) mine _ q x (out s h mine) refl refl hand) refl refl
-              (ready-first s h k mine q x x within l now shown refl) refl refl refl (refl, refl, refl) refl (λ p inside has. tt),
+          ready-law s h k mine q x x within l now refl refl hand (balanced-put s h.balance id (held w k) (held w l) mine _ q x (out s h mine) refl refl hand) (refl, refl, refl, refl)
+              (ready-first s h k mine q x x within l now shown refl) refl refl refl (refl, refl, refl) refl (knows-less (64 * shards) s h.names id (held w k) (held w l) mine refl older-less),
           λ p at. let same : d ≡ p / 64 = ready_apart d (p / 64) at in (
-            λ _. ap (λ c. with m (unshowing (c + 1) (readying k)) xs) same,
+            λ _. ap (λ c. with m (unshowing (c + 1) (laying_down k)) xs) same,
             λ full. absurd (full empty),
           ),
         ))
-        (λ full. let l : Notes = readying k in (
+        (λ full. let l : Notes = laying_down k in (
           held w l,
           gives,
           tt,
-          ready-law s h k mine q x x within l now refl refl hand (balanced-put s h.balance id (held w k) (held w l) mine _ q x (out s h mine) refl refl hand) refl refl
-              (ready-more s h k mine q x x within l now full refl) refl refl refl (refl, refl, refl) refl (λ p inside has. tt),
+          ready-law s h k mine q x x within l now refl refl hand (balanced-put s h.balance id (held w k) (held w l) mine _ q x (out s h mine) refl refl hand) (refl, refl, refl, refl)
+              (ready-more s h k mine q x x within l now full refl) refl refl refl (refl, refl, refl) refl (knows-less (64 * shards) s h.names id (held w k) (held w l) mine refl older-less),
           λ p at. ((λ empty. absurd (full empty)), λ _. refl),
         ))
 
@@ -318,8 +330,10 @@ module _ (shards slots id w : ℕ) where
             seats = splits-on s.views h.seats id w k mine l refl;
             keeper = keeps-block (64 * shards) s h.keeper id (held w k) mine q within (held w l) x x new hand (omega (arith, unwoken, is));
             balance = balanced-put s h.balance id (held w k) (held w l) mine _ q x (out s h mine) refl refl hand;
-            hears = hears-on (64 * shards) s h.hears id (held w k) (held w l) mine _ _ (λ p inside. marked-on (64 * shards) s h.hears id (held w k) (held w l) mine s.homes q (mark-room s h mine) new (omega (arith, hit, is), λ low. omega (arith, unwoken, is)) p) refl refl;
-            names = names-on (64 * shards) s h.names id (held w k) (held w l) mine _ _ (λ p inside. as-marked (64 * shards) s h.hears id (held w k) (held w l) mine s.homes q (mark-room s h mine) new (λ z. z / 4) (omega (arith, hit, unwoken, is)) p) refl (λ p inside has. tt);
+            hears = hears-mark (64 * shards) s h.hears id (held w k) (held w l) mine (set s.homes q (some x)) q (mark-room s h mine) new 0 0 1 0 (omega arith, omega arith, omega arith, omega arith)
+                (record { woken = refl; heard = refl; blocked = ap (λ (zs : List (ℕ × ℕ)). newest_place zs ∷ k.blocked) hand; unblocked = refl })
+                (omega (arith, hit, unwoken, is)) (omega (arith, hit, unwoken, is)) (omega (arith, unwoken, is));
+            names = names-on (64 * shards) s h.names id (held w k) (held w l) mine _ _ (λ p inside. as-marked (64 * shards) s h.hears id (held w k) (held w l) mine s.homes q (mark-room s h mine) new (λ z. z / 4) (omega (arith, hit, unwoken, is)) p) refl (knows-less (64 * shards) s h.names id (held w k) (held w l) mine refl older-less);
             shows = mark-shows s h k mine q new l (set s.homes q (some x)) refl;
             sleep = mark-sleep s h k mine q new l (set s.homes q (some x)) refl refl refl (refl, refl, refl);
           },
@@ -329,15 +343,17 @@ module _ (shards slots id w : ℕ) where
 
     -- a new mark, by who has the place
     module _ (new : ℕ) (clear : new % 2 ≡ 0) (s : Board) (h : IsLawful shards s) (mine : get_elem? s.views id ≡ some (held w k)) (l : Notes) where
-      renewed : new / 2 % 2 ≡ 0 → l.splits ≡ k.splits → l.hand ≡ k.hand → l.spawned ≡ k.spawned → l.ended ≡ k.ended → l.woken ≡ k.woken → l.heard ≡ (hearing (get_or s.words (mark_at q) 0 % 2) q k).heard → l.unshown ≡ k.unshown
+      renewed : new / 2 % 2 ≡ 0 → l.splits ≡ k.splits → ((p : ℕ) → in_hands p (set s.views id (held w l)) ≡ in_hands p s.views) → IsBalanced (record { words = set s.words (mark_at q) new; homes = s.homes; views = set s.views id (held w l) })
+          → MarksMore q 0 (get_or s.words (mark_at q) 0 % 2) 0 0 k l → l.unshown ≡ k.unshown
           → l.owes ≡ k.owes → l.worker ≡ k.worker → l.seen ≡ k.seen → Unmoved k l → CountsEnds (64 * shards) (record { words = set s.words (mark_at q) new; homes = s.homes; views = set s.views id (held w l) })
           → IsLawful shards (record { words = set s.words (mark_at q) new; homes = s.homes; views = set s.views id (held w l) })
-      renewed is_awake split same spawned ended woken heard unshown owes worker seen unmoved names = record {
+      renewed is_awake split hands balance marks unshown owes worker seen unmoved names = record {
         shared = learns h.shared id w k l mine;
         seats = splits-on s.views h.seats id w k mine l split;
-        keeper = keeps-mark (64 * shards) s h.keeper id (held w k) mine q within (held w l) new (is_awake ∙ sym (unblocked-here s h mine)) same;
-        balance = balanced-same s h.balance id (held w k) (held w l) mine _ spawned ended same;
-        hears = hears-clear (64 * shards) s h.hears id (held w k) (held w l) mine s.homes q (mark-room s h mine) new clear woken heard;
+        keeper = keeps-mark (64 * shards) s h.keeper id (held w k) mine q within (held w l) new (is_awake ∙ sym (unblocked-here s h mine)) hands;
+        balance = balance;
+        hears = let asleep = unblocked-here s h mine in hears-mark (64 * shards) s h.hears id (held w k) (held w l) mine s.homes q (mark-room s h mine) new 0 (get_or s.words (mark_at q) 0 % 2) 0 0
+            (omega arith, omega arith, omega arith, omega arith) marks (omega (arith, clear)) (omega (arith, asleep, is_awake)) (omega (arith, clear, is_awake));
         names = names;
         shows = mark-shows s h k mine q new l s.homes unshown;
         sleep = mark-sleep s h k mine q new l s.homes owes worker seen unmoved;
@@ -348,29 +364,31 @@ module _ (shards slots id w : ℕ) where
       generation : m / 4 ≡ min last_generation (ends_at q s.views)
       generation =
           let more = ap (places_in q) hand ∙ places-cons q q x (older k.hand) in let one_ = one-same q q refl in let has : 0 < places_in q k.hand = omega (arith, more, one_) in
-          subst (λ (z : Notes). FoundLast s.words q z.deeds) found (knowing-still s h k mine q within has) refl ∙ h.names.counted q within
+          subst (λ (z : Notes). FoundLast s.words q z.looks) found (knowing-still s h k mine q within has) refl ∙ h.names.counted q within
 
       -- a job more has ended there
-      ended-once : (new : ℕ) (l : Notes) (homes : List (maybe.Option ℕ)) → l.ended_at ≡ q ∷ k.ended_at → new / 4 ≡ min last_generation (m / 4 + 1) → Knows (64 * shards) (set s.words (mark_at q) new) l
+      ended-once : (new : ℕ) (l : Notes) (homes : List (maybe.Option ℕ)) → l.ended ≡ (q, x) ∷ k.ended → new / 4 ≡ min last_generation (m / 4 + 1) → Knows (64 * shards) (set s.words (mark_at q) new) l
           → CountsEnds (64 * shards) (record { words = set s.words (mark_at q) new; homes = homes; views = set s.views id (held w l) })
-      ended-once new l homes ended now knows = names-ended (64 * shards) s h.names id (held w k) (held w l) mine homes q (mark-room s h mine) new ended (omega (arith, now, generation))
+      ended-once new l homes ended now knows = names-ended (64 * shards) s h.names id (held w k) (held w l) mine homes q (mark-room s h mine) new x ended (omega (arith, now, generation))
           (no-other (64 * shards) s h.keeper id (held w k) mine q x (older k.hand) hand within) knows
 
     module _ (m : ℕ) (before : Notes) (found : k ≡ noted (mark_at q) m before) where
       pub renews : (y new : ℕ) → m / 4 + 1 < 2 ^ 44 → new ≡ 4 * (m / 4 + 1) → Allows (IsLawful shards) slots id (held w k, (q, y) ∷ xs) (mark_at q) (λ _. new) (Renews (step slots (mark_at q) new 0 none) (held w k, (q, y) ∷ xs))
       renews y new named is s h _ mine small =
-          let n : ℕ = get_or s.words (mark_at q) 0 in let l : Notes = noted (mark_at q) new (aging q (hearing (n % 2) q k)) in (
+          let n : ℕ = get_or s.words (mark_at q) 0 in let l : Notes = noted (mark_at q) new (ending q (hearing (n % 2) q k)) in (
             held w l,
             keeps,
             tt,
-            renewed new (omega (arith, is)) s h mine l (omega (arith, is)) refl refl refl refl refl refl refl refl refl refl (refl, refl, refl)
-                (ended-once m before found s h mine new l s.homes refl (omega (arith, is, named)) (λ p inside has. found-new (64 * shards) s h.names id (held w k) (held w l) mine s.homes q (mark-room s h mine) new p k.deeds)),
-            λ p at. ap (λ z. knowing (held w k, (q, y) ∷ xs) (noted (mark_at q) new (aging z (hearing (n % 2) z k)))) (mark_apart q p at),
+            renewed new (omega (arith, is)) s h mine l (omega (arith, is)) refl (hands-renumbered (64 * shards) s h.keeper id (held w k) mine (held w l) q x 0 (older k.hand) hand refl)
+                (balanced-ended s h.balance id (held w k) (held w l) mine _ q x (older k.hand) refl one-ended hand refl)
+                (record { woken = refl; heard = refl; blocked = refl; unblocked = refl }) refl refl refl refl (refl, refl, refl)
+                (ended-once m before found s h mine new l s.homes one-ended (omega (arith, is, named)) (λ p inside has. found-new (64 * shards) s h.names id (held w k) (held w l) mine s.homes q (mark-room s h mine) new p k.looks)),
+            λ p at. ap (λ z. knowing (held w k, (q, y) ∷ xs) (noted (mark_at q) new (ending z (hearing (n % 2) z k)))) (mark_apart q p at),
           )
 
       pub retires : (new : ℕ) → last_generation ≤ m / 4 + 1 → new ≡ retired → Allows (IsLawful shards) slots id (held w k, (q, 0) ∷ xs) (mark_at q) (λ _. new) (Retires (step slots (mark_at q) new 0 none) (held w k, (q, 0) ∷ xs))
       retires new last is s h _ mine small =
-          let n : ℕ = get_or s.words (mark_at q) 0 in let l : Notes = ending (aging q (hearing (n % 2) q k)) in (
+          let n : ℕ = get_or s.words (mark_at q) 0 in let l : Notes = blocking (ending q (hearing (n % 2) q k)) in (
             held w l,
             gives,
             tt,
@@ -378,16 +396,19 @@ module _ (shards slots id w : ℕ) where
               shared = learns h.shared id w k l mine;
               seats = splits-on s.views h.seats id w k mine l refl;
               keeper = keeps-block (64 * shards) s h.keeper id (held w k) mine q within (held w l) x 0 new hand (omega (arith, is));
-              balance = balanced-ended s h.balance id (held w k) (held w l) mine _ q x (out s h mine) refl (ap (λ j. j ∷ k.ended) (same_job k q x (older k.hand) hand)) hand;
-              hears = hears-clear (64 * shards) s h.hears id (held w k) (held w l) mine (set s.homes q (some 0)) q (mark-room s h mine) new (omega (arith, is)) refl refl;
-              names = ended-once m before found s h mine new l (set s.homes q (some 0)) refl (omega (arith, is, last)) (λ p inside has. dite (ℕ_discrete q p)
+              balance = balanced-retired s h.balance id (held w k) (held w l) mine _ q x (out s h mine) refl one-ended hand;
+              hears = let asleep = unblocked-here s h mine in hears-mark (64 * shards) s h.hears id (held w k) (held w l) mine (set s.homes q (some 0)) q (mark-room s h mine) new 0 (n % 2) 1 0
+                  (omega arith, omega arith, omega arith, omega arith)
+                  (record { woken = refl; heard = refl; blocked = refl; unblocked = refl })
+                  (omega (arith, is)) (omega (arith, is, asleep)) (omega (arith, is));
+              names = ended-once m before found s h mine new l (set s.homes q (some 0)) one-ended (omega (arith, is, last)) (λ p inside has. dite (ℕ_discrete q p)
                   (λ e. let none_ = no-more (64 * shards) s h.keeper id (held w k) mine q x (older k.hand) hand within in let there = ap (λ z. places_in z (older k.hand)) e in absurd (omega (arith, has, none_, there)))
-                  (λ ne. found-on s.words (set s.words (mark_at q) new) p (ap (λ z. z / 4) (mark-else (64 * shards) s h.names id (held w k) (held w l) mine s.homes q (mark-room s h mine) new p ne)) k.deeds
+                  (λ ne. found-on s.words (set s.words (mark_at q) new) p (ap (λ z. z / 4) (mark-else (64 * shards) s h.names id (held w k) (held w l) mine s.homes q (mark-room s h mine) new p ne)) k.looks
                   (knowing-still s h k mine p inside (let less = older-less p in omega (arith, has, less)))));
               shows = mark-shows s h k mine q new l (set s.homes q (some 0)) refl;
               sleep = mark-sleep s h k mine q new l (set s.homes q (some 0)) refl refl refl (refl, refl, refl);
             },
-            λ p at. ap (λ z. with (held w k, (q, 0) ∷ xs) (ending (aging z (hearing (n % 2) z k))) xs) (mark_apart q p at),
+            λ p at. ap (λ z. with (held w k, (q, 0) ∷ xs) (blocking (ending z (hearing (n % 2) z k))) xs) (mark_apart q p at),
           )
 
     -- all bits of the mark stay but the lowest two, which are cleared
@@ -398,7 +419,8 @@ module _ (shards slots id w : ℕ) where
           held w l,
           keeps,
           tt,
-          renewed now (omega (arith, is)) s h mine l (omega (arith, is)) refl refl refl refl refl refl refl refl refl refl (refl, refl, refl)
+          renewed now (omega (arith, is)) s h mine l (omega (arith, is)) refl (hands-same (64 * shards) s h.keeper id (held w k) mine (held w l) refl) (balanced-same s h.balance id (held w k) (held w l) mine _ refl refl refl)
+              (record { woken = refl; heard = refl; blocked = refl; unblocked = refl }) refl refl refl refl (refl, refl, refl)
               (names-on (64 * shards) s h.names id (held w k) (held w l) mine s.homes _ (λ p inside. as-marked (64 * shards) s h.hears id (held w k) (held w l) mine s.homes q (mark-room s h mine) now (λ z. z / 4) (omega (arith, is)) p) refl
               (λ p inside has e. low ∙ ap (λ z. get_or s.words z 0 / 4) e)),
           λ p at. ap (λ z. knowing (held w k, (q, y) ∷ xs) (noted (mark_at q) (4 * (n / 4)) (hearing (n % 2) z k))) (mark_apart q p at),
@@ -414,8 +436,8 @@ module _ (shards slots id w : ℕ) where
         held w l,
         gives,
         tt,
-        ready-law s h k mine q 0 y within l now refl refl hand (balanced-spawned s h.balance id (held w k) (held w l) mine _ q y away refl refl hand) refl refl
-            (ready-first s h k mine q 0 y within l now shown refl) refl refl refl (refl, refl, refl) refl (λ p inside has. tt),
+        ready-law s h k mine q 0 y within l now refl refl hand (balanced-spawned s h.balance id (held w k) (held w l) mine _ q y away (one-spawned k q 0 y hand) refl hand) (refl, refl, refl, refl)
+            (ready-first s h k mine q 0 y within l now shown refl) refl refl refl (refl, refl, refl) refl (knows-less (64 * shards) s h.names id (held w k) (held w l) mine refl (older-less k q 0 xs hand within)),
         λ p at. let same : d ≡ p / 64 = ready_apart d (p / 64) at in (
           λ _. ap (λ c. with m (unshowing (c + 1) (spawning y k)) xs) same,
           λ full. absurd (full empty),
@@ -425,8 +447,8 @@ module _ (shards slots id w : ℕ) where
         held w l,
         gives,
         tt,
-        ready-law s h k mine q 0 y within l now refl refl hand (balanced-spawned s h.balance id (held w k) (held w l) mine _ q y away refl refl hand) refl refl
-            (ready-more s h k mine q 0 y within l now full refl) refl refl refl (refl, refl, refl) refl (λ p inside has. tt),
+        ready-law s h k mine q 0 y within l now refl refl hand (balanced-spawned s h.balance id (held w k) (held w l) mine _ q y away (one-spawned k q 0 y hand) refl hand) (refl, refl, refl, refl)
+            (ready-more s h k mine q 0 y within l now full refl) refl refl refl (refl, refl, refl) refl (knows-less (64 * shards) s h.names id (held w k) (held w l) mine refl (older-less k q 0 xs hand within)),
         λ p at. ((λ empty. absurd (full empty)), λ _. refl),
       ))
 
@@ -443,9 +465,9 @@ module _ (shards slots id w : ℕ) where
           shared = learns h.shared id w k l mine;
           seats = splits-on s.views h.seats id w k mine l refl;
           keeper = keeps-places (64 * shards) s h.keeper id (held w k) mine (held w l) (hands-renumbered (64 * shards) s h.keeper id (held w k) mine (held w l) q 0 y (older k.hand) hand now);
-          balance = balanced-begun s h.balance id (held w k) (held w l) mine s.words q y (older k.hand) refl refl hand now;
-          hears = hears-on (64 * shards) s h.hears id (held w k) (held w l) mine s.homes s.words (λ p inside. (refl, λ low. low)) refl refl;
-          names = names-on (64 * shards) s h.names id (held w k) (held w l) mine s.homes s.words (λ p inside. refl) refl (λ p inside has. found-word s.words p i k.deeds);
+          balance = balanced-begun s h.balance id (held w k) (held w l) mine s.words q y (older k.hand) (one-spawned k q 0 y hand) refl hand now;
+          hears = hears-on (64 * shards) s h.hears id (held w k) (held w l) mine s.homes s.words (λ p inside. refl) (refl, refl, refl, refl);
+          names = names-on (64 * shards) s h.names id (held w k) (held w l) mine s.homes s.words (λ p inside. refl) refl (λ p inside has. found-word s.words p i k.looks);
           shows = shows-on (64 * shards) s h.shows id (held w k) (held w l) mine s.words s.homes (λ c r. r) (λ c. refl) refl;
           sleep = sleeps-on s h.sleep id (held w k) (held w l) mine s.words s.homes refl refl (λ c r. r) refl refl refl (refl, refl, refl);
         }),
@@ -469,10 +491,10 @@ module _ (shards slots id w : ℕ) where
             seats = splits-on s.views h.seats id w k mine l refl;
             keeper = keeps-wake (64 * shards) s h.keeper id (held w k) mine q within (held w l) job.0 new is_there (omega (arith, was, now)) refl;
             balance = balanced-taken s h.balance id (held w k) (held w l) mine _ q job.0 job.1 refl refl refl;
-            hears = hears-on (64 * shards) s h.hears id (held w k) (held w l) mine _ _
-                (λ p inside. marked-on (64 * shards) s h.hears id (held w k) (held w l) mine s.homes q (omega (arith, h.keeper.sized, within)) new (omega (arith, hit, was, now), λ low. omega (arith, was, now)) p) refl refl;
+            hears = hears-mark (64 * shards) s h.hears id (held w k) (held w l) mine (set s.homes q none) q (omega (arith, h.keeper.sized, within)) new 0 0 0 1 (omega arith, omega arith, omega arith, omega arith)
+                (record { woken = refl; heard = refl; blocked = refl; unblocked = refl }) (omega (arith, hit, was, now)) (omega (arith, hit, was, now)) (omega (arith, was, now));
             names = names-on (64 * shards) s h.names id (held w k) (held w l) mine _ _
-                (λ p inside. as-marked (64 * shards) s h.hears id (held w k) (held w l) mine s.homes q (omega (arith, h.keeper.sized, within)) new (λ z. z / 4) (omega (arith, hit, was, now)) p) refl (λ p inside has. tt);
+                (λ p inside. as-marked (64 * shards) s h.hears id (held w k) (held w l) mine s.homes q (omega (arith, h.keeper.sized, within)) new (λ z. z / 4) (omega (arith, hit, was, now)) p) refl (λ p inside has. found-word s.words p i k.looks);
             shows = mark-shows s h k mine q new l (set s.homes q none) refl;
             sleep = mark-sleep s h k mine q new l (set s.homes q none) refl refl refl (refl, refl, refl);
           },
@@ -492,12 +514,13 @@ module _ (shards slots id w : ℕ) where
           record {
             shared = learns h.shared id w k l mine;
             seats = splits-on s.views h.seats id w k mine l refl;
-            keeper = keeps-mark (64 * shards) s h.keeper id (held w k) mine q within (held w l) new (omega (arith, was, now) ∙ ap (λ z. z / 2 % 2) (sym hit)) refl;
+            keeper = keeps-mark (64 * shards) s h.keeper id (held w k) mine q within (held w l) new (omega (arith, was, now) ∙ ap (λ z. z / 2 % 2) (sym hit)) (hands-same (64 * shards) s h.keeper id (held w k) mine (held w l) refl);
             balance = balanced-same s h.balance id (held w k) (held w l) mine _ refl refl refl;
-            hears = hears-mark (64 * shards) s h.hears id (held w k) (held w l) mine s.homes q (omega (arith, h.keeper.sized, within)) new (omega (arith, hit, was)) (omega (arith, was, now)) refl refl;
+            hears = hears-mark (64 * shards) s h.hears id (held w k) (held w l) mine s.homes q (omega (arith, h.keeper.sized, within)) new 1 0 0 0 (omega arith, omega arith, omega arith, omega arith)
+                (record { woken = refl; heard = refl; blocked = refl; unblocked = refl }) (omega (arith, hit, was, now)) (omega (arith, hit, was, now)) (omega (arith, was, now));
             names = names-on (64 * shards) s h.names id (held w k) (held w l) mine s.homes _
                 (λ p inside. as-marked (64 * shards) s h.hears id (held w k) (held w l) mine s.homes q (omega (arith, h.keeper.sized, within)) new (λ z. z / 4) (omega (arith, hit, was, now)) p) refl
-                (λ p inside has. found-word s.words p i k.deeds);
+                (λ p inside has. found-word s.words p i k.looks);
             shows = mark-shows s h k mine q new l s.homes refl;
             sleep = mark-sleep s h k mine q new l s.homes refl refl refl (refl, refl, refl);
           },

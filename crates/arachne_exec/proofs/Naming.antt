@@ -10,54 +10,43 @@ use Rattle.atomic_table.proofs.Lists.{at_set}
 use Rattle.arachne_weights.specs.declared.token.Token.{Token}
 use Rattle.arachne_weights.proofs.Totals.{total-set}
 use Rattle.arachne_exec.specs.declared.view.Notes.{Notes}
-use Rattle.arachne_exec.specs.declared.view.Deed.{Deed}
-use Rattle.arachne_exec.specs.declared.view.Deed.TheVariants.{Looked, Gained, Readied, Blocked, Unblocked}
 use Rattle.arachne_exec.specs.Layout.{mark_at, last_generation}
-use Rattle.arachne_exec.specs.Board.{times, places_in, ends_at, Board, FoundLast, CountsEnds}
+use Rattle.arachne_exec.specs.Board.{places_in, ends_at, Board, FoundLast, CountsEnds}
 use Rattle.arachne_exec.proofs.Bits.{one-same, one-apart}
-use Rattle.arachne_exec.proofs.Balancing.{more-times}
-use Rattle.arachne_exec.proofs.Keeping.{mark_apart}
+use Rattle.arachne_exec.proofs.Keeping.{mark_apart, places-cons}
 
 -- what a seat has found last of the marks of the places in its hand
 abbrev pub Knows : ℕ → List ℕ → Notes → Type 0
-Knows blocks words k = (p : ℕ) → p < 64 * blocks → 0 < places_in p k.hand → FoundLast words p k.deeds
+Knows blocks words k = (p : ℕ) → p < 64 * blocks → 0 < places_in p k.hand → FoundLast words p k.looks
 
-pub found-word : (ws : List ℕ) (p i : ℕ) (ds : List Deed) → FoundLast ws p (Looked i (get_or ws i 0) ∷ ds)
+pub found-word : (ws : List ℕ) (p i : ℕ) (ds : List (ℕ × ℕ)) → FoundLast ws p ((i, get_or ws i 0) ∷ ds)
 found-word ws p i ds = λ e. ap (λ x. get_or ws x 0 / 4) e
 
 -- the mark has the generation that it had
-pub found-on : (ws now : List ℕ) (p : ℕ) → get_or now (mark_at p) 0 / 4 ≡ get_or ws (mark_at p) 0 / 4 → (ds : List Deed) → FoundLast ws p ds → FoundLast now p ds
+pub found-on : (ws now : List ℕ) (p : ℕ) → get_or now (mark_at p) 0 / 4 ≡ get_or ws (mark_at p) 0 / 4 → (ds : List (ℕ × ℕ)) → FoundLast ws p ds → FoundLast now p ds
 found-on ws now p same [] f = elim f [ ]
-found-on ws now p same (Looked i n ∷ ds) f = λ e. f e ∙ sym same
-found-on ws now p same (Gained q ∷ ds) f = tt
-found-on ws now p same (Readied q ∷ ds) f = tt
-found-on ws now p same (Blocked q ∷ ds) f = tt
-found-on ws now p same (Unblocked q ∷ ds) f = tt
+found-on ws now p same (look ∷ ds) f = λ e. f e ∙ sym same
 
--- older deeds don't matter
-pub found-longer : (ws : List ℕ) (p : ℕ) (ds es : List Deed) → FoundLast ws p ds → FoundLast ws p (ds ++ es)
+-- older looks don't matter
+pub found-longer : (ws : List ℕ) (p : ℕ) (ds es : List (ℕ × ℕ)) → FoundLast ws p ds → FoundLast ws p (ds ++ es)
 found-longer ws p [] es f = elim f [ ]
-found-longer ws p (Looked i n ∷ ds) es f = f
-found-longer ws p (Gained q ∷ ds) es f = tt
-found-longer ws p (Readied q ∷ ds) es f = tt
-found-longer ws p (Blocked q ∷ ds) es f = tt
-found-longer ws p (Unblocked q ∷ ds) es f = tt
+found-longer ws p (look ∷ ds) es f = f
 
 module _ (blocks : ℕ) (b : Board) (r : CountsEnds blocks b) (h : ℕ) (v u : Token Notes) (mine : get_elem? b.views h ≡ some v) where
-  -- the hand has no other place, and nothing was done
-  pub knows-less : u.known.deeds ≡ v.known.deeds → ((p : ℕ) → places_in p u.known.hand ≤ places_in p v.known.hand) → Knows blocks b.words u.known
+  -- the hand has no other place, and nothing was looked at
+  pub knows-less : u.known.looks ≡ v.known.looks → ((p : ℕ) → places_in p u.known.hand ≤ places_in p v.known.hand) → Knows blocks b.words u.known
   knows-less same less p inside has = subst (λ ds. FoundLast b.words p ds) (sym same) (r.found h v mine p inside (omega (arith, has, less p)))
 
   module _ (homes : List (maybe.Option ℕ)) where
     -- no mark gets another generation
-    pub names-on : (ws : List ℕ) → ((p : ℕ) → p < 64 * blocks → get_or ws (mark_at p) 0 / 4 ≡ get_or b.words (mark_at p) 0 / 4) → u.known.ended_at ≡ v.known.ended_at → Knows blocks b.words u.known
+    pub names-on : (ws : List ℕ) → ((p : ℕ) → p < 64 * blocks → get_or ws (mark_at p) 0 / 4 ≡ get_or b.words (mark_at p) 0 / 4) → u.known.ended ≡ v.known.ended → Knows blocks b.words u.known
         → CountsEnds blocks (record { words = ws; homes = homes; views = set b.views h u })
     names-on ws marks ended knows = record {
       counted = λ p inside.
-          let total = total-set (λ (t : Token Notes). times p t.known.ended_at) b.views h v u mine in let same = ap (times p) ended in
+          let total = total-set (λ (t : Token Notes). places_in p t.known.ended) b.views h v u mine in let same = ap (places_in p) ended in
           marks p inside ∙ r.counted p inside ∙ ap (min last_generation) (omega (arith, total, same));
-      found = λ j t there p inside has. found-on b.words ws p (marks p inside) t.known.deeds (⊎_elim
-          (λ e. subst (λ (y : Token Notes). FoundLast b.words p y.known.deeds) e.1 (knows p inside (subst (λ (y : Token Notes). 0 < places_in p y.known.hand) (sym e.1) has)))
+      found = λ j t there p inside has. found-on b.words ws p (marks p inside) t.known.looks (⊎_elim
+          (λ e. subst (λ (y : Token Notes). FoundLast b.words p y.known.looks) e.1 (knows p inside (subst (λ (y : Token Notes). 0 < places_in p y.known.hand) (sym e.1) has)))
           (λ e. r.found j t e.1 p inside has)
           (at_set b.views h j u t there));
     }
@@ -67,23 +56,23 @@ module _ (blocks : ℕ) (b : Board) (r : CountsEnds blocks b) (h : ℕ) (v u : T
       pub mark-else : (p : ℕ) → q ≢ p → get_or (set b.words (mark_at q) m) (mark_at p) 0 ≡ get_or b.words (mark_at p) 0
       mark-else p ne = get_or-set_other b.words (mark_at q) (mark_at p) m 0 (λ e. ne (sym (mark_apart p q e)))
 
-      pub found-new : (p : ℕ) (ds : List Deed) → FoundLast (set b.words (mark_at q) m) p (Looked (mark_at q) m ∷ ds)
+      pub found-new : (p : ℕ) (ds : List (ℕ × ℕ)) → FoundLast (set b.words (mark_at q) m) p ((mark_at q, m) ∷ ds)
       found-new p ds = λ e. ap (λ x. x / 4) (sym (get_or-set_at b.words (mark_at q) (mark_at p) m 0 (sym e) room))
 
-      pub names-ended : u.known.ended_at ≡ q ∷ v.known.ended_at → m / 4 ≡ min last_generation (ends_at q b.views + 1)
+      pub names-ended : (x : ℕ) → u.known.ended ≡ (q, x) ∷ v.known.ended → m / 4 ≡ min last_generation (ends_at q b.views + 1)
           → ((j : ℕ) (t : Token Notes) → j ≢ h → get_elem? b.views j ≡ some t → places_in q t.known.hand ≡ 0)
           → Knows blocks (set b.words (mark_at q) m) u.known → CountsEnds blocks (record { words = set b.words (mark_at q) m; homes = homes; views = set b.views h u })
-      names-ended ended now alone knows = record {
+      names-ended x ended now alone knows = record {
         counted = λ p inside.
-            let total = total-set (λ (t : Token Notes). times p t.known.ended_at) b.views h v u mine in let more = ap (times p) ended ∙ more-times p q v.known.ended_at in dite (ℕ_discrete q p)
+            let total = total-set (λ (t : Token Notes). places_in p t.known.ended) b.views h v u mine in let more = ap (places_in p) ended ∙ places-cons p q x v.known.ended in dite (ℕ_discrete q p)
             (λ e. let one_ = one-same q p e in let count : ends_at q b.views + 1 ≡ ends_at p (set b.views h u) = ap (λ x. ends_at x b.views + 1) e ∙ omega (arith, total, more, one_) in
             ap (λ x. x / 4) (get_or-set_at b.words (mark_at q) (mark_at p) m 0 (ap mark_at (sym e)) room) ∙ now ∙ ap (min last_generation) count)
             (λ ne. let none_ = one-apart q p ne in
             ap (λ x. x / 4) (mark-else p ne) ∙ r.counted p inside ∙ ap (min last_generation) (omega (arith, total, more, none_)));
         found = λ j t there p inside has. ⊎_elim
-            (λ e. subst (λ (y : Token Notes). FoundLast (set b.words (mark_at q) m) p y.known.deeds) e.1 (knows p inside (subst (λ (y : Token Notes). 0 < places_in p y.known.hand) (sym e.1) has)))
+            (λ e. subst (λ (y : Token Notes). FoundLast (set b.words (mark_at q) m) p y.known.looks) e.1 (knows p inside (subst (λ (y : Token Notes). 0 < places_in p y.known.hand) (sym e.1) has)))
             (λ e. dite (ℕ_discrete q p)
             (λ same. let none_ = alone j t e.0 e.1 in let is = ap (λ x. places_in x t.known.hand) same in absurd (omega (arith, has, none_, is)))
-            (λ ne. found-on b.words (set b.words (mark_at q) m) p (ap (λ x. x / 4) (mark-else p ne)) t.known.deeds (r.found j t e.1 p inside has)))
+            (λ ne. found-on b.words (set b.words (mark_at q) m) p (ap (λ x. x / 4) (mark-else p ne)) t.known.looks (r.found j t e.1 p inside has)))
             (at_set b.views h j u t there);
       }

@@ -15,7 +15,7 @@ use Rattle.arachne_weights.specs.Tokens.{held, spent, begins, splits, joins}
 use Rattle.arachne_weights.proofs.Totals.{total-set, total-snoc}
 use Rattle.arachne_exec.specs.declared.view.Notes.{Notes}
 use Rattle.arachne_exec.specs.Layout.{idle_at, ready_at, free_at, mark_at, last_generation}
-use Rattle.arachne_exec.specs.Board.{is_free, is_ready, is_blocked, one, times, places_in, jobs_in, by_all, in_hands, seats_of, is_idle, lies, rises, rouses, ends_at, FoundLast, Board, IsLawful, blank, first_view, is_number, at_home}
+use Rattle.arachne_exec.specs.Board.{is_free, is_ready, is_blocked, one, times, one_at, places_in, jobs_in, times_at, is_at_home, by_all, in_hands, seats_of, is_idle, lies, rises, rouses, ends_at, FoundLast, Board, IsLawful, blank, first_view, is_number, at_home}
 use Rattle.arachne_exec.specs.Changes.{splitting, first_of, second_of, together, both_of}
 use Rattle.arachne_exec.specs.First.{first_word, AreFirstWords}
 use Rattle.arachne_exec.proofs.Bits.{one-apart}
@@ -45,6 +45,11 @@ none_home job (x ∷ xs) some_job clear =
     let here : one x job ≡ 0 = one-apart x job (λ e. omega (arith, e, first, some_job)) in
     sum_by-cons (λ (h : maybe.Option ℕ). is_number job h) (some x) (map some xs) ∙ omega (arith, rest, here)
 
+none_there : (place job : ℕ) (xs : List ℕ) → 0 < job → ((i : ℕ) → get_or xs i 0 ≡ 0) → is_at_home place job (map some xs) ≡ 0
+none_there place job [] some_job clear = refl
+none_there zero job (x ∷ xs) some_job clear = let first : x ≡ 0 = clear 0 in one-apart x job (λ e. omega (arith, e, first, some_job))
+none_there (suc place) job (x ∷ xs) some_job clear = none_there place job xs some_job (λ i. clear (suc i))
+
 -- each slot has 0 in it
 zero_there : (xs : List ℕ) (i : ℕ) → i < length xs → ((j : ℕ) → get_or xs j 0 ≡ 0) → get_elem? (map some xs) i ≡ some (some 0)
 zero_there [] i inside clear = absurd (omega (arith, inside))
@@ -70,13 +75,19 @@ opens shards ws xs a slots clear = record {
   };
   balance = record {
     balanced = λ job some_job. let n : at_home job (map some xs) ≡ 0 = none_home job xs some_job clear in
-        let p : by_all (λ (k : Notes). times job k.spawned) (first_view ∷ []) ≡ 0 = refl in let t : by_all (λ (k : Notes). times job k.ended) (first_view ∷ []) ≡ 0 = refl in
+        let p : by_all (λ (k : Notes). jobs_in job k.spawned) (first_view ∷ []) ≡ 0 = refl in let t : by_all (λ (k : Notes). jobs_in job k.ended) (first_view ∷ []) ≡ 0 = refl in
         let d : by_all (λ (k : Notes). jobs_in job k.hand) (first_view ∷ []) ≡ 0 = refl in omega (arith, n, p, t, d);
+    placed = λ place job some_job. let n : is_at_home place job (map some xs) ≡ 0 = none_there place job xs some_job clear in
+        let p : by_all (λ (k : Notes). times_at place job k.spawned) (first_view ∷ []) ≡ 0 = refl in let t : by_all (λ (k : Notes). times_at place job k.ended) (first_view ∷ []) ≡ 0 = refl in
+        let d : by_all (λ (k : Notes). times_at place job k.hand) (first_view ∷ []) ≡ 0 = refl in omega (arith, n, p, t, d);
   };
   hears = record {
     marks = λ p inside.
         let m : get_or ws (mark_at p) 0 ≡ 0 = a.1 (mark_at p) (omega (arith, inside)) ∙ empty_at (mark_at p) (λ e. omega (arith, e)) (λ e. omega (arith, e)) in
         let w : by_all (λ (k : Notes). times p k.woken) (first_view ∷ []) ≡ 0 = refl in let d : by_all (λ (k : Notes). times p k.heard) (first_view ∷ []) ≡ 0 = refl in omega (arith, m, w, d);
+    rests = λ p inside.
+        let m : get_or ws (mark_at p) 0 ≡ 0 = a.1 (mark_at p) (omega (arith, inside)) ∙ empty_at (mark_at p) (λ e. omega (arith, e)) (λ e. omega (arith, e)) in
+        let w : by_all (λ (k : Notes). times p k.blocked) (first_view ∷ []) ≡ 0 = refl in let d : by_all (λ (k : Notes). times p k.unblocked) (first_view ∷ []) ≡ 0 = refl in omega (arith, m, w, d);
     unheard = λ p inside.
         let m : get_or ws (mark_at p) 0 ≡ 0 = a.1 (mark_at p) (omega (arith, inside)) ∙ empty_at (mark_at p) (λ e. omega (arith, e)) (λ e. omega (arith, e)) in omega (arith, m);
   };
@@ -135,19 +146,24 @@ deals-law shards id w k s h mine = record {
   };
   balance = record {
     balanced = λ job some_job.
-        let a = split-total (λ l. times job l.spawned) refl (λ l. refl) s.views id w k mine in let b = split-total (λ l. times job l.ended) refl (λ l. refl) s.views id w k mine in
+        let a = split-total (λ l. jobs_in job l.spawned) refl (λ l. refl) s.views id w k mine in let b = split-total (λ l. jobs_in job l.ended) refl (λ l. refl) s.views id w k mine in
         let c = split-total (λ l. jobs_in job l.hand) refl (λ l. refl) s.views id w k mine in let old = h.balance.balanced job some_job in omega (arith, a, b, c, old);
+    placed = λ p job some_job.
+        let a = split-total (λ l. times_at p job l.spawned) refl (λ l. refl) s.views id w k mine in let b = split-total (λ l. times_at p job l.ended) refl (λ l. refl) s.views id w k mine in
+        let c = split-total (λ l. times_at p job l.hand) refl (λ l. refl) s.views id w k mine in let old = h.balance.placed p job some_job in omega (arith, a, b, c, old);
   };
   hears = record {
     marks = λ p inside.
         let a = split-total (λ l. times p l.woken) refl (λ l. refl) s.views id w k mine in let b = split-total (λ l. times p l.heard) refl (λ l. refl) s.views id w k mine in let old = h.hears.marks p inside in omega (arith, a, b, old);
+    rests = λ p inside.
+        let a = split-total (λ l. times p l.blocked) refl (λ l. refl) s.views id w k mine in let b = split-total (λ l. times p l.unblocked) refl (λ l. refl) s.views id w k mine in let old = h.hears.rests p inside in omega (arith, a, b, old);
     unheard = h.hears.unheard;
   };
   names = record {
-    counted = λ p inside. let same = split-total (λ l. times p l.ended_at) refl (λ l. refl) s.views id w k mine in h.names.counted p inside ∙ ap (min last_generation) (sym same);
+    counted = λ p inside. let same = split-total (λ l. places_in p l.ended) refl (λ l. refl) s.views id w k mine in h.names.counted p inside ∙ ap (min last_generation) (sym same);
     found = λ j x there p inside has. ⊎_elim
         (λ old. ⊎_elim
-        (λ t. subst (λ (y : Token Notes). FoundLast s.words p y.known.deeds) t.1 (h.names.found id (held w k) mine p inside (subst (λ (y : Token Notes). 0 < places_in p y.known.hand) (sym t.1) has)))
+        (λ t. subst (λ (y : Token Notes). FoundLast s.words p y.known.looks) t.1 (h.names.found id (held w k) mine p inside (subst (λ (y : Token Notes). 0 < places_in p y.known.hand) (sym t.1) has)))
         (λ t. h.names.found j x t.1 p inside has)
         (at_set s.views id j (first_of (held w k)) x old))
         (λ new. let none_has : places_in p x.known.hand ≡ 0 = ap (λ (y : Token Notes). places_in p y.known.hand) (sym new) in absurd (omega (arith, has, none_has)))
@@ -202,26 +218,35 @@ module _ (shards id w other x : ℕ) (k l : Notes) (nothing : (l.hand ≡ []) ×
         };
         balance = record {
           balanced = λ job some_job.
-              let a = join-total (λ m. times job m.spawned) refl s.views id w other x k l mine apart from (sum_by-append (λ (y : ℕ). one y job) k.spawned l.spawned) in
-              let b = join-total (λ m. times job m.ended) refl s.views id w other x k l mine apart from (sum_by-append (λ (y : ℕ). one y job) k.ended l.ended) in
+              let a = join-total (λ m. jobs_in job m.spawned) refl s.views id w other x k l mine apart from (sum_by-append (λ (y : ℕ × ℕ). one y.1 job) k.spawned l.spawned) in
+              let b = join-total (λ m. jobs_in job m.ended) refl s.views id w other x k l mine apart from (sum_by-append (λ (y : ℕ × ℕ). one y.1 job) k.ended l.ended) in
               let c = join-total (λ m. jobs_in job m.hand) refl s.views id w other x k l mine apart from (let e = ap (jobs_in job) nothing.0 in omega (arith, e)) in
               let old = h.balance.balanced job some_job in omega (arith, a, b, c, old);
+          placed = λ p job some_job.
+              let a = join-total (λ m. times_at p job m.spawned) refl s.views id w other x k l mine apart from (sum_by-append (one_at p job) k.spawned l.spawned) in
+              let b = join-total (λ m. times_at p job m.ended) refl s.views id w other x k l mine apart from (sum_by-append (one_at p job) k.ended l.ended) in
+              let c = join-total (λ m. times_at p job m.hand) refl s.views id w other x k l mine apart from (let e = ap (times_at p job) nothing.0 in omega (arith, e)) in
+              let old = h.balance.placed p job some_job in omega (arith, a, b, c, old);
         };
         hears = record {
           marks = λ p inside.
               let a = join-total (λ m. times p m.woken) refl s.views id w other x k l mine apart from (sum_by-append (λ (y : ℕ). one y p) k.woken l.woken) in
               let b = join-total (λ m. times p m.heard) refl s.views id w other x k l mine apart from (sum_by-append (λ (y : ℕ). one y p) k.heard l.heard) in
               let old = h.hears.marks p inside in omega (arith, a, b, old);
+          rests = λ p inside.
+              let a = join-total (λ m. times p m.blocked) refl s.views id w other x k l mine apart from (sum_by-append (λ (y : ℕ). one y p) k.blocked l.blocked) in
+              let b = join-total (λ m. times p m.unblocked) refl s.views id w other x k l mine apart from (sum_by-append (λ (y : ℕ). one y p) k.unblocked l.unblocked) in
+              let old = h.hears.rests p inside in omega (arith, a, b, old);
           unheard = h.hears.unheard;
         };
         names = record {
           counted = λ p inside.
-              let same = join-total (λ m. times p m.ended_at) refl s.views id w other x k l mine apart from (sum_by-append (λ (y : ℕ). one y p) k.ended_at l.ended_at) in h.names.counted p inside ∙ ap (min last_generation) (sym same);
+              let same = join-total (λ m. places_in p m.ended) refl s.views id w other x k l mine apart from (sum_by-append (λ (y : ℕ × ℕ). one y.0 p) k.ended l.ended) in h.names.counted p inside ∙ ap (min last_generation) (sym same);
           found = λ j y there p inside has. ⊎_elim
               (λ t. let none_has : places_in p y.known.hand ≡ 0 = ap (λ (z : Token Notes). places_in p z.known.hand) (sym t.1) in absurd (omega (arith, has, none_has)))
               (λ t. ⊎_elim
-              (λ u. subst (λ (z : Token Notes). FoundLast s.words p z.known.deeds) u.1
-              (found-longer s.words p k.deeds l.deeds (h.names.found id (held w k) mine p inside (subst (λ (z : Token Notes). 0 < places_in p z.known.hand) (sym u.1) has))))
+              (λ u. subst (λ (z : Token Notes). FoundLast s.words p z.known.looks) u.1
+              (found-longer s.words p k.looks l.looks (h.names.found id (held w k) mine p inside (subst (λ (z : Token Notes). 0 < places_in p z.known.hand) (sym u.1) has))))
               (λ u. h.names.found j y u.1 p inside has)
               (at_set s.views id j (both_of (held w k) (held x l)) y t.1))
               (at_set (set s.views id (both_of (held w k) (held x l))) other j (spent blank) y there);

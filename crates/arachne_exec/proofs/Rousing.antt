@@ -1,13 +1,11 @@
 -- A worker that looks for a job, and clears no idle bit but its own.
-use Rattle.std.proofs.Common.{◌≡◌, ⊎_elim, ℕ, zero, suc, Bool, true, false, List, [], ◌∷◌, ◌++◌, refl, sym, ap, ◌∙◌, subst}
+use Rattle.std.proofs.Common.{◌≡◌, ⊎_elim, ℕ, zero, suc, Bool, true, false, List, [], ◌∷◌, ◌++◌, append_assoc, refl, sym, ap, ◌∙◌, subst}
 use Rattle.arachne_exec.specs.declared.view.Notes.{Notes}
-use Rattle.arachne_exec.specs.declared.view.Deed.{Deed}
-use Rattle.arachne_exec.specs.declared.view.Deed.TheVariants.{Looked}
 use Rattle.arachne_exec.specs.declared.answers.HeldJob.{HeldJob}
 use Rattle.arachne_exec.specs.declared.answers.Next.{Next}
 use Rattle.arachne_exec.specs.declared.answers.Next.TheVariants as next
 use Rattle.arachne_exec.specs.Layout.{ready_at, worker_of}
-use Rattle.arachne_exec.specs.Changes.{noted, looking, rousing, often}
+use Rattle.arachne_exec.specs.Changes.{noted, rousing, often}
 use Rattle.arachne_exec.specs.Calls.{HasMissed, HasTakenNone, HasLooked, HasTakenInShard, HasAnswered}
 
 often-more : (n more worker : ℕ) (xs : List ℕ) → (all : ℕ) × (often n worker (often more worker xs) ≡ often all worker xs)
@@ -17,13 +15,9 @@ often-more (suc n) more worker xs = let rest = often-more n more worker xs in (s
 pub looked-none : (worker : ℕ) (k : Notes) → HasLooked worker k k
 looked-none worker k = (0, [], refl)
 
-looks-both : (a b : List (ℕ × ℕ)) (deeds : List Deed) → looking a ++ (looking b ++ deeds) ≡ looking (a ++ b) ++ deeds
-looks-both [] b deeds = refl
-looks-both (x ∷ a) b deeds = ap (λ (z : List Deed). Looked x.0 x.1 ∷ z) (looks-both a b deeds)
-
 module _ (worker : ℕ) (k : Notes) where
   looked-noted : (l : Notes) → HasLooked worker k l → (word number : ℕ) → HasLooked worker k (noted word number l)
-  looked-noted l looked word number = (looked.0, (word, number) ∷ looked.1, ap (λ (z : Notes). record z { deeds = Looked word number ∷ z.deeds }) looked.2)
+  looked-noted l looked word number = (looked.0, (word, number) ∷ looked.1, ap (λ (z : Notes). record z { looks = (word, number) ∷ z.looks }) looked.2)
 
   module _ (l : Notes) (looked : HasLooked worker k l) where
     pub looked-missed : (block : ℕ) (m : Notes) → HasTakenNone block l m → HasLooked worker k m
@@ -40,8 +34,8 @@ module _ (worker : ℕ) (k : Notes) where
     looked-on m more = let all = often-more more.0 looked.0 worker k.roused in (
       all.0,
       more.1 ++ looked.1,
-      more.2 ∙ ap (λ (z : Notes). record z { deeds = looking more.1 ++ z.deeds; roused = often more.0 worker z.roused }) looked.2
-          ∙ (λ i. record k { deeds = looks-both more.1 looked.1 k.deeds i; roused = all.1 i }),
+      more.2 ∙ ap (λ (z : Notes). record z { looks = more.1 ++ z.looks; roused = often more.0 worker z.roused }) looked.2
+          ∙ (λ i. record k { looks = sym (append_assoc more.1 looked.1 k.looks) i; roused = all.1 i }),
     )
 
     -- what it does then

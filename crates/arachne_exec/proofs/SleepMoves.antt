@@ -18,7 +18,7 @@ use Rattle.arachne_exec.specs.Steps.{Mine, knowing, FindsShown, Shows, Hides, Lo
 use Rattle.arachne_exec.proofs.Bits.{one-same, one-apart, same_others, clear_same, clear_other, clear_le, unset, set_same, set_other, not_one, clear_counts, set_counts, elsewhere, here}
 use Rattle.arachne_exec.proofs.Keeping.{keeps-aside, keeps-summary, keeps-view}
 use Rattle.arachne_exec.proofs.Balancing.{more-times, balanced-same}
-use Rattle.arachne_exec.proofs.Hearing.{hears-on}
+use Rattle.arachne_exec.proofs.Hearing.{KeepsMarks, hears-on}
 use Rattle.arachne_exec.proofs.Naming.{Knows, found-word, names-on}
 use Rattle.arachne_exec.proofs.Debts.{with-same, with-more, with-less, with-others}
 use Rattle.arachne_exec.proofs.KeepsShown.{shows-on, shows-owing, shows-paid}
@@ -28,7 +28,7 @@ use Rattle.arachne_exec.proofs.Moves.{summary_apart, clash, was_set, some_number
 
 module _ (shards slots id w : ℕ) where
   module _ (s : Board) (h : IsLawful shards s) (k l : Notes) (mine : get_elem? s.views id ≡ some (held w k)) (hand : l.hand ≡ k.hand) (spawned : l.spawned ≡ k.spawned) (ended : l.ended ≡ k.ended)
-      (woken : l.woken ≡ k.woken) (heard : l.heard ≡ k.heard) (aged : l.ended_at ≡ k.ended_at) (split : l.splits ≡ k.splits) (knows : Knows (64 * shards) s.words l) where
+      (marks : KeepsMarks k l) (split : l.splits ≡ k.splits) (knows : Knows (64 * shards) s.words l) where
     -- no word changes
     view-law : IsShown (64 * shards) (record { words = s.words; homes = s.homes; views = set s.views id (held w l) }) → WakesSleepers (record { words = s.words; homes = s.homes; views = set s.views id (held w l) })
         → IsLawful shards (record { words = s.words; homes = s.homes; views = set s.views id (held w l) })
@@ -37,8 +37,8 @@ module _ (shards slots id w : ℕ) where
       seats = splits-on s.views h.seats id w k mine l split;
       keeper = keeps-view (64 * shards) s h.keeper id (held w k) mine (held w l) hand;
       balance = balanced-same s h.balance id (held w k) (held w l) mine s.words spawned ended hand;
-      hears = hears-on (64 * shards) s h.hears id (held w k) (held w l) mine s.homes s.words (λ p inside. (refl, λ low. low)) woken heard;
-      names = names-on (64 * shards) s h.names id (held w k) (held w l) mine s.homes s.words (λ p inside. refl) aged knows;
+      hears = hears-on (64 * shards) s h.hears id (held w k) (held w l) mine s.homes s.words (λ p inside. refl) marks;
+      names = names-on (64 * shards) s h.names id (held w k) (held w l) mine s.homes s.words (λ p inside. refl) ended knows;
       shows = shows;
       sleep = sleep;
     }
@@ -51,8 +51,8 @@ module _ (shards slots id w : ℕ) where
       seats = splits-on s.views h.seats id w k mine l split;
       keeper = keeps-aside (64 * shards) s h.keeper id (held w k) mine (held w l) i now low hand;
       balance = balanced-same s h.balance id (held w k) (held w l) mine _ spawned ended hand;
-      hears = hears-on (64 * shards) s h.hears id (held w k) (held w l) mine s.homes _ (unmarked shards slots id w s h k mine i now (λ p e. omega (arith, e, low))) woken heard;
-      names = names-on (64 * shards) s h.names id (held w k) (held w l) mine s.homes _ (ageless shards slots id w s h k mine i now (λ p e. omega (arith, e, low))) aged knows;
+      hears = hears-on (64 * shards) s h.hears id (held w k) (held w l) mine s.homes _ (unmarked shards slots id w s h k mine i now (λ p e. omega (arith, e, low))) marks;
+      names = names-on (64 * shards) s h.names id (held w k) (held w l) mine s.homes _ (ageless shards slots id w s h k mine i now (λ p e. omega (arith, e, low))) ended knows;
       shows = shows;
       sleep = sleep;
     }
@@ -65,8 +65,8 @@ module _ (shards slots id w : ℕ) where
       seats = splits-on s.views h.seats id w k mine l split;
       keeper = keeps-summary (64 * shards) s h.keeper id (held w k) mine (held w l) d now hand;
       balance = balanced-same s h.balance id (held w k) (held w l) mine _ spawned ended hand;
-      hears = hears-on (64 * shards) s h.hears id (held w k) (held w l) mine s.homes _ (unmarked shards slots id w s h k mine (summary_at d) now (λ p e. omega (arith, e))) woken heard;
-      names = names-on (64 * shards) s h.names id (held w k) (held w l) mine s.homes _ (ageless shards slots id w s h k mine (summary_at d) now (λ p e. omega (arith, e))) aged knows;
+      hears = hears-on (64 * shards) s h.hears id (held w k) (held w l) mine s.homes _ (unmarked shards slots id w s h k mine (summary_at d) now (λ p e. omega (arith, e))) marks;
+      names = names-on (64 * shards) s h.names id (held w k) (held w l) mine s.homes _ (ageless shards slots id w s h k mine (summary_at d) now (λ p e. omega (arith, e))) ended knows;
       shows = shows;
       sleep = sleep;
     }
@@ -77,7 +77,7 @@ module _ (shards slots id w : ℕ) where
     -- the seat has paid for the block, and no word changes
     paid-law : (s : Board) → IsLawful shards s → get_elem? s.views id ≡ some (held w k) → k.unshown ≡ block + 1 → (0 < get_or s.words (ready_at block) 0 → in_word summary_at s.words block ≡ 1)
         → IsLawful shards (record { words = s.words; homes = s.homes; views = set s.views id (held w (unshowing 0 k)) })
-    paid-law s h mine debt shown = view-law s h k (unshowing 0 k) mine refl refl refl refl refl refl refl (knowing-still shards slots id w s h k mine)
+    paid-law s h mine debt shown = view-law s h k (unshowing 0 k) mine refl refl refl (refl, refl, refl, refl) refl (knowing-still shards slots id w s h k mine)
         (shows-paid (64 * shards) s h.shows id (held w k) (held w (unshowing 0 k)) mine s.words s.homes block debt refl shown (λ c ne r. r) (λ c ne. refl))
         (sleeps-on s h.sleep id (held w k) (held w (unshowing 0 k)) mine s.words s.homes refl refl (λ c r. r) refl refl refl (refl, refl, refl))
 
@@ -133,7 +133,7 @@ module _ (shards slots id w : ℕ) where
           held w l,
           keeps,
           tt,
-          summary-law s h k l mine refl refl refl refl refl refl refl (knowing-still shards slots id w s h k mine) d now (shown-now s h mine debt l refl)
+          summary-law s h k l mine refl refl refl (refl, refl, refl, refl) refl (knowing-still shards slots id w s h k mine) d now (shown-now s h mine debt l refl)
               (keeps-sleep s h.sleep id (held w k) (held w l) mine (set s.words i now) s.homes
               (λ j low. (λ z. bit_at (numbers z) j + seats-same s h.sleep id (held w k) (held w l) mine refl j z) ∙ h.sleep.single j low)
               (h.sleep.near id (held w k) mine)
@@ -149,7 +149,7 @@ module _ (shards slots id w : ℕ) where
           held w l,
           keeps,
           tt,
-          summary-law s h k l mine refl refl refl refl refl refl refl (knowing-still shards slots id w s h k mine) d now (shown-now s h mine debt l refl)
+          summary-law s h k l mine refl refl refl (refl, refl, refl, refl) refl (knowing-still shards slots id w s h k mine) d now (shown-now s h mine debt l refl)
               (sleeps-on s h.sleep id (held w k) (held w l) mine (set s.words i now) s.homes numbers idles
               (λ c some_shown. dite (ℕ_discrete (summary_at c) i)
               (λ e. subst (λ x. 0 < get_or s.words x 0) (sym e) (some_number n full))
@@ -165,7 +165,7 @@ module _ (shards slots id w : ℕ) where
           held w l,
           keeps,
           tt,
-          summary-law s h k l mine refl refl refl refl refl refl refl (knowing-still shards slots id w s h k mine) d now
+          summary-law s h k l mine refl refl refl (refl, refl, refl, refl) refl (knowing-still shards slots id w s h k mine) d now
               (shows-owing (64 * shards) s h.shows id (held w k) (held w l) mine (set s.words i now) s.homes block free refl
               (λ c ne. same_ready shards slots id w s h k mine i now (λ e f. omega (arith, f)) c)
               (λ c ne. elsewhere summary_at summary_apart s.words block room now (λ j low apart. clear_other n (block % 64) (omega arith) j low apart) c ne))
@@ -209,7 +209,7 @@ module _ (shards slots id w : ℕ) where
           held w l,
           keeps,
           tt,
-          unchanged shards slots id w l xs idle_at s (view-law s h k l mine refl refl refl refl refl refl refl (knowing-still shards slots id w s h k mine) (view-shows s h k l mine refl)
+          unchanged shards slots id w l xs idle_at s (view-law s h k l mine refl refl refl (refl, refl, refl, refl) refl (knowing-still shards slots id w s h k mine) (view-shows s h k l mine refl)
               (keeps-sleep s h.sleep id (held w k) (held w l) mine s.words s.homes
               (λ j low. ap (λ x. bit_at (get_or s.words numbers_at 0) j + x) (seats-same s h.sleep id (held w k) (held w l) mine refl j) ∙ h.sleep.single j low)
               (h.sleep.near id (held w k) mine)
@@ -223,14 +223,14 @@ module _ (shards slots id w : ℕ) where
         ))
 
     -- the idle bit of the worker is cleared
-    unpark-law : (s : Board) → IsLawful shards s → get_elem? s.views id ≡ some (held w k) → (l : Notes) → l.hand ≡ k.hand → l.spawned ≡ k.spawned → l.ended ≡ k.ended → l.woken ≡ k.woken → l.heard ≡ k.heard
-        → l.ended_at ≡ k.ended_at → l.splits ≡ k.splits → Knows (64 * shards) s.words l → l.unshown ≡ k.unshown → l.owes ≡ 0 → l.worker ≡ k.worker → l.seen ≡ k.seen → (now : ℕ) → now ≡ bit_and (get_or s.words idle_at 0) (others (worker_of d))
+    unpark-law : (s : Board) → IsLawful shards s → get_elem? s.views id ≡ some (held w k) → (l : Notes) → l.hand ≡ k.hand → l.spawned ≡ k.spawned → l.ended ≡ k.ended → KeepsMarks k l
+        → l.splits ≡ k.splits → Knows (64 * shards) s.words l → l.unshown ≡ k.unshown → l.owes ≡ 0 → l.worker ≡ k.worker → l.seen ≡ k.seen → (now : ℕ) → now ≡ bit_and (get_or s.words idle_at 0) (others (worker_of d))
         → Ends k l s.words (set s.words idle_at now)
         → IsLawful shards (record { words = set s.words idle_at now; homes = s.homes; views = set s.views id (held w l) })
-    unpark-law s h mine l hand spawned ended woken heard aged split knows unshown owes worker seen now is_now ends =
+    unpark-law s h mine l hand spawned ended marks split knows unshown owes worker seen now is_now ends =
         let n : ℕ = get_or s.words idle_at 0 in
         let there : get_or (set s.words idle_at now) idle_at 0 ≡ bit_and n (others (worker_of d)) = get_or-set_same s.words idle_at now 0 (idle-room s h) ∙ is_now in
-        aside-law s h k l mine hand spawned ended woken heard aged split knows idle_at now (omega arith) (idle-shows s h k l mine unshown now)
+        aside-law s h k l mine hand spawned ended marks split knows idle_at now (omega arith) (idle-shows s h k l mine unshown now)
         (keeps-sleep s h.sleep id (held w k) (held w l) mine (set s.words idle_at now) s.homes
         (λ j low. (λ z. bit_at (get_or-set_other s.words idle_at numbers_at now 0 (λ e. omega (arith, e)) z) j + seats-same s h.sleep id (held w k) (held w l) mine worker j z) ∙ h.sleep.single j low)
         (let near = h.sleep.near id (held w k) mine in omega (arith, near, worker))
@@ -251,7 +251,7 @@ module _ (shards slots id w : ℕ) where
           held w (rousing true (worker_of d) (owing 0 k)),
           keeps,
           tt,
-          unpark-law s h mine (rousing true (worker_of d) (owing 0 k)) refl refl refl refl refl refl refl (knowing-still shards slots id w s h k mine) refl refl refl refl _ refl
+          unpark-law s h mine (rousing true (worker_of d) (owing 0 k)) refl refl refl (refl, refl, refl, refl) refl (knowing-still shards slots id w s h k mine) refl refl refl refl _ refl
               (λ j low. let was = fewer j low in let one_ : bit_at n (worker_of d) * one (worker_of d) j ≡ one (worker_of d) j = ap (λ x. x * one (worker_of d) j) there ∙ omega arith in
               let more = more-times j (worker_of d) k.roused in omega (arith, was, one_, more)),
           λ c e. let is : d ≡ c = omega (arith, debt, e) in (
@@ -265,7 +265,7 @@ module _ (shards slots id w : ℕ) where
           held w (owing 0 k),
           keeps,
           tt,
-          unpark-law s h mine (owing 0 k) refl refl refl refl refl refl refl (knowing-still shards slots id w s h k mine) refl refl refl refl _ refl
+          unpark-law s h mine (owing 0 k) refl refl refl (refl, refl, refl, refl) refl (knowing-still shards slots id w s h k mine) refl refl refl refl _ refl
               (λ j low. let was = fewer j low in let none_ : bit_at n (worker_of d) * one (worker_of d) j ≡ 0 = ap (λ x. x * one (worker_of d) j) clear ∙ omega arith in omega (arith, was, none_)),
           λ c e. let is : d ≡ c = omega (arith, debt, e) in (
             refl,
@@ -284,7 +284,7 @@ module _ (shards slots id w : ℕ) where
           held w l,
           keeps,
           tt,
-          aside-law s h k l mine refl refl refl refl refl refl refl (λ p inside has. found-word s.words p idle_at k.deeds) idle_at now (omega arith) (idle-shows s h k l mine refl now)
+          aside-law s h k l mine refl refl refl (refl, refl, refl, refl) refl (λ p inside has. found-word s.words p idle_at k.looks) idle_at now (omega arith) (idle-shows s h k l mine refl now)
               (keeps-sleep s h.sleep id (held w k) (held w l) mine (set s.words idle_at now) s.homes
               (λ i low. (λ z. bit_at (get_or-set_other s.words idle_at numbers_at now 0 (λ e. omega (arith, e)) z) i + seats-same s h.sleep id (held w k) (held w l) mine refl i z) ∙ h.sleep.single i low)
               (h.sleep.near id (held w k) mine)
@@ -306,7 +306,7 @@ module _ (shards slots id w : ℕ) where
           held w l,
           keeps,
           tt,
-          aside-law s h k l mine refl refl refl refl refl refl refl (λ p inside has. found-word s.words p idle_at k.deeds) idle_at now (omega arith) (idle-shows s h k l mine refl now)
+          aside-law s h k l mine refl refl refl (refl, refl, refl, refl) refl (λ p inside has. found-word s.words p idle_at k.looks) idle_at now (omega arith) (idle-shows s h k l mine refl now)
               (keeps-sleep s h.sleep id (held w k) (held w l) mine (set s.words idle_at now) s.homes
               (λ i low. (λ z. bit_at (get_or-set_other s.words idle_at numbers_at now 0 (λ e. omega (arith, e)) z) i + seats-same s h.sleep id (held w k) (held w l) mine refl i z) ∙ h.sleep.single i low)
               (h.sleep.near id (held w k) mine)
@@ -329,7 +329,7 @@ module _ (shards slots id w : ℕ) where
           held w l,
           keeps,
           tt,
-          unchanged shards slots id w l xs i s (view-law s h k l mine refl refl refl refl refl refl refl (knowing-still shards slots id w s h k mine) (view-shows s h k l mine refl)
+          unchanged shards slots id w l xs i s (view-law s h k l mine refl refl refl (refl, refl, refl, refl) refl (knowing-still shards slots id w s h k mine) (view-shows s h k l mine refl)
               (keeps-sleep s h.sleep id (held w k) (held w l) mine s.words s.homes
               (λ c low. ap (λ x. bit_at (get_or s.words numbers_at 0) c + x) (seats-same s h.sleep id (held w k) (held w l) mine refl c) ∙ h.sleep.single c low)
               (h.sleep.near id (held w k) mine)
@@ -354,7 +354,7 @@ module _ (shards slots id w : ℕ) where
           held w l,
           keeps,
           tt,
-          aside-law s h k l mine refl refl refl refl refl refl refl (knowing-still shards slots id w s h k mine) i now (omega arith) (number-shows s h k l mine refl now)
+          aside-law s h k l mine refl refl refl (refl, refl, refl, refl) refl (knowing-still shards slots id w s h k mine) i now (omega arith) (number-shows s h k l mine refl now)
               (keeps-sleep s h.sleep id (held w k) (held w l) mine (set s.words i now) s.homes
               (λ c below. let more = with-more (λ z. z.worker) s.views id (held w k) (held w l) mine j no_worker refl c in let single = h.sleep.single c below in
               let at : bit_at (get_or (set s.words i now) i 0) c ≡ bit_at now c = ap (λ x. bit_at x c) there_now in dite (ℕ_discrete j c)
@@ -393,7 +393,7 @@ module _ (shards slots id w : ℕ) where
           held w l,
           keeps,
           tt,
-          aside-law s h k l mine refl refl refl refl refl refl refl (knowing-still shards slots id w s h k mine) i now (omega arith) (number-shows s h k l mine refl now)
+          aside-law s h k l mine refl refl refl (refl, refl, refl, refl) refl (knowing-still shards slots id w s h k mine) i now (omega arith) (number-shows s h k l mine refl now)
               (keeps-sleep s h.sleep id (held w k) (held w l) mine (set s.words i now) s.homes
               (λ c below. let less = with-less (λ z. z.worker) s.views id (held w k) (held w l) mine j is_worker refl c in let single = h.sleep.single c below in
               let at : bit_at (get_or (set s.words i now) i 0) c ≡ bit_at now c = ap (λ x. bit_at x c) there_now in dite (ℕ_discrete j c)

@@ -1,5 +1,5 @@
 -- What holds of the words, the slots and the seats of an executor between any two steps.
-use Rattle.std.specs.Prelude.{◌≡◌, ◌⊎◌, ⊤, ℕ, ◌+◌, ◌*◌, ◌/◌, ◌%◌, ◌<◌, ◌≤◌, ◌==◌, min, List, [], ◌∷◌, length, slice_index, if◌then◌else◌}
+use Rattle.std.specs.Prelude.{◌≡◌, ◌⊎◌, ℕ, ◌+◌, ◌*◌, ◌/◌, ◌%◌, ◌<◌, ◌≤◌, ◌==◌, min, List, [], ◌∷◌, length, slice_index, if◌then◌else◌}
 use Rattle.std.specs.Int.{bit_at}
 use Rattle.std.specs.List.{sum_by}
 use mathlib.Core.Option.{some, none}
@@ -10,8 +10,6 @@ use Rattle.arachne_weights.specs.declared.token.Token.{Token}
 use Rattle.arachne_weights.specs.Tokens.{IsReachable, held}
 use Rattle.arachne_weights.specs.Weight.{whole}
 use Rattle.arachne_exec.specs.declared.view.Notes.{Notes}
-use Rattle.arachne_exec.specs.declared.view.Deed.{Deed}
-use Rattle.arachne_exec.specs.declared.view.Deed.TheVariants.{Looked, Gained, Readied, Blocked, Unblocked}
 use Rattle.arachne_exec.specs.Layout.{idle_at, numbers_at, summary_at, ready_at, free_at, mark_at, words_of, in_word, last_generation}
 
 -- the words, the jobs that are at home, and what seats know
@@ -20,7 +18,7 @@ Board = State ℕ (Token Notes)
 
 -- a seat that has done nothing
 abbrev pub blank : Notes
-blank = record { hand = []; spawned = []; ended = []; ended_at = []; woken = []; heard = []; lain = []; risen = []; roused = []; deeds = []; unshown = 0; owes = 0; worker = 0; seen = 0; splits = 0 }
+blank = record { hand = []; spawned = []; ended = []; woken = []; heard = []; blocked = []; unblocked = []; lain = []; risen = []; roused = []; looks = []; unshown = 0; owes = 0; worker = 0; seen = 0; splits = 0 }
 
 -- the first seat has the whole weight
 abbrev pub first_view : Token Notes
@@ -34,12 +32,18 @@ one other place = if other == place then 1 else 0
 abbrev pub times : ℕ → List ℕ → ℕ
 times place places = sum_by (λ (other : ℕ). one other place) places
 
--- a hand is a list of places with their jobs
+-- of places with their jobs: how often a place is there, a job, and that job at that place
 abbrev pub places_in : ℕ → List (ℕ × ℕ) → ℕ
 places_in place hand = sum_by (λ (x : ℕ × ℕ). one x.0 place) hand
 
 abbrev pub jobs_in : ℕ → List (ℕ × ℕ) → ℕ
 jobs_in job hand = sum_by (λ (x : ℕ × ℕ). one x.1 job) hand
+
+abbrev pub one_at : ℕ → ℕ → ℕ × ℕ → ℕ
+one_at place job x = if x.0 == place then one x.1 job else 0
+
+abbrev pub times_at : ℕ → ℕ → List (ℕ × ℕ) → ℕ
+times_at place job pairs = sum_by (λ (x : ℕ × ℕ). one_at place job x) pairs
 
 abbrev pub is_number : ℕ → maybe.Option ℕ → ℕ
 is_number job none = 0
@@ -84,39 +88,49 @@ pub record HasOneKeeper (blocks : ℕ) (b : Board) : Type 0 where
 abbrev pub at_home : ℕ → List (maybe.Option ℕ) → ℕ
 at_home job homes = sum_by (λ (h : maybe.Option ℕ). is_number job h) homes
 
--- each job number but 0 was spawned as often as it has ended, is in a hand, and lies in a slot
+abbrev pub in_slot : ℕ → maybe.Option (maybe.Option ℕ) → ℕ
+in_slot job none = 0
+in_slot job (some h) = is_number job h
+
+-- 1 where that job lies in the slot of the place
+abbrev pub is_at_home : ℕ → ℕ → List (maybe.Option ℕ) → ℕ
+is_at_home place job homes = in_slot job (get_elem? homes place)
+
+-- Each job number but 0 was spawned as often as it has ended, is in a hand, and lies in a slot: over all places, and at
+-- each place. So what job is at a place changes only where one is spawned there or ends.
 pub record IsBalanced (b : Board) : Type 0 where
   pub balanced : (job : ℕ) → 0 < job
-      → by_all (λ (k : Notes). times job k.spawned) b.views ≡ by_all (λ (k : Notes). times job k.ended) b.views + by_all (λ (k : Notes). jobs_in job k.hand) b.views + at_home job b.homes
+      → by_all (λ (k : Notes). jobs_in job k.spawned) b.views ≡ by_all (λ (k : Notes). jobs_in job k.ended) b.views + by_all (λ (k : Notes). jobs_in job k.hand) b.views + at_home job b.homes
+  pub placed : (place job : ℕ) → 0 < job
+      → by_all (λ (k : Notes). times_at place job k.spawned) b.views ≡ by_all (λ (k : Notes). times_at place job k.ended) b.views + by_all (λ (k : Notes). times_at place job k.hand) b.views + is_at_home place job b.homes
 
--- ---- wakes of a job that isn't blocked
+-- ---- wakes, and jobs that are blocked
 
--- each mark that a wake has set was heard by who had the place in hand, or is there; and none is where a job is blocked
+-- Each mark that a wake has set was heard by who had the place in hand, or is there. Each time that a place was blocked
+-- it was unblocked, or is blocked. And no mark says of both.
 pub record HearsWakes (blocks : ℕ) (b : Board) : Type 0 where
   pub marks : (place : ℕ) → place < 64 * blocks
       → by_all (λ (k : Notes). times place k.woken) b.views ≡ by_all (λ (k : Notes). times place k.heard) b.views + slice_index b.words (mark_at place) % 2
+  pub rests : (place : ℕ) → place < 64 * blocks
+      → by_all (λ (k : Notes). times place k.blocked) b.views ≡ by_all (λ (k : Notes). times place k.unblocked) b.views + is_blocked b.words place
   pub unheard : (place : ℕ) → place < 64 * blocks → slice_index b.words (mark_at place) % 4 < 3
 
 -- ---- how many jobs a place has had
 
 -- how many jobs have ended at the place
 abbrev pub ends_at : ℕ → List (Token Notes) → ℕ
-ends_at place views = by_all (λ (k : Notes). times place k.ended_at) views
+ends_at place views = by_all (λ (k : Notes). places_in place k.ended) views
 
--- If the newest deed of a seat that has the place in hand is to find its mark, the mark has that generation still.
-abbrev pub FoundLast : List ℕ → ℕ → List Deed → Type 0
+-- If the last that a seat with the place in hand has found is its mark, the mark has that generation still.
+abbrev pub FoundLast : List ℕ → ℕ → List (ℕ × ℕ) → Type 0
 FoundLast words place [] = ⊥
-FoundLast words place (Looked word number ∷ deeds) = word ≡ mark_at place → number / 4 ≡ slice_index words (mark_at place) / 4
-FoundLast words place (Gained other ∷ deeds) = ⊤
-FoundLast words place (Readied other ∷ deeds) = ⊤
-FoundLast words place (Blocked other ∷ deeds) = ⊤
-FoundLast words place (Unblocked other ∷ deeds) = ⊤
+FoundLast words place (look ∷ looks) = look.0 ≡ mark_at place → look.1 / 4 ≡ slice_index words (mark_at place) / 4
 
 -- A mark's generation is how many jobs have ended at its place, up to the first that no name has. It is what a seat
 -- with the place in hand has found last.
 pub record CountsEnds (blocks : ℕ) (b : Board) : Type 0 where
   pub counted : (place : ℕ) → place < 64 * blocks → slice_index b.words (mark_at place) / 4 ≡ min last_generation (ends_at place b.views)
-  pub found : (h : ℕ) (t : Token Notes) → get_elem? b.views h ≡ some t → (place : ℕ) → place < 64 * blocks → 0 < places_in place t.known.hand → FoundLast b.words place t.known.deeds
+  pub found : (h : ℕ) (t : Token Notes) → get_elem? b.views h ≡ some t → (place : ℕ) → place < 64 * blocks → 0 < places_in place t.known.hand → FoundLast b.words place t.known.looks
 
 -- ---- which blocks a shard shows
 

@@ -4,7 +4,6 @@ use Rattle.std.specs.Int.{bit_at}
 use Rattle.std.specs.Int.RustNames.{bit_and}
 use Rattle.atomic_table.specs.Table.{rest}
 use Rattle.arachne_exec.specs.declared.view.Notes.{Notes}
-use Rattle.arachne_exec.specs.declared.view.Deed.TheVariants.{Looked, Gained, Readied}
 use Rattle.arachne_exec.specs.declared.answers.HeldJob.{HeldJob}
 use Rattle.arachne_exec.specs.declared.answers.PlacedJob.{PlacedJob}
 use Rattle.arachne_exec.specs.declared.answers.Next.{Next}
@@ -25,13 +24,13 @@ use Rattle.arachne_exec.specs.declared.turns.TakenJob.{TakenJob}
 use Rattle.arachne_exec.specs.Seats.{CallView}
 use Rattle.arachne_exec.specs.Turns.{IsFirstFrom}
 use Rattle.arachne_exec.specs.Layout.{summary_at, ready_at, free_at, mark_at, places_in_word, PicksLowest, worker_of, last_generation, name_of}
-use Rattle.arachne_exec.specs.Changes.{older, gaining, unblocking, readying, blocking, marking, noted, looking, rousing, often, having_seen, lying, rising, using_up, finishing, roused_more}
+use Rattle.arachne_exec.specs.Changes.{older, newest_job, gaining, unblocking, laying_down, blocking, marking, noted, rousing, often, having_seen, lying, rising, using_up, heard_more, roused_more}
 
 -- the worker of a place
 abbrev pub worker_at : ℕ → ℕ
 worker_at place = worker_of (place / 4096)
 
--- a bit of a word was found set, and then clear: another seat has cleared it
+-- a bit of a word was found set, and then clear, and the seat has done nothing: another has cleared it
 pub record HasMissed (word : ℕ) (k after : Notes) : Type 0 where
   pub first : ℕ
   pub then : ℕ
@@ -41,16 +40,19 @@ pub record HasMissed (word : ℕ) (k after : Notes) : Type 0 where
   pub gone : bit_at then index ≡ 0
   pub known : after ≡ noted word then (noted word first k)
 
--- the job is ready at a place of the block whose free bit was found set; the name is what the place's mark says
+-- The job is ready at a place of the block: the step that claimed the place found its free bit set. The name is what the
+-- place's mark says then.
 pub record HasPlaced (at : PlacedJob) (block job : ℕ) (k after : Notes) : Type 0 where
   pub there : at.place / 64 ≡ block
   pub free : ℕ
+  pub found : ℕ
+  pub claimed : bit_at found (at.place % 64) ≡ 1
   pub mark : ℕ
   pub named : at.name ≡ name_of at.place mark
   pub known : after ≡ record k {
-    spawned = job ∷ k.spawned;
+    spawned = (at.place, job) ∷ k.spawned;
     roused = roused_more at.unpark (worker_at at.place) k.roused;
-    deeds = Readied at.place ∷ Looked (mark_at at.place) mark ∷ Gained at.place ∷ Looked (free_at block) free ∷ k.deeds;
+    looks = (mark_at at.place, mark) ∷ (free_at block, found) ∷ (free_at block, free) ∷ k.looks;
   }
 
 -- Full: the block's free word was found empty. Lost: another seat has claimed a place that was found free
@@ -59,17 +61,19 @@ HasSpawned (spawned.Placed at) block job k after = HasPlaced at block job k afte
 HasSpawned spawned.Full block job k after = after ≡ noted (free_at block) 0 k
 HasSpawned spawned.Lost block job k after = HasMissed (free_at block) k after
 
--- the job is in hand, at a place of the block whose free bit was found set; the name is what the place's mark says
+-- the same, but the job is in hand
 pub record HasBegun (job : HeldJob) (block number : ℕ) (k after : Notes) : Type 0 where
   pub there : job.place / 64 ≡ block
   pub given : job.job ≡ number
   pub free : ℕ
+  pub found : ℕ
+  pub claimed : bit_at found (job.place % 64) ≡ 1
   pub mark : ℕ
   pub named : job.name ≡ name_of job.place mark
   pub known : after ≡ record k {
     hand = (job.place, number) ∷ k.hand;
-    spawned = number ∷ k.spawned;
-    deeds = Looked (mark_at job.place) mark ∷ Gained job.place ∷ Looked (free_at block) free ∷ k.deeds;
+    spawned = (job.place, number) ∷ k.spawned;
+    looks = (mark_at job.place, mark) ∷ (free_at block, found) ∷ (free_at block, free) ∷ k.looks;
   }
 
 abbrev pub HasSpawnedHere : SpawnedHere → ℕ → ℕ → Notes → Notes → Type 0
@@ -77,17 +81,19 @@ HasSpawnedHere (spawned_here.Held job) block number k after = HasBegun job block
 HasSpawnedHere spawned_here.Full block number k after = after ≡ noted (free_at block) 0 k
 HasSpawnedHere spawned_here.Lost block number k after = HasMissed (free_at block) k after
 
--- the job is in hand, from a place of the block whose ready bit was found set; the name is what the place's mark says,
--- and a wake that the mark says of is used up
+-- The job is in hand, from a place of the block: the step that took it found its ready bit set. The name is what the
+-- place's mark says then, and a wake that the mark says of is used up.
 pub record HasTaken (job : HeldJob) (block : ℕ) (k after : Notes) : Type 0 where
   pub there : job.place / 64 ≡ block
   pub ready : ℕ
+  pub found : ℕ
+  pub taken : bit_at found (job.place % 64) ≡ 1
   pub mark : ℕ
   pub named : job.name ≡ name_of job.place mark
   pub then : ℕ
   pub known : after ≡ using_up mark job.place then (record k {
     hand = (job.place, job.job) ∷ k.hand;
-    deeds = Looked (mark_at job.place) mark ∷ Gained job.place ∷ Looked (ready_at block) ready ∷ k.deeds;
+    looks = (mark_at job.place, mark) ∷ (ready_at block, found) ∷ (ready_at block, ready) ∷ k.looks;
   })
 
 -- within a call: of the ready places of the block it was the first from that index on; with it whether there was another behind
@@ -135,17 +141,24 @@ HasSeenWake place v after = (mark : ℕ) × (((mark % 4 ≢ 0) × (after ≡ rec
 abbrev pub HasRested : JobRested → ℕ → Notes → Notes → Type 0
 HasRested rested.Blocked place k after = (mark : ℕ) × (mark % 4 ≡ 0) × (after ≡ blocking (noted (mark_at place) mark k))
 HasRested (rested.Ready unpark) place k after = (mark : ℕ)
-    × (((mark % 4 ≢ 0) × (after ≡ rousing unpark (worker_at place) (readying (noted (mark_at place) mark k))))
-    ⊎ ((then : ℕ) × (then ≢ mark) × (after ≡ rousing unpark (worker_at place) (readying (noted (mark_at place) then (noted (mark_at place) mark k))))))
+    × (((mark % 4 ≢ 0) × (after ≡ rousing unpark (worker_at place) (laying_down (noted (mark_at place) mark k))))
+    ⊎ ((then : ℕ) × (then ≢ mark) × (after ≡ rousing unpark (worker_at place) (laying_down (noted (mark_at place) then (noted (mark_at place) mark k))))))
 
--- the job of the newest place has ended, and the mark is that of the next generation; or no name has that, and the
--- place is retired
+-- The job of the newest place has ended, where this mark was found first. A place is retired, that is, blocked for ever,
+-- where no name has the next generation.
 pub record HasFinished (place : ℕ) (k after : Notes) : Type 0 where
   pub mark : ℕ
+  pub then : List (ℕ × ℕ)
+  pub found : after.looks ≡ then ++ (mark_at place, mark) ∷ k.looks
   pub heard : ℕ
-  pub known : after ≡ finishing place (heard % 2) after.deeds k
-  pub generation : ((mark / 4 + 1 < last_generation) × (after.deeds ≡ Looked (mark_at place) (4 * (mark / 4 + 1)) ∷ Looked (mark_at place) mark ∷ k.deeds))
-      ⊎ ((last_generation ≤ mark / 4 + 1) × (after.deeds ≡ Looked (mark_at place) mark ∷ k.deeds))
+  pub known : after ≡ record k {
+    hand = older k.hand;
+    ended = (place, newest_job k.hand) ∷ k.ended;
+    heard = heard_more (heard % 2) place k.heard;
+    blocked = after.blocked;
+    looks = after.looks;
+  }
+  pub retired : ((mark / 4 + 1 < last_generation) × (after.blocked ≡ k.blocked)) ⊎ ((last_generation ≤ mark / 4 + 1) × (after.blocked ≡ place ∷ k.blocked))
 
 -- the mark at the place was found not to be of this generation; or there is no such place, or no such generation
 abbrev pub IsGone : ℕ → ℕ → ℕ → Notes → Notes → Type 0
@@ -174,7 +187,7 @@ HasMarked place generation k after = after ≡ marking place (twice place (4 * g
 
 -- of an executor with so many places
 abbrev pub HasWoken : JobWoken → ℕ → ℕ → ℕ → Notes → Notes → Type 0
-HasWoken (woken.Ready unpark) places place generation k after = (job : ℕ) × (held : Notes) × HasUnblocked place generation job k held × (after ≡ rousing unpark (worker_at place) (readying held))
+HasWoken (woken.Ready unpark) places place generation k after = (job : ℕ) × (held : Notes) × HasUnblocked place generation job k held × (after ≡ rousing unpark (worker_at place) (laying_down held))
 HasWoken woken.Marked places place generation k after = HasMarked place generation k after
 HasWoken woken.Already places place generation k after = IsAlready place generation k after
 HasWoken woken.Gone places place generation k after = IsGone places place generation k after
@@ -187,10 +200,10 @@ HasWokenHere here.Already places place generation k after = IsAlready place gene
 HasWokenHere here.Gone places place generation k after = IsGone places place generation k after
 HasWokenHere here.Lost places place generation k after = IsLost place generation k after
 
--- it has looked at words, has cleared the idle bit of that worker so often to wake it, and of no other, and has neither
--- taken a place nor laid one down
+-- it has looked at words, and has cleared the idle bit of that worker so often to wake it, and of no other; nothing else
+-- has changed
 abbrev pub HasLooked : ℕ → Notes → Notes → Type 0
-HasLooked worker k after = (n : ℕ) × (looks : List (ℕ × ℕ)) × (after ≡ record k { deeds = looking looks ++ k.deeds; roused = often n worker k.roused })
+HasLooked worker k after = (n : ℕ) × (looks : List (ℕ × ℕ)) × (after ≡ record k { looks = looks ++ k.looks; roused = often n worker k.roused })
 
 -- it has looked, and then taken a job of a block of that shard, one of so many
 abbrev pub HasTakenInShard : HeldJob → (shards shard : ℕ) → Notes → Notes → Type 0

@@ -1,12 +1,10 @@
 -- What a step adds to what a seat knows.
-use Rattle.std.specs.Prelude.{ℕ, zero, suc, ◌+◌, ◌*◌, ◌/◌, ◌%◌, Bool, true, false, List, [], ◌∷◌, ◌++◌, map}
+use Rattle.std.specs.Prelude.{ℕ, zero, suc, ◌+◌, ◌*◌, ◌/◌, ◌%◌, Bool, true, false, List, [], ◌∷◌, ◌++◌}
 use Rattle.std.specs.Int.{bit_at}
 use Rattle.arachne_weights.specs.declared.token.Token.{Token}
 use Rattle.arachne_weights.specs.Tokens.{held}
 use Rattle.arachne_weights.specs.Weight.{first_part, second_part, joined}
 use Rattle.arachne_exec.specs.declared.view.Notes.{Notes}
-use Rattle.arachne_exec.specs.declared.view.Deed.{Deed}
-use Rattle.arachne_exec.specs.declared.view.Deed.TheVariants.{Looked, Gained, Readied, Blocked, Unblocked}
 use Rattle.arachne_exec.specs.Layout.{idle_at, mark_at}
 use Rattle.arachne_exec.specs.Board.{blank}
 
@@ -22,42 +20,34 @@ abbrev pub newest_place : List (ℕ × ℕ) → ℕ
 newest_place [] = 0
 newest_place (x ∷ xs) = x.0
 
--- a place with its job comes into the hand; the second: it was blocked
+-- a place with its job comes into the hand, or several; the last: it was blocked
 abbrev pub gained : ℕ → ℕ → Notes → Notes
-gained place job k = record k { hand = (place, job) ∷ k.hand; deeds = Gained place ∷ k.deeds }
-
--- several places with their jobs
-abbrev pub gains : List (ℕ × ℕ) → List Deed
-gains jobs = map (λ (x : ℕ × ℕ). Gained x.0) jobs
+gained place job k = record k { hand = (place, job) ∷ k.hand }
 
 abbrev pub gaining : List (ℕ × ℕ) → Notes → Notes
-gaining jobs k = record k { hand = jobs ++ k.hand; deeds = gains jobs ++ k.deeds }
+gaining jobs k = record k { hand = jobs ++ k.hand }
 
 abbrev pub unblocking : ℕ → ℕ → Notes → Notes
-unblocking place job k = record k { hand = (place, job) ∷ k.hand; deeds = Unblocked place ∷ k.deeds }
+unblocking place job k = record k { hand = (place, job) ∷ k.hand; unblocked = place ∷ k.unblocked }
 
--- the newest place is ready, or blocked, and out of hand
-abbrev pub readying : Notes → Notes
-readying k = record k { hand = older k.hand; deeds = Readied (newest_place k.hand) ∷ k.deeds }
+-- the newest place is ready or free, or it is blocked, and out of hand
+abbrev pub laying_down : Notes → Notes
+laying_down k = record k { hand = older k.hand }
 
 abbrev pub blocking : Notes → Notes
-blocking k = record k { hand = older k.hand; deeds = Blocked (newest_place k.hand) ∷ k.deeds }
+blocking k = record k { hand = older k.hand; blocked = newest_place k.hand ∷ k.blocked }
 
 -- the newest place got this job, is ready, and out of hand
 abbrev pub spawning : ℕ → Notes → Notes
-spawning job k = record k { hand = older k.hand; spawned = job ∷ k.spawned; deeds = Readied (newest_place k.hand) ∷ k.deeds }
+spawning job k = record k { hand = older k.hand; spawned = (newest_place k.hand, job) ∷ k.spawned }
 
 -- the newest place got this job, and stays in hand
 abbrev pub beginning : ℕ → Notes → Notes
-beginning job k = record k { hand = (newest_place k.hand, job) ∷ older k.hand; spawned = job ∷ k.spawned }
+beginning job k = record k { hand = (newest_place k.hand, job) ∷ older k.hand; spawned = (newest_place k.hand, job) ∷ k.spawned }
 
--- the newest job has ended
-abbrev pub ending : Notes → Notes
-ending k = record k { hand = older k.hand; ended = newest_job k.hand ∷ k.ended }
-
--- a job has ended at a place
-abbrev pub aging : ℕ → Notes → Notes
-aging place k = record k { ended_at = place ∷ k.ended_at }
+-- the job of the newest place, which this is, has ended, and the place stays in hand without one
+abbrev pub ending : ℕ → Notes → Notes
+ending place k = record k { hand = (place, 0) ∷ older k.hand; ended = (place, newest_job k.hand) ∷ k.ended }
 
 -- the job at a place was marked as woken
 abbrev pub marking : ℕ → Notes → Notes
@@ -71,20 +61,10 @@ heard_more (suc n) place heard = place ∷ heard
 abbrev pub hearing : ℕ → ℕ → Notes → Notes
 hearing n place k = record k { heard = heard_more n place k.heard }
 
--- the newest job has ended at a place, where so many wakes (0 or 1) were used up, and these are the deeds then
-abbrev pub finishing : ℕ → ℕ → List Deed → Notes → Notes
-finishing place n deeds k = record k {
-  hand = older k.hand;
-  ended = newest_job k.hand ∷ k.ended;
-  ended_at = place ∷ k.ended_at;
-  heard = heard_more n place k.heard;
-  deeds = deeds;
-}
-
 -- A mark that says of no wake (0 modulo 4) stays. Any other was cleared where that number stood.
-abbrev pub cleared_deeds : ℕ → ℕ → ℕ → List Deed → List Deed
-cleared_deeds zero place found deeds = deeds
-cleared_deeds (suc n) place found deeds = Looked (mark_at place) (4 * (found / 4)) ∷ deeds
+abbrev pub cleared_looks : ℕ → ℕ → ℕ → List (ℕ × ℕ) → List (ℕ × ℕ)
+cleared_looks zero place found looks = looks
+cleared_looks (suc n) place found looks = (mark_at place, 4 * (found / 4)) ∷ looks
 
 abbrev pub cleared_heard : ℕ → ℕ → ℕ → List ℕ → List ℕ
 cleared_heard zero place found heard = heard
@@ -92,15 +72,11 @@ cleared_heard (suc n) place found heard = heard_more (found % 2) place heard
 
 -- a place had this mark, and no wake is left there: one that the mark says of is used up
 abbrev pub using_up : ℕ → ℕ → ℕ → Notes → Notes
-using_up mark place found k = record k { heard = cleared_heard (mark % 4) place found k.heard; deeds = cleared_deeds (mark % 4) place found k.deeds }
+using_up mark place found k = record k { heard = cleared_heard (mark % 4) place found k.heard; looks = cleared_looks (mark % 4) place found k.looks }
 
 -- a number was found in a word, or put into it
 abbrev pub noted : ℕ → ℕ → Notes → Notes
-noted word number k = record k { deeds = Looked word number ∷ k.deeds }
-
--- numbers were found in words
-abbrev pub looking : List (ℕ × ℕ) → List Deed
-looking looks = map (λ (x : ℕ × ℕ). Looked x.0 x.1) looks
+noted word number k = record k { looks = (word, number) ∷ k.looks }
 
 -- the idle bit of a worker was found set, and cleared: it is to be unparked
 abbrev pub roused_more : Bool → ℕ → List ℕ → List ℕ
@@ -123,7 +99,7 @@ lain_more (suc n) worker lain = lain
 -- the idle word was found to be that number, and the worker has set its bit there, and seen none of its summary words
 -- since
 abbrev pub lying : ℕ → ℕ → Notes → Notes
-lying worker found k = record k { lain = lain_more (bit_at found worker) worker k.lain; deeds = Looked idle_at found ∷ k.deeds; seen = 0 }
+lying worker found k = record k { lain = lain_more (bit_at found worker) worker k.lain; looks = (idle_at, found) ∷ k.looks; seen = 0 }
 
 -- a worker has found its idle bit so (0: clear, 1: set), and cleared it: it rises where it was set
 abbrev pub risen_more : ℕ → ℕ → List ℕ → List ℕ
@@ -131,7 +107,7 @@ risen_more zero worker risen = risen
 risen_more (suc n) worker risen = worker ∷ risen
 
 abbrev pub rising : ℕ → ℕ → Notes → Notes
-rising worker found k = record k { risen = risen_more (bit_at found worker) worker k.risen; deeds = Looked idle_at found ∷ k.deeds; seen = 0 }
+rising worker found k = record k { risen = risen_more (bit_at found worker) worker k.risen; looks = (idle_at, found) ∷ k.looks; seen = 0 }
 
 abbrev pub unshowing : ℕ → Notes → Notes
 unshowing block k = record k { unshown = block }
@@ -166,13 +142,14 @@ abbrev pub together : Notes → Notes → Notes
 together k l = record k {
   spawned = k.spawned ++ l.spawned;
   ended = k.ended ++ l.ended;
-  ended_at = k.ended_at ++ l.ended_at;
   woken = k.woken ++ l.woken;
   heard = k.heard ++ l.heard;
+  blocked = k.blocked ++ l.blocked;
+  unblocked = k.unblocked ++ l.unblocked;
   lain = k.lain ++ l.lain;
   risen = k.risen ++ l.risen;
   roused = k.roused ++ l.roused;
-  deeds = k.deeds ++ l.deeds;
+  looks = k.looks ++ l.looks;
   splits = k.splits + l.splits;
 }
 

@@ -5,11 +5,11 @@ use lib.ListN.{get_elem?}
 use Rattle.arachne_weights.specs.Tokens.{held}
 use Rattle.arachne_weights.specs.Weight.{whole}
 use Rattle.arachne_exec.specs.declared.view.Notes.{Notes}
-use Rattle.arachne_exec.specs.Board.{times, Board, IsLawful}
+use Rattle.arachne_exec.specs.Board.{times, jobs_in, Board, IsLawful}
 
 -- each job number but 0 was spawned as often as it has ended and is left; 0 isn't left
 pub record IsSettled (k : Notes) (left : List ℕ) : Type 0 where
-  pub settled : (job : ℕ) → 0 < job → times job k.spawned ≡ times job k.ended + times job left
+  pub settled : (job : ℕ) → 0 < job → jobs_in job k.spawned ≡ jobs_in job k.ended + times job left
   pub numbers : times 0 left ≡ 0
 
 -- the rule allows a board where the seat with the whole weight knows this: each law holds there

@@ -6,7 +6,7 @@ use lib.ListN.{get_elem?}
 use Rattle.arachne_weights.specs.declared.token.Token.{Token}
 use Rattle.arachne_exec.specs.declared.view.Notes.{Notes}
 use Rattle.arachne_exec.specs.Layout.{numbers_at, summary_at, ready_at, mark_at, in_word}
-use Rattle.arachne_exec.specs.Board.{Board, by_all, times, jobs_in, is_free, is_ready, is_blocked, is_idle, in_hands, unshown_by, owed}
+use Rattle.arachne_exec.specs.Board.{Board, by_all, times, jobs_in, times_at, is_at_home, is_free, is_ready, is_blocked, is_idle, in_hands, unshown_by, owed}
 use Rattle.arachne_exec.specs.Calls.{HasSeenAll}
 
 -- the place's job is neither blocked nor in the hand of a seat, and the place isn't free
@@ -53,13 +53,30 @@ AreOwedTo shards worker b = (block : ℕ) → block < 64 * shards → block / 64
 
 -- the job number was spawned, has ended, or is in hand
 abbrev pub spawns : ℕ → Board → ℕ
-spawns job b = by_all (λ (k : Notes). times job k.spawned) b.views
+spawns job b = by_all (λ (k : Notes). jobs_in job k.spawned) b.views
 
 abbrev pub ends : ℕ → Board → ℕ
-ends job b = by_all (λ (k : Notes). times job k.ended) b.views
+ends job b = by_all (λ (k : Notes). jobs_in job k.ended) b.views
 
 abbrev pub times_in_hand : ℕ → Board → ℕ
 times_in_hand job b = by_all (λ (k : Notes). jobs_in job k.hand) b.views
+
+-- the job number was spawned at the place, has ended there, or is there: in a hand, or in the place's slot
+abbrev pub spawned_at : ℕ → ℕ → Board → ℕ
+spawned_at place job b = by_all (λ (k : Notes). times_at place job k.spawned) b.views
+
+abbrev pub ended_at : ℕ → ℕ → Board → ℕ
+ended_at place job b = by_all (λ (k : Notes). times_at place job k.ended) b.views
+
+abbrev pub lives_at : ℕ → ℕ → Board → ℕ
+lives_at place job b = by_all (λ (k : Notes). times_at place job k.hand) b.views + is_at_home place job b.homes
+
+-- the place was blocked, or unblocked
+abbrev pub blocks : ℕ → Board → ℕ
+blocks place b = by_all (λ (k : Notes). times place k.blocked) b.views
+
+abbrev pub unblocks : ℕ → Board → ℕ
+unblocks place b = by_all (λ (k : Notes). times place k.unblocked) b.views
 
 -- a wake has set the mark at the place, or who had the place in hand has used it up
 abbrev pub wakes : ℕ → Board → ℕ

@@ -7,7 +7,7 @@ use Rattle.arachne_weights.specs.declared.token.Token.{Token}
 use Rattle.arachne_weights.specs.Tokens.{held}
 use Rattle.arachne_exec.specs.declared.view.Notes.{Notes}
 use Rattle.arachne_exec.specs.Layout.{idle_at, summary_at, ready_at, free_at, mark_at, worker_of, others, places_in_word}
-use Rattle.arachne_exec.specs.Changes.{newest_place, newest_job, gained, gaining, unblocking, readying, blocking, spawning, beginning, ending, aging, marking, hearing, noted, rousing, unshowing, owing, having_seen, lying, rising, working}
+use Rattle.arachne_exec.specs.Changes.{newest_place, newest_job, gained, gaining, unblocking, laying_down, blocking, spawning, beginning, ending, marking, hearing, noted, rousing, unshowing, owing, having_seen, lying, rising, working}
 
 -- a view, and the slots that are out with the seat: each a place with what is in it
 abbrev pub Mine : Type 0
@@ -28,10 +28,10 @@ knowing m k = with m k m.1
 abbrev pub Looks : Step ℕ → Mine → ℕ → Mine → Type 0
 Looks step before found after = after ≡ knowing before (noted step.word found before.0.known)
 
--- the bit of a place is cleared: where it was set, the place is in the seat's hand, with its job
+-- The number is noted, and the bit of a place is cleared: where it was set, the place is in the seat's hand, with its job
 abbrev pub Takes : Step ℕ → Mine → ℕ → Mine → Type 0
 Takes step before found after = (place : ℕ) → step.word ≡ ready_at (place / 64) → step.first ≡ others (place % 64)
-    → (bit_at found (place % 64) ≡ 1 → (job : ℕ) × (after ≡ with before (gained place job before.0.known) ((place, job) ∷ before.1)))
+    → (bit_at found (place % 64) ≡ 1 → (job : ℕ) × (after ≡ with before (gained place job (noted step.word found before.0.known)) ((place, job) ∷ before.1)))
     × (bit_at found (place % 64) ≡ 0 → after ≡ knowing before (noted step.word found before.0.known))
 
 -- The bits of several places of a block are cleared: those that were set are in the seat's hand, the lowest as the
@@ -43,18 +43,18 @@ TakesMany step before found after = (block pick : ℕ) → pick < 2 ^ 64 → ste
 -- the same of the free word, where a place has no job
 abbrev pub Claims : (ℕ → ℕ) → Step ℕ → Mine → ℕ → Mine → Type 0
 Claims at step before found after = (place : ℕ) → step.word ≡ at (place / 64) → step.first ≡ others (place % 64)
-    → (bit_at found (place % 64) ≡ 1 → after ≡ with before (gained place 0 before.0.known) ((place, 0) ∷ before.1))
+    → (bit_at found (place % 64) ≡ 1 → after ≡ with before (gained place 0 (noted step.word found before.0.known)) ((place, 0) ∷ before.1))
     × (bit_at found (place % 64) ≡ 0 → after ≡ knowing before (noted step.word found before.0.known))
 
--- the newest place is free, by its bit in the free word: its job has ended
+-- the newest place is free, by its bit in the free word
 abbrev pub Frees : Step ℕ → Mine → ℕ → Mine → Type 0
-Frees step before found after = (step.word ≡ free_at (newest_place before.0.known.hand / 64)) × (after ≡ with before (ending before.0.known) (rest before.1))
+Frees step before found after = (step.word ≡ free_at (newest_place before.0.known.hand / 64)) × (after ≡ with before (laying_down before.0.known) (rest before.1))
 
 -- the newest place is ready; where its block had no ready job, the bit in the summary word is owed
 abbrev pub Readies : Step ℕ → Mine → ℕ → Mine → Type 0
 Readies step before found after = (place : ℕ) → step.word ≡ ready_at (place / 64)
-    → (found ≡ 0 → after ≡ with before (unshowing (place / 64 + 1) (readying before.0.known)) (rest before.1))
-    × (found ≢ 0 → after ≡ with before (readying before.0.known) (rest before.1))
+    → (found ≡ 0 → after ≡ with before (unshowing (place / 64 + 1) (laying_down before.0.known)) (rest before.1))
+    × (found ≢ 0 → after ≡ with before (laying_down before.0.known) (rest before.1))
 
 -- the same of a place that a job was laid into
 abbrev pub Spawns : Step ℕ → Mine → ℕ → Mine → Type 0
@@ -70,13 +70,13 @@ Begins step before found after = after ≡ knowing before (beginning (newest_job
 abbrev pub Blocks : Step ℕ → Mine → ℕ → Mine → Type 0
 Blocks step before found after = (found ≡ step.first → after ≡ with before (blocking before.0.known) (rest before.1)) × (found ≢ step.first → after ≡ knowing before (noted step.word found before.0.known))
 
--- a job has ended at the newest place, which gets a new mark, and a mark of a wake is used up
+-- the job of the newest place has ended, which gets a new mark, and a mark of a wake is used up
 abbrev pub Renews : Step ℕ → Mine → ℕ → Mine → Type 0
-Renews step before found after = (place : ℕ) → step.word ≡ mark_at place → after ≡ knowing before (noted step.word step.first (aging place (hearing (found % 2) place before.0.known)))
+Renews step before found after = (place : ℕ) → step.word ≡ mark_at place → after ≡ knowing before (noted step.word step.first (ending place (hearing (found % 2) place before.0.known)))
 
 -- the newest place is blocked for ever: its job has ended
 abbrev pub Retires : Step ℕ → Mine → ℕ → Mine → Type 0
-Retires step before found after = (place : ℕ) → step.word ≡ mark_at place → after ≡ with before (ending (aging place (hearing (found % 2) place before.0.known))) (rest before.1)
+Retires step before found after = (place : ℕ) → step.word ≡ mark_at place → after ≡ with before (blocking (ending place (hearing (found % 2) place before.0.known))) (rest before.1)
 
 -- the mark says of no wake any more: one that it said of is used up
 abbrev pub Hears : Step ℕ → Mine → ℕ → Mine → Type 0

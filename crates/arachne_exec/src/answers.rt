@@ -59,7 +59,8 @@ pub enum Next {
 pub enum JobWoken {
     /// The job was blocked, and is ready.
     Ready { unpark: bool },
-    /// The job isn't blocked: its mark says of the wake until a take or `start` uses it up, or the job ends.
+    /// The job isn't blocked: its mark says of the wake until a take or `start` uses it up, or the job ends. So it is with
+    /// the name that the next job at a free place will have.
     Marked,
     /// It was marked before.
     Already,

@@ -1,7 +1,7 @@
 //! The way of a job: spawn, take, rest, finish.
 ghost use Rattle.std.specs.Prelude.{◌≡◌, ℕ, ◌*◌, ◌<◌, IsTrue, IsFalse, IfSome, IfNone};
 ghost use Rattle.arachne_exec.specs.Layout.{mark_at, name_of};
-ghost use Rattle.arachne_exec.specs.Changes.{readying, noted, rousing, using_up};
+ghost use Rattle.arachne_exec.specs.Changes.{laying_down, noted, rousing, using_up};
 ghost use Rattle.arachne_exec.specs.Seats.{HasNewest, IsNewest};
 ghost use Rattle.arachne_exec.specs.Calls.{worker_at, HasSpawned, HasSpawnedHere, HandsSpawned, HasTaken, HasTakenFrom, HasTakenNone, HasBlocked, HasSeenWake, HasRested, HasFinished, KeepsHand, HandsOver, LaysDown};
 
@@ -145,7 +145,7 @@ impl Executor {
         requires own { seat.old.table ≡ self.now.table }
         requires place { place < 4096 * self.now.shards }
         requires newest { IsNewest place seat.old.known }
-        ensures { seat.new ≡ record seat.old { known = rousing result (worker_at place) (readying seat.old.known) } }
+        ensures { seat.new ≡ record seat.old { known = rousing result (worker_at place) (laying_down seat.old.known) } }
     {
         self.publish(&mut seat.at, place)
     }

@@ -1,5 +1,5 @@
 //! What holds of an executor between any two steps. The functions do nothing: a law is their contract.
-ghost use Rattle.std.specs.Prelude.{◌≡◌, Bool, ℕ, ◌+◌, ◌*◌, ◌/◌, ◌<◌, ◌≤◌, min};
+ghost use Rattle.std.specs.Prelude.{◌≡◌, ◌≢◌, Bool, ℕ, ◌+◌, ◌*◌, ◌/◌, ◌<◌, ◌≤◌, min};
 ghost use Rattle.arachne_exec.specs.declared.view.Notes.{Notes};
 ghost use Rattle.arachne_exec.specs.declared.answers.JobRested.{JobRested};
 ghost use Rattle.arachne_exec.specs.declared.answers.JobSpawned.{JobSpawned};
@@ -9,12 +9,12 @@ ghost use Rattle.arachne_exec.specs.declared.answers.HeldJob.{HeldJob};
 ghost use Rattle.arachne_exec.specs.declared.answers.SpawnedHere.{SpawnedHere};
 ghost use Rattle.arachne_exec.specs.declared.answers.WokenHere.{WokenHere};
 ghost use Rattle.arachne_exec.specs.Layout.{last_generation, worker_of};
-ghost use Rattle.arachne_exec.specs.Changes.{readying, rousing};
+ghost use Rattle.arachne_exec.specs.Changes.{laying_down, rousing};
 ghost use Rattle.arachne_exec.specs.Calls.{worker_at, HasSpawned, HasSpawnedHere, HasTaken, HasTakenNone, HasTakenMany, HasStarted, HasRested, HasFinished, HasWoken, HasWokenHere, HasAnswered};
 ghost use Rattle.arachne_exec.specs.Sleeps.{spawn_unparks, rest_unparks, wake_unparks, Rouses, RousesNobody, Sleeps};
 ghost use Rattle.arachne_exec.specs.Board.{Board, IsLawful, at_home, is_ready, is_free, is_blocked, is_idle, seats_of, ends_at, lies, rises, rouses};
 ghost use Rattle.arachne_exec.specs.Promises.{IsReadyJob, IsEmptyPlace, keepers_of, HasReady, IsShownOrOwed, IsParked, AreOwedTo};
-ghost use Rattle.arachne_exec.specs.Promises.{spawns, ends, times_in_hand, wakes, wakes_heard, is_marked, is_unused, generation_at};
+ghost use Rattle.arachne_exec.specs.Promises.{spawns, ends, times_in_hand, spawned_at, ended_at, lives_at, blocks, unblocks, wakes, wakes_heard, is_marked, is_unused, generation_at};
 
 use crate::executor::Executor;
 use crate::seat::ExecSeat;
@@ -56,7 +56,7 @@ pub fn sleepers_are_told()
 /// `may_park` let it lie down.
 pub fn calls_say_whom_they_rouse()
     ensures spawn { (answer : JobSpawned) (block job : ℕ) (k after : Notes) → HasSpawned answer block job k after → Rouses (spawn_unparks answer) (worker_of (block / 64)) k after }
-    ensures rest_ready { (unpark : Bool) (place : ℕ) (k : Notes) → Rouses unpark (worker_at place) k (rousing unpark (worker_at place) (readying k)) }
+    ensures rest_ready { (unpark : Bool) (place : ℕ) (k : Notes) → Rouses unpark (worker_at place) k (rousing unpark (worker_at place) (laying_down k)) }
     ensures rest_blocked { (answer : JobRested) (place : ℕ) (k after : Notes) → HasRested answer place k after → Rouses (rest_unparks answer) (worker_at place) k after }
     ensures wake { (answer : JobWoken) (places place generation : ℕ) (k after : Notes) → HasWoken answer places place generation k after → Rouses (wake_unparks answer) (worker_at place) k after }
     ensures next { (answer : Next) (shards worker : ℕ) (k after : Notes) → HasAnswered answer shards worker k after → Sleeps answer shards worker k after }
@@ -69,10 +69,20 @@ pub fn calls_say_whom_they_rouse()
     ensures finish { (place : ℕ) (k after : Notes) → HasFinished place k after → RousesNobody k after }
 {}
 
-/// Each job number but 0 was spawned as often as it has ended, is in a hand, and lies in a slot.
+/// Each job number but 0 was spawned as often as it has ended, is in a hand, and lies in a slot: over all places, and at
+/// each place.
 pub fn jobs_are_conserved()
-    ensures { (shards : ℕ) (b : Board) → IsLawful shards b → (job : ℕ) → 0 < job
+    ensures all { (shards : ℕ) (b : Board) → IsLawful shards b → (job : ℕ) → 0 < job
         → spawns job b ≡ ends job b + times_in_hand job b + at_home job b.homes }
+    ensures at_place { (shards : ℕ) (b : Board) → IsLawful shards b → (place job : ℕ) → 0 < job
+        → spawned_at place job b ≡ ended_at place job b + lives_at place job b }
+{}
+
+/// Each time that a place was blocked, or retired, it was unblocked once, or is blocked. So no step of any kind lets a job
+/// wait, or wakes one, that isn't counted so.
+pub fn blocks_are_counted()
+    ensures { (shards : ℕ) (b : Board) → IsLawful shards b → (place : ℕ) → place < 4096 * shards
+        → blocks place b ≡ unblocks place b + is_blocked b.words place }
 {}
 
 /// Each mark that a wake has set at a place was used up by who had the place in hand, or is there; and none is there
@@ -83,12 +93,14 @@ pub fn wakes_are_heard()
         → wakes place b ≡ wakes_heard place b + is_marked b.words place }
 {}
 
-/// A mark's generation is how many jobs have ended at its place, up to the first that no name has. A name has the
-/// generation that its place's mark had when its job came. So it is of that job for good: once the job has ended no
-/// mark has that generation again, and a wake by the name does nothing.
+/// A mark's generation is how many jobs have ended at its place, up to the first that no name has, and one job at most is
+/// at the place. A name has the generation that its place's mark had when its job came. So it is of that job for good:
+/// once the job has ended no mark has that generation again, and a wake by the name does nothing.
 pub fn names_are_of_one_job()
-    ensures { (shards : ℕ) (b : Board) → IsLawful shards b → (place : ℕ) → place < 4096 * shards
+    ensures generation { (shards : ℕ) (b : Board) → IsLawful shards b → (place : ℕ) → place < 4096 * shards
         → generation_at place b ≡ min last_generation (ends_at place b.views) }
+    ensures one { (shards : ℕ) (b : Board) → IsLawful shards b → (place : ℕ) → place < 4096 * shards → (job other : ℕ) → job ≢ other
+        → lives_at place job b + lives_at place other b ≤ 1 }
 {}
 
 /// No two seats are one worker, and a number whose bit isn't set has a seat.

@@ -33,4 +33,4 @@ pub use layout::{
     BLOCKS_PER_SHARD, MOST_SHARDS, PLACES_PER_BLOCK, WORKERS, place_of, worker_of_place,
 };
 pub use seat::ExecSeat;
-pub use view::{Deed, Notes, View};
+pub use view::{Notes, View};

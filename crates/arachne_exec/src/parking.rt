@@ -125,7 +125,7 @@ impl Executor {
         let mut round = Round::of(&seat.turn, worker, shards_of(worker, self.shards));
         while let Some(shard) = round.next() {
             if let Some(job) = self.take_in_shard(seat, shard) {
-                return Next::Run(round.found(job));
+                return Next::Run(job);
             }
         }
         self.end_round(seat, worker, round)
@@ -142,7 +142,7 @@ impl Executor {
         ensures answer { HasAnswered result self.now.shards worker seat.old.known seat.new.known }
         ensures hand { HandsNext result (4096 * self.now.shards) seat.old.known seat.new.known }
     {
-        round.over();
+        let _ = round;
         if self.may_park(seat, worker) {
             Next::Park
         } else {

@@ -1,7 +1,6 @@
 //! The shards of a worker, in the order in which a search looks at them.
 ghost use Rattle.std.specs.Prelude.{◌≡◌, ℕ, ◌+◌, ◌*◌, ◌/◌, ◌<◌, ◌≤◌, IfSome, IfNone};
 
-use crate::answers::HeldJob;
 use crate::turns::{SearchTurn, shard_in_turn};
 
 /// A shard whose turn it is. [`Round::next`] alone gives one, and none is searched without.
@@ -20,8 +19,8 @@ impl InTurn {
     }
 }
 
-/// The shards of a worker that a search has still to look at, from the one of its turn on, round them. It can't be let
-/// go: a search ends with a job, or once none is left.
+/// The shards of a worker that a search has still to look at, from the one of its turn on, round them.
+#[derive(Drop)]
 pub(crate) struct Round {
     worker: usize,
     count: usize,
@@ -68,32 +67,5 @@ impl Round {
         Some(InTurn {
             shard: self.worker + 64 * turn,
         })
-    }
-
-    /// The search ends with this job.
-    #[inline(always)]
-    pub(crate) fn found(self, job: HeldJob) -> HeldJob
-        ensures { result ≡ job }
-    {
-        let Round {
-            worker: _,
-            count: _,
-            first: _,
-            index: _,
-        } = self;
-        job
-    }
-
-    /// No shard is left.
-    #[inline(always)]
-    pub(crate) fn over(self)
-        requires { self.index ≡ self.count }
-    {
-        let Round {
-            worker: _,
-            count: _,
-            first: _,
-            index: _,
-        } = self;
     }
 }

@@ -2,7 +2,7 @@
 ghost use Rattle.std.specs.Prelude.{◌≡◌, ◌≢◌, ℕ, ◌+◌, ◌*◌, ◌/◌, ◌<◌};
 ghost use Rattle.atomic_table.specs.Table.{rest};
 ghost use Rattle.arachne_exec.specs.Layout.{worker_of};
-ghost use Rattle.arachne_exec.specs.Changes.{readying, spawning, rousing, settled, owing};
+ghost use Rattle.arachne_exec.specs.Changes.{laying_down, spawning, rousing, settled, owing};
 ghost use Rattle.arachne_exec.specs.Seats.{HasNewest};
 
 use crate::executor::Executor;
@@ -44,7 +44,7 @@ impl Executor {
         requires place { place < 4096 * self.now.shards }
         requires newest { (job : ℕ) × HasNewest place job job seat.old }
         requires calm { (seat.old.known.unshown ≡ 0) × (seat.old.known.owes ≡ 0) }
-        ensures { seat.new ≡ record seat.old { known = rousing result (worker_of (place / 4096)) (readying seat.old.known); slots = rest seat.old.slots } }
+        ensures { seat.new ≡ record seat.old { known = rousing result (worker_of (place / 4096)) (laying_down seat.old.known); slots = rest seat.old.slots } }
     {
         if !self.put_ready(seat, place) {
             return false;

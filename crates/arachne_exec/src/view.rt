@@ -2,37 +2,26 @@
 use arachne_weights::Token;
 use std::collections::LinkedList;
 
-/// What a seat has done, for its answers.
-pub enum Deed {
-    /// It has found a number in a word, or put it there.
-    Looked(usize, u64),
-    /// It has taken the place, which was ready or free.
-    Gained(usize),
-    /// It has made the job at a place ready, blocked it, or found it blocked and got it.
-    Readied(usize),
-    Blocked(usize),
-    Unblocked(usize),
-}
-
 /// What a seat has and knows. Each list has the newest first.
 pub struct Notes {
     /// The places in its hand, each with its job.
     pub hand: LinkedList<(u64, u64)>,
-    /// The jobs that were spawned through it, and those that have ended in its hand.
-    pub spawned: LinkedList<u64>,
-    pub ended: LinkedList<u64>,
-    /// The places where jobs have ended in its hand.
-    pub ended_at: LinkedList<u64>,
+    /// The jobs that were spawned through it, and those that have ended in its hand, each with its place.
+    pub spawned: LinkedList<(u64, u64)>,
+    pub ended: LinkedList<(u64, u64)>,
     /// The places whose jobs it has marked as woken, and those where it has used up such a mark.
     pub woken: LinkedList<u64>,
     pub heard: LinkedList<u64>,
+    /// The places that it has blocked, or retired, and those that it has found blocked, and got.
+    pub blocked: LinkedList<u64>,
+    pub unblocked: LinkedList<u64>,
     /// The workers that it was when it set their idle bits, which were clear, and when it cleared them, which were set.
     pub lain: LinkedList<u64>,
     pub risen: LinkedList<u64>,
     /// The workers whose idle bits it has found set, and cleared to wake them.
     pub roused: LinkedList<u64>,
-    /// What it has done.
-    pub deeds: LinkedList<Deed>,
+    /// The numbers that it has found in words, or put there, each with its word.
+    pub looks: LinkedList<(usize, u64)>,
     /// One more than the block whose bit in the summary word it owes. 0: none.
     pub unshown: u64,
     /// One more than the shard for whose worker it owes a look at the idle word. 0: none.

@@ -3,7 +3,7 @@ ghost use Rattle.std.specs.Prelude.{◌≡◌, ◌≢◌, ℕ, ◌+◌, ◌-◌,
 ghost use Rattle.std.specs.Int.{bit_at};
 ghost use Rattle.atomic_table.specs.Table.{rest};
 ghost use Rattle.arachne_exec.specs.Layout.{ready_at, free_at, mark_at, words_of, last_generation};
-ghost use Rattle.arachne_exec.specs.Changes.{gained, unblocking, readying, blocking, spawning, beginning, ending, aging, marking, hearing, noted, unshowing};
+ghost use Rattle.arachne_exec.specs.Changes.{gained, unblocking, laying_down, blocking, spawning, beginning, ending, marking, hearing, noted, unshowing};
 ghost use Rattle.arachne_exec.specs.Seats.{HasNewest, HasFoundMark};
 ghost use Rattle.arachne_exec.specs.Calls.{HasTakenBits};
 
@@ -41,7 +41,7 @@ impl Executor {
     pub(crate) fn take_bit(&self, seat: &mut SeatInCall, place: usize) -> bool
         requires own { seat.old.table ≡ self.now.table }
         requires place { place < 4096 * self.now.shards }
-        ensures took { IsTrue result → (job : ℕ) × (seat.new ≡ record seat.old { known = gained place job seat.old.known; slots = (place, job) ∷ seat.old.slots }) }
+        ensures took { IsTrue result → (n job : ℕ) × (bit_at n (place % 64) ≡ 1) × (seat.new ≡ record seat.old { known = gained place job (noted (ready_at (place / 64)) n seat.old.known); slots = (place, job) ∷ seat.old.slots }) }
         ensures missed { IsFalse result → (n : ℕ) × (bit_at n (place % 64) ≡ 0) × (seat.new ≡ record seat.old { known = noted (ready_at (place / 64)) n seat.old.known }) }
     {
         let _ = self.shards;
@@ -76,7 +76,7 @@ impl Executor {
     pub(crate) fn claim_bit(&self, seat: &mut SeatInCall, place: usize) -> bool
         requires own { seat.old.table ≡ self.now.table }
         requires place { place < 4096 * self.now.shards }
-        ensures took { IsTrue result → seat.new ≡ record seat.old { known = gained place 0 seat.old.known; slots = (place, 0) ∷ seat.old.slots } }
+        ensures took { IsTrue result → (n : ℕ) × (bit_at n (place % 64) ≡ 1) × (seat.new ≡ record seat.old { known = gained place 0 (noted (free_at (place / 64)) n seat.old.known); slots = (place, 0) ∷ seat.old.slots }) }
         ensures missed { IsFalse result → (n : ℕ) × (bit_at n (place % 64) ≡ 0) × (seat.new ≡ record seat.old { known = noted (free_at (place / 64)) n seat.old.known }) }
     {
         let _ = self.shards;
@@ -90,12 +90,12 @@ impl Executor {
         found >> index as u32 & 1 == 1
     }
 
-    /// The newest place is free from now on: its job has ended.
+    /// The newest place, whose job has ended, is free from now on.
     pub(crate) fn put_free(&self, seat: &mut SeatInCall, place: usize)
         requires own { seat.old.table ≡ self.now.table }
         requires place { place < 4096 * self.now.shards }
-        requires newest { (job : ℕ) × HasNewest place job 0 seat.old }
-        ensures seat { seat.new ≡ record seat.old { known = ending seat.old.known; slots = rest seat.old.slots } }
+        requires newest { HasNewest place 0 0 seat.old }
+        ensures seat { seat.new ≡ record seat.old { known = laying_down seat.old.known; slots = rest seat.old.slots } }
     {
         let _ = self.shards;
         let shared = &self.table.shared;
@@ -108,8 +108,8 @@ impl Executor {
         requires place { place < 4096 * self.now.shards }
         requires newest { (job : ℕ) × HasNewest place job job seat.old }
         requires shown { seat.old.known.unshown ≡ 0 }
-        ensures first { IsTrue result → seat.new ≡ record seat.old { known = unshowing (place / 64 + 1) (readying seat.old.known); slots = rest seat.old.slots } }
-        ensures more { IsFalse result → seat.new ≡ record seat.old { known = readying seat.old.known; slots = rest seat.old.slots } }
+        ensures first { IsTrue result → seat.new ≡ record seat.old { known = unshowing (place / 64 + 1) (laying_down seat.old.known); slots = rest seat.old.slots } }
+        ensures more { IsFalse result → seat.new ≡ record seat.old { known = laying_down seat.old.known; slots = rest seat.old.slots } }
     {
         let _ = self.shards;
         let shared = &self.table.shared;
@@ -175,13 +175,13 @@ impl Executor {
         shared.fetch_and::<Hear>(&mut seat.seat, mark_word(place), u64::MAX - 3);
     }
 
-    /// The mark of the newest place says of this generation, and of no wake.
+    /// The job of the newest place has ended, and its mark says of this generation, and of no wake.
     pub(crate) fn renew(&self, seat: &mut SeatInCall, place: usize, generation: u64)
         requires own { seat.old.table ≡ self.now.table }
         requires place { place < 4096 * self.now.shards }
         requires newest { (job : ℕ) × (inside : ℕ) × HasNewest place job inside seat.old }
         requires generation { (generation < 2 ^ 44) × HasFoundMark place (λ mark. generation ≡ mark / 4 + 1) seat.old.known }
-        ensures seat { (n : ℕ) × (seat.new ≡ record seat.old { known = noted (mark_at place) (4 * generation) (aging place (hearing (n % 2) place seat.old.known)) }) }
+        ensures seat { (n : ℕ) × (seat.new ≡ record seat.old { known = noted (mark_at place) (4 * generation) (ending place (hearing (n % 2) place seat.old.known)) }) }
     {
         let _ = self.shards;
         let shared = &self.table.shared;
@@ -194,7 +194,7 @@ impl Executor {
         requires place { place < 4096 * self.now.shards }
         requires newest { (job : ℕ) × HasNewest place job 0 seat.old }
         requires last { HasFoundMark place (λ mark. last_generation ≤ mark / 4 + 1) seat.old.known }
-        ensures seat { (n : ℕ) × (seat.new ≡ record seat.old { known = ending (aging place (hearing (n % 2) place seat.old.known)); slots = rest seat.old.slots }) }
+        ensures seat { (n : ℕ) × (seat.new ≡ record seat.old { known = blocking (ending place (hearing (n % 2) place seat.old.known)); slots = rest seat.old.slots }) }
     {
         let _ = self.shards;
         let shared = &self.table.shared;

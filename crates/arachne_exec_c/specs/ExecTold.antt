@@ -19,7 +19,7 @@ use Rattle.arachne_exec.specs.declared.answers.WokenHere.{WokenHere}
 use Rattle.arachne_exec.specs.declared.answers.WokenHere.TheVariants as here
 use Rattle.arachne_exec.specs.Calls.{worker_at, HasSpawned, HasSpawnedHere, HasTaken, HasTakenNone, HasTakenMany, HasStarted, HasRested, HasFinished, HasWoken, HasWokenHere, HasAnswered, HasFoundNone, HasFoundSome}
 use Rattle.arachne_exec.specs.Layout.{numbers_at}
-use Rattle.arachne_exec.specs.Changes.{readying, noted, rousing, rising, working}
+use Rattle.arachne_exec.specs.Changes.{laying_down, noted, rousing, rising, working}
 use Rattle.arachne_exec_c.specs.Codes as code
 use Rattle.arachne_exec_c.specs.Executing.{Exec, now, holding, HasBlock, IsEmptyHanded, IsWorker, IsNoWorker}
 use Rattle.arachne_exec_c.specs.declared.exec_told.ArachneExecTold.{ArachneExecTold}
@@ -133,7 +133,7 @@ pub record Rests (place : ℕ) (old new : Exec) (answer : JobRested) : Type 0 wh
 
 -- it is ready again: a rest that says so
 abbrev pub Yields : ℕ → Exec → Exec → Bool → Type 0
-Yields place old new unpark = new ≡ holding old (rousing unpark (worker_at place) (readying old.seat.known)) (place / 64) old.more
+Yields place old new unpark = new ≡ holding old (rousing unpark (worker_at place) (laying_down old.seat.known)) (place / 64) old.more
 
 pub record Ends (place : ℕ) (old new : Exec) : Type 0 where
   pub stays : new ≡ holding old new.seat.known (place / 64) old.more

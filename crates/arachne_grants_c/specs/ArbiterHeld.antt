@@ -1,4 +1,4 @@
--- What a handle holds.
+-- The arbiter that a handle holds.
 use Rattle.std.specs.declared.option.Option.{Option}
 use Rattle.arachne_grants.specs.declared.state.CoreArbiter.{CoreArbiter}
 use Rattle.arachne_grants_c.specs.declared.arbiter_handle.ArachneArbiter.{ArachneArbiter}

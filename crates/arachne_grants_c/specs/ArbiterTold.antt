@@ -1,4 +1,4 @@
--- What C is told of an arbiter, and what each call does to what a handle holds.
+-- The results that C gets from an arbiter, and the effect of each call on the arbiter that a handle holds.
 use Rattle.std.specs.Prelude.{◌≡◌, ◌⊎◌, ℕ, ◌<◌, ◌≤◌, Bool, true, false, if◌then◌else◌, List, map, replicate, slice_index, slice_set}
 use Rattle.std.specs.declared.option.Option.{Option}
 use Rattle.std.specs.declared.option.Option.TheVariants.{None, Some}
@@ -34,26 +34,25 @@ pub record IsNew (count : ℕ) (arbiter : CoreArbiter) : Type 0 where
   pub cores : arbiter.cores ≡ count
   pub sessions : arbiter.sessions ≡ replicate 64 (new_session false 0 0 0)
 
--- A handle that holds nothing gets a new arbiter, of at most 1,024 cores. Else it is refused, and want of memory
--- changes nothing.
+-- A handle that holds nothing gets a new arbiter, of at most 1,024 cores. Any other handle is refused. If memory is
+-- refused, nothing changes.
 abbrev pub IsMade : ℕ → Option CoreArbiter → Option CoreArbiter → ℕ → Type 0
 IsMade cores (Some old) new told = (told ≡ code.refused) × (new ≡ Some old)
 IsMade cores None None told = (told ≡ code.no_memory) ⊎ ((told ≡ code.refused) × (1024 < cores))
 IsMade cores None (Some new) told = (told ≡ code.done) × IsNew cores new
 
--- a call on the arbiter that a handle holds; one that holds nothing is refused, and holds nothing then
+-- a call on the arbiter that a handle holds; a handle that holds nothing is refused, and still holds nothing
 abbrev pub IsTold : {A : Type 0} → (CoreArbiter → CoreArbiter → A → Type 0) → A → Option CoreArbiter → Option CoreArbiter → A → Type 0
 IsTold Does refusal None new told = (new ≡ None) × (told ≡ refusal)
 IsTold Does refusal (Some old) new told = (after : CoreArbiter) × (new ≡ Some after) × Does old after told
 
--- an event that may happen makes these clients of the old ones, and nothing else; else it is refused, and nothing
--- changes
+-- an event that is allowed changes the clients into these, and nothing else; another is refused, and changes nothing
 pub record Changes (May : CoreArbiter → Type 0) (made : CoreArbiter → List Session) (old new : CoreArbiter) (told : ℕ) : Type 0 where
   pub done : May old → (told ≡ code.done) × (new.sessions ≡ made old)
   pub refused : (May old → ⊥) → (told ≡ code.refused) × (new.sessions ≡ old.sessions)
   pub kept : KeepsAllowed old new
 
--- ---- which event may happen, and what it makes of the clients
+-- ---- the condition of each event, and its effect on the clients
 
 abbrev pub HasNumber : ℕ → CoreArbiter → Type 0
 HasNumber client old = client < 64
@@ -91,9 +90,9 @@ waiting client place old = with_thread old.sessions client place Waits
 abbrev pub ended : ℕ → ℕ → CoreArbiter → List Session
 ended client place old = with_thread old.sessions client place Absent
 
--- ---- what is decided, and what changes hands for that
+-- ---- the decision, and the cores that change hands for it
 
--- what clients are allowed are the targets of what they ask for
+-- clients may have the targets of what they ask for
 pub record Decides (old new : CoreArbiter) (told : ℕ) : Type 0 where
   pub done : told ≡ code.done
   pub sessions : new.sessions ≡ old.sessions
@@ -102,7 +101,7 @@ pub record Decides (old new : CoreArbiter) (told : ℕ) : Type 0 where
   pub answer : IsAnswer (map wants_of new.sessions) new.cores new.allowed
   pub least : IsLeast (map wants_of new.sessions) new.cores new.allowed
 
--- a core was taken from the client's last thread that has one; nothing is told only if it needn't give one, or not yet
+-- a core was taken from the client's last thread that has one; NOTHING only if the client need not give one, or not yet
 abbrev pub TakesOrNot : ℕ → Bool → CoreArbiter → CoreArbiter → ArachneAction → Type 0
 TakesOrNot client late old new told =
     ((told ≡ action_alone code.nothing) × (new.sessions ≡ old.sessions)
@@ -114,8 +113,7 @@ pub record Takes (client : ℕ) (late : Bool) (old new : CoreArbiter) (told : Ar
   pub kept : KeepsAllowed old new
   pub stands : StaysAnswered old new
 
--- a free core was given to a thread; nothing is told only if none is free for a client that has less than it is
--- allowed
+-- a free core was given to a thread; NOTHING only if no core is free for a client that has fewer than it may have
 abbrev pub GivesOrNot : CoreArbiter → CoreArbiter → ArachneAction → Type 0
 GivesOrNot old new told =
     ((told ≡ action_alone code.nothing) × (new.sessions ≡ old.sessions) × AllGiven old.sessions old.allowed old.cores)

@@ -1,4 +1,4 @@
--- What C is told of a message.
+-- The result that C gets for a message.
 use Rattle.std.specs.Prelude.{◌≡◌, ◌⊎◌, ℕ, false, List}
 use Rattle.arachne_grants.specs.declared.messages.ClientMessage.{ClientMessage}
 use Rattle.arachne_grants.specs.declared.messages.ClientMessage.TheVariants as message
@@ -37,7 +37,7 @@ code_of fault.Priority = code.priority
 code_of fault.Place = code.place
 code_of fault.Unused = code.unused
 
--- C is told the message that the bytes begin with, or why there is none
+-- C gets the message at the beginning of the bytes, or the reason that there is none
 abbrev pub IsRead : List ℕ → ArachneMessage → Type 0
 IsRead bytes told =
     ((message : ClientMessage) × IsMessageOf bytes message × (told ≡ told_message message))

@@ -12,8 +12,8 @@ use crate::{events, turns};
 use arachne_grants::{CoreArbiter, MAX_CORES};
 use std::alloc::Global;
 
-/// Makes an arbiter of the cores 0 to `cores` - 1, without clients, in a handle that holds nothing. DONE; REFUSED if
-/// the handle holds something, or if there are more than 1,024 cores; NO_MEMORY.
+/// Makes an arbiter of the cores 0 to `cores` - 1, without clients, in a handle that holds nothing. Returns DONE;
+/// REFUSED if the handle holds something, or if there are more than 1,024 cores; NO_MEMORY if memory is refused.
 #[unsafe(no_mangle)]
 pub extern "C" fn arachne_arbiter_new(
     alloc: Global,
@@ -32,7 +32,7 @@ pub extern "C" fn arachne_arbiter_new(
     DONE
 }
 
-/// Frees what a handle holds.
+/// Frees the arbiter that a handle holds, if it holds one.
 #[unsafe(no_mangle)]
 pub extern "C" fn arachne_arbiter_close(alloc: Global, arbiter: &mut ArachneArbiter)
     ensures { held arbiter.new ≡ None }
@@ -40,8 +40,9 @@ pub extern "C" fn arachne_arbiter_close(alloc: Global, arbiter: &mut ArachneArbi
     drop(arbiter.take(alloc));
 }
 
-/// Gives a client a number of 0 to 63 that no other has: with a priority, of which 0 goes first, the cores that it
-/// reserves, and the most that it may ask for. DONE, or REFUSED. Whether it may have these is the caller's to test.
+/// Adds a client with a number from 0 to 63 that no other client has, with a priority, of which 0 goes first, the cores
+/// that it reserves, and the greatest number that it may ask for. Returns DONE or REFUSED. The caller must check that
+/// the client is entitled to these.
 #[unsafe(no_mangle)]
 pub extern "C" fn arachne_arbiter_hello(
     alloc: Global,
@@ -61,7 +62,7 @@ pub extern "C" fn arachne_arbiter_hello(
     told
 }
 
-/// Sets the number of cores that a client asks for. DONE, or REFUSED if there is no such client.
+/// Sets the number of cores that a client asks for. Returns DONE, or REFUSED if there is no such client.
 #[unsafe(no_mangle)]
 pub extern "C" fn arachne_arbiter_ask(
     alloc: Global,
@@ -79,7 +80,7 @@ pub extern "C" fn arachne_arbiter_ask(
     told
 }
 
-/// Removes a client, with all of its threads. DONE, or REFUSED if its number is none of 0 to 63.
+/// Removes a client, with all of its threads. Returns DONE, or REFUSED if its number is greater than 63.
 #[unsafe(no_mangle)]
 pub extern "C" fn arachne_arbiter_leave(
     alloc: Global,
@@ -96,7 +97,7 @@ pub extern "C" fn arachne_arbiter_leave(
     told
 }
 
-/// Adds a thread at a place of 0 to 63 of its client that has none. One that floats never waits. DONE, or REFUSED.
+/// Adds a thread to a client, at a free place from 0 to 63. A thread that floats never waits. Returns DONE or REFUSED.
 #[unsafe(no_mangle)]
 pub extern "C" fn arachne_arbiter_join(
     alloc: Global,
@@ -115,8 +116,8 @@ pub extern "C" fn arachne_arbiter_join(
     told
 }
 
-/// Takes its core from a thread, if it has one, and lets the thread wait until it is granted one. DONE, or REFUSED if
-/// it floats or waits already, or if there is no such thread.
+/// Takes the core from a thread, if it has one, and lets the thread wait until it is granted one. Returns DONE, or
+/// REFUSED if the thread floats or waits already, or does not exist.
 #[unsafe(no_mangle)]
 pub extern "C" fn arachne_arbiter_wait(
     alloc: Global,
@@ -134,7 +135,7 @@ pub extern "C" fn arachne_arbiter_wait(
     told
 }
 
-/// Removes a thread. DONE, or REFUSED if its client's number or its place is none of 0 to 63.
+/// Removes a thread. Returns DONE, or REFUSED if its client's number or its place is greater than 63.
 #[unsafe(no_mangle)]
 pub extern "C" fn arachne_arbiter_end(
     alloc: Global,
@@ -152,7 +153,7 @@ pub extern "C" fn arachne_arbiter_end(
     told
 }
 
-/// Decides anew how many cores each client is allowed. DONE, or REFUSED.
+/// Decides anew how many cores each client may have. Returns DONE or REFUSED.
 #[unsafe(no_mangle)]
 pub extern "C" fn arachne_arbiter_decide(alloc: Global, arbiter: &mut ArachneArbiter) -> u32
     ensures { IsTold Decides refused (held arbiter.old) (held arbiter.new) result }
@@ -165,8 +166,8 @@ pub extern "C" fn arachne_arbiter_decide(alloc: Global, arbiter: &mut ArachneArb
     told
 }
 
-/// Takes its core from the last thread of a client that has one, if the client has more than it is allowed: at once if
-/// that thread floats, else only if the client is late. TAKEN, or NOTHING.
+/// Takes a core from a client that has more than it may have: from its last thread that has one. If that thread floats,
+/// the core is taken at once, otherwise only if `late` is set. Returns TAKEN or NOTHING.
 #[unsafe(no_mangle)]
 pub extern "C" fn arachne_arbiter_take_back(
     alloc: Global,
@@ -184,8 +185,8 @@ pub extern "C" fn arachne_arbiter_take_back(
     told
 }
 
-/// Gives a free core to a thread that can take one, of a client that has less than it is allowed: the higher priority
-/// first. GRANTED if the thread waited, PLACED if it floats, or NOTHING.
+/// Gives a free core to a thread that can take one, of a client that has fewer than it may have. The higher priority
+/// goes first. Returns GRANTED if the thread waited, PLACED if it floats, or NOTHING.
 #[unsafe(no_mangle)]
 pub extern "C" fn arachne_arbiter_give(alloc: Global, arbiter: &mut ArachneArbiter) -> ArachneAction
     ensures { IsTold Gives (action_alone refused) (held arbiter.old) (held arbiter.new) result }
@@ -198,7 +199,7 @@ pub extern "C" fn arachne_arbiter_give(alloc: Global, arbiter: &mut ArachneArbit
     told
 }
 
-/// Returns how many cores a client is allowed, and how many it has.
+/// Returns the number of cores that a client may have, and the number that it has.
 #[unsafe(no_mangle)]
 pub extern "C" fn arachne_arbiter_share(
     alloc: Global,

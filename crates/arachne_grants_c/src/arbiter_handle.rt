@@ -13,7 +13,7 @@ use std::alloc::Global;
 use std::marker::Model;
 use std::mem;
 
-/// An arbiter, or nothing, as C lays it out: one pointer, which is null if nothing is held.
+/// An arbiter, or nothing, in C's layout: one pointer, which is null if nothing is held.
 #[repr(C)]
 pub struct ArachneArbiter {
     at: *mut u8,
@@ -46,7 +46,7 @@ impl ArachneArbiter {
         }
     }
 
-    /// Takes the arbiter out, if one is held.
+    /// Takes the arbiter out of the handle, if it holds one.
     pub(crate) fn take(&mut self, alloc: Global) -> Option<Box<CoreArbiter>>
         ensures none { IfNone result (self.old.value ≡ None) }
         ensures some { IfSome result (λ taken. self.old.value ≡ Some taken.value) }
@@ -56,14 +56,14 @@ impl ArachneArbiter {
         mem::replace(self, empty).into_handle().into_box()
     }
 
-    /// Holds an arbiter. What was held before is freed.
+    /// Puts an arbiter into the handle. Any other that it held is freed.
     pub(crate) fn put(&mut self, value: Box<CoreArbiter>)
         ensures { self.new.value ≡ Some value.value }
     {
         *self = ArachneArbiter::of_handle(Handle::of(value));
     }
 
-    /// Returns true if it holds an arbiter.
+    /// Returns whether the handle holds an arbiter.
     pub(crate) fn is_in_use(&mut self, alloc: Global) -> bool
         ensures used { IsTrue result ↔ IsSome self.old.value }
         ensures same { self.new.value ≡ self.old.value }

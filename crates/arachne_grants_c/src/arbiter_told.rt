@@ -1,11 +1,11 @@
-//! The results that C gets of an arbiter.
+//! The results that C gets from an arbiter.
 ghost use Rattle.std.specs.Prelude.{◌≡◌};
 ghost use Rattle.arachne_grants_c.specs.ArbiterTold.{action_alone, told_given, told_taken};
 
 use crate::codes::{GRANTED, PLACED, TAKEN};
 use arachne_grants::{Grant, TakenCore};
 
-/// What is to be done with a thread. Numbers that it doesn't have are 0.
+/// The action that the caller must take on a thread. Fields that it does not use are 0.
 #[repr(C)]
 #[derive(Clone, Copy)]
 pub struct ArachneAction {
@@ -20,9 +20,9 @@ pub struct ArachneAction {
 #[repr(C)]
 #[derive(Clone, Copy)]
 pub struct ArachneShare {
-    /// Cores that it is allowed.
+    /// The number of cores that it may have.
     pub allowed: u32,
-    /// Cores that its threads have.
+    /// The number of cores that its threads have.
     pub held: u32,
 }
 

@@ -1,12 +1,13 @@
 //! The codes that calls return to C: one set for all of them.
 
-/// It is done.
+/// The call succeeded.
 pub(crate) const DONE: u32 = 0;
 
-/// The handle holds nothing, or holds something where it may not, or the event is out of place. Nothing has changed.
+/// The handle holds nothing, or is in use although it must be empty, or the event is not allowed now. Nothing has
+/// changed.
 pub(crate) const REFUSED: u32 = 1;
 
-/// There is no memory. Nothing has changed.
+/// Memory was refused. Nothing has changed.
 pub(crate) const NO_MEMORY: u32 = 2;
 
 /// A client begins.
@@ -21,32 +22,32 @@ pub(crate) const WAIT: u32 = 5;
 /// A client asks for a number of cores.
 pub(crate) const ASK: u32 = 6;
 
-/// The bytes are fewer than those of a message.
+/// There are fewer bytes than a message has.
 pub(crate) const SHORT: u32 = 7;
 
-/// There is no such kind of message.
+/// The kind of message is unknown.
 pub(crate) const KIND: u32 = 8;
 
 /// The client speaks another version of the protocol.
 pub(crate) const VERSION: u32 = 9;
 
-/// There is no such priority.
+/// The priority is out of range.
 pub(crate) const PRIORITY: u32 = 10;
 
-/// There is no such place.
+/// The place is out of range.
 pub(crate) const PLACE: u32 = 11;
 
-/// A number that the message has no use for isn't 0.
+/// A number that the message does not use is not 0.
 pub(crate) const UNUSED: u32 = 12;
 
 /// There is nothing to do.
 pub(crate) const NOTHING: u32 = 13;
 
-/// The core was taken from the thread: move it from there.
+/// The core was taken from the thread: move the thread away from it.
 pub(crate) const TAKEN: u32 = 14;
 
-/// The thread, which floats, was given the core: move it there.
+/// The thread, which floats, was given the core: move the thread there.
 pub(crate) const PLACED: u32 = 15;
 
-/// The thread, which waited, was given the core: move it there, and tell it so.
+/// The thread, which waited, was given the core: move the thread there, and notify it.
 pub(crate) const GRANTED: u32 = 16;

@@ -5,11 +5,11 @@ ghost use Rattle.arachne_grants_c.specs.MessageTold.{code_of, message_alone, tol
 use crate::codes::{ASK, HELLO, JOIN, KIND, PLACE, PRIORITY, SHORT, UNUSED, VERSION, WAIT};
 use arachne_grants::{ClientMessage, MessageFault, read_message};
 
-/// A message of a client. Numbers that it doesn't have are 0.
+/// A message of a client. Fields that it does not use are 0.
 #[repr(C)]
 #[derive(Clone, Copy)]
 pub struct ArachneMessage {
-    /// HELLO, JOIN, WAIT or ASK; else why the bytes begin with no message.
+    /// HELLO, JOIN, WAIT or ASK; otherwise the reason that the bytes do not begin with a message.
     pub code: u32,
     pub priority: u32,
     pub reserved: u32,
@@ -21,8 +21,8 @@ pub struct ArachneMessage {
     pub floats: bool,
 }
 
-/// Reads the message that bytes begin with: HELLO, JOIN, WAIT or ASK. SHORT if they are fewer than 16; else KIND,
-/// VERSION, PRIORITY, PLACE or UNUSED, by the first of its four numbers that no message has.
+/// Reads the message at the beginning of the bytes. Returns HELLO, JOIN, WAIT or ASK; SHORT if there are fewer than 16
+/// bytes; otherwise KIND, VERSION, PRIORITY, PLACE or UNUSED, by the first of its four numbers that is not valid.
 #[unsafe(no_mangle)]
 pub extern "C" fn arachne_message_read(bytes: &[u8]) -> ArachneMessage
     ensures { IsRead bytes.now result }

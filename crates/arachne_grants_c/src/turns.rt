@@ -1,4 +1,4 @@
-//! The decision, and which cores change hands for it.
+//! The decision, and the cores that change hands for it.
 ghost use Rattle.std.specs.Prelude.{◌≡◌};
 ghost use Rattle.arachne_grants_c.specs.ArbiterTold.{share_of, Decides, Gives, Takes};
 

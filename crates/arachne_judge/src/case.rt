@@ -1,8 +1,8 @@
-//! Goes through a log once, and judges each rule where it comes up.
+//! Goes through a log once, and judges each rule at the entries that concern it.
 //!
-//! An entry is written just after what it tells of was done, or just before. So another core may show what came of it
-//! first: that a thread was moved, that a core was closed or granted, or that a thread was woken. Core 0 is to tell
-//! what it did before its next slice, and each other core at once: until then such a thing is owed.
+//! An entry is written just before or just after the event that it reports. So another core may show the effect of an
+//! event first: that a thread was moved, that a core was closed or granted, or that a thread was woken. Core 0 has to
+//! report what it did before its next slice, and each other core at once. Until then the report is owed.
 ghost use Rattle.std.specs.Prelude.{◌≡◌, ◌≢◌, ◌<◌, ◌==◌, IsSome, not};
 ghost use Rattle.arachne_judge.specs.Rules.{broken_by_pull, broken_if, first_broken};
 ghost use Rattle.arachne_judge.specs.declared.rules.Rule.TheVariants.{CoreZero};
@@ -18,38 +18,41 @@ use arachne_policy::OrderKind;
 use arachne_workers::{SliceEnd, WorkerEvent};
 use std::alloc::{AllocError, Global};
 
-/// How many moves nobody may be told of: where a thread left its place just before a worker moved it from there, the
-/// one that came after it is moved. That takes a delay between two steps of a worker, so it is rare, and a delay there
-/// may come again: one more is allowed for each `TURNS_PER_UNTOLD` times that a thread went on. A program with an
-/// exclusive fork has no such moves.
+/// The number of moves that may stay unreported. If a thread left its place just before a worker moved it from there,
+/// the thread that came to the place after it is moved instead.
+///
+/// That takes a delay between two steps of a worker, so it is rare. A delay may occur there again, so one more is
+/// allowed for each `TURNS_PER_UNTOLD` times that a thread continued. A program with an exclusive fork has no such
+/// moves.
 const UNTOLD: u64 = 2;
 
 const TURNS_PER_UNTOLD: u64 = 64;
 
-/// What a log has shown so far.
+/// The state that a log has shown so far.
 #[derive(Drop)]
 struct Case<'r> {
     run: Run<'r>,
-    /// The number of the entry that is looked at.
+    /// The number of the current entry.
     at: usize,
     cores: Vec<Core>,
-    /// The threads that the contexts had last.
+    /// The last thread of each context.
     threads: Vec<Option<ThreadFacts>>,
     root: Option<ThreadId>,
-    /// Whether the root has ended.
+    /// The root has ended.
     is_over: bool,
-    /// How many orders are told to be applied.
+    /// The number of orders reported as applied.
     applied: usize,
-    /// How many slices were told to have ended.
+    /// The number of slices reported as ended.
     ended: u64,
-    /// How many slices of other cores were counted for sure when core 0 last did something.
+    /// The number of other cores' slices that the run must have counted by core 0's last event.
     counted: u64,
-    /// Whether a core owes something.
+    /// True while some core has still to report an event whose effect another core has shown.
     owes: bool,
-    /// How many moves nobody was told of.
+    /// The number of moves that were not reported.
     untold: u64,
-    /// The threads that have had a turn after a wait and were not told to be woken yet, a place for each other core:
-    /// each may have woken one just now. Such a thread may have ended since, and its context have another one.
+    /// The threads that had a turn after a wait, and whose wake was not reported yet. There is a place for each other
+    /// core, which may have woken one just now. Such a thread may have ended since, and its context may have another
+    /// one.
     unwoken: Vec<Option<ThreadId>>,
     scans: Scans,
     counts: Counts,
@@ -57,7 +60,7 @@ struct Case<'r> {
     steps: u64,
 }
 
-/// Which rule of a run its log breaks first, and how often each was judged.
+/// Returns the first rule of a run that its log breaks, and how often each rule was judged.
 pub fn judge(alloc: Global, log: &Log, run: Run<'_>) -> Result<Verdict, AllocError> {
     let mut case = Case::new(alloc, run)?;
     for at in 0..log.count() as usize {
@@ -127,7 +130,7 @@ impl<'r> Case<'r> {
         }
     }
 
-    /// The thread of an id, if that had a turn.
+    /// Returns the thread of an id, if it has had a turn.
     fn thread(&self, id: ThreadId) -> Option<ThreadFacts> {
         let thread = (*self.threads.get(id.context as usize)?)?;
         if thread.id == id { Some(thread) } else { None }
@@ -147,7 +150,7 @@ impl<'r> Case<'r> {
         self.counts.add(rule, 1);
     }
 
-    /// The rule is broken at this entry, which counts if it is the first.
+    /// Records that the rule is broken at this entry, unless one was broken before.
     fn breaks(&mut self, rule: Rule)
         ensures { self.new ≡ record self.old { broken = first_broken self.old.broken (record { rule = rule; at = self.old.at }) } }
     {
@@ -156,7 +159,7 @@ impl<'r> Case<'r> {
         }
     }
 
-    /// The rule is judged here, and is broken or not.
+    /// Counts that the rule was judged here, and records whether it is broken.
     fn judges(&mut self, rule: Rule, is_broken: bool)
         ensures { self.new ≡ record self.old { counts = self.new.counts; broken = broken_if is_broken self.old.broken (record { rule = rule; at = self.old.at }) } }
     {
@@ -198,7 +201,7 @@ impl<'r> Case<'r> {
             WorkerEvent::Unparked => self.unparked(core),
             WorkerEvent::Applied(orders) => return self.applied(core, orders),
             WorkerEvent::MovedAway(receivers) => return self.moved_away(core, receivers),
-            // No rule speaks of the others.
+            // No rule is about the other events.
             _ => {}
         }
         if core == 0 {
@@ -230,7 +233,7 @@ impl<'r> Case<'r> {
         }
     }
 
-    /// Core 0 begins a slice: all orders that are due are applied.
+    /// Judges at the start of a slice of core 0 whether all orders that are due are applied.
     fn look_due(&mut self) {
         let Some(order) = self.run.orders.get(self.applied) else {
             return;
@@ -242,7 +245,7 @@ impl<'r> Case<'r> {
         );
     }
 
-    /// Core 0 goes on, or the log is at its end: what was owed is broken.
+    /// Records as broken what is still owed when core 0 continues, or at the end of the log.
     fn settle(&mut self) {
         if !self.owes {
             return;
@@ -270,7 +273,7 @@ impl<'r> Case<'r> {
         }
     }
 
-    /// How many moves nobody may have been told of by now.
+    /// Returns the number of moves that may be unreported by now.
     fn most_untold(&self) -> u64 {
         UNTOLD.saturating_add(self.counts.of(Rule::OwnCore) / TURNS_PER_UNTOLD)
     }
@@ -304,7 +307,7 @@ impl<'r> Case<'r> {
         self.set_core(core, known);
     }
 
-    /// A thread that had a turn before has one on a core: was it told to be there?
+    /// Judges a turn of a thread that has had one before: the thread must have been on this core, or moved to it.
     fn look_where(&mut self, known: &mut Core, core: u8, before: ThreadFacts) {
         if before.has_ended() || before.is_in_slice {
             self.breaks(Rule::InHand);
@@ -323,9 +326,10 @@ impl<'r> Case<'r> {
         }
     }
 
-    /// A thread that has a turn again goes on for one time that it was woken, if it has waited. How often it was woken
-    /// besides. Another core may have woken it just now, and is to tell so at once. A wake may also be told just before
-    /// the turn that it comes in.
+    /// Judges whether a thread that has waited was woken before this turn. Returns the number of its other wakes.
+    ///
+    /// Another core may have woken the thread just now, and has to report it at once. A wake may also be reported just
+    /// before the turn in which it occurs.
     fn waits(&mut self, before: ThreadFacts) -> u64 {
         if !matches!(before.end, SliceEnd::AwaitsChild | SliceEnd::Awaits(_)) {
             return before.woken;
@@ -337,8 +341,8 @@ impl<'r> Case<'r> {
         before.woken.saturating_sub(1)
     }
 
-    /// Puts this into one of the places for threads that were not told to be woken, where that was. Whether there was
-    /// one.
+    /// Replaces `from` by `to` in one of the places for threads whose wake was not reported. Returns whether `from` was
+    /// in one.
     fn replace_unwoken(&mut self, from: Option<ThreadId>, to: Option<ThreadId>) -> bool {
         for place in self.unwoken.iter_mut() {
             if *place == from {
@@ -349,7 +353,7 @@ impl<'r> Case<'r> {
         false
     }
 
-    /// What the scan shows of a turn.
+    /// Judges a turn by the scan to which it belongs.
     fn scan(&mut self, id: ThreadId, is_first: bool) {
         let last = self.scans.last();
         let goes_on = match last.and_then(|last| *self.threads.get(last as usize)?) {
@@ -368,7 +372,7 @@ impl<'r> Case<'r> {
         }
     }
 
-    /// A slice has ended so, after so many steps. One of more steps than the quantum is never passed over.
+    /// A slice has ended after `steps` steps. If they are more than the quantum, a rule is broken.
     fn sliced(&mut self, core: u8, steps: u32, end: SliceEnd)
         ensures { self.old.run.quantum < steps → IsSome self.new.broken }
     {
@@ -410,7 +414,7 @@ impl<'r> Case<'r> {
         }
     }
 
-    /// A thread was moved to a core from another one, by the core's worker.
+    /// A core's worker has moved a thread to the core from another one.
     fn pulled(&mut self, core: u8, id: ThreadId, from: u8)
         ensures { self.new.broken ≡ broken_by_pull self.old.run.has_exclusive (from == core) self.old.broken self.old.at }
     {
@@ -424,8 +428,8 @@ impl<'r> Case<'r> {
         }
     }
 
-    /// A core has found itself closed with nothing on it at some time since its last entry, and parks. Since then it
-    /// may have been granted, closed again and given threads.
+    /// A core parks. At some time since its last entry it has found itself closed and empty. Since then it may have
+    /// been granted, closed again and given threads.
     fn parks(&mut self, core: u8) {
         self.counts(Rule::Parks);
         let mut known = self.core(core);
@@ -452,7 +456,7 @@ impl<'r> Case<'r> {
         self.set_core(core, known);
     }
 
-    /// So many orders in all are applied, by a core, which has to be core 0.
+    /// Core 0 has applied orders, `orders` of them in all. If the core is another one, a rule is broken.
     fn applied(&mut self, core: u8, orders: usize)
         ensures { core ≢ 0 → IsSome self.new.broken }
     {
@@ -479,7 +483,7 @@ impl<'r> Case<'r> {
         self.applied = orders;
     }
 
-    /// Threads were moved away to these cores, by a core, which has to be core 0.
+    /// Core 0 has moved threads away to these cores. If the core is another one, a rule is broken.
     fn moved_away(&mut self, core: u8, receivers: u64)
         ensures { self.new.broken ≡ broken_if (not (core == 0)) self.old.broken (record { rule = CoreZero; at = self.old.at }) }
     {
@@ -496,8 +500,7 @@ impl<'r> Case<'r> {
     }
 }
 
-/// `InHand`: a thread begins a slice on a core and may not, since it was last on another one, is in a slice or has
-/// ended, or since the core is in one.
+/// Returns whether `InHand` is broken by a slice of this thread on this core.
 fn is_out_of_hand(thread: &ThreadFacts, core: u8, is_second: bool) -> bool {
     breaks::is_not_in_hand(
         core,

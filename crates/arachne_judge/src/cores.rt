@@ -1,42 +1,43 @@
-//! What a log has shown of a core so far.
+//! The facts of a core that a log has shown so far.
 use arachne_core::ThreadId;
 
-/// What is known of a core.
+/// The known facts of a core.
 #[derive(Clone, Copy)]
 pub(crate) struct Core {
-    /// The number of its next slice.
+    /// The number of the core's next slice.
     pub(crate) next: u64,
-    /// How many of its slices were told to have ended.
+    /// The number of the core's slices that were reported as ended.
     pub(crate) ended: u64,
-    /// How many of them are counted for sure: the core has gone on since.
+    /// The number of the core's slices that the run must have counted, since the core has reported something
+    /// afterwards.
     pub(crate) counted: u64,
     /// The thread whose turn it is, or was last.
     pub(crate) turn: Option<ThreadId>,
     pub(crate) is_in_slice: bool,
-    /// The thread that has it alone.
+    /// The thread that has the core to itself.
     pub(crate) alone: Option<ThreadId>,
-    /// Whether the orders that are told to be applied have closed it.
+    /// True if the orders reported as applied have closed the core.
     pub(crate) is_closed: bool,
-    /// The number of its last entry.
+    /// The number of the core's last entry.
     pub(crate) last: usize,
-    /// Whether it was closed at some time since that.
+    /// True if the core was closed at some time since its last entry.
     pub(crate) was_closed: bool,
-    /// How often they have opened it.
+    /// The number of times that orders have opened the core.
     pub(crate) grants: u64,
-    /// How often it went on after a park.
+    /// The number of times that the core continued after a park.
     pub(crate) unparks: u64,
-    /// The number of the entry by which threads were last moved to it, and 1 more; 0 where there is none.
+    /// One more than the number of the entry that last reported threads moved to the core; 0 if there is none.
     pub(crate) moved: usize,
-    /// A thread is there that was not told to be moved yet: core 0 is to tell so before its next slice.
+    /// True if a thread is there whose move was not reported yet. Core 0 has to report it before its next slice.
     pub(crate) owes_move: bool,
-    /// A thread goes on there that was there when the core parked, and was not told to be moved back yet.
+    /// True if a thread continues there that was there when the core parked, and whose move back was not reported yet.
     pub(crate) owes_return: bool,
-    /// It has parked, and was not told to be closed yet.
+    /// True if the core has parked and its closing was not reported yet.
     pub(crate) owes_close: bool,
 }
 
 impl Core {
-    /// Nothing is known.
+    /// Returns a core of which nothing is known.
     pub(crate) fn new() -> Core {
         Core {
             next: 0,

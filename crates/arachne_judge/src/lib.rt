@@ -1,4 +1,5 @@
-//! A judge of runs: a log of what a gate is told, and which rule of a run it breaks.
+//! A judge of runs: a log of the events reported to a gate, and the first rule of a run that it breaks. Terms are in
+//! `docs/glossary.md`.
 #![tactic(auto)]
 
 mod breaks;

@@ -1,15 +1,15 @@
-//! What a gate was told, in one order for all cores.
+//! The events reported to a gate, in one order for all cores.
 use arachne_core::ThreadId;
 use arachne_workers::{Cause, SliceEnd, WorkerEvent};
 use std::alloc::{AllocError, Global};
 use std::sync::atomic::{AtomicU64, Ordering};
 
-/// What a gate was told of a core.
+/// An event of a core that is reported to a gate.
 #[derive(Clone, Copy, Debug, PartialEq, Eq)]
 pub enum What {
-    /// Its slice of this number is about to begin.
+    /// The core's slice of this number is about to begin.
     Slice(u64),
-    /// It took this thread in hand. Whether that has its core alone.
+    /// The core took this thread in hand. The flag is true if the thread has the core to itself.
     Turn(ThreadId, bool),
     Told(WorkerEvent),
 }
@@ -44,7 +44,7 @@ const APPLIED: u64 = 11;
 
 const MOVED_AWAY: u64 = 12;
 
-/// An entry in words: the core, what it is and a small number; and two numbers.
+/// An entry in three words. The head has the core, the kind of event and a small number.
 #[derive(Drop)]
 struct EntryWords {
     head: AtomicU64,
@@ -52,8 +52,9 @@ struct EntryWords {
     second: AtomicU64,
 }
 
-/// What a gate was told. The kernel threads of all cores write it, each entry at once; what there is no room for is
-/// counted alone.
+/// A log of the events reported to a gate.
+///
+/// The kernel threads of all cores write to it, each event at once. Events for which there is no room are only counted.
 #[derive(Drop)]
 pub struct Log {
     lines: Vec<EntryWords>,
@@ -61,7 +62,7 @@ pub struct Log {
 }
 
 impl Log {
-    /// With room for so many entries.
+    /// Returns a log with room for `room` entries.
     pub fn new(alloc: Global, room: usize) -> Result<Log, AllocError> {
         let mut lines = Vec::with_capacity(alloc, room)?;
         for _ in 0..room {
@@ -77,12 +78,12 @@ impl Log {
         })
     }
 
-    /// How many entries there were, with those for which there was no room.
+    /// Returns the number of entries, with those for which there was no room.
     pub fn count(&self) -> u64 {
         self.count.load(Ordering::SeqCst)
     }
 
-    /// Whether there was room for all.
+    /// Returns whether there was room for all entries.
     pub fn is_whole(&self) -> bool {
         self.count() <= self.lines.len() as u64
     }
@@ -134,7 +135,7 @@ impl Log {
         }
     }
 
-    /// The entry of this number, from 0. None where there is none.
+    /// Returns the entry of this number, from 0, if there is one.
     pub fn entry(&self, at: usize) -> Option<Entry> {
         let line = self.lines.get(at)?;
         let head = line.head.load(Ordering::SeqCst);
@@ -148,7 +149,7 @@ impl Log {
     }
 }
 
-/// What the words of an entry say. None where none was written.
+/// Returns the event that the words of an entry encode, if one was written.
 fn what_of(kind: u64, small: u64, first: u64, second: u64) -> Option<What> {
     let id = ThreadId {
         context: (first & 0xFFFF_FFFF) as u32,

@@ -1,4 +1,4 @@
-//! The rules of a run that its log shows, and what is known of the run beforehand.
+//! The rules of a run that its log shows, and the facts of the run that are known beforehand.
 ghost use Rattle.std.specs.Prelude.{◌≡◌, ◌<◌, ◌+◌, length, min, slice_index_or, slice_set};
 ghost use Rattle.arachne_judge.specs.Rules.{number_of, rules};
 ghost use Rattle.arachne_judge.specs.declared.rules.Rule.TheVariants.{OwnCore};
@@ -8,41 +8,41 @@ use arachne_policy::CoreOrder;
 /// A rule of a run.
 #[derive(Clone, Copy, Debug, PartialEq, Eq)]
 pub enum Rule {
-    /// A thread goes on on the core on which it was, unless it was told to be moved.
+    /// A thread continues on the core on which it was, unless its move was reported.
     OwnCore,
-    /// A slice is of a thread that the core took before, which has not ended and is in no other hand.
+    /// A slice is of a thread that the core took before, which has not ended, and which no other core has in hand.
     InHand,
-    /// The slices of a core are numbered from 0 on, none left out.
+    /// The slices of a core are numbered from 0, without gaps.
     Numbers,
     /// No slice has more steps than the quantum.
     Quantum,
-    /// An order is applied once it is due and not before, by core 0, before its next slice.
+    /// Core 0 applies an order once it is due and not before, and does so before its next slice.
     Due,
     /// Only core 0 moves threads away from closed cores.
     CoreZero,
     /// A core parks only while it is closed and has no thread.
     Parks,
-    /// A parked core goes on only since it was granted or since the run is at its end.
+    /// A parked core continues only if it was granted since, or if the run is at its end.
     Unparks,
-    /// A thread that has its core alone is alone there from its first turn to its end.
+    /// A thread that has its core to itself is the only one there from its first turn to its end.
     Alone,
-    /// A scan goes upwards. Of runs on one core without locks.
+    /// A scan takes indexes in ascending order. This rule is judged in runs on one core without locks.
     Upwards,
-    /// No child waits for a place while one is free. Of runs on one core that keep no places.
+    /// No child waits for a place while one is free. This rule is judged in runs on one core that keep no places.
     Places,
-    /// A thread that waits goes on only once it was woken.
+    /// A thread that waits continues only after it was woken.
     Waits,
-    /// No worker moves a thread to its own core. Of programs with an exclusive fork.
+    /// No worker moves a thread to its own core. This rule is judged in programs with an exclusive fork.
     Stays,
     /// A thread that a worker moves to its core was on another one.
     Pulls,
 }
 
-/// How many rules there are.
+/// The number of rules.
 const RULES: usize = 14;
 
 impl Rule {
-    /// Its number, from 0.
+    /// Returns the rule's number, from 0.
     pub fn number(self) -> usize
         ensures number { result ≡ number_of self }
         ensures listed { (result < length rules) × (slice_index_or rules result OwnCore ≡ self) }
@@ -66,19 +66,19 @@ impl Rule {
     }
 }
 
-/// How often each rule was judged.
+/// The number of times that each rule was judged.
 #[derive(Clone, Copy, Debug, PartialEq, Eq)]
 pub struct Counts {
     counts: [u64; RULES],
 }
 
 impl Counts {
-    /// No rule was judged.
+    /// Returns counts that are all 0.
     pub fn new() -> Counts {
         Counts { counts: [0; RULES] }
     }
 
-    /// A rule was judged so often more.
+    /// Adds `times` to the count of a rule.
     pub fn add(&mut self, rule: Rule, times: u64)
         ensures { self.new.counts ≡ slice_set self.old.counts (number_of rule) (min (slice_index_or self.old.counts (number_of rule) 0 + times) u64.MAX) }
     {
@@ -86,14 +86,14 @@ impl Counts {
         self.counts[at] = self.counts[at].saturating_add(times);
     }
 
-    /// Each rule was judged as often more as by the others.
+    /// Adds the counts of `others`.
     pub fn add_all(&mut self, others: &Counts) {
         for (count, other) in self.counts.iter_mut().zip(others.counts.iter()) {
             *count = count.saturating_add(*other);
         }
     }
 
-    /// How often a rule was judged.
+    /// Returns the number of times that a rule was judged.
     pub fn of(&self, rule: Rule) -> u64
         ensures { result ≡ slice_index_or self.now.counts (number_of rule) 0 }
     {
@@ -101,7 +101,7 @@ impl Counts {
     }
 }
 
-/// What is known of a run before its log is looked at.
+/// The facts of a run that are known before its log is read.
 #[derive(Clone, Copy)]
 pub struct Run<'r> {
     pub cores: u8,
@@ -119,13 +119,13 @@ pub struct Broken {
     pub at: usize,
 }
 
-/// What a log shows.
+/// The result of judging a log.
 #[derive(Clone, Copy, Debug, PartialEq, Eq)]
 pub struct Verdict {
-    /// How often each rule was judged.
+    /// The number of times that each rule was judged.
     pub counts: Counts,
-    /// The first that was broken.
+    /// The first rule that was broken.
     pub broken: Option<Broken>,
-    /// How many steps all slices had.
+    /// The number of steps of all slices.
     pub steps: u64,
 }

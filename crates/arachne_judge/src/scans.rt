@@ -1,31 +1,32 @@
-//! What a log shows of scans and places, where there is one core and no lock.
+//! The scans and places that a log shows in runs on one core without locks.
 //!
-//! A context has one index of the core there all the time, so its number is that of its index.
+//! A context has the same index of that core all the time, so its number is that index.
 ghost use Rattle.std.specs.Prelude.{◌≡◌, ◌≤◌, ◌<◌, ◌+◌, ◌↔◌, true, min, IfSome, IsSome, IsTrue};
 
 use crate::rules::Run;
 
-/// What is known of the scans, and of the places that are taken.
+/// The known facts of the scans, and of the places that are taken.
 #[derive(Drop)]
 pub(crate) struct Scans {
-    /// Whether scans are judged: there is one core, and no lock has its next holder go on before others.
+    /// True if scans are judged: there is one core, and no lock, whose next holder would run before others.
     is_judged: bool,
-    /// Whether places are judged: none is kept either.
+    /// True if places are judged: scans are judged, and no place is kept.
     are_places: bool,
     slots: u64,
     /// The index that had a turn last.
     last: Option<u32>,
-    /// An index at which a thread is ready and higher than where this scan has begun.
+    /// An index at which a thread is ready, and which is higher than the one at which this scan has begun.
     due: Option<u32>,
-    /// How many threads are known to be there.
+    /// The number of threads known to be on the core.
     threads: u64,
-    /// How many others have to be there since a child waits: each has its first turn before the next scan is over.
+    /// The number of other threads that must be on the core, since a child waits for a place. Each of them has its
+    /// first turn before the next scan ends.
     unseen: u64,
-    /// How many scans have begun since.
+    /// The number of scans begun since a child waits for a place.
     scans: u32,
 }
 
-/// What a turn shows.
+/// The findings of a turn.
 #[derive(Clone, Copy)]
 pub(crate) struct TurnFindings {
     /// A scan has begun.
@@ -51,17 +52,17 @@ impl Scans {
         }
     }
 
-    /// The index that had a turn last.
+    /// Returns the index that had a turn last.
     pub(crate) fn last(&self) -> Option<u32> {
         self.last
     }
 
-    /// A thread has ended.
+    /// Records that a thread has ended.
     pub(crate) fn ended(&mut self) {
         self.threads = self.threads.saturating_sub(1);
     }
 
-    /// A child waits for a place. Whether that is judged.
+    /// Records that a child waits for a place. Returns whether places are judged.
     pub(crate) fn spilled(&mut self) -> bool
         ensures { result ≡ self.old.are_places }
     {
@@ -75,7 +76,9 @@ impl Scans {
         true
     }
 
-    /// The thread at an index has a turn, its first one or not. Whether the one that had a turn last is ready.
+    /// Records a turn of the thread at an index. Returns the findings.
+    ///
+    /// `goes_on`: the thread that had the turn before is ready. `is_first`: it is the thread's first turn.
     pub(crate) fn turn(&mut self, index: u32, goes_on: bool, is_first: bool) -> TurnFindings
         ensures downward { IsTrue result.is_downward ↔ (result.is_judged ≡ true) × IsSome self.old.due }
         ensures free { IsTrue result.was_free ↔ (result.is_judged ≡ true) × (0 < self.old.unseen) × (1 < min (self.old.scans + 1) u32.MAX) }

@@ -1,31 +1,31 @@
-//! What a log has shown of a thread so far.
+//! The facts of a thread that a log has shown so far.
 ghost use Rattle.std.specs.Prelude.{◌≡◌, ◌↔◌, IsTrue};
 
 use arachne_core::ThreadId;
 use arachne_workers::SliceEnd;
 
-/// What is known of the thread that a context had last.
+/// The known facts of the last thread of a context.
 #[derive(Clone, Copy)]
 pub(crate) struct ThreadFacts {
     pub(crate) id: ThreadId,
-    /// The core of its last turn.
+    /// The core of the thread's last turn.
     pub(crate) core: u8,
-    /// The number of the entry of its last turn.
+    /// The number of the entry of the thread's last turn.
     pub(crate) turned: usize,
-    /// A core that has moved it to itself since.
+    /// A core whose worker has moved the thread there since.
     pub(crate) pulled: Option<u8>,
     pub(crate) is_in_slice: bool,
-    /// How its last slice has ended.
+    /// The way in which the thread's last slice has ended.
     pub(crate) end: SliceEnd,
-    /// How often it was woken, and has not gone on for that yet.
+    /// The number of wakes after which the thread has not continued yet.
     pub(crate) woken: u64,
-    /// Where its core has parked since its last turn, the number of that core's entry before the park, and 1 more: it
-    /// was moved away from there between the two. Else 0.
+    /// 0, or if the thread's core has parked since the thread's last turn, one more than the number of the core's last
+    /// entry before the park. The thread was moved away between that entry and the park.
     pub(crate) left: usize,
 }
 
 impl ThreadFacts {
-    /// A thread that has its first turn.
+    /// Returns a thread that has its first turn.
     pub(crate) fn new(id: ThreadId, core: u8, at: usize) -> ThreadFacts {
         ThreadFacts {
             id,
@@ -39,7 +39,7 @@ impl ThreadFacts {
         }
     }
 
-    /// Whether it has ended.
+    /// Returns whether the thread has ended.
     pub(crate) fn has_ended(&self) -> bool
         ensures { IsTrue result ↔ self.now.end ≡ SliceEnd.Ended }
     {

@@ -1,5 +1,5 @@
 -- Each kind of step keeps the rule, and tells what it says.
-use Rattle.std.proofs.Common.{◌≡◌, ◌≢◌, ℕ, zero, suc, ◌+◌, ◌<◌, ◌≤◌, ⊎_elim, List, [], ◌∷◌, ◌++◌, length, map, get_or, set, refl, sym, ap, ◌∙◌, subst, arith, length-append, length-set, get_or-set_same, get_or-set_other, Some, eqb, eq-eqb, ne_eqb}
+use Rattle.std.proofs.Common.{◌≡◌, ◌≢◌, ℕ, zero, suc, ◌+◌, ◌<◌, ◌≤◌, ⊎_elim, List, [], ◌∷◌, ◌++◌, length, map, get_or, set, refl, sym, ap, ◌∙◌, subst, arith, length-append, length-set, get_or-set_same, get_or-set_other, None, Some, eqb, eq-eqb, ne_eqb}
 use Rattle.std.specs.Prelude.{All, if◌then◌else◌, ◌==◌}
 use Rattle.std.proofs.lemmas.Bool.Decides.{nat_tests}
 use Rattle.std.proofs.lemmas.List.Elements.{All-nil, All-cons, All-head, All-tail, All-append, All-weaker}
@@ -23,14 +23,11 @@ use Rattle.arachne_lock.specs.State.{IsLeftBy}
 use Rattle.arachne_lock.specs.Placed.{BeginsWith, placed, StandsIn, times_at, once_below}
 use Rattle.arachne_lock.specs.Logs.{sight, contended_log, taken_log, given_back_log}
 use Rattle.arachne_lock.specs.Views.{Guarded, word_of}
-use Rattle.arachne_lock.specs.Rule.{Board, Histories, idle_known, taken_known, is_of, guards, IsSeenIn, Fits, IsHome, IsKept, IsLawfulSeat, blank, first_view, split_view, second_view, joined_view, AreFirstSlots}
+use Rattle.arachne_lock.specs.Rule.{Board, Histories, idle_known, taken_known, spent, is_of, guards, IsSeenIn, Fits, IsHome, HaveCome, begins, acts, splits, joins, IsKept, IsLawfulSeat, blank, first_view, split_view, second_view, joined_view, AreFirstSlots}
 use Rattle.arachne_lock.specs.Steps.{Mine, idle, with_guard, HasTaken, Takes, GivesBack}
 use Rattle.arachne_lock.proofs.Growing.{begins-refl, GoOn, seen-more, made-more, stands-placed, times-placed, times-elsewhere, times-append}
 
--- how often a seat was split, whether it has the lock's guard, and how many events it made at a place
-abbrev splits_by : KnownLocks → ℕ
-splits_by v = v.log.splits
-
+-- whether a seat has the lock's guard, and how many events it made at a place
 abbrev guard_of : ℕ → KnownLocks → ℕ
 guard_of lock v = is_of lock v.out
 
@@ -82,7 +79,7 @@ module _ (locks : ℕ) (s : Board) (kept : IsKept locks s) (lock : ℕ) (inside 
   word-else : (n j : ℕ) → j ≢ lock → get_or (set s.words (word_of lock) n) (word_of j) 0 ≡ get_or s.words (word_of j) 0
   word-else n j apart = get_or-set_other s.words (word_of lock) (word_of j) n 0 (λ e. apart (omega (arith, e)))
 
-  one-seat-stepped : k'.log.splits ≡ k.log.splits → (now : Histories) → GoOn kept.histories now → ((j : ℕ) → j ≢ lock → now j ≡ kept.histories j) → ((j : ℕ) → IsSound (now j))
+  one-seat-stepped : HaveCome after_views → (now : Histories) → GoOn kept.histories now → ((j : ℕ) → j ≢ lock → now j ≡ kept.histories j) → ((j : ℕ) → IsSound (now j))
       → ((i : ℕ) (v : KnownLocks) → i ≢ id → get_elem? s.views i ≡ some v → (o : Sight) → v.out ≡ Some o → kept.histories o.lock ≡ now o.lock)
       → Fits now k'
       → ((j at : ℕ) → times_at j at k'.log.made + once_below at (length (kept.histories j)) ≡ times_at j at k.log.made + once_below at (length (now j)))
@@ -90,8 +87,8 @@ module _ (locks : ℕ) (s : Board) (kept : IsKept locks s) (lock : ℕ) (inside 
       → (n ≡ 0 → IsHome lock (now lock) homes)
       → ((j : ℕ) → j ≢ lock → get_elem? homes j ≡ get_elem? s.homes j)
       → IsKept locks (after_step n homes)
-  one-seat-stepped unsplit now more others sound still fit once n homes balance elsewhere few home same_homes = record {
-    seats = let long = length-set s.views id k' in let total = total-set splits_by s.views id k k' mine in omega (arith, kept.seats, long, total, unsplit);
+  one-seat-stepped come now more others sound still fit once n homes balance elsewhere few home same_homes = record {
+    seats = come;
     histories = now;
     counted = length-set s.words (word_of lock) n ∙ kept.counted;
     sound = sound;
@@ -127,7 +124,7 @@ home-first P (x ∷ xs) all (suc i) below = home-first P xs (All-tail P x xs all
 pub opens : (locks : ℕ) (words : List ℕ) (slots : List Guarded) → length words ≡ word_of locks → ((i : ℕ) → get_or words i 0 ≡ 0) → AreFirstSlots locks slots
     → IsKept locks (opening words slots (first_view locks))
 opens locks words slots sized clear first = record {
-  seats = refl;
+  seats = begins;
   histories = λ _. [];
   counted = sized;
   sound = λ _. record { lawful = tt; never_idle = λ _. refl };
@@ -171,7 +168,7 @@ takes-allowed locks slots id lock l inside one s kept long at wide =
       taken_known (sight lock h) log,
       takes lock g,
       it.1,
-      one-seat-stepped locks s kept lock inside id (idle_known l) (taken_known (sight lock h) log) at refl kept.histories (λ j. begins-refl (kept.histories j)) (λ j _. refl) kept.sound (λ i v _ _ o _. refl)
+      one-seat-stepped locks s kept lock inside id (idle_known l) (taken_known (sight lock h) log) at (acts kept.seats id None (Some (sight lock h)) l log at refl) kept.histories (λ j. begins-refl (kept.histories j)) (λ j _. refl) kept.sound (λ i v _ _ o _. refl)
           (record {
             seen = All-cons (IsSeenIn kept.histories) (sight lock h) l.seen (begins-refl h) f.seen;
             made = f.made;
@@ -195,7 +192,7 @@ takes-allowed locks slots id lock l inside one s kept long at wide =
           ),
     ))
     (λ away. let seen : n ≡ 1 = omega (arith, away, kept.guard lock inside, kept.one_guard lock inside) in
-    let next = one-seat-stepped locks s kept lock inside id (idle_known l) (idle_known (contended_log l lock)) at refl kept.histories (λ j. begins-refl (kept.histories j)) (λ j _. refl) kept.sound (λ i v _ _ o _. refl)
+    let next = one-seat-stepped locks s kept lock inside id (idle_known l) (idle_known (contended_log l lock)) at (acts kept.seats id None None l (contended_log l lock) at refl) kept.histories (λ j. begins-refl (kept.histories j)) (λ j _. refl) kept.sound (λ i v _ _ o _. refl)
     (record { seen = f.seen; made = f.made; at_guard = λ o e. absurd (none-some _ e) })
     (λ j k. refl) n s.homes (omega (arith, kept.guard lock inside)) (λ j apart. refl) (omega (arith, seen)) (λ e. absurd (away e)) (λ j apart. refl) in (
       idle_known (contended_log l lock),
@@ -263,7 +260,7 @@ gives-allowed locks slots id lock h l g inside one sound left s kept long at wid
     let else_same = λ (j : ℕ) (apart : j ≢ lock). history-else kept.histories lock (h ++ g.events) j apart in
     let log : EventLog = given_back_log l lock h g.events in
     let in_it : guard_of lock v ≤ guards lock s.views = at-le-total (guard_of lock) s.views id v at in
-    let next = one-seat-stepped locks s kept lock inside id v (idle_known log) at refl later more else_same (all-sound kept.histories lock h g.events is kept.sound sound)
+    let next = one-seat-stepped locks s kept lock inside id v (idle_known log) at (acts kept.seats id (Some (sight lock h)) None l log at refl) later more else_same (all-sound kept.histories lock h g.events is kept.sound sound)
     (λ i u apart there o e. dite (ℕ_discrete o.lock lock)
     (λ same. absurd (no-other locks s kept lock inside id v (idle_known log) at (sight lock h) refl inside i u apart there o e same))
     (λ ne. sym (else_same o.lock ne)))
@@ -298,9 +295,7 @@ splits-allowed locks id l s kept at =
     let right : KnownLocks = second_view v in
     let f = kept.fits id v at in
     let views = set s.views id left in record {
-      seats =
-          let long = length-set s.views id left in let more = length-append views (right ∷ []) in
-          let one = total-set splits_by s.views id v left at in let two = total-snoc splits_by views right in omega (arith, kept.seats, long, more, one, two);
+      seats = splits kept.seats id l at;
       histories = kept.histories;
       counted = kept.counted;
       sound = kept.sound;
@@ -321,7 +316,7 @@ splits-allowed locks id l s kept at =
       home = kept.home;
     }
 
-pub joins-allowed : (locks id : ℕ) (l : EventLog) (other : ℕ) (o : EventLog) → Joins (IsKept locks) id (idle_known l) other (idle_known o) (joined_view (idle_known l) (idle_known o)) blank
+pub joins-allowed : (locks id : ℕ) (l : EventLog) (other : ℕ) (o : EventLog) → Joins (IsKept locks) id (idle_known l) other (idle_known o) (joined_view (idle_known l) (idle_known o)) spent
 joins-allowed locks id l other o s kept at apart from =
     let v : KnownLocks = idle_known l in
     let u : KnownLocks = idle_known o in
@@ -330,15 +325,13 @@ joins-allowed locks id l other o s kept at apart from =
     let there : get_elem? s.views other ≡ some u = sym (set_else s.views id other both apart) ∙ from in
     let f = kept.fits id v at in
     let f' = kept.fits other u there in record {
-      seats =
-          let long = length-set s.views id both in let again = length-set views other blank in
-          let one = total-set splits_by s.views id v both at in let two = total-set splits_by views other u blank from in omega (arith, kept.seats, long, again, one, two);
+      seats = joins kept.seats id other l o at apart there;
       histories = kept.histories;
       counted = kept.counted;
       sound = kept.sound;
       fits = λ i t at_i.
           ⊎_elim
-          (λ (x : (i ≡ other) × (blank ≡ t)). subst (Fits kept.histories) x.1 (record { seen = All-nil (IsSeenIn kept.histories); made = All-nil (StandsIn kept.histories); at_guard = λ p e. absurd (none-some _ e) }))
+          (λ (x : (i ≡ other) × (spent ≡ t)). subst (Fits kept.histories) x.1 (record { seen = All-nil (IsSeenIn kept.histories); made = All-nil (StandsIn kept.histories); at_guard = λ p e. absurd (none-some _ e) }))
           (λ (x : (i ≢ other) × (get_elem? views i ≡ some t)).
           ⊎_elim (λ (y : (i ≡ id) × (both ≡ t)). subst (Fits kept.histories) y.1 (record {
             seen = All-append (IsSeenIn kept.histories) l.seen o.seen f.seen f'.seen;
@@ -347,13 +340,13 @@ joins-allowed locks id l other o s kept at apart from =
           }))
           (λ (y : (i ≢ id) × (get_elem? s.views i ≡ some t)). kept.fits i t y.1)
           (at_set s.views id i both t x.1))
-          (at_set views other i blank t at_i);
+          (at_set views other i spent t at_i);
       once = λ lock k.
           let one = total-set (made_of lock k) s.views id v both at in
-          let two = total-set (made_of lock k) views other u blank from in
+          let two = total-set (made_of lock k) views other u spent from in
           let parts = times-append lock k l.made o.made in
           omega (arith, one, two, parts, kept.once lock k);
-      guard = λ lock below. let one = total-set (guard_of lock) s.views id v both at in let two = total-set (guard_of lock) views other u blank from in omega (arith, kept.guard lock below, one, two);
-      one_guard = λ lock below. let one = total-set (guard_of lock) s.views id v both at in let two = total-set (guard_of lock) views other u blank from in omega (arith, kept.one_guard lock below, one, two);
+      guard = λ lock below. let one = total-set (guard_of lock) s.views id v both at in let two = total-set (guard_of lock) views other u spent from in omega (arith, kept.guard lock below, one, two);
+      one_guard = λ lock below. let one = total-set (guard_of lock) s.views id v both at in let two = total-set (guard_of lock) views other u spent from in omega (arith, kept.one_guard lock below, one, two);
       home = kept.home;
     }

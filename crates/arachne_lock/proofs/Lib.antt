@@ -6,3 +6,4 @@ pub mod GoingOn
 pub mod Growing
 pub mod Keeps
 pub mod Visiting
+pub mod Coming

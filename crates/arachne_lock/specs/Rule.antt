@@ -1,5 +1,5 @@
 -- What words, slots and views of a set of locks show between any two steps.
-use Rattle.std.specs.Prelude.{◌≡◌, ℕ, ◌+◌, ◌<◌, ◌≤◌, ◌==◌, if◌then◌else◌, List, [], All, length, slice_index}
+use Rattle.std.specs.Prelude.{◌≡◌, ◌≢◌, ℕ, ◌<◌, ◌≤◌, ◌==◌, true, false, if◌then◌else◌, List, [], ◌∷◌, ◌++◌, All, length, slice_index, slice_set}
 use Rattle.std.specs.List.{sum_by}
 use Rattle.std.specs.declared.option.Option.{Option}
 use Rattle.std.specs.declared.option.Option.TheVariants.{None, Some}
@@ -24,11 +24,19 @@ Board = State Guarded KnownLocks
 abbrev pub Histories : Type 0
 Histories = ℕ → List QueueEvent
 
+-- a seat with this out, which has done and seen that
+abbrev pub known : Option Sight → EventLog → KnownLocks
+known out log = record { live = true; out = out; log = log }
+
 abbrev pub idle_known : EventLog → KnownLocks
-idle_known log = record { out = None; log = log }
+idle_known log = known None log
 
 abbrev pub taken_known : Sight → EventLog → KnownLocks
-taken_known out log = record { out = Some out; log = log }
+taken_known out log = known (Some out) log
+
+-- what is left of a seat that was joined into another
+abbrev pub spent : KnownLocks
+spent = record { live = false; out = None; log = blank_log }
 
 -- 1 where that is of the lock
 abbrev pub is_of : ℕ → Option Sight → ℕ
@@ -42,10 +50,6 @@ guards lock views = sum_by (λ (v : KnownLocks). is_of lock v.out) views
 -- how many events the seats have made at the lock's place
 abbrev pub made_at : ℕ → ℕ → List KnownLocks → ℕ
 made_at lock at views = sum_by (λ (v : KnownLocks). times_at lock at v.log.made) views
-
--- how often seats were split
-abbrev pub splits_of : List KnownLocks → ℕ
-splits_of views = sum_by (λ (v : KnownLocks). v.log.splits) views
 
 -- the lock's history begins with what was seen of it
 abbrev pub IsSeenIn : Histories → Sight → Type 0
@@ -61,9 +65,20 @@ pub record Fits (histories : Histories) (v : KnownLocks) : Type 0 where
 abbrev pub IsHome : ℕ → List QueueEvent → List (maybe.Option Guarded) → Type 0
 IsHome lock history homes = (guarded : Guarded) × (get_elem? homes lock ≡ some (some guarded)) × IsLeftBy history guarded.lock
 
+-- The seats that can come about. At first there is one. Then, one after another, a seat makes a step, is split, which it
+-- counts, or takes in another. A new seat stands at the end.
+pub data HaveCome : List KnownLocks → Type 0 where
+  begins : HaveCome (idle_known blank_log ∷ [])
+  acts : {seats : List KnownLocks} → HaveCome seats → (i : ℕ) (out now : Option Sight) (before after : EventLog) → get_elem? seats i ≡ some (known out before) → after.splits ≡ before.splits
+      → HaveCome (slice_set seats i (known now after))
+  splits : {seats : List KnownLocks} → HaveCome seats → (i : ℕ) (log : EventLog) → get_elem? seats i ≡ some (idle_known log)
+      → HaveCome (slice_set seats i (idle_known (split_log log)) ++ idle_known (cut_log log) ∷ [])
+  joins : {seats : List KnownLocks} → HaveCome seats → (i j : ℕ) (log other : EventLog) → get_elem? seats i ≡ some (idle_known log) → j ≢ i → get_elem? seats j ≡ some (idle_known other)
+      → HaveCome (slice_set (slice_set seats i (idle_known (joined_log log other))) j spent)
+
 -- Each lock has one history, and each seat but the first was split off another, which counts it.
 pub record IsKept (locks : ℕ) (board : Board) : Type 0 where
-  pub seats : length board.views ≡ 1 + splits_of board.views
+  pub seats : HaveCome board.views
   pub histories : Histories
   pub counted : length board.words ≡ word_of locks
   pub sound : (lock : ℕ) → IsSound (histories lock)

@@ -1,5 +1,6 @@
 //! Laws of locks, on functions with empty bodies.
 ghost use Rattle.std.specs.Prelude.{ℕ, List};
+ghost use Rattle.atomic_table.specs.Table.{Enters, Arrives};
 ghost use Rattle.arachne_lock.specs.declared.event.QueueEvent.{QueueEvent};
 ghost use Rattle.arachne_lock.specs.History.{IsLawful};
 ghost use Rattle.arachne_lock.specs.Promises.{HasOneHolderAtATime, GrantsNoneThatLeft, IsHeldWell};
@@ -20,4 +21,10 @@ pub fn one_that_left_is_not_granted()
 /// history that all seats have made.
 pub fn locks_have_one_holder()
     ensures { (locks : ℕ) (board : Board) → (rule : IsKept locks board) → (lock : ℕ) → IsHeldWell (rule.histories lock) }
+{}
+
+/// No step of any kind makes a seat, whatever it tells: each but the first was split off another, which counts it.
+pub fn seats_are_split_off()
+    ensures enters { (locks word : ℕ) → ¬ Enters (IsKept locks) locks word (λ n view. Unit {0}) }
+    ensures arrives { (locks word : ℕ) (f : ℕ → ℕ) → ¬ Arrives (IsKept locks) locks word f (λ n seat. Unit {0}) }
 {}

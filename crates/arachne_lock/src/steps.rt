@@ -43,9 +43,9 @@ impl Split<KnownLocks> for Divide {
 }
 
 impl Join<KnownLocks> for Divide {
-    ghost use Rattle.arachne_lock.specs.Rule.{blank, joined_view};
+    ghost use Rattle.arachne_lock.specs.Rule.{spent, joined_view};
 
     ghost both = { joined_view };
 
-    ghost spent = { blank };
+    ghost spent = { spent };
 }

@@ -35,6 +35,8 @@ pub struct EventLog {
 
 /// A seat's log, and the lock whose state is out with it, if one is.
 pub struct KnownLocks {
+    /// It wasn't joined into another.
+    pub live: bool,
     pub out: Option<Sight>,
     pub log: EventLog,
 }

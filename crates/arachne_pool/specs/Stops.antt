@@ -1,13 +1,11 @@
 -- What becomes of a job by where its slice has stopped.
-use Rattle.std.specs.Prelude.{Bool, false, true, Option, None, Some}
+use Rattle.std.specs.Prelude.{Bool, false, true}
 use Rattle.arachne_contexts.specs.declared.answers.Rested.{Rested}
 use Rattle.arachne_contexts.specs.declared.answers.Rested.TheVariants as rested
 use Rattle.arachne_core.specs.declared.state.Rest.{Rest}
 use Rattle.arachne_core.specs.declared.state.Rest.TheVariants as rest
 use Rattle.arachne_pool.specs.declared.stop.JobStop as job
 use Rattle.arachne_pool.specs.declared.stop.JobStop.TheVariants.{Goes, Waits, Sleeps, Forks, LetsGo, Ends, Short}
-use Rattle.arachne_workers.specs.declared.desk.ThreadStop as loop
-use Rattle.arachne_workers.specs.declared.desk.ThreadStop.TheVariants as loop_stop
 
 -- it is put back as blocked where it waits or sleeps, and else as ready
 abbrev pub blocks_after : job.JobStop → Bool
@@ -23,13 +21,3 @@ blocks_after Short = false
 abbrev pub rests_as : Rested → Rest → Rest
 rests_as rested.AsAsked asked = asked
 rests_as rested.WokenMeanwhile asked = rest.Ready
-
--- what the worker's loop learns. Nothing yet where a child that waits beside it may get a place first
-abbrev pub learned_after : job.JobStop → Option loop.ThreadStop
-learned_after Goes = None
-learned_after Waits = Some loop_stop.Blocks
-learned_after Sleeps = Some loop_stop.Blocks
-learned_after Forks = None
-learned_after LetsGo = Some loop_stop.Goes
-learned_after Ends = Some loop_stop.Ends
-learned_after Short = Some loop_stop.Goes

@@ -1,40 +1,62 @@
-//! What the table has answered to a wake.
+//! The answer of a table to a wake.
 ghost use Rattle.std.specs.Prelude.{◌≡◌, IfSome};
+ghost use Rattle.arachne_contexts.specs.Out.{KeepsOut};
 ghost use Rattle.arachne_pool.specs.Waking.{Answers};
 
-use crate::called::Called;
-use arachne_contexts::Woken;
+use crate::job::PoolJob;
+use crate::spawned::Spawned;
+use arachne_contexts::{Contexts, Woken};
+use arachne_core::ThreadId;
 use std::marker::Model;
+use std::snapshot::Snapshot;
+use std::sync::Wait;
 
-/// What the table has answered to a wake: only a call of it makes one.
+/// The answer of a table to a wake. Only a call of the table makes one.
 ///
-/// Contracts see the id that it was called with, and the answer.
+/// Contracts see the id that the table was called with, and the answer.
 #[derive(Drop)]
 pub struct WakeAnswer {
-    called: Called,
+    /// It has no bytes.
+    id: Snapshot<ThreadId>,
+    woken: Woken,
 }
 
 impl Model for WakeAnswer {
+    ghost use Rattle.arachne_contexts.specs.Answers.{WakesAs};
     ghost use Rattle.arachne_pool.specs.Waking.{Asked};
 
     ghost Value = { Asked };
 
-    ghost view = { λ a. a.called };
+    ghost view = { λ a. record { id = a.id.value; woken = a.woken } };
+
+    ghost invariant = { λ a. WakesAs a.id.value a.woken };
 }
 
 impl WakeAnswer {
-    /// The answer to a call, unless that was lost and is to be made again.
-    pub(crate) fn to(called: Called) -> Option<WakeAnswer>
-        ensures { IfSome result (Answers called.id) }
+    /// Tries once to wake the thread of an id. Returns `None` if the try was lost, and has to be made again.
+    pub(crate) fn of_try<H: Wait, J: PoolJob, C: Contexts<Spawned<J>>>(
+        rt: &H,
+        table: &C,
+        seat: &mut C::Seat,
+        id: ThreadId,
+    ) -> Option<WakeAnswer>
+        requires { C.sits table.now seat.old }
+        ensures seat { C.sits table.now seat.new }
+        ensures out { KeepsOut (C.has table.now) seat.old seat.new }
+        ensures answer { IfSome result (Answers id) }
     {
-        called.woken().settled()?;
-        Some(WakeAnswer { called })
+        let woken = table.wake(rt, seat, id);
+        woken.settled()?;
+        Some(WakeAnswer {
+            id: Snapshot::of(&id),
+            woken,
+        })
     }
 
     /// The answer.
     pub fn woken(&self) -> Woken
         ensures { result ≡ self.now.woken }
     {
-        self.called.woken()
+        self.woken
     }
 }

@@ -4,13 +4,12 @@ ghost use Rattle.std.specs.VecDeque.{deque_capacity, deque_len};
 ghost use Rattle.arachne_pool.specs.Done.{nothing_done};
 ghost use Rattle.arachne_pool.specs.Jobs.{one};
 
-use crate::idle::WasShort;
 use crate::job::PoolJob;
 use crate::orders::PoolOrders;
 use crate::outcome::{Cells, ResultReceiver, WantedResult};
 use crate::spawned::Spawned;
 use crate::statistics::Statistics;
-use crate::tally::{News, Tally};
+use crate::tally::Tally;
 use rand_core::SeedableRng;
 use rand_xoshiro::Xoshiro256PlusPlus;
 use std::alloc::Global;
@@ -27,21 +26,21 @@ pub(crate) struct Bench<J: PoolJob> {
     pub(crate) cells: Cells<J>,
     pub(crate) chooser: Xoshiro256PlusPlus,
     pub(crate) tally: Tally,
-    /// What of that the pool was told.
+    /// The part of `tally` that was reported to the pool.
     pub(crate) told: Tally,
-    /// What it has done since it told of that.
+    /// Statistics that were not reported to the pool yet.
     pub(crate) done: Statistics,
     pub(crate) orders: PoolOrders,
-    /// Memory was refused, and nobody was told yet.
+    /// Memory was refused, and no call has returned that yet.
     pub(crate) is_short: bool,
-    /// A job has ended since this was looked at last.
+    /// A job has ended since this was last read.
     pub(crate) has_ended: bool,
 }
 
 impl<J: PoolJob> Bench<J> {
     ghost use Rattle.arachne_pool.specs.Jobs.{count_near};
 
-    /// One with no job, whose choices go by this seed.
+    /// Returns one with no job, whose choices go by this seed.
     pub(crate) fn new(alloc: Global, seed: u64) -> Bench<J>
         ensures tally { (result.tally.spawned ≡ 0) × (result.tally.ended ≡ 0) × (result.told ≡ result.tally) }
         ensures near { (result.near.items ≡ []) × (deque_len result.near ≡ 0) }
@@ -61,8 +60,8 @@ impl<J: PoolJob> Bench<J> {
         }
     }
 
-    /// A job begins: the end that its result comes to, and the job, for which there is room among those that wait.
-    /// Where memory is refused it comes back.
+    /// Begins a job. Returns the receiver of its result, and the job, for which there is room among those that wait. If
+    /// memory is refused, the job is returned.
     pub(crate) fn begin(&mut self, job: J) -> Result<(ResultReceiver<J>, Spawned<J>), J>
         requires fresh { J.awaits job [] }
         ensures receiver { IfOk result (λ begun. begun.0.opening.key.job.value ≡ job) }
@@ -87,9 +86,9 @@ impl<J: PoolJob> Bench<J> {
         }
     }
 
-    /// The children that this job, or one in its place, has ended without are let go: those that have not begun wait
-    /// for places of their own, and none is lost. Whether memory was there. Where it was not, one is left that has not
-    /// begun, and that memory was refused is noted.
+    /// Lets go the children that this job, or one in its place, has ended without joining. Those that have not begun
+    /// wait for places of their own, and none is lost. Returns false if memory was refused, which is noted; then one is
+    /// left that has not begun.
     #[tactic(auto, using(crate::proofs::Counts::count_near_push))]
     pub(crate) fn let_go(&mut self, job: &mut Spawned<J>) -> bool
         ensures same { self.new ≡ record self.old { near = self.new.near; is_short = if result then self.old.is_short else true } }
@@ -115,16 +114,7 @@ impl<J: PoolJob> Bench<J> {
         true
     }
 
-    /// Whether memory was refused since this was asked last.
-    pub(crate) fn take_short(&mut self) -> WasShort
-        ensures asked { result.is_short ≡ self.old.is_short }
-        ensures same { self.new ≡ record self.old { is_short = false } }
-    {
-        WasShort::take(&mut self.is_short)
-    }
-
-    /// What was done since it was told last, with so many slices, and so many rounds that found nothing. It is told
-    /// now.
+    /// Takes the statistics since the last report, with this number of slices and of rounds that found nothing.
     pub(crate) fn take_done(&mut self, slices: u64, rests: u64) -> Statistics
         ensures done { result ≡ record self.old.done { slices = slices; rests = rests } }
         ensures same { self.new ≡ record self.old { done = nothing_done } }
@@ -137,7 +127,7 @@ impl<J: PoolJob> Bench<J> {
         }
     }
 
-    /// What another worker has counted is counted here too. Both have told the pool of it.
+    /// Adds the counts of another worker. Both have reported theirs to the pool.
     pub(crate) fn count_too(&mut self, other: Tally)
         ensures same { self.new ≡ record self.old { tally = self.new.tally; told = self.new.told } }
         ensures spawned { self.old.tally.spawned + other.spawned ≤ u64.MAX → self.new.tally.spawned ≡ self.old.tally.spawned + other.spawned }
@@ -148,22 +138,22 @@ impl<J: PoolJob> Bench<J> {
         self.told = self.tally;
     }
 
-    /// How many jobs were spawned and have ended since the pool was told last, which it is now.
-    pub(crate) fn news(&mut self) -> News
+    /// Takes the counts of spawned and ended jobs that the pool has not seen yet.
+    pub(crate) fn news(&mut self) -> Tally
         ensures same { self.new ≡ record self.old { told = self.new.tally } }
-        ensures spawned { self.old.told.spawned ≤ self.old.tally.spawned → self.old.told.spawned + result.tally.spawned ≡ self.old.tally.spawned }
-        ensures ended { self.old.told.ended ≤ self.old.tally.ended → self.old.told.ended + result.tally.ended ≡ self.old.tally.ended }
+        ensures spawned { self.old.told.spawned ≤ self.old.tally.spawned → self.old.told.spawned + result.spawned ≡ self.old.tally.spawned }
+        ensures ended { self.old.told.ended ≤ self.old.tally.ended → self.old.told.ended + result.ended ≡ self.old.tally.ended }
     {
         let news = Tally {
             spawned: self.tally.spawned.wrapping_sub(self.told.spawned),
             ended: self.tally.ended.wrapping_sub(self.told.ended),
         };
         self.told = self.tally;
-        News::of(news)
+        news
     }
 }
 
-/// A job that begins, and the end that its result comes to. Where memory is refused the job comes back.
+/// Begins a job. Returns the receiver of its result, and the job; if memory is refused, the job.
 fn open<J: PoolJob>(
     alloc: Global,
     cells: &mut Cells<J>,

@@ -1,13 +1,12 @@
-//! What a worker does at its pool: it spawns jobs, works, and gets results.
-ghost use Rattle.std.specs.Prelude.{◌≡◌, ◌+◌, ◌<◌, [], IfErr, IfOk, IsSome, OnOk};
+//! The calls of a worker: it spawns jobs, works, and gets results.
+ghost use Rattle.std.specs.Prelude.{◌≡◌, ◌+◌, ◌<◌, ◌↔◌, [], IfErr, IfOk, IfSome, IsNone, IsSome, IsTrue, OnOk};
 
-use crate::came::Came;
 use crate::handle::Handle;
 use crate::job::PoolJob;
 use crate::place::place;
 use crate::pool::Pool;
 use crate::posting::Disowned;
-use crate::rounds::go_on;
+use crate::rounds::{report, run, run_once, run_until};
 use crate::seat::{Call, Seat, idle_seat};
 use crate::spawned::Spawned;
 use crate::spawning::{Refusal, Refused};
@@ -20,17 +19,18 @@ use std::time::Clock;
 
 impl<C: Seats> Pool<C> {
     ghost use Rattle.std.specs.Prelude.{◌⊎◌, None};
-    ghost use Rattle.arachne_pool.specs.Calls.{AnswersFor, HasSeatAfter, TellsDisowned};
+    ghost use Rattle.arachne_pool.specs.Calls.{HasSeatAfter};
     ghost use Rattle.arachne_pool.specs.Grounds.{ground_at};
     ghost use Rattle.arachne_pool.specs.Jobs.{one};
     ghost use Rattle.arachne_pool.specs.Spawning.{HandsBack, IsRefusedUnkept, KeepsLast, KeepsOneAtMost};
     ghost use Rattle.arachne_pool.specs.Workers.{IsArbiterFor, IsIdleAt, IsWorkerOf, WorksFor};
     ghost use Rattle.arachne_pool.specs.declared.worker.PoolFault.TheVariants.{Token};
 
-    /// Spawns a job, which gets a place of the table where a core has one, and else waits for one with the worker. Its
-    /// handle gives its result. It comes back, with why, where memory is refused or the worker has no seat; and where
-    /// no core has a place and the worker has worked for none: that keeps no job (`try_spawn`), since it may never come
-    /// to a round.
+    /// Spawns a job and returns its handle. The job gets a place if a core has one, and waits with the worker
+    /// otherwise.
+    ///
+    /// The job is returned if memory is refused, if the worker has no seat, or if no core has a place and the worker
+    /// has worked for no core: such a worker keeps no job (`try_spawn`), since it may never come to a round.
     pub fn spawn<H: Wait, J: PoolJob>(
         &self,
         rt: &H,
@@ -63,9 +63,11 @@ impl<C: Seats> Pool<C> {
             Ok(begun) => begun,
             Err(job) => return Err(Refused::of(job, Refusal::Memory)),
         };
-        let told = self.live.add(worker.core, bench.news());
+        // Before the job is posted: another worker may run it to its end at once, and its end must not be counted
+        // before its spawn.
+        self.live.add(worker.core, bench.news());
         let handle = Handle::of(receiver);
-        match place::<H, J, C>(rt, self, seat, bench, job, told) {
+        match place::<H, J, C>(rt, self, seat, bench, job) {
             Ok(Some(posted)) => {
                 posted.tell(&self.shared);
                 Ok(handle)
@@ -78,10 +80,12 @@ impl<C: Seats> Pool<C> {
         }
     }
 
-    /// One round on a core: orders that are due are applied, each job that is ready there has a slice, and a job of the
-    /// worker that waits for a place gets one. Where no job is ready it takes over one that is ready on another core,
-    /// for which a kernel thread has come to `work`, and to which that one has not come. Where a job came to the core
-    /// so and none had a slice, a second round follows, in which it has one. Whether there was anything to do.
+    /// Makes one round on a core: orders that are due are applied, each job that is ready there has a slice, and a job
+    /// of the worker that waits for a place gets one. Returns whether there was anything to do.
+    ///
+    /// If no job is ready, a job is moved here that is ready on another core, to which that core's worker, a kernel
+    /// thread that has called `work`, has not come. If the round only brought a job to the core, a second one follows,
+    /// in which that job has a slice.
     pub fn turn<'a, H: Wait + Clock, J: PoolJob>(
         &'a self,
         rt: &'a H,
@@ -97,14 +101,19 @@ impl<C: Seats> Pool<C> {
         ensures fault { HasSeatAfter worker.new.seat result }
         ensures same { WorksFor core worker.new }
     {
-        match self.operate(rt, worker, core, Call::Turn, None) {
-            Came::Ran(found) => found,
-            Came::Joined(_) => unreachable!(),
+        let mut kernel = self.enter(rt, worker, core, Call::Turn);
+        let Some(rounds) = &mut kernel else {
+            return Err(PoolFault::Token);
+        };
+        let found = run_once(rounds);
+        if !self.leave(worker, core, &mut kernel) {
+            return Err(PoolFault::Token);
         }
+        found
     }
 
-    /// Works on a core until all jobs of the pool have ended and it isn't kept open, or its workers are to stop. With a
-    /// fault the other workers stop too.
+    /// Works on a core until all jobs of the pool have ended and it is not kept open, or until the pool is stopped. A
+    /// fault stops the other workers too.
     pub fn work<'a, H: Wait + Clock, J: PoolJob>(
         &'a self,
         rt: &'a H,
@@ -120,21 +129,25 @@ impl<C: Seats> Pool<C> {
         ensures same { WorksFor core worker.new }
     {
         self.live.works_for(core);
-        match self.operate(rt, worker, core, Call::Work, None) {
-            Came::Ran(Ok(_)) => {
-                self.tell_if_over();
-                Ok(())
-            }
-            Came::Ran(Err(fault)) => {
-                self.stop();
-                Err(fault)
-            }
-            Came::Joined(_) => unreachable!(),
+        let mut kernel = self.enter(rt, worker, core, Call::Work);
+        let Some(rounds) = &mut kernel else {
+            self.stop();
+            return Err(PoolFault::Token);
+        };
+        let ended = run(rounds);
+        if !self.leave(worker, core, &mut kernel) {
+            self.stop();
+            return Err(PoolFault::Token);
         }
+        match ended {
+            Ok(()) => self.wake_if_over(),
+            Err(_) => self.stop(),
+        }
+        ended
     }
 
-    /// Works on a core until the job of this handle has ended. Its result. Where the workers are to stop before, the
-    /// handle comes back; with another fault the other workers stop too.
+    /// Works on a core until the job of this handle has ended, and returns its result. If the pool is stopped first,
+    /// the handle is returned; any other fault stops the other workers too.
     pub fn join<'a, H: Wait + Clock, J: PoolJob>(
         &'a self,
         rt: &'a H,
@@ -152,99 +165,57 @@ impl<C: Seats> Pool<C> {
         ensures seat { IsSome worker.new.seat ⊎ IfErr result (λ back. back.0 ≡ Token) }
         ensures same { WorksFor core worker.new }
     {
-        let joined = match self.operate(rt, worker, core, Call::Join, Some(handle)) {
-            Came::Joined(joined) => joined,
-            Came::Ran(_) => unreachable!(),
+        let mut kernel = self.enter(rt, worker, core, Call::Join);
+        let Some(rounds) = &mut kernel else {
+            self.stop();
+            return Err((PoolFault::Token, handle));
         };
+        let joined = run_until(rounds, handle);
+        let has_seat = self.leave(worker, core, &mut kernel);
         match joined {
-            Ok(_) | Err((PoolFault::Stopped, _)) => self.tell_if_over(),
-            Err(_) => self.stop(),
+            Ok(output) => {
+                self.wake_if_over();
+                Ok(output)
+            }
+            Err((fault, handle)) if has_seat => {
+                if fault != PoolFault::Stopped {
+                    self.stop();
+                }
+                Err((fault, handle))
+            }
+            Err((_, handle)) => {
+                self.stop();
+                Err((PoolFault::Token, handle))
+            }
         }
-        joined
     }
 
-    /// What a worker does on a core in a call, for the job of a handle if there is one. The worker has nothing
-    /// meanwhile. Without a seat it comes to no more than that.
-    #[inline(always)]
-    fn operate<'a, H: Wait + Clock, J: PoolJob>(
+    /// Begins a call of a worker on a core, with all that the worker has. Returns `None` if it has no seat.
+    fn enter<'a, H: Wait + Clock, J: PoolJob>(
         &'a self,
         rt: &'a H,
         worker: &mut Worker<C::Seat, J>,
         core: u8,
         call: Call,
-        handle: Option<Handle<J>>,
-    ) -> Came<J>
+    ) -> Option<CoreWorker<'a, H, Seat<'a, H, J, C>>>
     where
         C: Contexts<Spawned<J>>,
         requires worker { IsWorkerOf C.sits C.idle self.now.table self.now.cores worker.old }
         requires core { core < self.now.cores }
-        ensures worker { IsWorkerOf C.sits C.idle self.now.table self.now.cores worker.new }
-        ensures same { WorksFor core worker.new }
-        ensures answer { AnswersFor J.is_result handle result }
-        ensures seat { IsSome worker.new.seat ⊎ TellsDisowned result }
+        ensures desk { IfSome result (λ kernel. kernel.desk ≡ ground_at self.now.table self.now.cores) }
+        ensures worker { IsNone result → IsWorkerOf C.sits C.idle self.now.table self.now.cores worker.new }
+        ensures same { IsNone result → WorksFor core worker.new }
     {
-        self.leave_core(replace(&mut worker.core, core), core);
-        let Some(seat) = worker.seat.take() else {
-            return Came::failed(PoolFault::Token, handle);
-        };
-        let came = self.serve(rt, worker, seat, call, handle);
-        came.with_seat(worker.seat.is_some())
-    }
-
-    /// The same by the worker's seat, on its own core.
-    #[inline(always)]
-    fn serve<'a, H: Wait + Clock, J: PoolJob>(
-        &'a self,
-        rt: &'a H,
-        worker: &mut Worker<C::Seat, J>,
-        seat: C::Seat,
-        call: Call,
-        handle: Option<Handle<J>>,
-    ) -> Came<J>
-    where
-        C: Contexts<Spawned<J>>,
-        requires worker { IsWorkerOf C.sits C.idle self.now.table self.now.cores worker.old }
-        requires seat { IsIdleAt C.sits C.idle self.now.table seat }
-        requires core { worker.old.core < self.now.cores }
-        ensures worker { IsWorkerOf C.sits C.idle self.now.table self.now.cores worker.new }
-        ensures same { WorksFor worker.old.core worker.new }
-        ensures answer { AnswersFor J.is_result handle result }
-    {
-        let core = worker.core;
-        let mut kernel = self.open(rt, worker, seat, call);
-        let came = go_on(&mut kernel, handle);
-        let CoreWorker {
-            agenda,
-            pace,
-            desk,
-            ..
-        } = kernel;
-        let Seat {
-            pool,
-            is_broken,
-            seat,
-            held,
-            bench,
-            ..
-        } = desk;
-        *worker = Worker {
-            seat: idle_seat::<J, C>(pool, seat, is_broken, &held),
-            bench,
-            core,
-            agenda,
-            pace,
-        };
-        came
-    }
-
-    /// What a worker knows of the core that it leaves, if it had one, is told to whoever works there next.
-    fn leave_core(&self, before: u8, now: u8) {
-        if before != now && before < self.cores {
+        let before = replace(&mut worker.core, core);
+        if before != core && before < self.cores {
+            // What the worker has noted of that core is lost: its next worker must look at every place.
             self.shared.hint_cores(1 << u32::from(before));
         }
+        let seat = worker.seat.take()?;
+        Some(self.open(rt, worker, seat, call))
     }
 
-    /// What works with a worker, by its seat, on its core. The worker has nothing meanwhile.
+    /// Returns what makes the rounds of a call, by a worker's seat, on its core. The worker has nothing meanwhile.
     fn open<'a, H: Wait + Clock, J: PoolJob>(
         &'a self,
         rt: &'a H,
@@ -289,5 +260,50 @@ impl<C: Seats> Pool<C> {
                 bench,
             },
         }
+    }
+
+    /// Ends a call: the worker has again what it began with. Returns whether it has a seat, which it has unless
+    /// something is out with that. `kernel` is lent, since the checker covers no call that takes it by value.
+    fn leave<'a, H: Wait + Clock, J: PoolJob>(
+        &'a self,
+        worker: &mut Worker<C::Seat, J>,
+        core: u8,
+        kernel: &mut Option<CoreWorker<'a, H, Seat<'a, H, J, C>>>,
+    ) -> bool
+    where
+        C: Contexts<Spawned<J>>,
+        requires some { IsSome kernel.old }
+        requires desk { IfSome kernel.old (λ k. k.desk ≡ ground_at self.now.table self.now.cores) }
+        requires core { core < self.now.cores }
+        ensures worker { IsWorkerOf C.sits C.idle self.now.table self.now.cores worker.new }
+        ensures same { WorksFor core worker.new }
+        ensures seat { IsTrue result ↔ IsSome worker.new.seat }
+    {
+        let Some(mut kernel) = kernel.take() else {
+            unreachable!()
+        };
+        report(&mut kernel, 0);
+        let CoreWorker {
+            agenda,
+            pace,
+            desk,
+            ..
+        } = kernel;
+        let Seat {
+            pool,
+            is_broken,
+            seat,
+            held,
+            bench,
+            ..
+        } = desk;
+        *worker = Worker {
+            seat: idle_seat::<J, C>(pool, seat, is_broken, &held),
+            bench,
+            core,
+            agenda,
+            pace,
+        };
+        worker.seat.is_some()
     }
 }

@@ -1,4 +1,4 @@
-//! The begin of a pool, and its end.
+//! How a pool is made and closed.
 ghost use Rattle.std.specs.Prelude.{◌≡◌, ◌+◌, ◌<◌, ◌≤◌, ◌↔◌, [], IfErr, IfOk, IfSome, IsSome, IsTrue, MatchOption, OnErr, OnOk, Some};
 ghost use Rattle.arachne_core.specs.declared.layout.TheConstants.{CORES, SLOTS};
 ghost use Rattle.arachne_policy.specs.Orders.{AreInOrder};
@@ -32,9 +32,9 @@ pub struct Left<J: PoolJob> {
 /// Why a pool was not closed.
 #[derive(Drop)]
 pub enum NotClosed<C: Seats, J: PoolJob> {
-    /// Another worker has a part of it still, or this one has no seat. All comes back.
+    /// Another worker or a waker has a part of the seat, or this worker has none. Pool and worker are returned.
     NotWhole(Pool<C>, Worker<C::Seat, J>),
-    /// Memory was refused. The table, its seat and the jobs that had no place come back.
+    /// Memory was refused. The table, its seat and the jobs that had no place are returned.
     Memory(C, C::Seat, VecDeque<Spawned<J>>),
     /// The jobs that were spawned are not those that ended and those that are left.
     Lost(Left<J>),
@@ -79,9 +79,9 @@ impl<C: Seats> Pool<C> {
     ghost use Rattle.arachne_pool.specs.NotClosed.{ComesBack};
     ghost use Rattle.arachne_pool.specs.Workers.{ComeLast};
 
-    /// From now on these orders, as by a policy of the caller's between two rounds; what is left of those before is
-    /// forgotten. A core that those have closed stays closed until one of these grants it. One and the same worker is
-    /// given all orders of a pool. Where memory is refused the worker has the orders that it had.
+    /// Replaces the orders of the pool, as a policy of the caller's does between two rounds. Those that are left of the
+    /// old ones are forgotten. A core that they have closed stays closed until one of the new ones grants it. All
+    /// orders of a pool must be given to the same worker. If memory is refused, the worker keeps its orders.
     pub fn order<H: Wait, J: PoolJob>(
         &self,
         rt: &H,
@@ -108,7 +108,7 @@ impl<C: Seats> Pool<C> {
         Ok(())
     }
 
-    /// Whether a core seems to be closed, as only orders close one.
+    /// Returns whether a core seems to be closed. Only orders close one.
     fn is_closed<H: Wait, J: PoolJob>(&self, rt: &H, core: u8) -> bool
     where
         C: Contexts<Spawned<J>>,
@@ -120,8 +120,8 @@ impl<C: Seats> Pool<C> {
         }
     }
 
-    /// The jobs that were spawned and have not ended: with those that ended, as many as were spawned. Those that ended
-    /// have left their results. The worker is the only one that is left.
+    /// Closes the pool. Returns the jobs that were spawned and have not ended; with those that ended, these are as many
+    /// as were spawned. The results of those that ended are there. The worker must be the only one that is left.
     pub fn close<H: Wait, J: PoolJob>(
         self,
         rt: &H,
@@ -154,7 +154,7 @@ impl<C: Seats> Pool<C> {
         }
     }
 
-    /// Whether a worker has its seat, and no other has a part of the pool.
+    /// Returns whether a worker has its seat, and no other has a part of it.
     fn is_whole<J: PoolJob>(&self, worker: &Worker<C::Seat, J>) -> bool
         ensures { IsTrue result ↔ IsWhole C.weight worker.now.seat }
     {
@@ -179,7 +179,7 @@ fn closes_at_once(core: u8) -> CoreOrder
 impl Tally {
     ghost use Rattle.arachne_pool.specs.Leftover.{count_of};
 
-    /// Whether those that ended and those that are left are as many as were spawned.
+    /// Returns whether those that ended and those that are left are as many as were spawned.
     fn is_over<J: PoolJob>(self, left: &Left<J>) -> bool
         ensures { IsTrue result ↔ (self.spawned ≡ self.ended + count_of left.now) }
     {
@@ -196,7 +196,7 @@ impl Tally {
     }
 }
 
-/// So many less those with a place. None where these are more.
+/// Subtracts the number of jobs with a place. Returns `None` if these are more.
 #[tactic(auto, using(crate::proofs::Counts::placed_counts))]
 fn without_placed<J: PoolJob>(count: u64, placed: &[(ThreadId, Spawned<J>)]) -> Option<u64>
     ensures { MatchOption result (count < count_placed placed.now) (λ rest. rest + count_placed placed.now ≡ count) }
@@ -208,7 +208,7 @@ fn without_placed<J: PoolJob>(count: u64, placed: &[(ThreadId, Spawned<J>)]) -> 
     Some(rest)
 }
 
-/// So many less those that waited for a place. None where these are more.
+/// Subtracts the number of jobs that waited for a place. Returns `None` if these are more.
 fn without_near<J: PoolJob>(count: u64, near: &VecDeque<Spawned<J>>) -> Option<u64>
     ensures { MatchOption result (count < count_near near.now.items) (λ rest. rest + count_near near.now.items ≡ count) }
 {

@@ -1,11 +1,11 @@
-//! What stands for the result of a job.
+//! The handle of a job, which gives its result.
 ghost use Rattle.std.specs.Prelude.{◌≡◌, IfErr, IfOk};
 
 use crate::job::PoolJob;
 use crate::outcome::ResultReceiver;
 use std::marker::Model;
 
-/// What stands for the result of a job. It gives the result once, and is used up by that; it can't be copied.
+/// The handle of a job. It gives the result once, is used up by that, and can't be copied.
 ///
 /// Contracts see the job, as it was spawned.
 #[derive(Drop)]
@@ -20,14 +20,14 @@ impl<J: PoolJob> Model for Handle<J> {
 }
 
 impl<J: PoolJob> Handle<J> {
-    /// The handle of the job whose result comes to this end.
+    /// Returns the handle of the job whose result comes to this receiver.
     pub(crate) fn of(receiver: ResultReceiver<J>) -> Handle<J>
         ensures { result ≡ receiver.opening.key.job.value }
     {
         Handle { receiver }
     }
 
-    /// The job's result, if it has ended. It takes no memory and waits for nobody.
+    /// Returns the job's result if it has ended, and the handle otherwise. It takes no memory and never blocks.
     pub fn poll(self) -> Result<J::Output, Handle<J>>
         ensures output { IfOk result (J.is_result self) }
         ensures same { IfErr result (λ back. back ≡ self) }

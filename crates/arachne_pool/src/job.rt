@@ -1,21 +1,21 @@
-//! What a pool runs.
+//! Jobs: what a pool runs.
 ghost use Rattle.std.specs.Prelude.{◌≡◌, List, [], ◌∷◌};
 ghost use Rattle.arachne_pool.specs.Jobs.{EndsWith, ForksFresh, HasJoined, IsAwaited, KeepsChildren, KeepsResults, KnowsChildren};
 
 use arachne_contexts::Tagged;
 use arachne_core::ThreadId;
 
-/// What a job wants after a step.
+/// What a job asks for after a step.
 #[derive(Drop)]
 pub enum Step<J, O> {
     /// To go on.
     Again,
-    /// To get the result of the newest child that it has forked and not joined. It goes on at once where it has none.
+    /// To get the result of the newest child that it has forked and not joined. If there is none, it goes on at once.
     Waits,
-    /// To rest until it is woken (`Pool::wake`) by the id that `sleeps_as` tells it. It may go on earlier, so it looks
-    /// again whether what it sleeps for has come.
+    /// To rest until it is woken (`Pool::wake`) by the id that `sleeps_as` gives it. It may go on earlier, so it must
+    /// look again whether what it sleeps for has come.
     Sleeps,
-    /// This job is to run beside it, as its newest child.
+    /// To have this job run beside it, as its newest child.
     Forks(J),
     /// It has ended, with this result.
     Done(O),
@@ -29,11 +29,11 @@ pub trait PoolJob: Tagged + Drop {
     /// This is a result of the job. A handle gives no other.
     ghost is_result: { Self → Self.Output → Type 0 };
 
-    /// These are the children that the job has forked and not joined, the newest first: each as it was forked. Where a
-    /// job says nothing of them, all that it knows of what it joins is that it is a result of some job.
+    /// These are the children that the job has forked and not joined, the newest first: each as it was forked. If this
+    /// says nothing of them, all that a job knows of what it joins is that it is a result of some job.
     ghost awaits: { Self → List Self → Type 0 };
 
-    /// One step. A job that has ended makes none.
+    /// Makes one step. A job that has ended makes none.
     fn step(&mut self) -> Step<Self, Self::Output>
         requires goes_on { KnowsChildren awaits self.old }
         ensures tag { Self.tag_of self.new ≡ Self.tag_of self.old }
@@ -42,23 +42,23 @@ pub trait PoolJob: Tagged + Drop {
         ensures fresh { ForksFresh awaits result }
         ensures output { (children : List Self) → awaits self.old children → EndsWith (is_result self.old) result };
 
-    /// The result of its newest child has come.
+    /// Gives the job the result of its newest child.
     fn joined(&mut self, output: Self::Output)
         requires { IsAwaited is_result awaits self.old output }
         ensures tag { Self.tag_of self.new ≡ Self.tag_of self.old }
         ensures results { KeepsResults is_result self.old self.new }
         ensures children { HasJoined is_result awaits output self.old self.new };
 
-    /// How many steps a slice has at most. Where it is 0, one.
+    /// Returns the most steps of a slice. 0 counts as 1.
     fn bound(&self) -> u32 {
         1
     }
 
-    /// It is about to rest, and this is its id until it has ended. A wake that comes before it rests isn't lost. Jobs
-    /// that run in one place one after the other have the same id.
+    /// Reports to a job that is about to rest the id that it has until it ends. A wake that comes before it rests isn't
+    /// lost. Jobs that run in one place one after the other have the same id.
     fn sleeps_as(&self, _id: ThreadId) {}
 
-    /// Whether it is to have a core for itself, if one is empty.
+    /// Returns whether the job wants a core for itself, if one is empty.
     fn is_exclusive(&self) -> bool {
         false
     }

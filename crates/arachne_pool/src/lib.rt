@@ -6,18 +6,12 @@
 
 mod answer;
 mod bench;
-mod called;
 mod calls;
-mod came;
 mod closing;
-mod counting;
-mod ending;
 mod handle;
-mod idle;
 mod job;
 mod links;
 mod live;
-mod open;
 mod orders;
 mod outcome;
 mod place;

@@ -33,7 +33,7 @@ impl<J: PoolJob> Model for Links<J> {
 }
 
 impl<J: PoolJob> Links<J> {
-    /// No child was forked. It takes no memory.
+    /// Returns an empty list, which takes no memory.
     pub(crate) fn new(alloc: Global) -> Links<J>
         ensures { result ≡ record { all = []; aside = 0 } }
     {
@@ -43,14 +43,14 @@ impl<J: PoolJob> Links<J> {
         }
     }
 
-    /// How many have not begun.
+    /// Returns how many have not begun.
     pub(crate) fn aside(&self) -> usize
         ensures { result ≡ self.now.aside }
     {
         self.aside.len()
     }
 
-    /// A child is kept until it is awaited, or begins elsewhere. Where memory is refused it comes back.
+    /// Keeps a child until it is awaited, or begins elsewhere. If memory is refused, the child is returned.
     pub(crate) fn put_aside(&mut self, child: J) -> Result<(), J>
         requires fresh { J.awaits child [] }
         ensures put { OnOk result (self.new ≡ with_aside child self.old) }
@@ -63,7 +63,7 @@ impl<J: PoolJob> Links<J> {
         }
     }
 
-    /// The newest child, if it has not begun.
+    /// Takes the newest child, if it has not begun.
     pub(crate) fn take_newest(&mut self) -> Option<J>
         ensures taken { MatchOption result ((self.new ≡ self.old) × (self.old.aside ≡ 0)) (λ child. LosesAside child self.old self.new) }
         ensures fresh { IfSome result (λ child. J.awaits child []) }
@@ -71,7 +71,8 @@ impl<J: PoolJob> Links<J> {
         self.aside.pop_back()
     }
 
-    /// The result of the newest child, if it has come. Then the child is joined, and its cell is kept for the next one.
+    /// Takes the result of the newest child, if it has come. Then the child is joined, and its cell is kept for the
+    /// next one.
     pub(crate) fn fetch_newest(&mut self, cells: &mut Cells<J>) -> Option<J::Output>
         requires { self.old.aside ≡ 0 }
         ensures { MatchOption result (self.new ≡ self.old) (λ output. (child : J) × (self.old.all ≡ child ∷ self.new.all) × (self.new.aside ≡ 0) × J.is_result child output) }
@@ -89,8 +90,8 @@ impl<J: PoolJob> Links<J> {
         }
     }
 
-    /// The oldest child that has not begun begins: it, and the end at which it leaves its result. None where there is
-    /// none, or memory is refused.
+    /// Takes the oldest child that has not begun, which begins elsewhere, and the end at which it leaves its result.
+    /// Returns `None` if there is no such child or memory is refused.
     pub(crate) fn part_oldest(
         &mut self,
         alloc: Global,
@@ -113,7 +114,7 @@ impl<J: PoolJob> Links<J> {
         Some((child, sender))
     }
 
-    /// The newest child is awaited no longer. It comes back if it had not begun.
+    /// Drops the newest child from those that are awaited. If it had not begun, it is returned.
     pub(crate) fn forget_newest(&mut self) -> Option<J>
         ensures forgotten { MatchOption result (LosesBegun self.old self.new) (λ child. LosesAside child self.old self.new) }
         ensures fresh { IfSome result (λ child. J.awaits child []) }
@@ -125,7 +126,7 @@ impl<J: PoolJob> Links<J> {
         None
     }
 
-    /// Those that have not begun, the oldest first. The results of the others come to nobody.
+    /// Returns those that have not begun, the oldest first. The results of the others are dropped.
     pub(crate) fn into_aside(self) -> VecDeque<J>
         ensures { (reverse result.items ≡ take self.aside self.all) × (deque_len result ≡ self.aside) }
     {
@@ -133,7 +134,7 @@ impl<J: PoolJob> Links<J> {
         aside
     }
 
-    /// Whether the oldest child that has not begun is to have a core for itself.
+    /// Returns whether the oldest child that has not begun wants a core for itself.
     pub(crate) fn is_oldest_exclusive(&self) -> bool {
         match self.aside.front() {
             Some(child) => child.is_exclusive(),

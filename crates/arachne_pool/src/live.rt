@@ -1,15 +1,15 @@
-//! How many jobs of a pool were spawned and have ended, and what its workers have done, as they tell it.
-use crate::counting::{EndsSeen, JobCounts};
+//! The counts that a pool's workers have reported: jobs that were spawned and have ended, and statistics.
 use crate::statistics::Statistics;
-use crate::tally::News;
+use crate::tally::Tally;
 use crossbeam_utils::CachePadded;
 use std::alloc::{AllocError, Global};
 use std::sync::atomic::{AtomicU64, Ordering};
 
-/// What the workers of one core have told.
+/// The counts that the workers of one core have reported.
 #[derive(Drop)]
-pub(crate) struct CoreCounts {
-    pub(crate) counts: JobCounts,
+struct CoreCounts {
+    spawned: AtomicU64,
+    ended: AtomicU64,
     slices: AtomicU64,
     steps: AtomicU64,
     wakes: AtomicU64,
@@ -20,10 +20,11 @@ pub(crate) struct CoreCounts {
 }
 
 impl CoreCounts {
-    /// Nothing was told.
+    /// Returns counts of 0.
     fn new() -> CoreCounts {
         CoreCounts {
-            counts: JobCounts::new(),
+            spawned: AtomicU64::new(0),
+            ended: AtomicU64::new(0),
             slices: AtomicU64::new(0),
             steps: AtomicU64::new(0),
             wakes: AtomicU64::new(0),
@@ -34,21 +35,15 @@ impl CoreCounts {
     }
 }
 
-/// What a worker had counted is told. [`Live::add`] alone gives one. Each post uses one up, so that a job is told of
-/// before another kernel thread may have it, and so does the end of a job.
-#[derive(Drop)]
-pub(crate) struct AllTold {
-    done: (),
-}
-
-/// What workers have told, for each core on a cache line of its own, and behind these for those that work on none.
+/// The counts of all workers: for each core on a cache line of its own, and behind these those of workers that work for
+/// no core.
 #[derive(Drop)]
 pub(crate) struct Live {
     told: Vec<CachePadded<CoreCounts>>,
 }
 
 impl Live {
-    /// For so many cores. No job was spawned.
+    /// Returns counts of 0 for this number of cores.
     pub(crate) fn new(alloc: Global, cores: u8) -> Result<Live, AllocError> {
         let mut told = Vec::new(alloc);
         for _ in 0..=cores {
@@ -57,24 +52,28 @@ impl Live {
         Ok(Live { told })
     }
 
-    /// So many more were spawned and have ended, by a worker of this core, or of none where there is no such core. A
-    /// job is told of before another kernel thread may have it.
-    pub(crate) fn add(&self, core: u8, news: News) -> AllTold {
-        let news = news.told();
+    /// Adds jobs that were spawned and have ended, by a worker of this core, or of none if there is no such core. A job
+    /// must be added before another worker can run it.
+    pub(crate) fn add(&self, core: u8, news: Tally) {
         if let Some(told) = self.told.get(usize::from(core)).or(self.told.last()) {
-            told.counts.add(news);
+            // Spawns first: `count` must not see the end of a job whose spawn it misses.
+            if news.spawned != 0 {
+                told.spawned.fetch_add(news.spawned, Ordering::SeqCst);
+            }
+            if news.ended != 0 {
+                told.ended.fetch_add(news.ended, Ordering::SeqCst);
+            }
         }
-        AllTold { done: () }
     }
 
-    /// A kernel thread comes to `work` for this core.
+    /// Notes that a kernel thread has called `work` for this core.
     pub(crate) fn works_for(&self, core: u8) {
         if let Some(told) = self.told.get(usize::from(core)) {
             told.worked.store(1, Ordering::SeqCst);
         }
     }
 
-    /// Whether a kernel thread has come to `work` for this core.
+    /// Returns whether a kernel thread has called `work` for this core.
     pub(crate) fn is_worked(&self, core: u8) -> bool {
         match self.told.get(usize::from(core)) {
             Some(told) => told.worked.load(Ordering::SeqCst) != 0,
@@ -82,7 +81,7 @@ impl Live {
         }
     }
 
-    /// So much more was done by a worker of this core.
+    /// Adds to the statistics of a core.
     pub(crate) fn add_done(&self, core: u8, done: Statistics) {
         let Some(told) = self.told.get(usize::from(core)) else {
             return;
@@ -93,21 +92,21 @@ impl Live {
         told.rests.fetch_add(done.rests, Ordering::SeqCst);
     }
 
-    /// A job of this core was woken by a call that is no worker's.
+    /// Counts a job of this core that was woken by a call of no worker.
     pub(crate) fn add_woken(&self, core: u8) {
         if let Some(told) = self.told.get(usize::from(core)) {
             told.wakes.fetch_add(1, Ordering::SeqCst);
         }
     }
 
-    /// A worker of this core has slept its time out, and then found something of which nobody had told it.
+    /// Counts a sleep of this core's worker that timed out though something was there that nobody had signalled.
     pub(crate) fn add_overslept(&self, core: u8) {
         if let Some(told) = self.told.get(usize::from(core)) {
             told.overslept.fetch_add(1, Ordering::SeqCst);
         }
     }
 
-    /// What the workers of a core have done.
+    /// Returns the statistics of a core.
     pub(crate) fn done(&self, core: u8) -> Statistics {
         match self.told.get(usize::from(core)) {
             Some(told) => Statistics {
@@ -121,9 +120,17 @@ impl Live {
         }
     }
 
-    /// How many were spawned and have not ended. Ends are looked at first: so no job lives where the answer is 0.
+    /// Returns how many jobs were spawned and have not ended.
     pub(crate) fn count(&self) -> u64 {
-        let told = self.told.as_slice();
-        EndsSeen::look(told).still_live(told)
+        // Ends first: a job that is spawned or ends between the two looks counts as living, so 0 is never too early.
+        let ended = self.told.iter().fold(
+            0u64,
+            |sum, told| sum.wrapping_add(told.ended.load(Ordering::SeqCst)),
+        );
+        let spawned = self.told.iter().fold(
+            0u64,
+            |sum, told| sum.wrapping_add(told.spawned.load(Ordering::SeqCst)),
+        );
+        spawned.wrapping_sub(ended)
     }
 }

@@ -14,11 +14,11 @@ use std::alloc::{AllocError, Global};
 use std::marker::Model;
 use std::sync::Wait;
 
-/// The orders of a pool, where a worker has them. Contracts see how far they are applied.
+/// The orders of a pool, if a worker has them. Contracts see how far they are applied.
 #[derive(Drop)]
 pub(crate) struct PoolOrders {
     arbiter: Option<Arbiter>,
-    /// How many there are, applied or not.
+    /// The number of orders, applied or not.
     count: usize,
 }
 
@@ -35,7 +35,7 @@ impl Model for PoolOrders {
 }
 
 impl PoolOrders {
-    /// None: another worker has them.
+    /// Returns no orders: another worker has them.
     pub(crate) fn none() -> PoolOrders
         ensures { result ≡ None }
     {
@@ -45,7 +45,7 @@ impl PoolOrders {
         }
     }
 
-    /// These, of which none was applied yet, for so many cores.
+    /// Returns these orders for this number of cores, none of them applied yet.
     pub(crate) fn new(
         alloc: Global,
         orders: Vec<CoreOrder>,
@@ -63,7 +63,7 @@ impl PoolOrders {
         })
     }
 
-    /// These, or else the other worker's.
+    /// Returns these, or the other worker's if there are none.
     pub(crate) fn or(self, other: PoolOrders) -> PoolOrders
         ensures kept { result ≡ option_or self other }
         ensures cores { (cores : ℕ) → IsArbiterFor cores self → IsArbiterFor cores other → IsArbiterFor cores result }
@@ -78,7 +78,7 @@ impl PoolOrders {
         }
     }
 
-    /// Whether there is any, applied or not.
+    /// Returns whether there is any order, applied or not.
     #[inline(always)]
     pub(crate) fn has_any(&self) -> bool
         ensures { IsTrue result ↔ (0 < count_orders self.now) }
@@ -86,7 +86,7 @@ impl PoolOrders {
         self.count != 0
     }
 
-    /// Whether one is not applied yet.
+    /// Returns whether an order is not applied yet.
     pub(crate) fn has_more(&self) -> bool
         ensures { IsTrue result ↔ IsOneLeft self.now }
     {
@@ -96,8 +96,8 @@ impl PoolOrders {
         }
     }
 
-    /// Applies those that are due, and moves jobs away from a closed core. How many are applied, if these are more now,
-    /// and the cores to which jobs were moved, a bit for each.
+    /// Applies the orders that are due, and moves jobs away from a closed core. Returns how many are applied in all, if
+    /// one was now, and the cores to which jobs were moved, a bit for each.
     pub(crate) fn tend<H: Wait, T: Tagged, C: Contexts<T>>(
         &mut self,
         cores: &Cores<'_, H, T, C>,

@@ -1,4 +1,4 @@
-//! What a job leaves in its cell, and what the cell is for.
+//! Join cells of jobs: what is left in one, and what it is for.
 ghost use Rattle.std.specs.Prelude.{◌≡◌, IfSome};
 
 use crate::job::PoolJob;
@@ -6,7 +6,7 @@ use arachne_join::{Fits, Receiver, Sender, SpareCells};
 use std::marker::Model;
 use std::snapshot::Snapshot;
 
-/// What a job has ended with.
+/// The result of a job that has ended.
 #[derive(Drop)]
 pub struct JobOutcome<J: PoolJob> {
     pub output: J::Output,
@@ -31,7 +31,7 @@ pub(crate) type ResultReceiver<J> = Receiver<JobOutcome<J>, WantedResult<J>>;
 /// Cells that a worker keeps for the next jobs.
 pub(crate) type Cells<J> = SpareCells<JobOutcome<J>, WantedResult<J>>;
 
-/// That a result was left at its end, or dropped where nobody wants it. Only `leave_at` makes one.
+/// Shows that a result was left, or dropped if nobody wants it. Only `leave_at` makes one.
 ///
 /// Contracts see the result.
 #[derive(Drop)]
@@ -46,7 +46,7 @@ impl<J: PoolJob> Model for ResultLeft<J> {
     ghost view = { λ l. l.output.value };
 }
 
-/// A result is left at an end, if there is one.
+/// Leaves a result at an end, if there is one.
 #[inline(always)]
 pub(crate) fn leave_at<J: PoolJob>(
     sender: Option<ResultSender<J>>,

@@ -1,7 +1,7 @@
-//! How jobs get their places.
+//! How jobs get their places and leave them.
 //!
 //! It may touch the table through the seat that it is given.
-ghost use Rattle.std.specs.Prelude.{◌≡◌, ◌<◌, [], ◌∷◌, ◌++◌, IfOk, MatchOption, OnErr, OnOk};
+ghost use Rattle.std.specs.Prelude.{◌≡◌, ◌<◌, [], ◌∷◌, ◌++◌, IfErr, IfOk, MatchOption, OnErr, OnOk};
 ghost use Rattle.std.specs.VecDeque.{deque_capacity, deque_len};
 ghost use Rattle.arachne_contexts.specs.Out.{Claim, KeepsOut};
 ghost use Rattle.arachne_pool.specs.Grounds.{AddsOut, IsKnown, thread_in};
@@ -9,16 +9,15 @@ ghost use Rattle.arachne_pool.specs.Jobs.{PartsOne};
 
 use crate::bench::Bench;
 use crate::job::PoolJob;
-use crate::live::AllTold;
 use crate::pool::Pool;
 use crate::posting::{Disowned, Posted, post};
-use crate::spawned::Spawned;
+use crate::spawned::{Ended, Spawned};
 use arachne_contexts::{Contexts, Held};
 use rand_xoshiro::Xoshiro256PlusPlus;
 use std::sync::Wait;
 
-/// A place for a job: on the core that `claim_normal` of `arachne_arbiter` chooses; for an exclusive one an empty core,
-/// if there is one. None too where memory is refused.
+/// Claims a place for a job: on the core that `claim_normal` of `arachne_arbiter` chooses, or for an exclusive job on
+/// an empty core, if there is one. Returns `None` if there is no place or memory is refused.
 pub(crate) fn claim<H: Wait, J: PoolJob, C: Contexts<Spawned<J>>>(
     rt: &H,
     pool: &Pool<C>,
@@ -41,7 +40,7 @@ pub(crate) fn claim<H: Wait, J: PoolJob, C: Contexts<Spawned<J>>>(
     }
 }
 
-/// A place that the job shares with others on its core. That no core had one is told.
+/// Claims a place that the job shares with others on its core. Notes if no core had one.
 fn claim_normal<H: Wait, J: PoolJob, C: Contexts<Spawned<J>>>(
     rt: &H,
     pool: &Pool<C>,
@@ -60,14 +59,13 @@ fn claim_normal<H: Wait, J: PoolJob, C: Contexts<Spawned<J>>>(
     place.ok()?
 }
 
-/// A job gets a place, or waits for one with those that have none, among which there is room for it.
+/// Posts a job at a free place. If there is none, it waits with the others, among which there is room for it.
 pub(crate) fn place<H: Wait, J: PoolJob, C: Contexts<Spawned<J>>>(
     rt: &H,
     pool: &Pool<C>,
     seat: &mut C::Seat,
     bench: &mut Bench<J>,
     job: Spawned<J>,
-    told: AllTold,
 ) -> Result<Option<Posted<J>>, Disowned>
     requires seat { C.sits pool.now.table seat.old }
     requires known { IsKnown (C.has pool.now.table) seat.old }
@@ -83,17 +81,16 @@ pub(crate) fn place<H: Wait, J: PoolJob, C: Contexts<Spawned<J>>>(
         bench.near.push_back_reserved(job);
         return Ok(None);
     };
-    let post = post::<H, J, C>(rt, pool, seat, claim, job, told)?;
+    let post = post::<H, J, C>(rt, pool, seat, claim, job)?;
     Ok(Some(post))
 }
 
-/// The oldest job that waits for a place gets one, if there is one.
+/// Posts the oldest job that waits for a place, if there is a place for it.
 pub(crate) fn place_oldest<H: Wait, J: PoolJob, C: Contexts<Spawned<J>>>(
     rt: &H,
     pool: &Pool<C>,
     seat: &mut C::Seat,
     bench: &mut Bench<J>,
-    told: AllTold,
 ) -> Result<Option<Posted<J>>, Disowned>
     requires seat { C.sits pool.now.table seat.old }
     requires known { IsKnown (C.has pool.now.table) seat.old }
@@ -113,12 +110,12 @@ pub(crate) fn place_oldest<H: Wait, J: PoolJob, C: Contexts<Spawned<J>>>(
     let Some(job) = bench.near.pop_front() else {
         unreachable!()
     };
-    let post = post::<H, J, C>(rt, pool, seat, claim, job, told)?;
+    let post = post::<H, J, C>(rt, pool, seat, claim, job)?;
     Ok(Some(post))
 }
 
-/// The oldest child that waits with the job in hand is parted off and posted, if a core has a place for it. Where
-/// memory is refused for it that is noted, and it waits on.
+/// Parts off the oldest child that waits with the job in hand, and posts it, if a core has a place for it. If memory is
+/// refused, that is noted, and the child waits on.
 #[inline(always)]
 pub(crate) fn post_oldest<H: Wait, J: PoolJob, C: Contexts<Spawned<J>>>(
     rt: &H,
@@ -126,7 +123,6 @@ pub(crate) fn post_oldest<H: Wait, J: PoolJob, C: Contexts<Spawned<J>>>(
     seat: &mut C::Seat,
     bench: &mut Bench<J>,
     held: &mut Held<Spawned<J>, C::Hold>,
-    told: AllTold,
 ) -> Result<Option<Posted<J>>, Disowned>
     requires seat { C.sits pool.now.table seat.old }
     requires out { C.has pool.now.table seat.old (thread_in (λ s. s.tag) held.old ∷ []) }
@@ -156,6 +152,31 @@ pub(crate) fn post_oldest<H: Wait, J: PoolJob, C: Contexts<Spawned<J>>>(
             Err(_) => Err(Disowned),
         };
     };
-    let post = post::<H, J, C>(rt, pool, seat, claim, child, told)?;
+    let post = post::<H, J, C>(rt, pool, seat, claim, child)?;
     Ok(Some(post))
+}
+
+/// Ends a job with all that ran in its place: frees the place, and leaves the result also if the table has disowned it.
+#[inline(always)]
+pub(crate) fn end<H: Wait, J: PoolJob, C: Contexts<Spawned<J>>>(
+    rt: &H,
+    pool: &Pool<C>,
+    seat: &mut C::Seat,
+    held: Held<Spawned<J>, C::Hold>,
+) -> Result<Ended<J>, Ended<J>>
+    requires seat { C.sits pool.now.table seat.old }
+    requires out { C.has pool.now.table seat.old (thread_in (λ s. s.tag) held ∷ []) }
+    requires over { held.value.many ≡ 0 }
+    ensures seat { C.sits pool.now.table seat.new }
+    ensures out { OnOk result (C.has pool.now.table seat.new []) }
+    ensures ended { IfOk result (λ ended. ended ≡ held.value) }
+    ensures disowned { IfErr result (λ ended. ended ≡ held.value) }
+{
+    match pool.table.finish(rt, seat, held) {
+        Ok(job) => {
+            pool.room_was_seen();
+            Ok(job.leave())
+        }
+        Err(held) => Err(held.value.leave()),
+    }
 }

@@ -4,7 +4,6 @@ ghost use Rattle.arachne_core.specs.declared.layout.TheConstants.{CORES, SLOTS, 
 ghost use Rattle.arachne_weights.specs.Weight.{whole};
 
 use crate::live::Live;
-use crate::open::{Finished, NoneCome, OpenFlag};
 use crate::statistics::Statistics;
 use arachne_arbiter::Cores;
 use arachne_contexts::Seats;
@@ -15,22 +14,23 @@ use std::alloc::{AllocError, Global};
 use std::marker::PhantomData;
 use std::sync::atomic::{AtomicU64, Ordering};
 
-/// What the workers of a pool share: the table, how many jobs have not ended, and what ends all work.
+/// What the workers of a pool share: the table, the counts of jobs, and the words that end all work.
 #[derive(Drop)]
 pub struct Pool<C: Seats> {
     /// The table of contexts.
     pub table: C,
-    /// How many cores it has, 1 to 64.
+    /// The number of cores, 1 to 64.
     pub cores: u8,
-    /// How many jobs each core has places for, 1 to 56.
+    /// The number of places of each core, 1 to 56.
     pub slots: u8,
     pub(crate) shared: SharedWords,
     pub(crate) live: Live,
     /// 1 while a place may be free.
     room: CachePadded<AtomicU64>,
-    /// 1 once a job was to have a core for itself.
+    /// 1 once a job has wanted a core for itself.
     exclusive: AtomicU64,
-    open: OpenFlag,
+    /// 1 while the pool is kept open.
+    open: AtomicU64,
     ghost counted: { C.core_count table ≡ cores },
     ghost few: { cores ≤ CORES },
     ghost placed: { C.slot_count table ≡ slots },
@@ -39,7 +39,7 @@ pub struct Pool<C: Seats> {
 }
 
 impl<C: Seats + Drop> Pool<C> {
-    /// A pool with no job, and the seat with the whole weight.
+    /// Returns a pool with no job, and the seat with the whole weight.
     pub(crate) fn with_seat(
         alloc: Global,
         cores: u8,
@@ -66,20 +66,20 @@ impl<C: Seats + Drop> Pool<C> {
             live,
             room: CachePadded::new(AtomicU64::new(1)),
             exclusive: AtomicU64::new(0),
-            open: OpenFlag::new(),
+            open: AtomicU64::new(0),
         };
         Ok((pool, seat))
     }
 }
 
 impl<C: Seats> Pool<C> {
-    /// How many jobs were spawned or forked and have not ended, as the workers have told. Where it is 0 none makes a
-    /// step more, the result of each is left, and its place is free.
+    /// Returns how many jobs were spawned or forked and have not ended, as reported by the workers. If it is 0, no job
+    /// makes another step, the result of each is there, and its place is free.
     pub fn live(&self) -> u64 {
         self.live.count()
     }
 
-    /// What the workers of a core have done. Nothing where there is no such core.
+    /// Returns the statistics of a core's workers, all 0 if there is no such core.
     pub fn statistics(&self, core: u8) -> Statistics {
         if core >= self.cores {
             return Statistics::new();
@@ -87,55 +87,42 @@ impl<C: Seats> Pool<C> {
         self.live.done(core)
     }
 
-    /// Whether the worker of a core sleeps, or has slept its time out and not looked since. Whoever has work for it
-    /// wakes it; one that is parked doesn't sleep.
+    /// Returns whether the worker of a core sleeps, or has slept its time out and not looked since. Whoever has work
+    /// for it wakes it. One that is parked doesn't sleep.
     pub fn is_asleep(&self, core: u8) -> bool {
         self.shared.hints().is_asleep(core)
     }
 
-    /// Has all workers stop after their slices, those that sleep or are parked too.
+    /// Stops all workers after their slices, those that sleep or are parked too.
     pub fn stop(&self) {
         self.shared.stop();
     }
 
-    /// Whether the workers are to stop.
+    /// Returns whether the pool is stopped.
     pub fn is_stopped(&self) -> bool {
         self.shared.is_stopped()
     }
 
-    /// Jobs may come though none lives, as in a server: from now on `work` goes on without any, until `finish` is
-    /// called.
+    /// Keeps the pool open, as for a server: from now on `work` goes on without any job, until `finish` is called.
     pub fn keep_open(&self) {
-        self.open.keep();
+        self.open.store(1, Ordering::SeqCst);
     }
 
-    /// No more jobs come: from now on `work` returns once none lives.
+    /// Ends `keep_open`: no more jobs come, and `work` returns once none lives.
     pub fn finish(&self) {
-        self.tell_finished(self.open.finish());
+        self.open.store(0, Ordering::SeqCst);
+        // The last job may have ended long ago, and then nobody else wakes the workers.
+        self.wake_if_over();
     }
 
-    /// No more jobs come, so all may be over, and then all workers wake.
-    fn tell_finished(&self, finished: Finished) {
-        finished.is_heeded();
-        self.tell_if_over();
-    }
-
-    /// Whether no job lives, and none is to come.
+    /// Returns whether no job lives and the pool is not kept open.
     pub(crate) fn is_over(&self) -> bool {
-        match self.open.none_come() {
-            Some(none_come) => self.none_lives(none_come),
-            None => false,
-        }
+        // `open` first: a job that came before `finish` is then among those that are counted.
+        self.open.load(Ordering::SeqCst) == 0 && self.live.count() == 0
     }
 
-    /// Whether no job lives, where none was to come before that is looked at.
-    fn none_lives(&self, none_come: NoneCome) -> bool {
-        let _ = none_come;
-        self.live() == 0
-    }
-
-    /// If no job lives and none is to come, all workers wake, those that sleep and those that are parked.
-    pub(crate) fn tell_if_over(&self) {
+    /// Wakes all workers, sleeping and parked, if no job lives and the pool is not kept open.
+    pub(crate) fn wake_if_over(&self) {
         if self.is_over() {
             for core in 0..self.cores {
                 self.shared.hint(Place { core, index: 0 });
@@ -144,13 +131,13 @@ impl<C: Seats> Pool<C> {
         }
     }
 
-    /// Whether a place may be free.
+    /// Returns whether a place may be free.
     #[inline(always)]
     pub(crate) fn has_room(&self) -> bool {
         self.room.load(Ordering::SeqCst) != 0
     }
 
-    /// A place is free, or was a moment ago.
+    /// Notes that a place is free, or was a moment ago.
     #[inline(always)]
     pub(crate) fn room_was_seen(&self) {
         if !self.has_room() {
@@ -158,24 +145,24 @@ impl<C: Seats> Pool<C> {
         }
     }
 
-    /// No core had a place. The next worker that leaves one, or looks for work and sees one, says so.
+    /// Notes that no core had a place. The next worker that leaves one, or looks for work and sees one, notes that.
     pub(crate) fn no_room_was_seen(&self) {
         self.room.store(0, Ordering::SeqCst);
     }
 
-    /// A job is to have a core for itself.
+    /// Notes that a job wants a core for itself.
     pub(crate) fn exclusive_comes(&self) {
         if !self.has_exclusive() {
             self.exclusive.store(1, Ordering::SeqCst);
         }
     }
 
-    /// Whether a job was to have a core for itself.
+    /// Returns whether a job has wanted a core for itself.
     pub(crate) fn has_exclusive(&self) -> bool {
         self.exclusive.load(Ordering::SeqCst) != 0
     }
 
-    /// The cores of the table, for a kernel thread that steps at them.
+    /// Returns the cores of the table, for a kernel thread that makes steps at them.
     pub(crate) fn cores<'a, H, T>(&'a self, rt: &'a H) -> Cores<'a, H, T, C>
         ensures table { result.table.now ≡ self.now.table }
         ensures count { result.count ≡ self.now.cores }

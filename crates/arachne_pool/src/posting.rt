@@ -6,7 +6,6 @@ ghost use Rattle.arachne_contexts.specs.Out.{Claim, HasOut};
 ghost use Rattle.arachne_pool.specs.Grounds.{IsSpent};
 
 use crate::job::PoolJob;
-use crate::live::AllTold;
 use crate::pool::Pool;
 use crate::spawned::Spawned;
 use arachne_contexts::{Contexts, Placed};
@@ -19,8 +18,8 @@ use std::sync::Wait;
 #[derive(Clone, Copy, Debug, PartialEq, Eq)]
 pub(crate) struct Disowned;
 
-/// A job that was posted, and where. Only `post` makes one, of the job that the table has taken from it. It can't be
-/// dropped, so that whoever works on its core learns of it.
+/// A job that was posted, and its place. Only `post` makes one, of the job that the table has taken from it. It is not
+/// `Drop`, so that the worker of its core must be signalled.
 ///
 /// Contracts see the job.
 pub(crate) struct Posted<J: PoolJob> {
@@ -38,13 +37,14 @@ impl<J: PoolJob> Model for Posted<J> {
 }
 
 impl<J: PoolJob> Posted<J> {
-    /// The kernel thread of its core is told at once: who has posted it may not come to a round of its own.
+    /// Signals the core's worker at once: who has posted the job may not come to a round of its own.
     pub(crate) fn tell(self, shared: &SharedWords) {
         let Posted { at, job: _ } = self;
         shared.hint(at.place);
     }
 
-    /// The same, but where it is on this core, whose worker has posted it: that is told its id and its place.
+    /// Signals the core's worker, unless that is this core's, which has posted the job: then its id and place are
+    /// returned.
     #[inline(always)]
     pub(crate) fn tell_unless_on(self, core: u8, shared: &SharedWords) -> Option<PostedThread>
         ensures { IfSome result (λ post. post.place.core ≡ core) }
@@ -58,7 +58,7 @@ impl<J: PoolJob> Posted<J> {
     }
 }
 
-/// A job is posted at a place, once the pool is told of it.
+/// Posts a job at a place. The pool has counted it as spawned.
 #[inline(always)]
 pub(crate) fn post<H: Wait, J: PoolJob, C: Contexts<Spawned<J>>>(
     rt: &H,
@@ -66,7 +66,6 @@ pub(crate) fn post<H: Wait, J: PoolJob, C: Contexts<Spawned<J>>>(
     seat: &mut C::Seat,
     claim: C::Claim,
     job: Spawned<J>,
-    told: AllTold,
 ) -> Result<Posted<J>, Disowned>
     requires seat { C.sits pool.now.table seat.old }
     requires out { HasOut (C.has pool.now.table) (Claim claim) seat.old }
@@ -74,7 +73,6 @@ pub(crate) fn post<H: Wait, J: PoolJob, C: Contexts<Spawned<J>>>(
     ensures out { OnOk result (IsSpent (C.has pool.now.table) (Claim claim) seat.old seat.new) }
     ensures posted { IfOk result (λ posted. posted ≡ job) }
 {
-    let _ = told;
     let place = claim.place();
     let posted = Snapshot::of(&job);
     match pool.table.post(rt, seat, claim, job) {

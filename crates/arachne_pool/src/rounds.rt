@@ -1,138 +1,94 @@
-//! The rounds of a call, over what its worker does at the pool.
+//! The rounds of a call: one, or as many as it takes until all jobs, or the job of a handle, have ended.
 //!
 //! As the worker's loop they stand on a trait, and not on tables and jobs.
 ghost use Rattle.std.specs.Prelude.{◌≡◌, IfErr, IfOk};
-ghost use Rattle.arachne_pool.specs.Calls.{AnswersFor};
 
-use crate::came::Came;
 use crate::handle::Handle;
-use crate::idle::{Idle, WasDrained, WasShort};
 use crate::job::PoolJob;
-use crate::seat::Call;
 use crate::worker::PoolFault;
 use arachne_workers::{CoreWorker, Desk, WorkerEvent};
 use std::sync::Wait;
 use std::time::Clock;
 
-/// How many slices a worker has at most before it tells what it has done.
+/// After how many slices at most a worker reports its statistics.
 const MOST_UNTOLD: u64 = 1024;
 
-/// What rounds ask of a worker's desk, beside what the worker's loop does. The trait has no types of its own, so that
-/// what stands on it is proved in a fraction of the time. No call changes what the seat is a seat at.
+/// What rounds ask of a worker's desk, beside what the worker's loop does. No call changes what the seat is a seat at.
+///
+/// The trait has no types of its own, so that what stands on it is proved in a fraction of the time.
 pub(crate) trait PoolDesk: Desk {
-    /// Which call of the pool the worker is in.
-    fn call(&self) -> Call;
-
-    /// Whether no job of the pool lives, and none is to come.
+    /// Returns whether no job of the pool lives and it is not kept open.
     fn is_over(&self) -> bool;
 
-    /// Where a job has ended since this was called last, and that is so, all workers are told.
-    fn tell_of_ends(&mut self)
+    /// Wakes all workers if a job has ended since the last call and the pool is over.
+    fn wake_if_over(&mut self)
         ensures { self.new ≡ self.old };
 
-    /// Whether memory was refused since this was asked last.
-    fn take_short(&mut self) -> WasShort
+    /// Returns whether memory was refused since the last call.
+    fn take_short(&mut self) -> bool
         ensures { self.new ≡ self.old };
 
-    /// Whether the core was seen to be closed and empty since this was asked last.
-    fn take_drained(&mut self) -> WasDrained
+    /// Returns whether the core was seen closed and empty since the last call.
+    fn take_drained(&mut self) -> bool
         ensures { self.new ≡ self.old };
 
-    /// What was done on the core is told: so many slices, so many rounds that found nothing, and what else was counted.
-    fn tell_done(&mut self, slices: u64, rests: u64)
+    /// Adds to the pool's statistics of the core: `slices` slices, `rests` empty rounds, and what else was counted.
+    fn report(&mut self, slices: u64, rests: u64)
         ensures { self.new ≡ self.old };
 }
 
-/// What the call in hand asks for: a round, or rounds until all jobs, or that of a handle, have ended. What was done is
-/// told then.
-#[inline(always)]
-pub(crate) fn go_on<H: Wait + Clock, D: PoolDesk, J: PoolJob>(
-    kernel: &mut CoreWorker<'_, H, D>,
-    handle: Option<Handle<J>>,
-) -> Came<J>
-    ensures desk { kernel.new.desk ≡ kernel.old.desk }
-    ensures answer { AnswersFor J.is_result handle result }
-{
-    let came = answer(kernel, handle);
-    tell_done(kernel, 0);
-    came
-}
-
-/// The same, after which what was done since it was told last isn't told yet.
-#[inline(always)]
-fn answer<H: Wait + Clock, D: PoolDesk, J: PoolJob>(
-    kernel: &mut CoreWorker<'_, H, D>,
-    handle: Option<Handle<J>>,
-) -> Came<J>
-    ensures desk { kernel.new.desk ≡ kernel.old.desk }
-    ensures answer { AnswersFor J.is_result handle result }
-{
-    match handle {
-        Some(handle) => Came::Joined(run_until(kernel, handle)),
-        None => Came::Ran(run_as_asked(kernel)),
-    }
-}
-
-/// A round, or rounds until all jobs have ended. Whether the last one found anything.
-fn run_as_asked<H: Wait + Clock, D: PoolDesk>(
-    kernel: &mut CoreWorker<'_, H, D>,
-) -> Result<bool, PoolFault>
-    ensures { kernel.new.desk ≡ kernel.old.desk }
-{
-    if kernel.desk.call() == Call::Turn {
-        run_once(kernel)
-    } else {
-        run(kernel)
-    }
-}
-
-/// One round, before which orders that are due are applied, and another one where a job was taken over in it, or got a
-/// place, and none had a slice. Whether it found anything.
-fn run_once<H: Wait + Clock, D: PoolDesk>(
+/// Makes one round, and a second one if the first only brought a job here. Returns whether the last one found anything.
+pub(crate) fn run_once<H: Wait + Clock, D: PoolDesk>(
     kernel: &mut CoreWorker<'_, H, D>,
 ) -> Result<bool, PoolFault>
     ensures { kernel.new.desk ≡ kernel.old.desk }
 {
     kernel.tend();
     let mut found = kernel.round(0);
+    // The job that was moved here or got a place has had no slice yet.
     if kernel.slices == 0
         && let Ok(true) = found
         && let Err(halt) = kernel.round(0)
     {
         found = Err(halt);
     }
-    let was = kernel.desk.take_short();
-    kernel.desk.tell_of_ends();
-    was.told()?;
+    let is_short = kernel.desk.take_short();
+    // Even if the round failed: a job may have ended in it.
+    kernel.desk.wake_if_over();
+    if is_short {
+        return Err(PoolFault::Memory);
+    }
     Ok(found?)
 }
 
-/// Rounds until no job lives and none is to come, or the workers are to stop. Whether the last one found anything.
-fn run<H: Wait + Clock, D: PoolDesk>(kernel: &mut CoreWorker<'_, H, D>) -> Result<bool, PoolFault>
+/// Makes rounds until the pool is over or its workers are stopped.
+pub(crate) fn run<H: Wait + Clock, D: PoolDesk>(
+    kernel: &mut CoreWorker<'_, H, D>,
+) -> Result<(), PoolFault>
     ensures { kernel.new.desk ≡ kernel.old.desk }
 {
-    let mut idle = Idle::before();
+    // How many consecutive rounds have found nothing.
+    let mut idle: u32 = 0;
+    let mut may_be_over = true;
     for _ in kernel.rt.forever() {
-        if kernel.shared.is_stopped() || idle.looks() && kernel.desk.is_over() {
-            tell_if_overslept(kernel, idle.rounds());
-            return Ok(idle.rounds() == 0);
+        if kernel.shared.is_stopped() || may_be_over && kernel.desk.is_over() {
+            if idle > 0 && kernel.shared.hints().is_asleep(kernel.core) {
+                // It slept its time out: nobody has woken it at the end.
+                kernel.desk.told(WorkerEvent::Overslept);
+            }
+            return Ok(());
         }
-        let found = round(kernel, idle.rounds())?;
-        idle = idle.after(found, kernel.desk.take_drained());
+        let found = round(kernel, idle)?;
+        idle = if found { 0 } else { idle.saturating_add(1) };
+        // A round that parked has found something, and the worker may have been unparked because all is over.
+        let was_drained = kernel.desk.take_drained();
+        may_be_over = !found || was_drained;
     }
     unreachable!()
 }
 
-/// Where the worker has slept its time out after so many rounds in turn that found nothing, and nobody has told it that
-/// all is over, that is told.
-fn tell_if_overslept<H: Wait + Clock, D: PoolDesk>(kernel: &CoreWorker<'_, H, D>, idle: u32) {
-    if idle > 0 && kernel.shared.hints().is_asleep(kernel.core) {
-        kernel.desk.told(WorkerEvent::Overslept);
-    }
-}
-
-/// Rounds until the job of a handle has ended. Its result.
-fn run_until<H: Wait + Clock, D: PoolDesk, J: PoolJob>(
+/// Makes rounds until the job of a handle has ended, and returns its result.
+pub(crate) fn run_until<H: Wait + Clock, D: PoolDesk, J: PoolJob>(
     kernel: &mut CoreWorker<'_, H, D>,
     handle: Handle<J>,
 ) -> Result<J::Output, (PoolFault, Handle<J>)>
@@ -159,7 +115,8 @@ fn run_until<H: Wait + Clock, D: PoolDesk, J: PoolJob>(
     unreachable!()
 }
 
-/// A round, and a wait where it found nothing, after so many in turn.
+/// Makes one round, and waits if it found nothing. `idle` is the number of consecutive rounds before that found
+/// nothing.
 fn round<H: Wait + Clock, D: PoolDesk>(
     kernel: &mut CoreWorker<'_, H, D>,
     idle: u32,
@@ -167,31 +124,26 @@ fn round<H: Wait + Clock, D: PoolDesk>(
     ensures { kernel.new.desk ≡ kernel.old.desk }
 {
     let found = kernel.round(idle)?;
-    kernel.desk.take_short().told()?;
+    if kernel.desk.take_short() {
+        return Err(PoolFault::Memory);
+    }
     if found {
-        tell_if_much(kernel);
+        if kernel.slices >= MOST_UNTOLD {
+            report(kernel, 0);
+        }
         return Ok(true);
     }
-    tell_done(kernel, 1);
+    report(kernel, 1);
     kernel.rest_for(idle);
     Ok(false)
 }
 
-/// What was done is told, if it is much.
-fn tell_if_much<H: Wait + Clock, D: PoolDesk>(kernel: &mut CoreWorker<'_, H, D>)
-    ensures { kernel.new.desk ≡ kernel.old.desk }
-{
-    if kernel.slices >= MOST_UNTOLD {
-        tell_done(kernel, 0);
-    }
-}
-
-/// What was done on the core is told, with so many rounds that found nothing, and nothing is told again.
-fn tell_done<H: Wait + Clock, D: PoolDesk>(kernel: &mut CoreWorker<'_, H, D>, rests: u64)
+/// Adds what was done on the core since the last report to the pool's statistics, with `rests` empty rounds.
+pub(crate) fn report<H: Wait + Clock, D: PoolDesk>(kernel: &mut CoreWorker<'_, H, D>, rests: u64)
     ensures desk { kernel.new.desk ≡ kernel.old.desk }
     ensures told { kernel.new.slices ≡ 0 }
 {
     let slices = kernel.slices;
     kernel.slices = 0;
-    kernel.desk.tell_done(slices, rests);
+    kernel.desk.report(slices, rests);
 }

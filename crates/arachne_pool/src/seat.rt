@@ -1,16 +1,12 @@
 //! A worker's seat at the table of a pool, and what is out with it: the job in hand, and nothing else between two
 //! calls.
-ghost use Rattle.std.specs.Prelude.{◌≡◌, ◌≢◌, ◌≤◌, IfSome, false};
+ghost use Rattle.std.specs.Prelude.{◌≡◌, ◌≤◌, IfSome, false};
 ghost use Rattle.arachne_pool.specs.Grounds.{in_hand};
 ghost use Rattle.arachne_pool.specs.Workers.{IsIdleAt};
-ghost use Rattle.arachne_pool.specs.declared.stop.JobStop.TheVariants as stopped;
 
 use crate::bench::Bench;
-use crate::ending::end;
-use crate::idle::{WasDrained, WasShort};
 use crate::job::PoolJob;
-use crate::live::AllTold;
-use crate::place::{place_oldest, post_oldest};
+use crate::place::{end, place_oldest, post_oldest};
 use crate::pool::Pool;
 use crate::posting::{Disowned, Posted};
 use crate::rounds::PoolDesk;
@@ -31,28 +27,28 @@ use std::sync::atomic::Ordering;
 pub(crate) enum Call {
     /// One round, in which each job has one slice. It doesn't wait.
     Turn,
-    /// Until no job lives. It parks where its core is closed.
+    /// Until no job lives. The worker parks if its core is closed.
     Work,
-    /// Until a job has ended, of which nobody tells it.
+    /// Until a job has ended, which nobody signals.
     Join,
 }
 
-/// What a worker has at the table. Contracts see what it is a seat at: its invariant says what is out with it.
+/// A worker's desk at the table. Contracts see what it is a seat at; its invariant says what is out with it.
 #[derive(Drop)]
 pub(crate) struct Seat<'a, H, J: PoolJob, C: Contexts<Spawned<J>>> {
     pub(crate) rt: &'a H,
     pub(crate) pool: &'a Pool<C>,
     pub(crate) core: u8,
     pub(crate) call: Call,
-    /// Something else may be out with the seat, since the table has not known a token. The worker is at its end then.
+    /// The table has disowned a token, so something else may be out with the seat. The worker is at its end then.
     pub(crate) is_broken: bool,
     pub(crate) seat: C::Seat,
     pub(crate) held: Option<Held<Spawned<J>, C::Hold>>,
     /// The job in hand is put back as blocked.
     pub(crate) blocks: bool,
-    /// A job was taken since the worker looked last whether others have too many.
+    /// A job was taken since the worker last looked whether others have too many.
     pub(crate) has_taken: bool,
-    /// The core was seen to be closed and empty since that was asked last.
+    /// The core was seen closed and empty since that was last read.
     pub(crate) is_drained: bool,
     pub(crate) bench: Bench<J>,
 }
@@ -114,14 +110,17 @@ impl<'a, H: Wait, J: PoolJob, C: Contexts<Spawned<J>>> Desk for Seat<'a, H, J, C
             *left = 0;
             self.bench.is_short = true;
         }
-        let told = match stop {
-            // The pool is told once the result is left and the place is free (`end`).
-            JobStop::Ends => return Ok(ThreadStop::Ends),
-            stop => self.stops(stop),
-        };
-        match stop.learned(told) {
-            Ok(stop) => Ok(stop),
-            Err(told) => self.post_oldest(told),
+        if stop == JobStop::Ends {
+            // Its end is counted in `end`, once the place is free and the result is left.
+            return Ok(ThreadStop::Ends);
+        }
+        self.blocks = stop.blocks();
+        // Before a child is posted: its end must not be counted before it is.
+        self.pool.live.add(self.core, self.bench.news());
+        match stop {
+            JobStop::Waits | JobStop::Sleeps => Ok(ThreadStop::Blocks),
+            JobStop::LetsGo | JobStop::Short => Ok(ThreadStop::Goes),
+            _ => self.post_oldest(),
         }
     }
 
@@ -165,10 +164,10 @@ impl<'a, H: Wait, J: PoolJob, C: Contexts<Spawned<J>>> Desk for Seat<'a, H, J, C
         };
         self.bench.has_ended = true;
         match end::<H, J, C>(self.rt, self.pool, &mut self.seat, held) {
-            Ok(ended) => Ok(self.tell_of_end(ended)),
+            Ok(ended) => Ok(self.count_end(ended)),
             Err(ended) => {
                 self.is_broken = true;
-                self.tell_of_end(ended);
+                self.count_end(ended);
                 Err(Halt::from(PoolFault::Token))
             }
         }
@@ -220,7 +219,7 @@ impl<'a, H: Wait, J: PoolJob, C: Contexts<Spawned<J>>> Desk for Seat<'a, H, J, C
     #[inline(always)]
     fn may_take_ticket(&mut self) -> bool {
         if self.held.is_some() && (self.call == Call::Turn || self.bench.is_short) {
-            // It has had its slice: others are to go on.
+            // The job has had its slice: others must go on.
             return true;
         }
         if !self.bench.near.is_empty() && self.pool.has_room() {
@@ -235,8 +234,7 @@ impl<'a, H: Wait, J: PoolJob, C: Contexts<Spawned<J>>> Desk for Seat<'a, H, J, C
         }
         self.is_broken = true;
         let bench = &mut self.bench;
-        let told = self.pool.live.add(self.core, bench.news());
-        let posted = place_oldest::<H, J, C>(self.rt, self.pool, &mut self.seat, bench, told)?;
+        let posted = place_oldest::<H, J, C>(self.rt, self.pool, &mut self.seat, bench)?;
         self.is_broken = false;
         let Some(posted) = posted else {
             return Ok(if self.fetch() {
@@ -285,31 +283,25 @@ impl<'a, H: Wait, J: PoolJob, C: Contexts<Spawned<J>>> Desk for Seat<'a, H, J, C
 }
 
 impl<'a, H: Wait, J: PoolJob, C: Contexts<Spawned<J>>> PoolDesk for Seat<'a, H, J, C> {
-    fn call(&self) -> Call {
-        self.call
-    }
-
     fn is_over(&self) -> bool {
         self.pool.is_over()
     }
 
-    fn tell_of_ends(&mut self) {
-        let has_ended = self.bench.has_ended;
-        self.bench.has_ended = false;
-        if has_ended {
-            self.pool.tell_if_over();
+    fn wake_if_over(&mut self) {
+        if replace(&mut self.bench.has_ended, false) {
+            self.pool.wake_if_over();
         }
     }
 
-    fn take_short(&mut self) -> WasShort {
-        self.bench.take_short()
+    fn take_short(&mut self) -> bool {
+        replace(&mut self.bench.is_short, false)
     }
 
-    fn take_drained(&mut self) -> WasDrained {
-        WasDrained::take(&mut self.is_drained)
+    fn take_drained(&mut self) -> bool {
+        replace(&mut self.is_drained, false)
     }
 
-    fn tell_done(&mut self, slices: u64, rests: u64) {
+    fn report(&mut self, slices: u64, rests: u64) {
         self.pool
             .live
             .add_done(self.core, self.bench.take_done(slices, rests));
@@ -317,7 +309,7 @@ impl<'a, H: Wait, J: PoolJob, C: Contexts<Spawned<J>>> PoolDesk for Seat<'a, H, 
 }
 
 impl<'a, H: Wait, J: PoolJob, C: Contexts<Spawned<J>>> Seat<'a, H, J, C> {
-    /// The job in hand goes on for at most as many steps as are left. Without one it waits.
+    /// Runs the job in hand for at most `left` steps. Without one it waits.
     #[inline(always)]
     fn go_on(&mut self, left: &mut u32) -> JobStop
         ensures desk { self.new ≡ self.old }
@@ -332,31 +324,19 @@ impl<'a, H: Wait, J: PoolJob, C: Contexts<Spawned<J>>> Seat<'a, H, J, C> {
             .slice(&mut bench.cells, &mut bench.tally, left, may_post)
     }
 
-    /// A slice of the job in hand stops so, by which it is put back. The pool is told of the jobs that began and ended
-    /// in it, before another kernel thread may have one of them. It has not ended: of an end `tell_of_end` tells.
+    /// Counts the jobs that began and ended up to the end of this one. Returns its parent, if that has to be woken.
     #[inline(always)]
-    fn stops(&mut self, stop: JobStop) -> AllTold
-        requires { stop ≢ stopped.Ends }
-        ensures { self.new ≡ self.old }
-    {
-        self.blocks = stop.blocks();
-        self.pool.live.add(self.core, self.bench.news())
-    }
-
-    /// The pool is told of the jobs that began and ended up to the end of one in hand, which has left its result. Its
-    /// parent, if that is to be woken.
-    #[inline(always)]
-    fn tell_of_end(&mut self, ended: Ended<J>) -> Option<ThreadId>
+    fn count_end(&mut self, ended: Ended<J>) -> Option<ThreadId>
         ensures desk { self.new ≡ self.old }
         ensures parent { result ≡ ended.parent }
     {
-        let told = self.pool.live.add(self.core, self.bench.news());
-        ended.parent(told)
+        self.pool.live.add(self.core, self.bench.news());
+        ended.parent()
     }
 
-    /// The oldest child that waits with the job in hand gets a place, if there is one and memory is not refused.
+    /// Posts the oldest child that waits with the job in hand, if there is a place and memory is not refused.
     #[inline(always)]
-    fn post_oldest(&mut self, told: AllTold) -> Result<ThreadStop, Halt>
+    fn post_oldest(&mut self) -> Result<ThreadStop, Halt>
         ensures { self.new ≡ self.old }
     {
         if self.is_broken {
@@ -367,13 +347,13 @@ impl<'a, H: Wait, J: PoolJob, C: Contexts<Spawned<J>>> Seat<'a, H, J, C> {
         };
         self.is_broken = true;
         let bench = &mut self.bench;
-        let posted = post_oldest::<H, J, C>(self.rt, self.pool, &mut self.seat, bench, held, told)?;
+        let posted = post_oldest::<H, J, C>(self.rt, self.pool, &mut self.seat, bench, held)?;
         self.is_broken = false;
         Ok(self.stop_after(posted))
     }
 
-    /// What it is to this worker that a child was posted there: on its own core that is what it does next. One on
-    /// another core is for others to take, so they are told at once.
+    /// Returns what a posted child means to the loop: on the worker's own core it is noted as ready. On another core it
+    /// is for that core's worker, which is signalled.
     #[inline(always)]
     fn stop_after(&self, posted: Option<Posted<J>>) -> ThreadStop {
         let Some(posted) = posted else {
@@ -385,8 +365,8 @@ impl<'a, H: Wait, J: PoolJob, C: Contexts<Spawned<J>>> Seat<'a, H, J, C> {
         }
     }
 
-    /// The job in hand is to rest until it is woken, and is told its id. While a child waits with it, it goes on in
-    /// place of that, once a slice: so the child gets the first place that is free.
+    /// Prepares the job in hand to sleep, and gives it its id. While a child waits with it, it goes on instead, once a
+    /// slice, so that the child gets the first place that is free.
     fn fall_asleep(&self, left: &mut u32) -> JobStop
         ensures { left.new ≤ left.old }
     {
@@ -401,7 +381,7 @@ impl<'a, H: Wait, J: PoolJob, C: Contexts<Spawned<J>>> Seat<'a, H, J, C> {
         JobStop::Sleeps
     }
 
-    /// Whether a job waits on another core (`waiting_on`).
+    /// Returns whether a job waits on another core (`waiting_on`).
     fn is_any_waiting(&self) -> bool {
         for core in 0..self.pool.cores {
             if self.waiting_on(core).is_some() {
@@ -411,7 +391,7 @@ impl<'a, H: Wait, J: PoolJob, C: Contexts<Spawned<J>>> Seat<'a, H, J, C> {
         false
     }
 
-    /// A job that waits on another core is moved here, if there is one. Whether there was.
+    /// Moves a job that waits on another core to this one. Returns whether there was one.
     fn fetch(&mut self) -> bool
         ensures { self.new ≡ self.old }
     {
@@ -426,7 +406,7 @@ impl<'a, H: Wait, J: PoolJob, C: Contexts<Spawned<J>>> Seat<'a, H, J, C> {
         false
     }
 
-    /// A job that waits on this core is moved to the worker's, if there is one. Whether there was.
+    /// Moves a job that waits on `core` to the worker's. Returns whether there was one.
     fn fetch_from(&mut self, core: u8) -> bool
         ensures { self.new ≡ self.old }
     {
@@ -441,7 +421,8 @@ impl<'a, H: Wait, J: PoolJob, C: Contexts<Spawned<J>>> Seat<'a, H, J, C> {
         was_moved
     }
 
-    /// Moves the job at a place of another core here, unless it runs or has its core alone. Whether it was.
+    /// Moves the job at a place of another core here, unless it runs or has its core to itself. Returns whether it was
+    /// moved.
     fn move_here(&mut self, place: Place) -> bool
         ensures { self.new ≡ self.old }
     {
@@ -458,9 +439,9 @@ impl<'a, H: Wait, J: PoolJob, C: Contexts<Spawned<J>>> Seat<'a, H, J, C> {
         )
     }
 
-    /// Where a job may be ready on another core, whose worker is awake and has not come to it. In a turn that is a core
-    /// for which a kernel thread has come to `work`: the others may be turned by this one, which would move jobs to
-    /// and fro.
+    /// Returns a place of another core at which a job may be ready, if that core's worker is awake and has not come to
+    /// it. In a turn only a core counts for which a kernel thread has called `work`: the others may be turned by this
+    /// worker, which would move jobs to and fro.
     fn waiting_on(&self, core: u8) -> Option<Place> {
         if core == self.core || self.call == Call::Turn && !self.pool.live.is_worked(core) {
             return None;
@@ -476,7 +457,7 @@ impl<'a, H: Wait, J: PoolJob, C: Contexts<Spawned<J>>> Seat<'a, H, J, C> {
         Some(Place { core, index })
     }
 
-    /// The indexes of a core that are occupied, a bit for each.
+    /// Returns the indexes of a core that are occupied, a bit for each.
     fn occupied(&self, core: u8) -> u64 {
         if core >= self.pool.cores {
             return 0;
@@ -487,7 +468,8 @@ impl<'a, H: Wait, J: PoolJob, C: Contexts<Spawned<J>>> Seat<'a, H, J, C> {
         }
     }
 
-    /// The children that the job in hand, or one in its place, has ended without are let go. Whether memory was there.
+    /// Lets go the children that the job in hand, or one in its place, has ended without joining. Returns false if
+    /// memory was refused.
     fn let_go(&mut self) -> bool
         ensures { self.new ≡ self.old }
     {
@@ -498,7 +480,7 @@ impl<'a, H: Wait, J: PoolJob, C: Contexts<Spawned<J>>> Seat<'a, H, J, C> {
     }
 }
 
-/// The seat of a worker whose rounds are over, unless something is out with it.
+/// Returns the seat of a worker whose rounds are over, unless something is out with it.
 pub(crate) fn idle_seat<J: PoolJob, C: Contexts<Spawned<J>>>(
     pool: &Pool<C>,
     seat: C::Seat,

@@ -2,14 +2,14 @@
 ghost use Rattle.std.specs.Prelude.{◌≡◌, ◌+◌, ◌<◌};
 ghost use Rattle.arachne_contexts.specs.Words.{ShowsClosed, ShowsFull};
 
-/// The cores that one call has asked for a place, one after the other, and that had none: how many were full or one
-/// job's alone, and how many were closed. A core is counted by its word alone, which shows that none of its places is
-/// free; how many places a core has is said once, before the first one is asked.
+/// The cores that one call has asked for a place, in ascending order, and that had none: how many were full or one
+/// job's alone, and how many were closed. A core is counted only with its word, which shows that none of its places is
+/// free.
 #[derive(Clone, Copy, Debug, PartialEq, Eq)]
 pub struct NoPlaces {
     /// The core that was asked first.
     first: u8,
-    /// How many places each core has.
+    /// The number of places of each core.
     slots: u8,
     full: u8,
     closed: u8,
@@ -18,21 +18,21 @@ pub struct NoPlaces {
 impl NoPlaces {
     ghost use Rattle.arachne_pool.specs.Spawning.{AreSeen, IsNext, closed_in, full_in, slots_in};
 
-    /// How many of them were full, or one job's alone.
+    /// Returns how many of them were full, or one job's alone.
     pub fn full(&self) -> u8
         ensures { result ≡ full_in self.now }
     {
         self.full
     }
 
-    /// How many of them were closed.
+    /// Returns how many of them were closed.
     pub fn closed(&self) -> u8
         ensures { result ≡ closed_in self.now }
     {
         self.closed
     }
 
-    /// None was asked yet, of a table whose cores have so many places. This core is the next one.
+    /// Returns a count of 0, of a table whose cores have `slots` places. `core` is the next one to be asked.
     pub(crate) fn before(core: u8, slots: u8) -> NoPlaces
         ensures seen { AreSeen core 0 slots result }
         ensures next { IsNext core result }
@@ -45,7 +45,7 @@ impl NoPlaces {
         }
     }
 
-    /// The next core too, whose word shows that it is full, or one job's alone.
+    /// Counts the next core, whose word shows that it is full, or one job's alone.
     pub(crate) fn with_full(self, core: u8, word: u64) -> NoPlaces
         requires next { IsNext core self }
         requires below { core < u8.MAX }
@@ -59,7 +59,7 @@ impl NoPlaces {
         }
     }
 
-    /// The next core too, whose word shows that it is closed.
+    /// Counts the next core, whose word shows that it is closed.
     pub(crate) fn with_closed(self, core: u8, word: u64) -> NoPlaces
         requires next { IsNext core self }
         requires below { core < u8.MAX }

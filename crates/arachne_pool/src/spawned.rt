@@ -3,7 +3,6 @@ ghost use Rattle.std.specs.Prelude.{◌≡◌, ◌+◌, ◌<◌, ◌≤◌, [], 
 ghost use Rattle.arachne_pool.specs.Frames.{CountsEach};
 
 use crate::job::PoolJob;
-use crate::live::AllTold;
 use crate::outcome::{Cells, ResultLeft, ResultSender, leave_at};
 use crate::stack::{Jobs, Stack};
 use crate::stop::JobStop;
@@ -14,11 +13,11 @@ use std::alloc::Global;
 use std::marker::Model;
 use std::snapshot::Snapshot;
 
-/// A job that was spawned, and has not ended. It is moved and never copied, and whoever has it alone steps it. A child
-/// that it has forked while no place was free waits here, and runs in its place once it is awaited.
+/// A job that was spawned and has not ended. It is moved and never copied, and only its owner steps it. A child that it
+/// has forked while no place was free waits here, and runs in its place once it is awaited.
 ///
-/// Contracts see its tag; the job as it was spawned; the id under which its parent runs, if that is to be woken; and
-/// how many jobs it is that have not ended, with those that run or wait in its place, and these as they are now.
+/// Contracts see its tag; the job as it was spawned; the id under which its parent runs, if that has to be woken; and
+/// how many jobs that have not ended run or wait in its place, and these as they are now.
 #[derive(Drop)]
 pub struct Spawned<J: PoolJob> {
     tag: u64,
@@ -49,7 +48,7 @@ impl<J: PoolJob> Tagged for Spawned<J> {
 impl<J: PoolJob> Spawned<J> {
     ghost use Rattle.arachne_pool.specs.Jobs.{one};
 
-    /// A job that begins, and leaves its result at this end, if there is one.
+    /// Begins a job, which leaves its result at this end, if there is one.
     pub(crate) fn begin(
         alloc: Global,
         job: J,
@@ -68,40 +67,40 @@ impl<J: PoolJob> Spawned<J> {
         }
     }
 
-    /// Whether it is to have a core for itself.
+    /// Returns whether it wants a core for itself.
     pub(crate) fn is_exclusive(&self) -> bool {
         self.stack.is_exclusive()
     }
 
-    /// The most steps of a slice.
+    /// Returns the most steps of a slice.
     pub(crate) fn bound(&self) -> u32 {
         self.stack.bound()
     }
 
-    /// It is told that it rests under this id.
+    /// Reports to the job the id under which it rests.
     pub(crate) fn sleeps_as(&self, id: ThreadId) {
         self.stack.sleeps_as(id);
     }
 
-    /// Whether a child waits here to begin.
+    /// Returns whether a child waits here to begin.
     pub(crate) fn has_aside(&self) -> bool {
         self.stack.has_aside()
     }
 
-    /// Whether the oldest of these is to have a core for itself.
+    /// Returns whether the oldest of these wants a core for itself.
     pub(crate) fn is_oldest_exclusive(&self) -> bool {
         self.stack.is_oldest_exclusive()
     }
 
-    /// So many less those of this job that have not ended. None where these are more.
+    /// Subtracts the number of jobs in this place that have not ended from `count`. Returns `None` if these are more.
     pub(crate) fn taken_from(&self, count: u64) -> Option<u64>
         ensures { MatchOption result (count < self.now.many) (λ rest. rest + self.now.many ≡ count) }
     {
         self.stack.taken_from(count)
     }
 
-    /// Goes on for at most as many steps as are left, until a child is forked while one may be posted, it waits or has
-    /// ended. Each job that begins or ends is counted.
+    /// Runs the job for at most `left` steps, until a child is forked while one may be posted, or it waits or has
+    /// ended. Counts each job that begins or ends.
     pub(crate) fn slice(
         &mut self,
         cells: &mut Cells<J>,
@@ -116,13 +115,13 @@ impl<J: PoolJob> Spawned<J> {
         self.stack.slice(cells, tally, left, may_post)
     }
 
-    /// How many children one that has ended has not joined.
+    /// Returns how many children a job in this place has ended without joining.
     pub(crate) fn orphans(&self) -> usize {
         self.stack.orphans()
     }
 
-    /// One of these is awaited no longer. If it had not begun, it is a job of its own now, whose result comes to
-    /// nobody. Where there is no room for such a one none comes, and one that has not begun stays.
+    /// Lets go one of these. If it had not begun, it is returned as a job of its own, whose result is dropped. If there
+    /// is no room for such a one, one that has not begun stays, and `None` is returned.
     pub(crate) fn let_go(&mut self, alloc: Global, has_room: bool) -> Option<Spawned<J>>
         ensures room { IsSome result → has_room ≡ true }
         ensures same { self.new ≡ record self.old { many = self.new.many; jobs = self.new.jobs } }
@@ -132,8 +131,8 @@ impl<J: PoolJob> Spawned<J> {
         Some(Spawned::begin(alloc, job, None, None))
     }
 
-    /// The oldest child that waits here becomes a job of its own, whose parent runs under this id. None where there is
-    /// none, or memory is refused: then all is as before, these jobs and their order too.
+    /// Makes the oldest child that waits here a job of its own, whose parent runs under `me`. Returns `None` if there
+    /// is none or memory is refused: then all is as before, these jobs and their order too.
     pub(crate) fn part_oldest(
         &mut self,
         alloc: Global,
@@ -148,8 +147,8 @@ impl<J: PoolJob> Spawned<J> {
         Some(Spawned::begin(alloc, job, Some(sender), Some(me)))
     }
 
-    /// Ends the job, of which none is left: its result goes to its handle or to its parent, and is one of the job as it
-    /// was spawned.
+    /// Ends the job, of which none is left: its handle or its parent gets its result, which is one of the job as it was
+    /// spawned.
     pub(crate) fn leave(self) -> Ended<J>
         requires { self.many ≡ 0 }
         ensures { result ≡ self }
@@ -168,8 +167,8 @@ impl<J: PoolJob> Spawned<J> {
         Ended { left, job, parent }
     }
 
-    /// The job and those that run or wait in its place, as they are now, but for those that have ended. It leaves no
-    /// result then, unless it has ended.
+    /// Returns the job and those that run or wait in its place, as they are now, but for those that have ended. Unless
+    /// it has ended, it leaves no result.
     pub fn into_jobs(self) -> Jobs<J>
         ensures { (result ≡ self.jobs) × (length result ≡ self.many) }
     {
@@ -182,8 +181,7 @@ impl<J: PoolJob> Spawned<J> {
     }
 }
 
-/// A job that has ended and whose result was left. Only `Spawned::leave` makes one. It can't be dropped, so that the
-/// pool is told of its end.
+/// A job that has ended and whose result was left. Only `Spawned::leave` makes one.
 ///
 /// Contracts see the job as it ended.
 pub(crate) struct Ended<J: PoolJob> {
@@ -206,12 +204,11 @@ impl<J: PoolJob> Model for Ended<J> {
 }
 
 impl<J: PoolJob> Ended<J> {
-    /// The parent, if that is to be woken, once the pool is told.
+    /// Returns the parent, if that has to be woken.
     #[inline(always)]
-    pub(crate) fn parent(self, told: AllTold) -> Option<ThreadId>
+    pub(crate) fn parent(self) -> Option<ThreadId>
         ensures { result ≡ self.parent }
     {
-        let _ = told;
         let Ended {
             left: _,
             job: _,

@@ -1,4 +1,4 @@
-//! Spawns that keep no job: one for which no core has a place comes back at once.
+//! Spawns that keep no job: if no core has a place for it, it is returned at once.
 ghost use Rattle.std.specs.Prelude.{◌≡◌, ◌<◌, [], ◌∷◌, IfErr, IfOk, OnErr, OnOk};
 ghost use Rattle.arachne_contexts.specs.Out.{Claim, KeepsOut};
 ghost use Rattle.arachne_pool.specs.Grounds.{AddsOut};
@@ -22,7 +22,7 @@ use thiserror::Error;
 /// Why a job was not spawned.
 #[derive(Clone, Copy, Debug, PartialEq, Eq, Error)]
 pub enum Refusal {
-    /// Each core that the job may be on was asked in this call, and had no place.
+    /// Each core that the job may be on was asked in this call, and none had a place.
     #[error("no core has a place")]
     NoPlace(NoPlaces),
     #[error("out of memory")]
@@ -40,7 +40,7 @@ pub struct Refused<J: PoolJob> {
 }
 
 impl<J: PoolJob> Refused<J> {
-    /// This job comes back, and why.
+    /// Returns a job with the reason why it was not spawned.
     pub(crate) fn of(job: J, why: Refusal) -> Refused<J>
         ensures { (result.job ≡ job) × (result.why ≡ why) }
     {
@@ -51,9 +51,9 @@ impl<J: PoolJob> Refused<J> {
 impl<C: Seats> Pool<C> {
     ghost use Rattle.arachne_pool.specs.Workers.{IsWorkerOf};
 
-    /// Spawns a job where a core has a place for it: on the one that `claim_normal` of `arachne_arbiter` chooses. Its
-    /// handle gives its result. Else the job comes back, and all is as before. So there are at most as many jobs as
-    /// places, and those that run or wait in these.
+    /// Spawns a job on the core that `claim_normal` of `arachne_arbiter` chooses, and returns its handle. If no core
+    /// has a place, the job is returned, and all is as before. So there are at most as many jobs as places, and those
+    /// that run or wait in these.
     pub fn try_spawn<H: Wait, J: PoolJob>(
         &self,
         rt: &H,
@@ -82,7 +82,7 @@ impl<C: Seats> Pool<C> {
         }
     }
 
-    /// Spawns a job on this core, if that has a place. Its handle, and the place.
+    /// Spawns a job on this core, if that has a place. Returns its handle and the place.
     pub fn try_spawn_on<H: Wait, J: PoolJob>(
         &self,
         rt: &H,
@@ -119,7 +119,7 @@ impl<C: Seats> Pool<C> {
         }
     }
 
-    /// Spawns a job as `try_spawn` does, with no handle: its result comes to nobody.
+    /// Spawns a job as `try_spawn` does, without a handle: its result is dropped.
     pub fn spawn_detached<H: Wait, J: PoolJob>(
         &self,
         rt: &H,
@@ -153,7 +153,7 @@ impl<C: Seats> Pool<C> {
         }
     }
 
-    /// A job begins at a place that a worker's seat has claimed. Where memory is refused the place is given back.
+    /// Begins a job at a place that a worker's seat has claimed. If memory is refused, the place is given back.
     fn begin_at<H: Wait, J: PoolJob>(
         &self,
         rt: &H,
@@ -194,8 +194,7 @@ impl<C: Seats> Pool<C> {
         }
     }
 
-    /// A job that a worker has counted is posted at a place that its seat has claimed, and that core's kernel thread is
-    /// told of it.
+    /// Posts a job that a worker has counted at a place that its seat has claimed, and signals that core's worker.
     fn post_at<H: Wait, J: PoolJob>(
         &self,
         rt: &H,
@@ -211,9 +210,10 @@ impl<C: Seats> Pool<C> {
         ensures worker { IsWorkerOf C.sits C.idle self.now.table self.now.cores worker.new }
         ensures kept { worker.new ≡ record worker.old { seat = worker.new.seat; told = worker.old.tally } }
     {
-        let told = self.live.add(worker.core, worker.bench.news());
+        // Before the job is posted: its end must not be counted before its spawn.
+        self.live.add(worker.core, worker.bench.news());
         let mut seat = seat;
-        match post::<H, J, C>(rt, self, &mut seat, claim, job, told) {
+        match post::<H, J, C>(rt, self, &mut seat, claim, job) {
             Ok(posted) => {
                 posted.tell(&self.shared);
                 worker.seat = Some(seat);
@@ -223,7 +223,7 @@ impl<C: Seats> Pool<C> {
     }
 }
 
-/// A place for a job, by choice, else on the first core that has one. Where none has one each was asked.
+/// Claims a place for a job, by choice, or else on the first core that has one. If none has one, each was asked.
 fn claim_any<H: Wait, J: PoolJob, C: Contexts<Spawned<J>>>(
     rt: &H,
     pool: &Pool<C>,
@@ -250,8 +250,8 @@ fn claim_any<H: Wait, J: PoolJob, C: Contexts<Spawned<J>>>(
     Err(Refusal::NoPlace(seen))
 }
 
-/// A place on this core, if it has one; else it was seen without one, after these. Tries again where another took the
-/// place meanwhile.
+/// Claims a place on this core, if it has one. Otherwise it is counted with those that were seen without one. Tries
+/// again if another took the place meanwhile.
 fn claim_on<H: Wait, J: PoolJob, C: Contexts<Spawned<J>>>(
     rt: &H,
     pool: &Pool<C>,

@@ -34,7 +34,7 @@ impl<J: PoolJob> Model for JobFrame<J> {
 }
 
 impl<J: PoolJob> JobFrame<J> {
-    /// A job that begins here.
+    /// Begins a job here.
     fn begin(job: J) -> JobFrame<J>
         ensures { result ≡ record { asked = job; job = job; awaited = 0 } }
     {
@@ -61,11 +61,11 @@ pub(crate) struct Stack<J: PoolJob> {
     below: Vec<JobFrame<J>>,
     /// The children of all of them, but for those that run here.
     links: Links<J>,
-    /// A child that the topmost has forked, and that is to wait here.
+    /// A child that the topmost has forked, and that has to wait here.
     child: Option<J>,
     /// What the topmost has ended with.
     ended: Option<J::Output>,
-    /// The topmost is to get the result of its newest child before its next step.
+    /// The topmost must get the result of its newest child before its next step.
     waits: bool,
 }
 
@@ -90,7 +90,7 @@ impl<J: PoolJob> Model for Stack<J> {
 }
 
 impl<J: PoolJob> Stack<J> {
-    /// A job that begins, alone.
+    /// Begins a job.
     pub(crate) fn begin(alloc: Global, job: J) -> Stack<J>
         requires { J.awaits job [] }
         ensures { result ≡ record { asked = job; many = 1; jobs = job ∷ []; child = None; ended = None; waits = false } }
@@ -106,32 +106,32 @@ impl<J: PoolJob> Stack<J> {
         }
     }
 
-    /// Whether the topmost is to have a core for itself.
+    /// Returns whether the topmost wants a core for itself.
     pub(crate) fn is_exclusive(&self) -> bool {
         self.top.job.is_exclusive()
     }
 
-    /// The most steps of a slice.
+    /// Returns the most steps of a slice.
     pub(crate) fn bound(&self) -> u32 {
         self.top.job.bound()
     }
 
-    /// The topmost is told that it rests under this id.
+    /// Reports to the topmost the id under which it rests.
     pub(crate) fn sleeps_as(&self, id: ThreadId) {
         self.top.job.sleeps_as(id);
     }
 
-    /// Whether a child waits here to begin.
+    /// Returns whether a child waits here to begin.
     pub(crate) fn has_aside(&self) -> bool {
         self.links.aside() > 0
     }
 
-    /// Whether the oldest of these is to have a core for itself.
+    /// Returns whether the oldest of these wants a core for itself.
     pub(crate) fn is_oldest_exclusive(&self) -> bool {
         self.links.is_oldest_exclusive()
     }
 
-    /// So many less those that are here and have not ended. None where these are more.
+    /// Subtracts the number of those here that have not ended from `count`. Returns `None` if these are more.
     pub(crate) fn taken_from(&self, count: u64) -> Option<u64>
         ensures { MatchOption result (count < self.now.many) (λ rest. rest + self.now.many ≡ count) }
     {
@@ -142,8 +142,8 @@ impl<J: PoolJob> Stack<J> {
             .checked_sub(u64::from(self.child.is_some()))
     }
 
-    /// Goes on for at most as many steps as are left, until a child is forked while one may be posted, the topmost
-    /// waits or the first has ended. Each job that begins or ends is counted.
+    /// Runs for at most `left` steps, until a child is forked while one may be posted, the topmost waits or the first
+    /// has ended. Counts each job that begins or ends.
     #[tactic(auto, using(crate::proofs::Together::counting))]
     pub(crate) fn slice(
         &mut self,
@@ -169,7 +169,7 @@ impl<J: PoolJob> Stack<J> {
         JobStop::Goes
     }
 
-    /// Goes on by a step, or by what is to be done before the next one.
+    /// Makes a step, or does what has to be done before the next one.
     fn go_on(
         &mut self,
         cells: &mut Cells<J>,
@@ -194,7 +194,7 @@ impl<J: PoolJob> Stack<J> {
         self.step(tally, may_post)
     }
 
-    /// A step of the topmost.
+    /// Makes a step of the topmost.
     fn step(&mut self, tally: &mut Tally, may_post: bool) -> JobStop
         requires running { (self.old.ended ≡ None) × (self.old.child ≡ None) × (self.old.waits ≡ false) }
         ensures asked { self.new.asked ≡ self.old.asked }
@@ -220,7 +220,7 @@ impl<J: PoolJob> Stack<J> {
         }
     }
 
-    /// The child that was forked just now waits here to begin.
+    /// Has the child that was forked just now wait here to begin.
     fn put_aside(&mut self, may_post: bool) -> JobStop
         requires { self.old.ended ≡ None }
         ensures { KeepsMany self.old self.new }
@@ -247,8 +247,7 @@ impl<J: PoolJob> Stack<J> {
         }
     }
 
-    /// The topmost gets the result of its newest child, if it has one and that has ended. One that has not begun begins
-    /// here.
+    /// Gives the topmost the result of its newest child, if that has ended. If that has not begun, it begins here.
     fn receive(&mut self, cells: &mut Cells<J>) -> JobStop
         requires running { (self.old.ended ≡ None) × (self.old.child ≡ None) × (self.old.waits ≡ true) }
         ensures same { KeepsMany self.old self.new }
@@ -272,7 +271,7 @@ impl<J: PoolJob> Stack<J> {
         }
     }
 
-    /// The newest child, which has not begun, begins here, above the one that awaits it.
+    /// Begins the newest child, which has not begun, here, above the one that awaits it.
     fn enter(&mut self) -> JobStop
         requires running { (self.old.ended ≡ None) × (self.old.child ≡ None) × (self.old.waits ≡ true) }
         ensures same { KeepsMany self.old self.new }
@@ -294,7 +293,7 @@ impl<J: PoolJob> Stack<J> {
         JobStop::Goes
     }
 
-    /// What the topmost has ended with goes to the one below it, which goes on. The first one keeps it.
+    /// Gives the result of the topmost to the one below it, which goes on. The first one keeps its own.
     fn pass_on(&mut self) -> JobStop
         requires { IsSome self.old.ended }
         ensures same { KeepsMany self.old self.new }
@@ -316,7 +315,7 @@ impl<J: PoolJob> Stack<J> {
         JobStop::Goes
     }
 
-    /// How many children one that has ended has not joined.
+    /// Returns how many children the topmost has ended without joining.
     pub(crate) fn orphans(&self) -> usize {
         if self.ended.is_some() {
             self.top.awaited
@@ -325,8 +324,7 @@ impl<J: PoolJob> Stack<J> {
         }
     }
 
-    /// One of these is awaited no longer. It comes back if it had not begun. Where there is no room for such a one all
-    /// is as before.
+    /// Lets go one of these. If it had not begun, it is returned. If there is no room for such a one, all is as before.
     pub(crate) fn let_go(&mut self, has_room: bool) -> Option<J>
         ensures room { IsSome result → has_room ≡ true }
         ensures asked { self.new.asked ≡ self.old.asked }
@@ -340,8 +338,8 @@ impl<J: PoolJob> Stack<J> {
         self.links.forget_newest()
     }
 
-    /// The oldest child that waits here begins elsewhere: it, and the end at which it leaves its result. None where
-    /// there is none, or memory is refused.
+    /// Takes the oldest child that waits here, which begins elsewhere, and the end at which it leaves its result.
+    /// Returns `None` if there is none or memory is refused.
     pub(crate) fn part_oldest(
         &mut self,
         alloc: Global,
@@ -354,7 +352,7 @@ impl<J: PoolJob> Stack<J> {
         self.links.part_oldest(alloc, cells)
     }
 
-    /// What the first job has ended with, if it has, as where none is left.
+    /// Returns the result of the first job, if it has ended, as it has if none is left.
     pub(crate) fn into_output(self) -> Option<J::Output>
         ensures result { IfSome result (J.is_result self.asked) }
         ensures over { self.many ≡ 0 → IsSome result }
@@ -363,7 +361,7 @@ impl<J: PoolJob> Stack<J> {
         if below.is_empty() { ended } else { None }
     }
 
-    /// All that have not ended, and what the first job has ended with, if it has.
+    /// Returns all that have not ended, and the result of the first job, if it has ended.
     pub(crate) fn into_jobs(self) -> (Jobs<J>, Option<J::Output>)
         ensures jobs { result.0 ≡ self.jobs }
         ensures many { length result.0 ≡ self.many }
@@ -389,7 +387,7 @@ impl<J: PoolJob> Stack<J> {
     }
 }
 
-/// The job, unless it has ended.
+/// Returns the job, unless it has ended.
 fn unless_ended<J: PoolJob>(ended: &Option<J::Output>, job: J) -> Option<J>
     ensures job { result ≡ unless_ended ended.now job }
     ensures count { (others : List J) → length (children_of result others) ≡ count_none ended.now + length others }
@@ -422,7 +420,7 @@ impl<J: PoolJob> Model for Jobs<J> {
 }
 
 impl<J: PoolJob> Jobs<J> {
-    /// The next one: those that had not begun come first, then those that had, of both the newest first.
+    /// Takes the next one: first those that had not begun, then those that had, of both the newest first.
     pub fn take(&mut self) -> Option<J>
         ensures { MatchOption result ((self.old ≡ []) × (self.new ≡ [])) (λ job. self.old ≡ job ∷ self.new) }
     {

@@ -1,28 +1,28 @@
-//! What the workers of a core have done.
+//! Statistics of a core's workers.
 ghost use Rattle.std.specs.Prelude.{◌≡◌};
 ghost use Rattle.arachne_pool.specs.Done.{nothing_done};
 
-/// What the workers of a core have done, as they told when they last found nothing to do, returned, or had so much to
-/// tell. Each count wraps at 2^64.
+/// Statistics of a core's workers, as of their last report: when they found nothing to do, returned, or had made 1,024
+/// slices. Each count wraps at 2^64.
 #[derive(Clone, Copy, Debug, PartialEq, Eq)]
 pub struct Statistics {
     /// Slices of jobs.
     pub slices: u64,
     /// Steps of jobs, those in the place of others too.
     pub steps: u64,
-    /// How often a job was woken: by a worker of this core, as a child of the job ended, or by `Pool::wake`, as the job
-    /// was on this core. The latter is counted at once.
+    /// How often a job was woken: by a worker of this core as a child of the job ended, or by `Pool::wake` while the
+    /// job was on this core. The latter is counted at once.
     pub wakes: u64,
-    /// Rounds that found nothing to do, after each of which the worker has waited.
+    /// Rounds that found nothing to do, after which the worker waited.
     pub rests: u64,
-    /// How often the worker has slept its time out and then found something of which nobody had told it, or that all
-    /// was over. It is counted at once. A few such sleeps are those of workers that have jobs for which no core had a
-    /// place, since nobody tells them that one came free; many show that signals are missed.
+    /// How often the worker's sleep timed out though there was something that nobody had signalled, or all was over. It
+    /// is counted at once. Workers with jobs for which no core has a place cause a few of these, since a place that
+    /// comes free is not signalled; many show a missing signal.
     pub overslept: u64,
 }
 
 impl Statistics {
-    /// Nothing was done.
+    /// Returns counts of 0.
     pub(crate) fn new() -> Statistics
         ensures { result ≡ nothing_done }
     {

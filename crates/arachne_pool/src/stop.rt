@@ -1,13 +1,11 @@
-//! Where a slice of a job stops, and what comes of it.
-ghost use Rattle.std.specs.Prelude.{◌≡◌, None, Some, IfOk, OnErr, if◌then◌else◌};
-ghost use Rattle.arachne_pool.specs.Stops.{blocks_after, learned_after, rests_as};
+//! Why a slice of a job stops, and how the job rests then.
+ghost use Rattle.std.specs.Prelude.{◌≡◌, if◌then◌else◌};
+ghost use Rattle.arachne_pool.specs.Stops.{blocks_after, rests_as};
 
-use crate::live::AllTold;
 use arachne_contexts::Rested;
 use arachne_core::Rest;
-use arachne_workers::ThreadStop;
 
-/// Where a slice of a job stops.
+/// Why a slice of a job stops.
 #[derive(Clone, Copy, Debug, PartialEq, Eq)]
 pub(crate) enum JobStop {
     /// It goes on.
@@ -18,7 +16,7 @@ pub(crate) enum JobStop {
     Sleeps,
     /// It goes on, and has forked a child while a place may be free.
     Forks,
-    /// One has ended that has children which it has not joined, and which are to be let go.
+    /// A job has ended without joining all of its children, which must be let go.
     LetsGo,
     /// It has ended.
     Ends,
@@ -27,7 +25,7 @@ pub(crate) enum JobStop {
 }
 
 impl JobStop {
-    /// Whether the job is put back as blocked: where it waits or sleeps.
+    /// Returns whether the job is put back as blocked: if it waits or sleeps.
     #[inline(always)]
     pub(crate) fn blocks(self) -> bool
         ensures { result ≡ blocks_after self }
@@ -38,24 +36,9 @@ impl JobStop {
                 false,
         }
     }
-
-    /// What the worker's loop learns of it, once the pool is told of the slice. Nothing yet where the oldest child that
-    /// waits with the job may get a place first.
-    #[inline(always)]
-    pub(crate) fn learned(self, told: AllTold) -> Result<ThreadStop, AllTold>
-        ensures learned { IfOk result (λ stop. learned_after self ≡ Some stop) }
-        ensures places { OnErr result (learned_after self ≡ None) }
-    {
-        match self {
-            JobStop::Goes | JobStop::Forks => Err(told),
-            JobStop::Waits | JobStop::Sleeps => Ok(ThreadStop::Blocks),
-            JobStop::LetsGo | JobStop::Short => Ok(ThreadStop::Goes),
-            JobStop::Ends => Ok(ThreadStop::Ends),
-        }
-    }
 }
 
-/// How a job is to rest that is put back as blocked, or as ready.
+/// Returns how a job has to rest that is put back as blocked, or as ready.
 #[inline(always)]
 pub(crate) fn rest_of(blocks: bool) -> Rest
     ensures { result ≡ (if blocks then Rest.Blocked else Rest.Ready) }

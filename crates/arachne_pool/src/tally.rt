@@ -1,4 +1,4 @@
-//! How many jobs were spawned, and how many have ended.
+//! Counts of jobs that were spawned and have ended.
 ghost use Rattle.std.specs.Prelude.{◌≡◌, ◌+◌, ◌≤◌, min};
 
 /// How many jobs a worker has spawned, and how many have ended with it. Each count stays at 2^64 - 1.
@@ -9,7 +9,7 @@ pub struct Tally {
 }
 
 impl Tally {
-    /// None was spawned.
+    /// Returns counts of 0.
     pub fn new() -> Tally
         ensures { (result.spawned ≡ 0) × (result.ended ≡ 0) }
     {
@@ -19,7 +19,7 @@ impl Tally {
         }
     }
 
-    /// One more is spawned.
+    /// Counts a job that is spawned.
     pub(crate) fn count_spawned(&mut self)
         ensures spawned { self.new.spawned ≡ min (self.old.spawned + 1) u64.MAX }
         ensures grows { self.old.spawned ≤ self.new.spawned }
@@ -28,7 +28,7 @@ impl Tally {
         self.spawned = self.spawned.saturating_add(1);
     }
 
-    /// One more has ended.
+    /// Counts a job that has ended.
     pub(crate) fn count_ended(&mut self)
         ensures ended { self.new.ended ≡ min (self.old.ended + 1) u64.MAX }
         ensures grows { self.old.ended ≤ self.new.ended }
@@ -37,7 +37,7 @@ impl Tally {
         self.ended = self.ended.saturating_add(1);
     }
 
-    /// What two workers have counted together.
+    /// Returns the sum of two workers' counts.
     pub(crate) fn with(self, other: Tally) -> Tally
         ensures spawned { self.spawned + other.spawned ≤ u64.MAX → result.spawned ≡ self.spawned + other.spawned }
         ensures ended { self.ended + other.ended ≤ u64.MAX → result.ended ≡ self.ended + other.ended }
@@ -46,28 +46,5 @@ impl Tally {
             spawned: self.spawned.saturating_add(other.spawned),
             ended: self.ended.saturating_add(other.ended),
         }
-    }
-}
-
-/// How many jobs were spawned and have ended of which the pool is to be told. It can't be dropped, so that it is.
-pub(crate) struct News {
-    tally: Tally,
-}
-
-impl News {
-    #[inline(always)]
-    pub(crate) fn of(tally: Tally) -> News
-        ensures { result.tally ≡ tally }
-    {
-        News { tally }
-    }
-
-    /// It is being told.
-    #[inline(always)]
-    pub(crate) fn told(self) -> Tally
-        ensures { result ≡ self.tally }
-    {
-        let News { tally } = self;
-        tally
     }
 }

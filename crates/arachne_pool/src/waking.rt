@@ -5,7 +5,6 @@ ghost use Rattle.arachne_pool.specs.Waking.{Answers};
 ghost use Rattle.arachne_pool.specs.Workers.{IsIdleAt};
 
 use crate::answer::WakeAnswer;
-use crate::called::Called;
 use crate::job::PoolJob;
 use crate::pool::Pool;
 use crate::spawned::Spawned;
@@ -15,8 +14,7 @@ use arachne_core::{MarkWord, ThreadId};
 use std::marker::Model;
 use std::sync::Wait;
 
-/// A seat alone, by which a kernel thread that is no worker, as a timer, wakes jobs. One kernel thread at a time has
-/// it.
+/// A seat by which a kernel thread that is no worker, such as a timer, wakes jobs. One kernel thread at a time has it.
 #[derive(Drop)]
 pub struct Waker<S> {
     pub(crate) seat: S,
@@ -33,8 +31,8 @@ impl<C: Seats> Pool<C> {
     ghost use Rattle.arachne_pool.specs.Leftover.{HalvesWeight, JoinsWeights};
     ghost use Rattle.arachne_pool.specs.Workers.{IsWorkerOf};
 
-    /// A worker without a part of its seat's weight, which a waker has. Nothing else of it has changed. None comes
-    /// where the worker has no seat.
+    /// Splits a waker off a worker, with a part of the weight of its seat. Nothing else of the worker changes. Returns
+    /// no waker if the worker has no seat.
     pub fn split_waker<H: Wait, J: PoolJob>(
         &self,
         rt: &H,
@@ -56,7 +54,7 @@ impl<C: Seats> Pool<C> {
         }
     }
 
-    /// A worker with the weight of a waker's seat too. Nothing else of it has changed.
+    /// Gives a worker the weight of a waker's seat back. Nothing else of the worker changes.
     pub fn join_waker<H: Wait, J: PoolJob>(
         &self,
         rt: &H,
@@ -75,10 +73,10 @@ impl<C: Seats> Pool<C> {
         worker
     }
 
-    /// Wakes the job of this id. What the table has answered: `Woken`: it was blocked, and its core's kernel thread is
-    /// told that it is ready; or it is in hand, and doesn't rest then. `Already`: it was woken before, or goes on
-    /// without. `Gone`: the job of the id has ended; no other has the id ever again, but for jobs that ran in the same
-    /// place at the same time.
+    /// Wakes the job of this id, and returns the answer of the table. `Woken`: it was blocked, and its core's worker is
+    /// signalled; or it is in hand, and doesn't rest then. `Already`: it was woken before, or goes on without. `Gone`:
+    /// the job of the id has ended; no other ever has the id again, but for jobs that ran in the same place at the same
+    /// time.
     pub fn wake<H: Wait, J: PoolJob>(
         &self,
         rt: &H,
@@ -93,8 +91,7 @@ impl<C: Seats> Pool<C> {
     {
         let seat = &mut waker.seat;
         for _ in rt.forever() {
-            let called = Called::wake::<H, J, C>(rt, &self.table, seat, id);
-            let Some(answer) = WakeAnswer::to(called) else {
+            let Some(answer) = WakeAnswer::of_try::<H, J, C>(rt, &self.table, seat, id) else {
                 continue;
             };
             if answer.woken() == Woken::Woken {
@@ -105,8 +102,8 @@ impl<C: Seats> Pool<C> {
         unreachable!()
     }
 
-    /// The kernel thread of the core on which the job of this id is now is told that it may be ready, and the wake
-    /// counts there. If it is moved meanwhile, the arbiter says so of its new core.
+    /// Signals the worker of the core on which the job of this id is now, and counts the wake there. If the job is
+    /// moved meanwhile, the arbiter signals its new core's worker.
     fn tell_of_woken<H: Wait, J: PoolJob>(&self, rt: &H, seat: &mut C::Seat, id: ThreadId)
     where
         C: Contexts<Spawned<J>>,

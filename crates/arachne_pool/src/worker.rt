@@ -21,13 +21,13 @@ use thiserror::Error;
 /// Why a worker can't go on.
 #[derive(Clone, Copy, Debug, PartialEq, Eq, Error)]
 pub enum PoolFault {
-    /// A growth was refused. All jobs are as before, and the worker may go on.
+    /// Memory was refused. All jobs are as before, and the worker may go on.
     #[error("out of memory")]
     Memory,
     /// The table didn't know a place or a job that the worker had of it. The worker is at its end, and has no seat.
     #[error("the table knows no such token")]
     Token,
-    /// The workers are to stop.
+    /// The pool was stopped.
     #[error("the pool was stopped")]
     Stopped,
 }
@@ -67,9 +67,9 @@ impl From<Halt> for PoolFault {
 
 /// A worker: what a kernel thread has of a pool. One thread at a time has it, for one core.
 ///
-/// Contracts see its seat, which it has unless the table has disowned it; the jobs that it has that have no place, and
-/// how many these are; what it has counted, and what of that it has told; for one of the workers the orders by which
-/// cores come and go; and the core for which it was called last.
+/// Contracts see its seat, which it has unless the table has disowned it; its jobs that have no place, and their
+/// number; its counts, and the part of them that it has reported; the orders by which cores come and go, if it has
+/// them; and the core for which it was last called.
 #[derive(Drop)]
 pub struct Worker<S, J: PoolJob> {
     pub(crate) seat: Option<S>,
@@ -98,14 +98,15 @@ impl<S, J: PoolJob> Model for Worker<S, J> {
 }
 
 impl<S, J: PoolJob> Worker<S, J> {
-    /// How many jobs it has spawned, with those that jobs of its core have forked, and how many have ended with it.
+    /// Returns how many jobs it has spawned, with those that jobs of its core have forked, and how many have ended with
+    /// it.
     pub fn tally(&self) -> Tally
         ensures { result ≡ self.now.tally }
     {
         self.bench.tally
     }
 
-    /// A worker with this seat, with nothing else and no orders, for no core, whose choices go by this seed.
+    /// Returns a worker with this seat, no jobs and no orders, for no core, whose choices go by this seed.
     pub(crate) fn new(alloc: Global, seat: Option<S>, seed: u64) -> Worker<S, J>
         ensures seat { result.seat ≡ seat }
         ensures nothing { (result.tally.spawned ≡ 0) × (result.tally.ended ≡ 0) × (result.near ≡ 0) }
@@ -128,8 +129,8 @@ impl<C: Seats> Pool<C> {
     ghost use Rattle.arachne_pool.specs.Leftover.{HalvesWeight, JoinsWeights};
     ghost use Rattle.arachne_pool.specs.Workers.{IsIdleAt, IsWorkerOf};
 
-    /// Two workers of one, which keeps its jobs, its counts, its orders and its core. The other has half of the weight
-    /// of its seat, if it has one, and has worked for no core.
+    /// Splits a worker in two. The first keeps its jobs, its counts, its orders and its core. The second has half of
+    /// the weight of its seat, if it has one, and has worked for no core.
     pub fn split<H: Wait, J: PoolJob>(
         &self,
         rt: &H,
@@ -153,9 +154,9 @@ impl<C: Seats> Pool<C> {
         (worker, others)
     }
 
-    /// One worker of two, with the core of the first, and its orders, or those of the other where that has none. It has
-    /// a seat where both have. Where memory is refused to put their jobs together both come back, which isn't so where
-    /// the other has none.
+    /// Joins two workers into one, with the core of the first, and its orders, or those of the other if it has none. It
+    /// has a seat if both have. If memory for their jobs is refused, both are returned, which can't be if the other has
+    /// none.
     pub fn join_workers<H: Wait, J: PoolJob>(
         &self,
         rt: &H,

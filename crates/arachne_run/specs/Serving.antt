@@ -1,6 +1,5 @@
 -- What a thread asks for, what may come of it, and where it stops.
 use Rattle.std.specs.Prelude.{◌≡◌, ◌≢◌, ℕ, Bool, false, true, if◌then◌else◌, List, Option, None, Some, Result}
-use Rattle.arachne_core.specs.declared.thread_id.ThreadId.{ThreadId}
 use Rattle.arachne_machine.specs.declared.pause.Pending.{Pending}
 use Rattle.arachne_machine.specs.declared.pause.Pending.TheVariants as pause
 use Rattle.arachne_workers.specs.declared.desk.ThreadStop.{ThreadStop}
@@ -39,14 +38,14 @@ HasAsked lock who answer before after = ChangesAt lock before after (λ old new.
 abbrev pub HasChecked : ℕ → Who → Option Pass → List SeatView → List SeatView → Type 0
 HasChecked lock who answer before after = ChangesAt lock before after (λ old new. CheckAnswer lock who old (Answered answer) new)
 
--- a thread that asks for a lock waits for that one as an ask said, or has a pass of it by an ask; one that awaits the lock
--- does so by a check; one that frees or adds goes on
+-- a thread that asks for a lock waits for that one, or has a pass of it by an ask; one that awaits the lock has its pass
+-- by a check; one that frees or adds goes on
 abbrev pub IsServed : Want → Who → Served → Type 0
-IsServed (Asks lock) who (Waits awaited unserved) = (awaited ≡ lock) × (unserved.call.value ≡ Ask)
+IsServed (Asks lock) who (Waits awaited) = awaited ≡ lock
 IsServed (Asks lock) who (Holds granted) = IsGrantBy Ask lock who granted
-IsServed (Awaits lock) who (Waits awaited unserved) = (awaited ≡ lock) × (unserved.call.value ≡ Check)
+IsServed (Awaits lock) who (Waits awaited) = awaited ≡ lock
 IsServed (Awaits lock) who (Holds granted) = IsGrantBy Check lock who granted
-IsServed (Frees lock) who (Freed release) = Unit {0}
+IsServed (Frees lock) who (Freed freed) = Unit {0}
 IsServed (Tallies ledger amount) who Added = Unit {0}
 IsServed _ who _ = ⊥
 
@@ -99,12 +98,7 @@ has_lock_after (Tallies ledger amount) waits had = had
 
 -- the same by what came of it
 abbrev pub has_lock_by : Served → (had : Bool) → Bool
-has_lock_by (Waits lock unserved) had = had
+has_lock_by (Waits lock) had = had
 has_lock_by (Holds granted) had = true
-has_lock_by (Freed release) had = false
+has_lock_by (Freed freed) had = false
 has_lock_by Added had = had
-
--- the id of a thread, if there is one
-abbrev pub id_of : Option Who → Option ThreadId
-id_of None = None
-id_of (Some who) = Some who.id

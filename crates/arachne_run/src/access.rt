@@ -1,21 +1,19 @@
-//! What a worker does at the locks and the ledgers. A lock is tried again while another kernel thread is at it.
-ghost use Rattle.std.specs.Prelude.{◌≡◌, ◌<◌, ◌≤◌, false, Err, None, Ok, MatchOption, IfErr, IfOk, IsOk, OnOk, length};
+//! A worker's calls on the locks and the ledgers. A lock is tried again while another kernel thread is at it.
+ghost use Rattle.std.specs.Prelude.{◌≡◌, ◌<◌, ◌≤◌, false, Err, None, Ok, MatchOption, IfErr, IfOk, IfSome, IsOk, OnOk, length};
 ghost use Rattle.arachne_ledger.specs.Sums.{raised};
 ghost use Rattle.arachne_ledger.specs.Views.{IsShareOf};
 ghost use Rattle.arachne_sleep.specs.Calls.{FreeAnswer};
 ghost use Rattle.arachne_sleep.specs.SleepLocks.{AreSeatsOf, ChangesAt};
-ghost use Rattle.arachne_run.specs.Serving.{IsGrantBy, IsServed, IsSettled, IsWantOf, StopsAt, has_lock_after, has_lock_by, id_of, is_wait, sums_after};
+ghost use Rattle.arachne_run.specs.Serving.{IsGrantBy, IsServed, IsSettled, IsWantOf, StopsAt, has_lock_after, has_lock_by, is_wait, sums_after};
 ghost use Rattle.arachne_run.specs.Tokens.{AreHoldingsOf};
 ghost use Rattle.arachne_workers.specs.declared.desk.ThreadStop.TheVariants as stopped;
-ghost use Rattle.arachne_run.specs.declared.access.Want.TheVariants.{Asks, Awaits};
 ghost use Rattle.arachne_run.specs.declared.fault.WorkerFault.TheVariants.{Foreign};
 ghost use Rattle.arachne_run.specs.declared.granted.Got.TheVariants as got;
 ghost use Rattle.arachne_run.specs.declared.granted.LockCall.TheVariants as calls;
 ghost use Rattle.arachne_run.specs.declared.granted.Granted.{Granted};
-ghost use Rattle.arachne_run.specs.declared.granted.Unserved.{Unserved};
 
 use crate::fault::WorkerFault;
-use crate::granted::{self, Got, Granted, Unserved};
+use crate::granted::{self, Got, Granted};
 use crate::resources::{Holdings, Resources};
 use arachne_arbiter::Pace;
 use arachne_core::ThreadId;
@@ -34,76 +32,22 @@ pub(crate) enum Want {
     Asks(u64),
     /// This lock, for which it has asked before and is not answered yet.
     Awaits(u64),
-    /// That this lock is freed.
+    /// To free this lock.
     Frees(u64),
-    /// That this ledger gets this amount.
+    /// To add this amount to this ledger.
     Tallies(u64, u64),
-}
-
-impl Want {
-    /// This lock, by a step of the thread: fewer are left than it had.
-    #[inline(always)]
-    pub(crate) fn asks(lock: u64, had: u32, left: u32) -> Want
-        requires { left < had }
-        ensures { result ≡ Asks lock }
-    {
-        let _ = (had, left);
-        Want::Asks(lock)
-    }
-
-    /// This lock, for which it has asked before: it has made no step.
-    #[inline(always)]
-    pub(crate) fn awaits(lock: u64, had: u32, left: u32) -> Want
-        requires { left ≡ had }
-        ensures { result ≡ Awaits lock }
-    {
-        let _ = (had, left);
-        Want::Awaits(lock)
-    }
 }
 
 /// What came of what a thread asked for.
 pub(crate) enum Served {
     /// It waits for this lock.
-    Waits(u64, Unserved),
+    Waits(u64),
     /// It holds the lock that it asked for.
     Holds(Granted),
     /// The lock that it had is free, or another thread holds it now.
-    Freed(LockFreed),
+    Freed(Freed),
     /// The amount was added.
     Added,
-}
-
-/// A lock was freed. It can't be dropped, so that who holds it next goes on.
-pub(crate) struct LockFreed {
-    next: Option<ThreadId>,
-}
-
-impl LockFreed {
-    /// What the lock said as it was freed.
-    #[inline(always)]
-    fn by(freed: Freed) -> LockFreed
-        ensures { result.next ≡ id_of freed.next }
-    {
-        let next = match freed.next {
-            Some(next) => Some(next.id),
-            None => None,
-        };
-        LockFreed { next }
-    }
-
-    /// Where the thread that freed it stops.
-    #[inline(always)]
-    fn stop(self) -> ThreadStop
-        ensures next { MatchOption self.next (result ≡ stopped.Goes) (λ next. result ≡ stopped.Wakes next) }
-        ensures goes_on { StopsAt result None × (is_wait result ≡ false) }
-    {
-        let LockFreed { next } = self;
-        match next {
-            Some(next) => ThreadStop::Wakes(next),
-            None => ThreadStop::Goes,
-        }
-    }
 }
 
 /// The locks and the ledgers, and what a worker has of them. Contracts see the locks, the ledgers, and what its share
@@ -115,13 +59,13 @@ pub(crate) struct Access<'a> {
 }
 
 impl Served {
-    /// Whether a thread that was served so has a lock, where it had one before or not.
+    /// Returns whether a thread that was served so has a lock, if it `had` one before or not.
     #[inline(always)]
     fn has_lock(&self, had: bool) -> bool
         ensures { result ≡ has_lock_by self.now had }
     {
         match self {
-            Served::Waits(_, _) | Served::Added => had,
+            Served::Waits(_) | Served::Added => had,
             Served::Holds(_) => true,
             Served::Freed(_) => false,
         }
@@ -139,7 +83,7 @@ impl<'a> Model for Access<'a> {
 }
 
 impl<'a> Access<'a> {
-    /// The holdings are of these locks and ledgers.
+    /// Takes the holdings of these locks and ledgers.
     pub(crate) fn new(resources: &'a Resources, holdings: Holdings) -> Access<'a>
         requires { AreHoldingsOf resources.now holdings }
         ensures { result ≡ record { resources = resources.now; sums = holdings.share.sums } }
@@ -156,8 +100,8 @@ impl<'a> Access<'a> {
         self.holdings
     }
 
-    /// Does what a thread of this id asks for, and tells it so, unless it has to wait. The locks know it by the tag of
-    /// the one that goes on next in its place. Whether it has a lock is noted.
+    /// Does what the thread of this id asks for, and replies to its pause unless it must wait. The locks know it by the
+    /// tag of the thread that runs in its place. Sets `has_lock`.
     pub(crate) fn serve<H: Wait + Clock, T: RunThread>(
         &mut self,
         rt: &H,
@@ -177,8 +121,8 @@ impl<'a> Access<'a> {
         let served = self.do_for(rt, pace, want, Who { tag, id })?;
         *has_lock = served.has_lock(*has_lock);
         let stop = match served {
-            Served::Waits(lock, _) => return Ok(ThreadStop::Waits(lock)),
-            Served::Freed(release) => release.stop(),
+            Served::Waits(lock) => return Ok(ThreadStop::Waits(lock)),
+            Served::Freed(freed) => stop_after(freed),
             Served::Holds(_) | Served::Added => ThreadStop::Goes,
         };
         match thread.answer() {
@@ -201,12 +145,12 @@ impl<'a> Access<'a> {
     {
         match want {
             Want::Asks(lock) => match self.ask(rt, pace, lock, who)? {
-                Ok(granted) => Ok(Served::Holds(granted)),
-                Err(unserved) => Ok(Served::Waits(lock, unserved)),
+                Some(granted) => Ok(Served::Holds(granted)),
+                None => Ok(Served::Waits(lock)),
             },
             Want::Awaits(lock) => match self.check(rt, pace, lock, who)? {
-                Ok(granted) => Ok(Served::Holds(granted)),
-                Err(unserved) => Ok(Served::Waits(lock, unserved)),
+                Some(granted) => Ok(Served::Holds(granted)),
+                None => Ok(Served::Waits(lock)),
             },
             Want::Frees(lock) => Ok(Served::Freed(self.free(rt, pace, lock, who)?)),
             Want::Tallies(ledger, amount) => {
@@ -216,23 +160,22 @@ impl<'a> Access<'a> {
         }
     }
 
-    /// Asks for a lock. An error within where the thread has to wait for it.
+    /// Asks for a lock. Returns `None` if the thread waits for it.
     pub(crate) fn ask<H: Wait + Clock>(
         &mut self,
         rt: &H,
         pace: &mut Pace,
         lock: u64,
         who: Who,
-    ) -> Result<Result<Granted, Unserved>, WorkerFault>
+    ) -> Result<Option<Granted>, WorkerFault>
         ensures same { self.new ≡ self.old }
-        ensures granted { IfOk result (λ found. IfOk found (IsGrantBy calls.Ask lock who)) }
-        ensures waits { IfOk result (λ found. IfErr found (λ unserved. unserved.call.value ≡ calls.Ask)) }
+        ensures granted { IfOk result (λ found. IfSome found (IsGrantBy calls.Ask lock who)) }
     {
         let mut tries: u32 = 0;
         for _ in rt.forever() {
             match self.try_ask(lock, who)? {
-                Got::Granted(granted) => return Ok(Ok(granted)),
-                Got::Waits(unserved) => return Ok(Err(unserved)),
+                Got::Granted(granted) => return Ok(Some(granted)),
+                Got::Waits => return Ok(None),
                 Got::Refused(fault) => return Err(WorkerFault::from(fault)),
                 Got::Contended => {}
             }
@@ -242,23 +185,22 @@ impl<'a> Access<'a> {
         unreachable!()
     }
 
-    /// That the thread which has asked for a lock holds it now, if it does.
+    /// Checks whether a thread that has asked for a lock holds it now. Returns `None` if it still waits.
     pub(crate) fn check<H: Wait + Clock>(
         &mut self,
         rt: &H,
         pace: &mut Pace,
         lock: u64,
         who: Who,
-    ) -> Result<Result<Granted, Unserved>, WorkerFault>
+    ) -> Result<Option<Granted>, WorkerFault>
         ensures same { self.new ≡ self.old }
-        ensures granted { IfOk result (λ found. IfOk found (IsGrantBy calls.Check lock who)) }
-        ensures waits { IfOk result (λ found. IfErr found (λ unserved. unserved.call.value ≡ calls.Check)) }
+        ensures granted { IfOk result (λ found. IfSome found (IsGrantBy calls.Check lock who)) }
     {
         let mut tries: u32 = 0;
         for _ in rt.forever() {
             match self.try_check(lock, who)? {
-                Got::Granted(granted) => return Ok(Ok(granted)),
-                Got::Waits(unserved) => return Ok(Err(unserved)),
+                Got::Granted(granted) => return Ok(Some(granted)),
+                Got::Waits => return Ok(None),
                 Got::Refused(_) => return Err(WorkerFault::Threads),
                 Got::Contended => {}
             }
@@ -268,20 +210,20 @@ impl<'a> Access<'a> {
         unreachable!()
     }
 
-    /// Frees a lock.
+    /// Frees a lock. Returns the lock's answer.
     pub(crate) fn free<H: Wait + Clock>(
         &mut self,
         rt: &H,
         pace: &mut Pace,
         lock: u64,
         who: Who,
-    ) -> Result<LockFreed, WorkerFault>
+    ) -> Result<Freed, WorkerFault>
         ensures { self.new ≡ self.old }
     {
         let mut tries: u32 = 0;
         for _ in rt.forever() {
             match self.try_free(lock, who)? {
-                Tried::Answered(Ok(freed)) => return Ok(LockFreed::by(freed)),
+                Tried::Answered(Ok(freed)) => return Ok(freed),
                 Tried::Answered(Err(fault)) => return Err(WorkerFault::from(fault)),
                 Tried::Contended => {}
             }
@@ -291,29 +233,27 @@ impl<'a> Access<'a> {
         unreachable!()
     }
 
-    /// Tries once to ask for a lock. In a checked program a pause names a lock that is there.
+    /// Makes one attempt to ask for a lock. In a checked program a pause names a lock that exists.
     fn try_ask(&mut self, lock: u64, who: Who) -> Result<Got, WorkerFault>
         ensures same { self.new ≡ self.old }
         ensures pass { (granted : Granted) → result ≡ Ok (got.Granted granted) → IsGrantBy calls.Ask lock who granted }
-        ensures waits { (unserved : Unserved) → result ≡ Ok (got.Waits unserved) → unserved.call.value ≡ calls.Ask }
     {
         let locks = &self.resources.locks;
         let lock = number_of(locks, lock)?;
         Ok(granted::ask(locks, &mut self.holdings.lock_seats, lock, who))
     }
 
-    /// Tries once to look whether a thread that has asked for a lock holds it now.
+    /// Makes one attempt to check whether a thread that has asked for a lock holds it now.
     fn try_check(&mut self, lock: u64, who: Who) -> Result<Got, WorkerFault>
         ensures same { self.new ≡ self.old }
         ensures pass { (granted : Granted) → result ≡ Ok (got.Granted granted) → IsGrantBy calls.Check lock who granted }
-        ensures waits { (unserved : Unserved) → result ≡ Ok (got.Waits unserved) → unserved.call.value ≡ calls.Check }
     {
         let locks = &self.resources.locks;
         let lock = number_of(locks, lock)?;
         Ok(granted::check(locks, &mut self.holdings.lock_seats, lock, who))
     }
 
-    /// Tries once to free a lock.
+    /// Makes one attempt to free a lock.
     fn try_free(
         &mut self,
         lock: u64,
@@ -329,7 +269,7 @@ impl<'a> Access<'a> {
         )
     }
 
-    /// Adds what is due to its ledger. Nothing is due then.
+    /// Adds the amount that is due to its ledger. Then nothing is due.
     #[inline(always)]
     pub(crate) fn settle(&mut self, due: &mut Due) -> Result<(), WorkerFault>
         ensures same { self.new.resources ≡ self.old.resources }
@@ -339,7 +279,7 @@ impl<'a> Access<'a> {
         settle_at(&self.resources.ledgers, &mut self.holdings.share, due)
     }
 
-    /// Adds to a ledger. In a checked program a pause names a ledger that is there.
+    /// Adds to a ledger. In a checked program a pause names a ledger that exists.
     pub(crate) fn add(&mut self, ledger: u64, amount: u64) -> Result<(), WorkerFault>
         ensures same { self.new.resources ≡ self.old.resources }
         ensures raised { OnOk result (self.new.sums ≡ raised self.old.sums ledger amount) }
@@ -349,7 +289,19 @@ impl<'a> Access<'a> {
     }
 }
 
-/// Tries once to free the lock of this number, if that is there.
+/// Returns where a thread stops that has freed a lock: it goes on, and who holds the lock next is woken.
+#[inline(always)]
+fn stop_after(freed: Freed) -> ThreadStop
+    ensures next { MatchOption freed.next (result ≡ stopped.Goes) (λ next. result ≡ stopped.Wakes next.id) }
+    ensures goes_on { StopsAt result None × (is_wait result ≡ false) }
+{
+    match freed.next {
+        Some(next) => ThreadStop::Wakes(next.id),
+        None => ThreadStop::Goes,
+    }
+}
+
+/// Makes one attempt to free the lock of this number, if it exists.
 fn free_at(
     locks: &SleepLocks,
     seats: &mut LockSeats,
@@ -365,7 +317,7 @@ fn free_at(
     Ok(locks.free(seats, lock, who))
 }
 
-/// Adds to the share's sum for a ledger, if that is there.
+/// Adds to the share's sum for a ledger, if it exists.
 fn add_to(ledgers: &Ledgers, share: &mut Share, ledger: u64, amount: u64) -> Result<(), WorkerFault>
     requires { IsShareOf ledgers.now share.old }
     ensures own { IsShareOf ledgers.now share.new }
@@ -380,7 +332,7 @@ fn add_to(ledgers: &Ledgers, share: &mut Share, ledger: u64, amount: u64) -> Res
     Ok(())
 }
 
-/// Adds what is due, if that is anything, to the share's sum for its ledger. Nothing is due then.
+/// Adds the amount that is due, if one is, to the share's sum for its ledger. Then nothing is due.
 #[inline(always)]
 fn settle_at(ledgers: &Ledgers, share: &mut Share, due: &mut Due) -> Result<(), WorkerFault>
     requires { IsShareOf ledgers.now share.old }
@@ -396,7 +348,7 @@ fn settle_at(ledgers: &Ledgers, share: &mut Share, due: &mut Due) -> Result<(), 
     Ok(())
 }
 
-/// The lock of this number, if it is there.
+/// Returns the number of a lock that exists.
 fn number_of(locks: &SleepLocks, lock: u64) -> Result<u8, WorkerFault>
     ensures there { IfOk result (λ number. number < length locks.now) }
     ensures same { IfOk result (λ number. number ≡ lock) }

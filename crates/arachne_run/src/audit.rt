@@ -1,4 +1,4 @@
-//! What is looked at once a run is over.
+//! The audit of a run that is over.
 ghost use Rattle.std.specs.Prelude.{◌≡◌, ◌⊎◌, ℕ, ◌<◌, ◌≤◌, false, true, Contains, IfErr, IfNone, IfOk, IfSome, Ok, OnOk, List, length, map, slice_index, slice_index_or};
 ghost use Rattle.arachne_sleep.specs.declared.event.LockEvent.TheVariants.{Grant};
 ghost use Rattle.arachne_sleep.specs.declared.who.Who.{Who};
@@ -11,7 +11,7 @@ use arachne_machine::{ThreadLine, ThreadLines};
 use arachne_sleep::{History, LockEvent};
 use std::alloc::{AllocError, Global};
 
-/// Looks whether no two threads have one tag, and each lock was granted to each thread as often as that held it.
+/// Checks that no two threads have one tag, and that each lock was granted to each thread as often as it held the lock.
 pub(crate) fn audit(
     alloc: Global,
     threads: &ThreadLines,
@@ -31,8 +31,8 @@ pub(crate) fn audit(
     }
 }
 
-/// The marks of the threads' tags, if no two are the same and none is 2^64 - 1. They take a byte for each tag up to the
-/// greatest, and for each thread at least.
+/// Returns the marks of the threads' tags, if no two are the same and none is 2^64 - 1: a byte for each tag up to the
+/// greatest, and at least one for each thread.
 fn marks_of(alloc: Global, threads: &ThreadLines) -> Result<Option<Vec<bool>>, AllocError>
     ensures distinct { IfOk result (λ found. IfSome found (λ marks. AreDistinct (map (λ line. line.tag) threads.now))) }
     ensures marks { IfOk result (λ found. IfSome found (λ marks. AreMarksOf (map (λ line. line.tag) threads.now) marks.items)) }
@@ -64,8 +64,8 @@ fn place_of(line: &ThreadLine) -> usize
     line.tag as usize
 }
 
-/// Whether each lock was granted to each thread as often as that held it, and to no other. The marks are those of the
-/// threads' tags.
+/// Returns whether each lock was granted to each thread as often as it held the lock, and to no other. The marks are
+/// those of the threads' tags.
 fn are_grants_holds(
     alloc: Global,
     threads: &ThreadLines,
@@ -83,7 +83,7 @@ fn are_grants_holds(
     Ok(true)
 }
 
-/// The same of one lock, in a time that grows with its events and the threads.
+/// Like `are_grants_holds`, of one lock, in a time that grows with its events and the threads.
 fn is_granted_as_held(
     alloc: Global,
     threads: &ThreadLines,
@@ -106,7 +106,7 @@ fn is_granted_as_held(
     Ok(true)
 }
 
-/// How often the lock was granted to the thread of each tag, unless there is a grant to one that isn't marked.
+/// Returns how often the lock was granted to the thread of each tag. Returns `None` if one that got it isn't marked.
 fn grants_by_tag(
     alloc: Global,
     marks: &[bool],
@@ -129,7 +129,7 @@ fn grants_by_tag(
     Ok(Some(grants))
 }
 
-/// The number at a place, and 0 past the end.
+/// Returns the number at a place, or 0 past the end.
 fn number_at(numbers: &[u64], place: usize) -> u64
     ensures { result ≡ slice_index numbers.now place }
 {

@@ -1,10 +1,10 @@
-//! Of what may be wrong at a run's end, which is told.
+//! Which of two faults at a run's end is reported.
 ghost use Rattle.std.specs.Prelude.{◌≡◌, ◌⊎◌, Err, IfErr, IfOk, IfSome, None, Ok, Some};
 ghost use Rattle.arachne_run.specs.declared.fault.WorkerFault.TheVariants.{Token};
 
 use crate::fault::WorkerFault;
 
-/// Both, where neither has a fault. A token that is missing is told before all else.
+/// Returns both values, if neither is a fault. A missing token is reported before any other fault.
 pub(crate) fn both<A: Drop, B: Drop>(
     one: Result<A, WorkerFault>,
     other: Result<B, WorkerFault>,
@@ -21,7 +21,7 @@ pub(crate) fn both<A: Drop, B: Drop>(
     }
 }
 
-/// What is there, if there was no fault: the first fault is told before all else, and then a token that is missing.
+/// Returns the tokens, if there was no fault. The first fault is reported before missing tokens.
 pub(crate) fn first_of<T: Drop>(
     first: Option<WorkerFault>,
     tokens: Option<T>,

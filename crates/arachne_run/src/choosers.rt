@@ -4,9 +4,8 @@ ghost use Rattle.std.specs.Prelude.{◌≡◌, [], ◌∷◌, MatchOption};
 use std::alloc::Global;
 use std::marker::Model;
 
-/// Choosers, the last core's first, so that the next core's is taken off the end.
-///
-/// Contracts see them in the order of the cores.
+/// Choosers, the last core's first, so that the next core's is taken off the end. Contracts see them in the order of
+/// the cores.
 #[derive(Drop)]
 pub(crate) struct Choosers<R> {
     last_first: Vec<R>,
@@ -21,7 +20,7 @@ impl<R> Model for Choosers<R> {
 }
 
 impl<R> Choosers<R> {
-    /// None. It takes no memory.
+    /// Returns none. It takes no memory.
     pub(crate) fn none(alloc: Global) -> Choosers<R>
         ensures { result ≡ [] }
     {
@@ -30,7 +29,7 @@ impl<R> Choosers<R> {
         }
     }
 
-    /// That of core 0, that of core 1, and so on.
+    /// Takes the choosers in the order of the cores.
     pub(crate) fn of(choosers: Vec<R>) -> Choosers<R>
         ensures { result ≡ choosers.items }
     {
@@ -39,7 +38,7 @@ impl<R> Choosers<R> {
         Choosers { last_first }
     }
 
-    /// That of the next core, if there is one.
+    /// Takes the next core's chooser, if there is one.
     pub(crate) fn next(&mut self) -> Option<R>
         ensures { MatchOption result (self.old ≡ [] × self.new ≡ []) (λ first. self.old ≡ first ∷ self.new) }
     {

@@ -7,7 +7,7 @@ use arachne_workers::Halt;
 use std::alloc::AllocError;
 use thiserror::Error;
 
-/// Why a run has no report. Where several workers meet one, the first that was recorded is answered.
+/// Why a run has no report. If several workers meet a fault, the first that was recorded is returned.
 #[derive(Clone, Copy, Debug, PartialEq, Eq, Error)]
 pub enum RunFault {
     /// The setup has no core, or more than 64.
@@ -25,33 +25,32 @@ pub enum RunFault {
     /// The first core order at fault.
     #[error("{0}")]
     Orders(OrderFault),
-    /// What a worker met on its way, or what was wrong with what the workers left.
+    /// The fault that a worker met, or that was found once all had ended.
     #[error("{0}")]
     Worker(WorkerFault),
 }
 
-/// Why workers stop all, or nothing comes of what they have left: each fault of a run but those of its setup.
+/// Why workers stop all, or what they left gives no report: each fault of a run but those of its setup.
 #[derive(Clone, Copy, Debug, PartialEq, Eq, Error)]
 pub enum WorkerFault {
     /// A growth was refused.
     #[error("out of memory")]
     Memory,
-    /// A thread got the outcome of another one than the child that it awaits, or one that its program can't have; or it
-    /// named a ledger or a lock that isn't there.
+    /// A thread got another outcome than that of the child that it awaits, or one that its program can't have, or named
+    /// a ledger or a lock that doesn't exist.
     #[error("the outcome of another thread")]
     Foreign,
-    /// Two threads have one tag, a thread asked for a lock that it had or freed one that it had not, or a lock's grants
-    /// are not the threads' holds.
+    /// Two threads have one tag, a thread asked for a lock that it had or freed one that it didn't have, or a lock's
+    /// grants are not the threads' holds.
     #[error("two threads have one tag, or a lock's grants are not the holds")]
     Threads,
     /// The word of a ledger is not the root's sum.
     #[error("a ledger's word is not the root's sum")]
     Ledgers,
-    /// The table didn't know a place or a thread that a worker had of it, or in the end a seat or a share was not
-    /// whole.
+    /// The table didn't know a worker's place or thread, or in the end a seat or a share was not whole.
     #[error("the table knows no such token, or not all of a table came back")]
     Token,
-    /// A kernel thread was refused, or there was nothing for it to choose cores by.
+    /// A kernel thread was refused, or had no chooser.
     #[error("a kernel thread was refused")]
     KernelThread,
 }

@@ -1,6 +1,6 @@
 //! How threads get their places: the child of a fork is posted at one, waits for one, or runs in its parent's.
 //!
-//! It may touch the table through the seat that it is given, and the queue of those that wait.
+//! It may touch the table by the seat that it is given, and the queue of tickets.
 ghost use Rattle.std.specs.Prelude.{◌≡◌, ◌↔◌, ◌<◌, ◌≤◌, [], ◌∷◌, false, IfOk, IfSome, IsOk, IsSome, IsTrue, OnOk, map};
 ghost use Rattle.rand_core.specs.Stream.{next_u64};
 ghost use Rattle.arachne_arbiter.specs.Placed.{GetsPlace, IsAtStartOfSome};
@@ -10,7 +10,7 @@ ghost use Rattle.arachne_run.specs.Serving.{StopsAt};
 ghost use Rattle.arachne_run.specs.Tokens.{IsOutWith, IsSetUp, IsSpent, thread_in};
 
 use crate::access::{Access, Want};
-use crate::claims::{Claims, Uncounted};
+use crate::claims::Claims;
 use crate::fault::WorkerFault;
 use crate::machine::Machine;
 use arachne_arbiter::{Cores, Pace};
@@ -36,8 +36,8 @@ pub(crate) struct ForkSupplies<R, P> {
     pub(crate) spares: P,
 }
 
-/// The thread in hand goes on for at most as many steps as are left, and what it asks for, if it comes to that, is
-/// done. Before that the ledgers have got what it has tallied.
+/// Runs the thread in hand for at most `left` steps, adds what it has tallied to the ledgers, and does what it asks
+/// for.
 #[inline(always)]
 pub(crate) fn go_on<H: Wait + Clock, T: RunJob, C: Contexts<T>, R: Rng>(
     rt: &H,
@@ -63,10 +63,11 @@ pub(crate) fn go_on<H: Wait + Clock, T: RunJob, C: Contexts<T>, R: Rng>(
     ensures drawn { IsOk result → forks.new.openings.draws ≡ 0 }
     ensures settled { OnOk result (forks.new.openings.due.amount ≡ 0) }
 {
-    let (room, had) = (machine.shared.room(), *left);
+    let room = machine.shared.room();
     let slice = held
         .value
         .slice(left, &mut forks.spares, room, &mut forks.openings)?;
+    // Forks that were no pause drew no word: the chooser must go on as if they had.
     draw(&mut forks.chooser, forks.openings.draws);
     forks.openings.draws = 0;
     access.settle(&mut forks.openings.due)?;
@@ -79,8 +80,8 @@ pub(crate) fn go_on<H: Wait + Clock, T: RunJob, C: Contexts<T>, R: Rng>(
         }
         Slice::Blocks(_) => return Ok(ThreadStop::Blocks),
         Slice::Ends => return Ok(ThreadStop::Ends),
-        Slice::Asks(lock) => Want::asks(lock, had, *left),
-        Slice::Awaits(lock) => Want::awaits(lock, had, *left),
+        Slice::Asks(lock) => Want::Asks(lock),
+        Slice::Awaits(lock) => Want::Awaits(lock),
         Slice::Frees(lock) => Want::Frees(lock),
         Slice::Tallies(ledger, amount) => Want::Tallies(ledger, amount),
     };
@@ -88,7 +89,7 @@ pub(crate) fn go_on<H: Wait + Clock, T: RunJob, C: Contexts<T>, R: Rng>(
     access.serve(rt, pace, want, id, &mut held.value, has_lock)
 }
 
-/// Draws so many words from the chooser.
+/// Draws this many words from the chooser.
 fn draw<R: Rng>(chooser: &mut R, words: u64) {
     for _ in 0..words {
         let _ = chooser.next_u64();
@@ -96,8 +97,8 @@ fn draw<R: Rng>(chooser: &mut R, words: u64) {
 }
 
 /// Answers a fork of the thread in hand: a normal child gets a place on the core that `claim_normal` of
-/// `arachne_arbiter` chooses, an exclusive one on an empty core. Else a normal one waits, if there is room in the
-/// queue, and another one runs in place.
+/// `arachne_arbiter` chooses, an exclusive one on an empty core. Otherwise a normal one waits if there is room in the
+/// queue, and any other runs in place.
 fn answer_fork<H: Wait, T: RunJob, C: Contexts<T>, R: Rng>(
     rt: &H,
     alloc: Global,
@@ -124,8 +125,8 @@ fn answer_fork<H: Wait, T: RunJob, C: Contexts<T>, R: Rng>(
     let tag = forks.openings.tags.take(room);
     let cores = machine.cores::<H, T>(rt);
     let claim = claim_for::<H, T, C, R>(&cores, seat, class, &mut forks.chooser)?;
-    if let Some(uncounted) = Uncounted::of(claim) {
-        let claim = uncounted.counted(room);
+    if let Some(claim) = claim {
+        room.place_was_claimed();
         let job = held
             .value
             .fork_off(alloc, me, child, tag, &mut forks.spares)?;
@@ -145,8 +146,8 @@ fn answer_fork<H: Wait, T: RunJob, C: Contexts<T>, R: Rng>(
     Ok(ThreadStop::Goes)
 }
 
-/// Claims a place for a child of this class: a normal one shares a core that is chosen by a word that is drawn, and an
-/// exclusive one has an empty core to itself.
+/// Claims a place for a child of this class: for a normal one on a core that is chosen by a word of the chooser, for an
+/// exclusive one on an empty core.
 #[inline(always)]
 fn claim_for<H: Wait, T: RunJob, C: Contexts<T>, R: Rng>(
     cores: &Cores<'_, H, T, C>,
@@ -167,15 +168,14 @@ fn claim_for<H: Wait, T: RunJob, C: Contexts<T>, R: Rng>(
     }
 }
 
-/// Whether a child for which no place was found waits for one, by its class and whether the queue has room: one that is
-/// to have a core for itself never does.
+/// Returns whether a child for which no place was found waits for one: a normal one does if the queue has room.
 fn may_wait(class: Class, has_room: bool) -> bool
     ensures { IsTrue result ↔ (class ≡ Class.Normal) × IsTrue has_room }
 {
     class == Class::Normal && has_room
 }
 
-/// Whether room is made in the queue for a child: one that has much to do, and may wait.
+/// Returns whether room is made in the queue for a child: it has much to do, and may wait.
 fn is_worth_room(class: Class, is_large: bool) -> bool
     ensures { IsTrue result ↔ (class ≡ Class.Normal) × IsTrue is_large }
 {
@@ -200,7 +200,7 @@ pub(crate) fn give_place_back<H: Wait, T: RunJob, C: Contexts<T>>(
     }
 }
 
-/// A place of the core: the newest that is kept, else one that is free.
+/// Returns a place of the core: the newest that is kept, otherwise one that is free.
 pub(crate) fn free_place<H: Wait, T: RunJob, C: Contexts<T>>(
     rt: &H,
     machine: &Machine<C, T::Ticket>,
@@ -219,13 +219,13 @@ pub(crate) fn free_place<H: Wait, T: RunJob, C: Contexts<T>>(
         return Ok(Some(claim));
     }
     let claim = machine.cores::<H, T>(rt).claim_on(spare, core)?;
-    let Some(uncounted) = Uncounted::of(claim) else {
-        return Ok(None);
-    };
-    Ok(Some(uncounted.counted(machine.shared.room())))
+    if claim.is_some() {
+        machine.shared.room().place_was_claimed();
+    }
+    Ok(claim)
 }
 
-/// Posts a job at a claimed place. Its id, and where it was posted.
+/// Posts a job at a claimed place. Returns its id, and the place.
 #[inline(always)]
 fn post_at<H: Wait, T: RunJob, C: Contexts<T>>(
     rt: &H,
@@ -247,8 +247,8 @@ fn post_at<H: Wait, T: RunJob, C: Contexts<T>>(
     }
 }
 
-/// Posts the root, or a child that has waited, at a place, or gives that back where the child is gone meanwhile. Its
-/// id and place, if it was posted.
+/// Posts the root, or a child that has waited, at a place, or gives the place back if there is no job. Returns the
+/// job's id and place, if it was posted.
 pub(crate) fn post_waiting<H: Wait, T: RunJob, C: Contexts<T>>(
     rt: &H,
     machine: &Machine<C, T::Ticket>,

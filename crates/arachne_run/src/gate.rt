@@ -1,10 +1,10 @@
-//! What a caller may do before each slice, and be told of a run.
+//! A caller's hook into a run.
 use arachne_core::ThreadId;
 use arachne_lang::Name;
 use arachne_workers::WorkerEvent;
 
-/// Called before each slice, as by a test that watches or holds up the cores of a run, and told of what its cores do.
-/// Each call is by the kernel thread of the core.
+/// Called before each slice and at each event of a run's cores, each time by the core's kernel thread: for tests that
+/// watch cores or hold them up.
 pub trait Gate {
     /// The core's slice of this number, from 0, is about to begin. The number stays at 2^64 - 1.
     fn slice(&self, core: u8, nth: u64);
@@ -12,8 +12,8 @@ pub trait Gate {
     /// A thread was taken in hand, under this id. The slices that follow are its own, until another one is taken.
     fn turn(&self, _core: u8, _id: ThreadId, _name: &Name) {}
 
-    /// What the core has done just now, or is about to do. What a thread awaits by a number is the lock of that number;
-    /// one that is served holds its lock.
+    /// The core has just done this, or is about to. A number that a thread awaits is that of a lock; a thread that is
+    /// served holds its lock.
     fn told(&self, _core: u8, _event: WorkerEvent) {}
 }
 

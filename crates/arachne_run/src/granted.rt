@@ -1,4 +1,4 @@
-//! Tries to get a lock, and what shows that a thread holds one.
+//! Attempts to get a lock, and the type by which a thread holds one.
 ghost use Rattle.std.specs.Prelude.{◌≡◌, ◌<◌, ℕ, Err, None, Ok, Some, length};
 ghost use Rattle.arachne_sleep.specs.SleepLocks.{AreSeatsOf};
 ghost use Rattle.arachne_sleep.specs.declared.answer.AskFault.{AskFault};
@@ -7,12 +7,11 @@ ghost use Rattle.arachne_run.specs.Serving.{HasAsked, HasChecked, IsGrantBy};
 ghost use Rattle.arachne_run.specs.declared.granted.LockCall.TheVariants as calls;
 ghost use Rattle.arachne_run.specs.declared.granted.Got.TheVariants as got;
 ghost use Rattle.arachne_run.specs.declared.granted.Granted.{Granted};
-ghost use Rattle.arachne_run.specs.declared.granted.Unserved.{Unserved};
 
 use arachne_sleep::{AskFault, Asked, LockSeats, Pass, SleepLocks, Tried, Who};
 use std::snapshot::Snapshot;
 
-/// By which call a lock was tried.
+/// The call by which a lock was tried.
 #[derive(Clone, Copy)]
 pub(crate) enum LockCall {
     /// The thread asked for it.
@@ -21,8 +20,8 @@ pub(crate) enum LockCall {
     Check,
 }
 
-/// The thread in hand holds the lock that it asked for, by this pass. [`ask`] and [`check`] alone give one, for a pass
-/// that the lock gave in that call, and nobody goes on after an ask without. It has no bytes.
+/// The thread in hand holds the lock that it asked for, by this pass. Only [`ask`] and [`check`] return one, for a pass
+/// that the lock gave in that call, and a thread goes on after an ask only with one. It has no bytes.
 #[derive(Drop)]
 pub(crate) struct Granted {
     pass: Snapshot<Pass>,
@@ -42,36 +41,18 @@ impl Granted {
     }
 }
 
-/// The thread waits for the lock that it asked for, as the lock said. [`ask`] and [`check`] alone give one, and nobody
-/// waits for a lock without. It has no bytes.
-#[derive(Drop)]
-pub(crate) struct Unserved {
-    call: Snapshot<LockCall>,
-}
-
-impl Unserved {
-    #[inline(always)]
-    fn by(call: LockCall) -> Unserved
-        ensures { result.call.value ≡ call }
-    {
-        Unserved {
-            call: Snapshot::of(&call),
-        }
-    }
-}
-
-/// What came of one try to get a lock.
+/// What came of one attempt to get a lock.
 #[derive(Drop)]
 pub(crate) enum Got {
     Granted(Granted),
     /// The thread waits for it.
-    Waits(Unserved),
+    Waits,
     Refused(AskFault),
     /// Another kernel thread was at the lock. Nothing has changed.
     Contended,
 }
 
-/// Tries once to ask for a lock.
+/// Makes one attempt to ask for a lock.
 #[inline(always)]
 pub(crate) fn ask(locks: &SleepLocks, seats: &mut LockSeats, lock: u8, who: Who) -> Got
     requires own { AreSeatsOf locks.now seats.old }
@@ -80,21 +61,19 @@ pub(crate) fn ask(locks: &SleepLocks, seats: &mut LockSeats, lock: u8, who: Who)
     ensures pass { (granted : Granted) → result ≡ got.Granted granted → IsGrantBy calls.Ask lock who granted }
     ensures listed { (granted : Granted) → result ≡ got.Granted granted
         → HasAsked lock who (Ok (asked.Granted granted.pass.value)) seats.old seats.new }
-    ensures waits { (unserved : Unserved) → result ≡ got.Waits unserved
-        → (at : ℕ) × HasAsked lock who (Ok (asked.Queued at)) seats.old seats.new }
-    ensures asked { (unserved : Unserved) → result ≡ got.Waits unserved → unserved.call.value ≡ calls.Ask }
+    ensures waits { result ≡ got.Waits → (at : ℕ) × HasAsked lock who (Ok (asked.Queued at)) seats.old seats.new }
     ensures refused { (fault : AskFault) → result ≡ got.Refused fault
         → HasAsked lock who (Err fault) seats.old seats.new }
 {
     match locks.ask(seats, lock, who) {
         Tried::Answered(Ok(Asked::Granted(pass))) => Got::Granted(Granted::by(LockCall::Ask, pass)),
-        Tried::Answered(Ok(Asked::Queued { at: _ })) => Got::Waits(Unserved::by(LockCall::Ask)),
+        Tried::Answered(Ok(Asked::Queued { at: _ })) => Got::Waits,
         Tried::Answered(Err(fault)) => Got::Refused(fault),
         Tried::Contended => Got::Contended,
     }
 }
 
-/// Tries once to look whether a thread that has asked for a lock holds it now.
+/// Makes one attempt to check whether a thread that has asked for a lock holds it now.
 #[inline(always)]
 pub(crate) fn check(locks: &SleepLocks, seats: &mut LockSeats, lock: u8, who: Who) -> Got
     requires own { AreSeatsOf locks.now seats.old }
@@ -103,13 +82,11 @@ pub(crate) fn check(locks: &SleepLocks, seats: &mut LockSeats, lock: u8, who: Wh
     ensures pass { (granted : Granted) → result ≡ got.Granted granted → IsGrantBy calls.Check lock who granted }
     ensures listed { (granted : Granted) → result ≡ got.Granted granted
         → HasChecked lock who (Some granted.pass.value) seats.old seats.new }
-    ensures waits { (unserved : Unserved) → result ≡ got.Waits unserved
-        → HasChecked lock who None seats.old seats.new }
-    ensures checked { (unserved : Unserved) → result ≡ got.Waits unserved → unserved.call.value ≡ calls.Check }
+    ensures waits { result ≡ got.Waits → HasChecked lock who None seats.old seats.new }
 {
     match locks.check(seats, lock, who) {
         Tried::Answered(Some(pass)) => Got::Granted(Granted::by(LockCall::Check, pass)),
-        Tried::Answered(None) => Got::Waits(Unserved::by(LockCall::Check)),
+        Tried::Answered(None) => Got::Waits,
         Tried::Contended => Got::Contended,
     }
 }

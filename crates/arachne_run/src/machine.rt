@@ -31,12 +31,12 @@ use std::alloc::{AllocError, Global};
 use std::marker::PhantomData;
 use std::sync::Wait;
 
-/// The table of contexts, the ledgers, the locks, and the words that all workers look at.
+/// The table of contexts, the ledgers, the locks, the queue of tickets, and the words that all workers share.
 #[derive(Drop)]
 pub(crate) struct Machine<C, K: Tagged + Drop> {
     pub(crate) shared: SharedState,
     pub(crate) resources: Resources,
-    /// Children that wait for a place.
+    /// The tickets of children that wait for a place.
     pub(crate) tickets: SpillQueue<K>,
     pub(crate) table: C,
     pub(crate) cores: u8,
@@ -47,13 +47,13 @@ pub(crate) struct Machine<C, K: Tagged + Drop> {
     pub(crate) orders: usize,
     /// Whether workers may keep places.
     pub(crate) may_keep: bool,
-    /// Whether workers may move threads to their own cores: not where a thread may want a whole core, since a move
-    /// takes a place there while it is made.
+    /// Whether workers may move threads to their own cores: not if a thread may want a whole core, since a move takes a
+    /// place there while it is made.
     pub(crate) may_pull: bool,
 }
 
 impl<C: Seats, K: Tagged + Drop> Machine<C, K> {
-    /// The cores of the table.
+    /// Returns the cores of the table.
     pub(crate) fn cores<'a, H, T>(&'a self, rt: &'a H) -> Cores<'a, H, T, C>
         requires { IsSetUp C.core_count C.slot_count self.now }
         ensures table { result.table.now ≡ self.now.table }
@@ -70,7 +70,7 @@ impl<C: Seats, K: Tagged + Drop> Machine<C, K> {
 }
 
 impl<C: Seats + Drop, K: Tagged + Drop> Machine<C, K> {
-    /// A machine on which nothing runs, and all of its tokens.
+    /// Returns a machine on which nothing runs, and all of its tokens.
     pub(crate) fn new(
         alloc: Global,
         cores: u8,
@@ -116,8 +116,8 @@ impl<C: Seats + Drop, K: Tagged + Drop> Machine<C, K> {
         Ok((machine, tokens))
     }
 
-    /// The first fault, if there was one; else what is left once all workers have ended, and how many orders were
-    /// applied.
+    /// Returns what is left once all workers have ended, and how many orders were applied. The error is the first
+    /// fault, if there was one.
     pub(crate) fn close<H: Wait, T>(
         self,
         rt: &H,
@@ -155,8 +155,8 @@ impl<C: Seats + Drop, K: Tagged + Drop> Machine<C, K> {
     }
 }
 
-/// What is left once all workers have ended without a fault. Where not all of what they stepped with is back, a token
-/// is missing, and that is told also where memory was refused.
+/// Returns what is left once all workers have ended without a fault. If any seat, pass or share was not returned, the
+/// error is `Token`, even if memory was also refused.
 fn close_all<H: Wait, T: Tagged + Drop, C: Contexts<T> + Drop, K: Tagged + Drop>(
     rt: &H,
     alloc: Global,
@@ -187,8 +187,8 @@ fn close_all<H: Wait, T: Tagged + Drop, C: Contexts<T> + Drop, K: Tagged + Drop>
     Ok(remains)
 }
 
-/// Closes the table and the queue of tickets, if each thread that was posted has ended. Where not all of the seat or of
-/// the passes is back, or something is out, a token is missing; so a thread that is left is told too.
+/// Closes the table and the queue of tickets. The error is `Token` if not all of the seat or of the passes was
+/// returned, if something is out, or if a thread is left.
 fn close_table<H: Wait, T: Tagged + Drop, C: Contexts<T> + Drop, K: Tagged + Drop>(
     rt: &H,
     alloc: Global,
@@ -213,7 +213,7 @@ fn close_table<H: Wait, T: Tagged + Drop, C: Contexts<T> + Drop, K: Tagged + Dro
     end_table(rt, alloc, table, seat)
 }
 
-/// Closes the table with its whole seat, if no thread is left in it.
+/// Closes the table with its whole seat. The error is `Token` if a thread is left in it.
 fn end_table<H: Wait, T: Tagged + Drop, C: Contexts<T> + Drop>(
     rt: &H,
     alloc: Global,
@@ -237,7 +237,7 @@ fn end_table<H: Wait, T: Tagged + Drop, C: Contexts<T> + Drop>(
     }
 }
 
-/// Empties the queue of tickets. Where not all of its passes are back a token is missing.
+/// Empties the queue of tickets. The error is `Token` if not all of its passes were returned.
 fn close_queue<H: Wait, K: Tagged + Drop>(
     rt: &H,
     tickets: &SpillQueue<K>,

@@ -1,4 +1,4 @@
-//! What a run brings.
+//! What a run returns.
 ghost use Rattle.std.specs.Prelude.{◌≡◌, ◌≢◌, [], All, Err, IfOk, length, map};
 ghost use Rattle.arachne_lang.specs.Program.{source_of};
 ghost use Rattle.arachne_lang.specs.Meaning.{meaning_of};
@@ -15,7 +15,7 @@ use arachne_machine::{DetachedOutcome, ThreadLines};
 use arachne_sleep::History;
 use std::alloc::Global;
 
-/// What a run brings.
+/// What a run returns.
 #[derive(Debug, Drop)]
 pub struct Report {
     /// The value of the program.
@@ -31,8 +31,8 @@ pub struct Report {
 }
 
 impl Report {
-    /// What the root's outcome brings. Its sums have to be the words of the ledgers, no two threads may have one tag,
-    /// and the grants of the locks have to be the threads' holds.
+    /// Returns the report of the root's outcome. Its sums must be the words of the ledgers, no two threads may have one
+    /// tag, and the grants of the locks must be the threads' holds.
     pub(crate) fn of(
         alloc: Global,
         outcome: DetachedOutcome,

@@ -38,7 +38,7 @@ pub(crate) struct Remains {
 }
 
 impl Resources {
-    /// So many ledgers and locks, and all that there is of them.
+    /// Returns this many ledgers and locks, and all of their holdings.
     pub(crate) fn new(
         alloc: Global,
         ledgers: u8,
@@ -53,7 +53,7 @@ impl Resources {
         Ok((Resources { ledgers, locks }, Holdings { share, lock_seats }))
     }
 
-    /// Halves. Where memory is refused the whole comes back.
+    /// Halves the holdings. Returns the whole if memory is refused.
     pub(crate) fn split(
         &self,
         alloc: Global,
@@ -78,7 +78,7 @@ impl Resources {
         Ok((own, others))
     }
 
-    /// Both together.
+    /// Joins the holdings of two.
     pub(crate) fn join(&self, holdings: Holdings, other: Holdings) -> Holdings
         requires own { AreHoldingsOf self.now holdings }
         requires others { AreHoldingsOf self.now other }
@@ -90,7 +90,7 @@ impl Resources {
         }
     }
 
-    /// What is left, where all of the holdings are back: the words are the sums of the share.
+    /// Returns what is left once all holdings are joined. The error is `Token` if they are not whole.
     pub(crate) fn close(self, alloc: Global, holdings: Holdings) -> Result<Remains, WorkerFault>
         requires { AreHoldingsOf self holdings }
         ensures count { IfOk result (λ remains. length remains.histories.items ≡ length self.locks) }
@@ -109,7 +109,7 @@ impl Resources {
     }
 }
 
-/// The history of each lock, in their order. Where not all of their seats are back a token is missing.
+/// Returns the history of each lock, in their order. The error is `Token` if not all of their seats were returned.
 fn closed_locks(
     alloc: Global,
     locks: SleepLocks,
@@ -132,7 +132,7 @@ fn closed_locks(
     }
 }
 
-/// The words of the ledgers, which are the sums of the share. Where that is not the whole a token is missing.
+/// Returns the words of the ledgers, which are the sums of the share. The error is `Token` if the share is not whole.
 fn closed_words(alloc: Global, ledgers: Ledgers, share: Share) -> Result<Vec<u64>, WorkerFault>
     requires { IsShareOf ledgers share }
     ensures missing { (IsWholeShare share → ⊥) → result ≡ Err Token }

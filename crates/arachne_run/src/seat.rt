@@ -1,8 +1,7 @@
 //! A worker's seats at the table, and what is out with them.
 //!
-//! With `forking`, for its forks, it alone calls the table while threads run. Its type keeps the bookkeeping: the
-//! thread in hand is out with one seat, the places that are kept with the other, and nothing else is out between two
-//! calls.
+//! Only this module and `forking` call the table while threads run. Between two calls the thread in hand is out with
+//! one seat, the kept places with the other, and nothing else.
 ghost use Rattle.std.specs.Prelude.{ℕ, ◌≡◌, ◌≢◌, ◌↔◌, ◌==◌, ◌<◌, if◌then◌else◌, false, true, IfOk, IsSome, IsTrue, MatchOption, None, OnOk, Some, map};
 ghost use Rattle.arachne_arbiter.specs.KernelThreads.{parked_cores};
 ghost use Rattle.arachne_arbiter.specs.Orders.{HasAppliedDue};
@@ -10,11 +9,11 @@ ghost use Rattle.arachne_contexts.specs.Out.{Claim as a_claim, KeepsOut};
 ghost use Rattle.arachne_run.specs.Tokens.{AreIdle, IsSetUp, ground_of};
 
 use crate::access::Access;
-use crate::claims::{Claims, MayKeep};
+use crate::claims::{Claims, may_keep};
 use crate::fault::WorkerFault;
 use crate::forking::{ForkSupplies, free_place, give_place_back, go_on, post_waiting};
 use crate::gate::Gate;
-use crate::in_hand::{InHand, has_lock, put_back};
+use crate::in_hand::{InHand, has_lock, rests_so};
 use crate::machine::Machine;
 use crate::tokens::Tokens;
 use arachne_arbiter::{Arbiter, Cores, Pace, Parking, SliceCounts};
@@ -34,7 +33,8 @@ use std::marker::Model;
 use std::sync::Wait;
 use std::time::Clock;
 
-/// What a worker has at the table. Contracts see what it is a seat at: its invariant says what is out with it.
+/// A worker's seats at the table. Contracts see the machine that they belong to; the invariant says what is out with
+/// them.
 #[derive(Drop)]
 pub(crate) struct RunSeat<'a, H, T: RunJob, C: Contexts<T>, R, G> {
     pub(crate) rt: &'a H,
@@ -42,12 +42,12 @@ pub(crate) struct RunSeat<'a, H, T: RunJob, C: Contexts<T>, R, G> {
     pub(crate) alloc: Global,
     pub(crate) machine: &'a Machine<C, T::Ticket>,
     pub(crate) core: u8,
-    /// Something else may be out with the seats, since the table has not known a token. The worker is at its end then.
+    /// Whether something else may be out with the seats, since the table did not know a token. Then the worker ends.
     pub(crate) is_broken: bool,
-    /// With it the thread in hand is out.
+    /// The thread in hand is out with it.
     pub(crate) seat: C::Seat,
     pub(crate) held: Option<InHand<T, C::Hold>>,
-    /// With it the places that are kept are out.
+    /// The kept places are out with it.
     pub(crate) spare: C::Seat,
     pub(crate) kept: Claims<C::Claim>,
     pub(crate) pass: SpillPass<T::Ticket>,
@@ -74,7 +74,7 @@ impl<'a, H, T: RunJob, C: Contexts<T>, R, G> Model for RunSeat<'a, H, T, C, R, G
 }
 
 impl<'a, H: Wait, T: RunJob, C: Contexts<T>, R: Rng + Drop, G: Gate> RunSeat<'a, H, T, C, R, G> {
-    /// A worker's two seats, with which nothing is out, and what else it has of the machine.
+    /// Returns a worker's two seats, with which nothing is out, and what else it has of the machine.
     pub(crate) fn open(
         rt: &'a H,
         alloc: Global,
@@ -118,7 +118,7 @@ impl<'a, H: Wait, T: RunJob, C: Contexts<T>, R: Rng + Drop, G: Gate> RunSeat<'a,
         }
     }
 
-    /// Posts the root, if it begins here, where a table on which nothing runs has a place. Its index.
+    /// Posts the root, if it begins here. Returns the index of its place: an empty table has one.
     pub(crate) fn post_root(&mut self, root: Option<T>) -> Result<Option<u8>, WorkerFault>
         ensures same { self.new ≡ self.old }
         ensures index { IfOk result (λ index. IsSome index ↔ IsSome root) }
@@ -141,20 +141,20 @@ impl<'a, H: Wait, T: RunJob, C: Contexts<T>, R: Rng + Drop, G: Gate> RunSeat<'a,
         Ok(Some(index))
     }
 
-    /// Keeps a place for one that was left, if the core, which looked so before, was full. Else that is told of as
-    /// free.
+    /// Keeps a place for the one that a thread has left, if the core, which looked like `before`, was full. Otherwise
+    /// counts that one as free.
     fn keep_or_count(&mut self, left: PlaceLeft, before: OccWord) -> Result<(), Halt>
         ensures { self.new ≡ self.old }
     {
         let (machine, room) = (self.machine, self.machine.shared.room());
-        let (false, Some(may_keep)) = (self.is_broken, MayKeep::by(machine, before)) else {
+        if self.is_broken || !may_keep(machine, before) {
             room.place_was_left(left);
             return Ok(());
-        };
+        }
         self.is_broken = true;
         let spare = &mut self.spare;
         let left = match claim_again::<H, T, C>(self.rt, &machine.table, spare, self.core, left) {
-            Ok(claim) => match self.kept.keep(claim, may_keep) {
+            Ok(claim) => match self.kept.keep(claim) {
                 Ok(()) => None,
                 Err(claim) => Some(give_place_back::<H, T, C>(self.rt, machine, spare, claim)?),
             },
@@ -237,8 +237,8 @@ impl<'a, H: Wait + Clock, T: RunJob, C: Contexts<T>, R: Rng + Drop, G: Gate> Des
             return Err(Halt::from(WorkerFault::Foreign));
         };
         let table = &self.machine.table;
-        match put_back::<H, T, C>(self.rt, table, &mut self.seat, held, rest) {
-            Ok(put) => Ok(put.rests()),
+        match table.put_back(self.rt, &mut self.seat, held, rest) {
+            Ok(rested) => Ok(rests_so(rested, rest)),
             Err(held) => {
                 self.held = Some(InHand { held, has_lock });
                 Err(Halt::from(WorkerFault::Token))
@@ -412,8 +412,8 @@ impl<'a, H: Wait + Clock, T: RunJob, C: Contexts<T>, R: Rng + Drop, G: Gate> Des
     }
 }
 
-/// Applies the orders that are due, and moves threads away ([`Arbiter::tend`]). How many are applied in all, if some
-/// were now, and the cores to which threads were moved.
+/// Applies the orders that are due, and moves threads away ([`Arbiter::tend`]). Returns how many are applied in all, if
+/// one was now, and the cores to which threads were moved.
 #[inline(always)]
 fn tend_by<H: Wait, T: Tagged, C: Contexts<T>>(
     arbiter: &mut Arbiter,
@@ -435,14 +435,14 @@ fn tend_by<H: Wait, T: Tagged, C: Contexts<T>>(
     (news_of(before, arbiter.applied()), receivers)
 }
 
-/// How many orders are applied now, where that are others than before.
+/// Returns how many orders are applied now, if one was applied since `before`.
 fn news_of(before: usize, after: usize) -> Option<usize>
     ensures { result ≡ (if after == before then None else Some after) }
 {
     if after != before { Some(after) } else { None }
 }
 
-/// Whether there is an arbiter, and it has not applied all of so many orders.
+/// Returns whether there is an arbiter that has not applied all orders.
 fn has_orders_left(arbiter: &Option<Arbiter>, orders: usize) -> bool
     ensures { MatchOption arbiter.now (result ≡ false) (λ progress. IsTrue result ↔ (progress.applied < orders)) }
 {
@@ -452,7 +452,7 @@ fn has_orders_left(arbiter: &Option<Arbiter>, orders: usize) -> bool
     }
 }
 
-/// Posts the child of a ticket, if it waits still and the core has a place.
+/// Posts the child of a ticket, if it still waits and the core has a place.
 fn post_child<H: Wait, T: RunJob, C: Contexts<T>>(
     rt: &H,
     alloc: Global,
@@ -478,7 +478,7 @@ fn post_child<H: Wait, T: RunJob, C: Contexts<T>>(
     Ok(of_ticket(posted))
 }
 
-/// What came of a ticket whose child was posted, or was gone.
+/// Returns what came of a ticket whose child was posted, or was gone.
 #[inline(always)]
 fn of_ticket(posted: Option<PostedThread>) -> TicketResult
     ensures { MatchOption posted (result ≡ TicketResult.Gone) (λ post. result ≡ TicketResult.Posted post) }

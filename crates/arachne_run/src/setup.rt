@@ -10,7 +10,7 @@ use arachne_policy::{CoreOrder, check_orders};
 
 const MAX_QUANTUM: u64 = 10_000;
 
-/// The machine that a run goes on, and what happens to its cores.
+/// The machine of a run, and what happens to its cores.
 #[derive(Debug, Drop)]
 pub struct Setup {
     /// How many cores there are, 1 to 64.
@@ -24,7 +24,7 @@ pub struct Setup {
 }
 
 impl Setup {
-    /// Whether a run with so many choosers can be set up so. The first fault is answered.
+    /// Validates the setup for this number of choosers. Returns the first fault.
     pub(crate) fn check(&self, choosers: usize) -> Result<(), RunFault>
         ensures refused { (fault : RunFault) → refusal_of self.now.cores self.now.quantum self.now.slots choosers ≡ Some fault → result ≡ Err fault }
         ensures accepted { IsOk result → refusal_of self.now.cores self.now.quantum self.now.slots choosers ≡ None }

@@ -1,4 +1,4 @@
-//! The words of a run that all its workers see.
+//! The words that all workers of a run share.
 ghost use Rattle.std.specs.Prelude.{◌≡◌, IfOk, MatchOption, Some};
 ghost use Rattle.arachne_run.specs.Setups.{numbered};
 
@@ -11,7 +11,7 @@ use std::marker::Model;
 use std::snapshot::Snapshot;
 use std::sync::{Mutex, Wait};
 
-/// What kernel threads tell one another, what is looked at before each fork, and the first fault.
+/// The words by which workers signal one another, those that are read before each fork, and the first fault.
 #[derive(Drop)]
 pub(crate) struct SharedState {
     room: Room,
@@ -19,27 +19,14 @@ pub(crate) struct SharedState {
     workers: SharedWords,
 }
 
-/// All workers are stopped. [`SharedState::stop`] alone gives one.
-#[derive(Drop)]
-pub(crate) struct AllStopped {
-    all: (),
-}
-
-/// This fault was recorded, if it was the first, and all workers are stopped. [`SharedState::fail`] alone gives one,
-/// and no worker ends without its tokens but with one.
+/// The fault for which [`SharedState::fail`] has stopped all workers. A worker that ends without its tokens returns it.
+/// It has no bytes.
 #[derive(Drop)]
 pub(crate) struct Failed {
-    recorded: Recorded,
-    stopped: AllStopped,
-}
-
-/// This fault was recorded, if it was the first. [`keep_first`] alone gives one. It has no bytes.
-#[derive(Drop)]
-struct Recorded {
     fault: Snapshot<WorkerFault>,
 }
 
-// Contracts see for how many cores it is.
+// Contracts see the number of cores.
 impl Model for SharedState {
     ghost use Rattle.std.specs.Prelude.{ℕ};
 
@@ -49,7 +36,7 @@ impl Model for SharedState {
 }
 
 impl SharedState {
-    /// For so many cores, of which each has so many places.
+    /// Returns the words for this many cores with this many places each.
     pub(crate) fn new(alloc: Global, cores: u8, slots: u8) -> Result<SharedState, AllocError>
         ensures { IfOk result (λ shared. shared ≡ cores) }
     {
@@ -61,58 +48,53 @@ impl SharedState {
         })
     }
 
-    /// What kernel threads tell one another.
+    /// Returns the words by which workers signal one another.
     pub(crate) fn workers(&self) -> &SharedWords
         ensures { result.now ≡ self.now }
     {
         &self.workers
     }
 
-    /// Stops all workers, those that sleep or are parked too.
-    pub(crate) fn stop(&self) -> AllStopped {
+    /// Stops all workers, also those that sleep or are parked.
+    pub(crate) fn stop(&self) {
         self.workers.stop();
-        AllStopped { all: () }
     }
 
-    /// What is looked at before each fork.
+    /// Returns the words that are read before each fork.
     pub(crate) fn room(&self) -> &Room {
         &self.room
     }
 
-    /// Stops all workers for a fault, which is recorded if it is the first.
+    /// Stops all workers for a fault, and records it if it is the first.
     pub(crate) fn fail<H: Wait>(&self, rt: &H, fault: WorkerFault) -> Failed
-        ensures { result.recorded.fault.value ≡ fault }
+        ensures { result.fault.value ≡ fault }
     {
         let mut first = self.first_fault.lock(rt);
-        let recorded = keep_first(&mut first, fault);
+        keep_first(&mut first, fault);
+        self.stop();
         Failed {
-            recorded,
-            stopped: self.stop(),
+            fault: Snapshot::of(&fault),
         }
     }
 
-    /// Stops all workers for why the loop of one has ended.
+    /// Stops all workers for the error that ended the loop of one.
     pub(crate) fn halt<H: Wait>(&self, rt: &H, halted: Halted) -> Failed
-        ensures { result.recorded.fault.value ≡ numbered halted.why }
+        ensures { result.fault.value ≡ numbered halted.why }
     {
         self.fail(rt, WorkerFault::from(halted.halt()))
     }
 
-    /// The fault for which all workers were stopped first.
+    /// Returns the fault that was recorded first.
     pub(crate) fn into_first_fault(self) -> Option<WorkerFault> {
         self.first_fault.into_inner()
     }
 }
 
 /// Records a fault, if it is the first.
-fn keep_first(first: &mut Option<WorkerFault>, fault: WorkerFault) -> Recorded
-    ensures kept { MatchOption first.old (first.new ≡ Some fault) (λ before. first.new ≡ Some before) }
-    ensures fault { result.fault.value ≡ fault }
+fn keep_first(first: &mut Option<WorkerFault>, fault: WorkerFault)
+    ensures { MatchOption first.old (first.new ≡ Some fault) (λ before. first.new ≡ Some before) }
 {
     if first.is_none() {
         *first = Some(fault);
-    }
-    Recorded {
-        fault: Snapshot::of(&fault),
     }
 }

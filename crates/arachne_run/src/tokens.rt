@@ -1,4 +1,4 @@
-//! What a worker steps with, and gives back in the end.
+//! The tokens by which a worker makes its steps, and which it returns in the end.
 ghost use Rattle.std.specs.Prelude.{◌≡◌, ◌≤◌, None, IfOk, IfErr};
 ghost use Rattle.arachne_run.specs.Tokens.{AreIdle};
 
@@ -10,8 +10,8 @@ use arachne_spill::SpillPass;
 use std::alloc::Global;
 use std::sync::Wait;
 
-/// A seat at the table, a pass of the queue of tickets, what there is of the ledgers and locks, and for one of the
-/// workers the arbiter.
+/// A seat at the table, a pass of the queue of tickets, holdings of the ledgers and locks, and for one of the workers
+/// the arbiter.
 #[derive(Drop)]
 pub(crate) struct Tokens<S, K> {
     pub(crate) seat: S,
@@ -21,7 +21,7 @@ pub(crate) struct Tokens<S, K> {
 }
 
 impl<S, K: Tagged + Drop> Tokens<S, K> {
-    /// Half for the worker, with the arbiter, and half for another. Where memory is refused they come back.
+    /// Halves them. The first half has the arbiter. Returns the whole if memory is refused.
     pub(crate) fn split<H: Wait, C: Seats<Seat = S>>(
         self,
         rt: &H,
@@ -55,7 +55,7 @@ impl<S, K: Tagged + Drop> Tokens<S, K> {
         Ok((own, others))
     }
 
-    /// Both together, with the own arbiter.
+    /// Joins both, with the own arbiter.
     pub(crate) fn join<H: Wait, C: Seats<Seat = S>>(
         self,
         rt: &H,

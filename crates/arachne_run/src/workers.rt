@@ -30,14 +30,14 @@ struct Workers<'a, C, K: Tagged + Drop, G> {
     gate: &'a G,
 }
 
-/// What one of them begins with, and gives back.
+/// What one of them begins with, and returns.
 #[derive(Drop)]
 struct WorkerShare<S, T: RunJob, R> {
     tokens: Tokens<S, T::Ticket>,
     /// The thread that begins here.
     root: Option<T>,
     chooser: Option<R>,
-    /// Those of the workers that are parted off.
+    /// The choosers of the workers that are split off.
     choosers: Choosers<R>,
 }
 
@@ -143,7 +143,7 @@ impl<'a, T: RunJob, C: Contexts<T>, R: Rng + Drop, G: Gate> Team<WorkerShare<C::
     }
 }
 
-/// Has all cores work until they are stopped, each with its chooser.
+/// Runs the workers of all cores until they are stopped, each with its chooser.
 pub(crate) fn work_all<
     H: Threads + Wait + Clock + Sync,
     T: RunJob + Send,
@@ -186,8 +186,8 @@ where
     Some(tokens)
 }
 
-/// Works on one core until all stop, where there is a root from it on. The tokens, unless something is out with them
-/// after a fault, for which all are stopped. A core without a chooser has no worker, and that is a fault.
+/// Runs the worker of a core until all stop, from the root on if there is one. Returns its tokens. After a fault, for
+/// which it has stopped all, it returns no tokens: something may be out with them. A missing chooser is a fault.
 fn work_on<H: Wait + Clock, T: RunJob, C: Contexts<T>, R: Rng + Drop, G: Gate>(
     rt: &H,
     alloc: Global,
@@ -202,7 +202,7 @@ fn work_on<H: Wait + Clock, T: RunJob, C: Contexts<T>, R: Rng + Drop, G: Gate>(
     requires set_up { IsSetUp C.core_count C.slot_count machine.now }
     requires core { core < machine.now.cores }
     ensures idle { IfOk result (AreIdle C.sits C.idle machine.now) }
-    ensures no_chooser { IsNone chooser → IsErr result × IfErr result (λ failed. failed.recorded.fault.value ≡ KernelThread) }
+    ensures no_chooser { IsNone chooser → IsErr result × IfErr result (λ failed. failed.fault.value ≡ KernelThread) }
 {
     let Some(chooser) = chooser else {
         return Err(machine.shared.fail(rt, WorkerFault::KernelThread));
@@ -220,7 +220,7 @@ fn work_on<H: Wait + Clock, T: RunJob, C: Contexts<T>, R: Rng + Drop, G: Gate>(
     into_tokens(machine, desk)
 }
 
-/// The worker of a core, which has had no slice.
+/// Returns the worker of a core, which has had no slice.
 #[inline(always)]
 fn worker_on<'a, H, D, C, K: Tagged + Drop>(
     rt: &'a H,
@@ -244,14 +244,14 @@ fn worker_on<'a, H, D, C, K: Tagged + Drop>(
     }
 }
 
-/// The tokens of a worker that has ended, unless something is out with them, which is a fault.
+/// Returns the tokens of a worker that has ended. It is a fault if something is out with them.
 fn into_tokens<'a, H: Wait, T: RunJob, C: Contexts<T>, R: Rng + Drop, G: Gate>(
     machine: &Machine<C, T::Ticket>,
     desk: RunSeat<'a, H, T, C, R, G>,
 ) -> Result<Tokens<C::Seat, T::Ticket>, Failed>
     requires desk { desk ≡ ground_of machine.now }
     ensures idle { IfOk result (AreIdle C.sits C.idle machine.now) }
-    ensures fault { IfErr result (λ failed. failed.recorded.fault.value ≡ Token) }
+    ensures fault { IfErr result (λ failed. failed.fault.value ≡ Token) }
 {
     let RunSeat {
         rt,

@@ -1,4 +1,4 @@
-//! A form of table behind a lock that can answer one call by itself.
+//! A context table behind a lock that answers some calls itself, so that a run meets rare or wrong answers.
 ghost use Rattle.std.specs.Prelude.{◌≡◌, ◌<◌, IfOk, IfErr};
 ghost use Rattle.arachne_contexts.specs.Answers.{RestsAs};
 ghost use Rattle.arachne_contexts.specs.Out.{Thread as a_thread, Spends};
@@ -13,71 +13,67 @@ use std::sync::Wait;
 use std::sync::atomic::{AtomicU64, Ordering};
 use std::thread::yield_now;
 
-/// The word of an open core that is full.
+/// The word of a core that is open and full.
 const FULL: u64 = 0x38FF_FFFF_FFFF_FFFF;
 
-/// The first three places of a core, as they stand in its word.
+/// The bits of a core's first three places in its word.
 const THREE: u64 = 0b111;
 
-/// What a table answers by itself.
+/// The calls that a table answers itself instead of passing them on.
 #[derive(Clone, Copy)]
 enum Alteration {
-    /// Nothing.
+    /// Passes on every call.
     None,
-    /// A thread that is to be finished comes back.
+    /// `finish` hands the thread back instead of ending it.
     HandsBack,
-    /// A claim on a core that is in use is refused its memory.
+    /// `claim` fails with `AllocError` if the core is in use.
     RefusesMemory,
-    /// A claim on another core than 0 finds it full.
+    /// `claim` finds every core but 0 full.
     IsFull,
-    /// Each seat has something out.
+    /// `out` returns 1 for every seat, as if something were still out with it.
     HasOut,
-    /// A claim on a core that is in use is refused its memory, and only then a thread that is to be finished comes
-    /// back.
+    /// A claim on a core in use is refused memory. `finish` hands threads back, but only after such a refusal.
     RefusesMemoryFirst,
-    /// A thread that is to be finished comes back, and only then a claim on a core that is in use is refused its
-    /// memory.
+    /// `finish` hands threads back. A claim on a core in use is refused memory, but only after a thread was handed
+    /// back.
     HandsBackFirst,
-    /// Of three claims that follow one another the first two are lost.
+    /// The first two of every three calls of `claim` return `Lost`.
     Loses,
-    /// Whoever finds core 1 full goes on once it has a place, and no thread is moved.
+    /// `glance` and `claim` on core 1 wait until a place is free there, and `move_one` moves no thread.
     AwaitsPlace,
-    /// Of three claims of a whole core that follow one another the first two are lost.
+    /// The first two of every three calls of `claim_alone` return `Lost`.
     LosesAlone,
-    /// Of three wakes that follow one another the first two are lost.
+    /// The first two of every three calls of `wake` return `Lost`.
     LosesWakes,
-    /// A core that is to be opened is opened only after a while.
+    /// `open_core` opens the core only after a pause.
     OpensLate,
 }
 
-/// How often the second of two calls looks whether the first one was made before it gives up.
+/// The number of polls after which the second of two calls stops waiting for the first.
 const POLLS: u32 = 100_000_000;
 
-/// How long it spins then, and how often it lets others go on, so that what the first call came to is known. So long a
-/// core is opened late, too: where each yield gives a turn away to other work a hundred of them are half a second.
+/// The spins and then the yields of a pause, in which an earlier call takes effect on the other cores.
+///
+/// If each yield gives a turn to another process, the yields take about half a second.
 const SPINS: u32 = 1_000_000;
 
 const YIELDS: u32 = 100;
 
-/// How often whoever finds core 1 full looks again before it gives up.
+/// The number of looks at core 1, while it is full, after which a call gives up.
 const GLANCES: u32 = 2_000_000;
 
-/// A table behind a lock that hands on all calls, or all but one. A run makes its table itself, so the numbers of cores
-/// and of places say which: of 5 cores it hands back each thread that is to be finished, of 6 it refuses memory to a
-/// claim on a core that is in use, of 7 all cores but 0 are full, of 8 each seat has something out, of 9 and 10 it
-/// refuses memory and hands threads back, the one or the other first, of any other number of 5 places two of three
-/// claims are lost, of 2 cores of 3 places whoever finds core 1 full waits until it has a place, and no thread is
-/// moved, of any other number of 6 places two of three claims of a whole core are lost, of 7 places two of three wakes,
-/// of 9 places a core that is opened is opened only after a while, and else it answers nothing by itself.
+/// A table behind a lock that passes on all calls but those that its alteration names.
+///
+/// A run makes its table itself, so `new` selects the alteration by the numbers of cores and of places per core.
 #[derive(Drop)]
 pub struct Altered<T: Tagged> {
     inner: LockedContexts<T>,
     alteration: Alteration,
-    /// How many calls were counted that it may answer by itself.
+    /// The number of calls that the alteration has counted, or 1 once the first of its two calls was answered.
     answered: AtomicU64,
 }
 
-/// Waits until the first of two calls was answered.
+/// Waits until the first of two calls was answered, for at most `POLLS` polls, and then pauses.
 fn wait(answered: &AtomicU64) {
     for _ in 0..POLLS {
         if answered.load(Ordering::SeqCst) > 0 {
@@ -88,7 +84,7 @@ fn wait(answered: &AtomicU64) {
     give_time();
 }
 
-/// Gives others time to go on.
+/// Pauses, so that other kernel threads make progress.
 fn give_time() {
     for _ in 0..SPINS {
         spin_loop();
@@ -99,7 +95,7 @@ fn give_time() {
 }
 
 impl<T: Tagged + Drop> Altered<T> {
-    /// What is seen of a core once it has a place of three, or after so many looks.
+    /// Looks at the core until one of its first three places is free, at most `GLANCES` times. Returns the last word.
     fn glance_at_place<R: Wait>(&self, rt: &R, core: u8) -> u64
         requires { core < self.now.inner.cores }
     {

@@ -1,18 +1,18 @@
-//! A chooser whose words a test says.
+//! A chooser, the random generator of a core, that draws the words that a test sets.
 ghost use Rattle.std.specs.Prelude.{◌≡◌, ◌+◌, ◌%◌, ◌^◌};
 ghost use Rattle.rand_core.specs.Steps.{stream_of, steps_u64_high};
 
 use rand_core::Rng;
 use rand_core::utils::{NextWord, fill_bytes_via_u64};
 
-/// What the choosers of a machine draw.
+/// The words that the choosers of a machine draw.
 #[derive(Clone, Copy)]
 pub struct Draws {
     /// The first word of core 0's chooser.
     pub word: u64,
-    /// How much greater each word is than the chooser's word before it, modulo 2^64.
+    /// The difference between a chooser's word and its previous one, modulo 2^64.
     pub step: u64,
-    /// How much greater the first word of each core's chooser is than that of the core before it, modulo 2^64.
+    /// The difference between the first words of a core's chooser and of the previous core's, modulo 2^64.
     pub apart: u64,
 }
 
@@ -23,7 +23,7 @@ pub const ZEROS: Draws = Draws {
     apart: 0,
 };
 
-/// The low half of a drawn word is a fork's first choice, the high half its second: with these words both are core 1.
+/// Both choices of a fork are core 1. The first choice is the low half of a drawn word, the second the high half.
 pub const CORE_ONE: Draws = Draws {
     word: 0x0000_0001_0000_0001,
     step: 0,
@@ -37,7 +37,7 @@ pub const CORE_THREE: Draws = Draws {
     apart: 0,
 };
 
-/// The choosers spread over the cores.
+/// The choosers spread forks over the cores.
 pub const SPREAD: Draws = Draws {
     word: 0x9E37_79B9_7F4A_7C15,
     step: 0xBF58_476D_1CE4_E5B9,
@@ -45,7 +45,7 @@ pub const SPREAD: Draws = Draws {
 };
 
 impl Draws {
-    /// The chooser of a core.
+    /// Returns the chooser of a core.
     pub fn of(self, core: u64) -> Progression {
         Progression {
             word: self.word.wrapping_add(self.apart.wrapping_mul(core)),
@@ -54,7 +54,7 @@ impl Draws {
     }
 }
 
-/// Each word is greater by the same step, modulo 2^64.
+/// A chooser whose words grow by `step`, modulo 2^64.
 #[derive(Clone, Copy, Drop)]
 pub struct Progression {
     pub word: u64,

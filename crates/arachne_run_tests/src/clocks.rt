@@ -1,19 +1,19 @@
-//! A clock that says that each yield has given a turn away to other work, or can't be read.
+//! A clock that makes each yield look as if other work had used the turn, or that cannot be read.
 use std::io::{self, ErrorKind};
 use std::sync::Wait;
 use std::sync::atomic::{AtomicU64, Ordering};
 use std::thread::Threads;
 use std::time::{Clock, Duration};
 
-/// How many milliseconds pass from one look at the clock to the next.
+/// The milliseconds between two looks at the clock.
 const PASS: u64 = 10;
 
-/// What a run is given in place of its own: the same but for the clock, which goes on by 10 ms at each look.
+/// Forwards to the handles of a test, except that the clock advances by 10 ms at each look.
 #[derive(Drop)]
 pub struct SlowClock<'a, R> {
     rt: &'a R,
     looks: AtomicU64,
-    /// Each look whose number, from 1, is a multiple of this one fails; none where it is 0.
+    /// Each look whose number, from 1, is a multiple of this one fails. If it is 0, none does.
     fails: u64,
 }
 
@@ -26,7 +26,7 @@ impl<'a, R> SlowClock<'a, R> {
         }
     }
 
-    /// How often it was looked at.
+    /// Returns the number of looks at the clock so far.
     pub fn looks(&self) -> u64 {
         self.looks.load(Ordering::SeqCst)
     }

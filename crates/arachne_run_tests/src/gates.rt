@@ -1,4 +1,4 @@
-//! A gate that notes which cores run, or holds them up.
+//! A gate that records which cores run, or holds cores up.
 use arachne_core::{CORES, ThreadId};
 use arachne_judge::Log;
 use arachne_lang::Name;
@@ -7,88 +7,92 @@ use std::hint::spin_loop;
 use std::sync::atomic::{AtomicU64, Ordering};
 use std::thread::yield_now;
 
-/// How often a gate looks whether the other core has come before it gives up.
+/// The number of polls for an event of another core after which a gate gives up.
 const POLLS: u32 = 5_000_000;
 
-/// How often a gate looks before it lets a core go on that it gave time for what may not be.
+/// The number of polls for which a core is held so that an event which must not happen could happen.
 const PAUSE: u32 = 500;
 
-/// How often it looks, without a pause, for a slice that may not begin.
+/// The number of looks, without a pause, that show that a slice does not begin.
 const SPINS: u32 = 50_000;
 
-/// How often it turns, without a look, while a core that has nothing to run comes to sleep: some milliseconds.
+/// Spins, some milliseconds, in which a core with nothing to run falls asleep.
 const REST: u32 = 1_000_000;
 
-/// How often others may go on before it is told whether a slice has begun meanwhile.
+/// The number of yields after which `is_still` looks whether a slice has begun.
 const LOOKS: u32 = 100;
 
-/// What a gate does.
+/// The behaviour of a gate.
+///
+/// A core that is held has entered its slice, and has not made the first step of it. If an event occurs that must not,
+/// `is_over` is false.
 #[derive(Clone, Copy)]
 pub enum Watching {
-    /// Nothing.
+    /// Does nothing.
     Nothing,
-    /// It notes which cores have entered a slice, and how many slices were entered.
+    /// Records which cores have entered a slice, and the number of slices entered.
     Cores,
-    /// It holds core 1's slice 0 until core 0 has entered the slice of the first number, and that until core 1 has
-    /// entered that of the second.
+    /// `(a, b)`: core 1 is held in its first slice until core 0 has entered slice a, and core 0 in slice a until core 1
+    /// has entered slice b.
     Meeting(u64, u64),
-    /// It holds core 0's slice before this one until core 1 has entered slice 0, and lets core 1 end that once core 0
-    /// has entered this slice. No order may be applied before.
+    /// `(n)`: core 0 is held in slice n - 1 until core 1 has entered slice 0, and core 1 at the end of that slice until
+    /// core 0 has entered slice n. No order must be applied before that.
     Holding(u64),
-    /// It holds core 1's slice 0 until core 0 has entered so many slices.
+    /// `(n)`: core 1 is held in slice 0 until core 0 has entered n slices.
     Lead(u64),
-    /// It gives core 1 time to enter a slice before core 0's slice 0 begins. None may be entered meanwhile.
+    /// Core 0 is held in slice 0 for a while, in which core 1 must not enter a slice.
     First,
-    /// It holds core 1's slice of this number until orders were applied.
+    /// `(n)`: core 1 is held in slice n until orders were applied.
     Applying(u64),
-    /// It holds core 0's slice of the first number until core 1 is about to park, and that of the second until core 1
-    /// has entered slice 0.
+    /// `(a, b)`: core 0 is held in slice a until core 1 is about to park, and in slice b until core 1 has entered slice
+    /// 0.
     Granting(u64, u64),
-    /// It gives core 1, once that has ended a slice, time to sleep before core 0's slice of this number, and holds the
-    /// fourth after it until core 1 is about to park. A sleep counts only if core 0 was held by then: until core 1 is
-    /// told of the order it may find by itself, as its sleep ends, that it was taken back.
+    /// `(n)`: core 0 is held in slice n until core 1 has ended a slice and had time to fall asleep, and in slice n + 4
+    /// until core 1 is about to park.
+    ///
+    /// A sleep that times out counts only if core 0 was held by the time at which core 1 parked. Before core 1 is
+    /// notified of the order, it may also notice at the end of a sleep that its core was taken back.
     Parking(u64),
-    /// It holds core 0's slice of this number until this core is about to park.
+    /// `(core, n)`: core 0 is held in slice n until `core` is about to park.
     Parked(u8, u64),
-    /// It counts the children that wait for a place with a ticket.
+    /// Counts the children that wait for a place with a ticket.
     Spills,
-    /// It notes whether a thread was woken since a child of it has ended, and whether one was since it is served.
+    /// Records whether a thread was woken because its child had ended, and whether one was because it got its lock.
     Wakes,
-    /// It holds core 0's slice of this number until core 1 has entered its slice 0, and that until an order is applied.
-    /// From then on each slice of core 1 follows a taking.
+    /// `(n)`: core 0 is held in slice n until core 1 has entered slice 0, and core 1 in that slice until an order is
+    /// applied. Core 1 must take a thread before each of its later slices.
     Anew(u64),
-    /// It holds core 0's slice of the first number until a thread of core 1 awaits a child, and gives core 1 time to
-    /// park before that of the second. Core 1 may park only once a thread has ended there.
+    /// `(a, b)`: core 0 is held in slice a until a thread of core 1 awaits a child. In slice b core 1 gets time to
+    /// park, which it must not do before a thread has ended there.
     ParksLast(u64, u64),
-    /// It holds core 1's slice 0 until threads were moved away from there, and notes to which cores they were.
+    /// Core 1 is held in slice 0 until threads were moved away. Records the cores to which they were moved.
     Moving,
-    /// It holds core 0's slice of this number until a thread was moved away, or one of this core waits or has ended.
-    /// From then on core 0 lets others go on before each slice until one was moved, or had ended before, and then until
-    /// this core is about to park.
+    /// `(core, n)`: core 0 is held in slice n until a thread of `core` has ended, waits or was moved away. If the
+    /// thread waits, core 0 yields in each slice until it was moved. Then core 0 is held until `core` is about to park.
     Emptied(u8, u64),
-    /// It holds core 0's slice 0 until a core is about to park, and core 2's slice 0 until core 1 has entered this
-    /// slice, and that until the run is stopped, which the parked core tells. Then core 1 may enter no slice. Slices of
-    /// core 1 before it are held until core 0's slice 0 has ended.
+    /// `(n)`: core 0 is held in slice 0 until a core is about to park, core 2 in slice 0 until core 1 has entered slice
+    /// n, and core 1 in slice n until the parked core is unparked, which shows that the run was stopped. Core 1 is held
+    /// in earlier slices until core 0's slice 0 has ended, and must not enter a later one.
     Stopping(u64),
 }
 
-/// A gate that does as it is told.
+/// A gate that behaves as its `Watching` says.
 #[derive(Drop)]
 pub struct Watch {
     watching: Watching,
-    /// What it was told, where that is judged.
+    /// The events reported to the gate, if they are judged.
     pub log: Option<Log>,
-    /// The number of the only fork of the root that is exclusive, where that is judged.
+    /// The number of the root's only exclusive fork, if the log is judged.
     pub exclusive: Option<u64>,
-    /// Bit k is set where core k has entered a slice.
+    /// Bit k is set if core k has entered a slice.
     pub entered: AtomicU64,
-    /// How many slices were entered.
+    /// The number of slices entered.
     pub slices: AtomicU64,
-    /// How many sleeps ended by their time before something was found.
+    /// The number of sleeps that timed out before something was found.
     pub oversleeps: AtomicU64,
     zero: AtomicU64,
     one: AtomicU64,
-    /// A slice has ended: of core 0, or where core 1 is to sleep of that one.
+    /// Set by the first event for which a core is held, such as the end of a slice or a park.
     ended: AtomicU64,
     failed: AtomicU64,
 }
@@ -109,7 +113,7 @@ impl Watch {
         }
     }
 
-    /// Whether all came that a core was held up for, and nothing was that may not be.
+    /// Returns whether all events for which a core was held have occurred, and none that must not.
     pub fn is_over(&self) -> bool {
         let (zero, one) = match self.watching {
             Watching::Nothing | Watching::Cores | Watching::Spills => (0, 0),
@@ -125,7 +129,7 @@ impl Watch {
             && self.failed.load(Ordering::SeqCst) == 0
     }
 
-    /// Whether no slice that it notes begins for a while.
+    /// Returns whether no recorded slice begins during `LOOKS` yields.
     pub fn is_still(&self) -> bool {
         let before = self.slices.load(Ordering::SeqCst);
         for _ in 0..LOOKS {
@@ -134,7 +138,7 @@ impl Watch {
         self.slices.load(Ordering::SeqCst) == before
     }
 
-    /// Notes a core's slice.
+    /// Records that a core has entered a slice.
     fn note(&self, core: u8) {
         if core < CORES {
             self.entered
@@ -143,14 +147,14 @@ impl Watch {
         self.slices.fetch_add(1, Ordering::SeqCst);
     }
 
-    /// Waits until the other core's word is at least so great.
+    /// Waits until the other core's word is at least `wanted`. Records a failure after `POLLS` polls.
     fn wait(&self, other: &AtomicU64, wanted: u64) {
         if !comes(other, wanted, POLLS) {
             self.failed.store(1, Ordering::SeqCst);
         }
     }
 
-    /// The slice of this number of core 0.
+    /// Handles the start of core 0's slice `nth`.
     fn enter_zero(&self, nth: u64) {
         match self.watching {
             Watching::Meeting(own, _) if nth == own => {
@@ -198,7 +202,7 @@ impl Watch {
         }
     }
 
-    /// A slice of core 0 that waits for another core to be empty and to park, the first such one or not.
+    /// Holds core 0 until another core is empty and parks. `is_first`: this is the first slice in which it is held.
     fn empties(&self, is_first: bool) {
         if is_first {
             self.wait(&self.ended, 1);
@@ -211,7 +215,7 @@ impl Watch {
         }
     }
 
-    /// The slice of this number of core 1.
+    /// Handles the start of core 1's slice `nth`.
     fn enter_one(&self, nth: u64) {
         match self.watching {
             Watching::Meeting(_, theirs) => {
@@ -246,7 +250,7 @@ impl Watch {
     }
 }
 
-/// Whether a word is at least so great after so many looks.
+/// Returns whether the word is at least `wanted` after at most `polls` polls.
 fn comes(word: &AtomicU64, wanted: u64, polls: u32) -> bool {
     for _ in 0..polls {
         if word.load(Ordering::SeqCst) >= wanted {

@@ -1,4 +1,4 @@
-//! A job whose thread ends before it awaits what it has forked, so that the table has a thread left in the end.
+//! A job that ends without awaiting the child that it has forked, so that the table has a thread left at the end.
 ghost use Rattle.std.specs.Prelude.{◌≡◌, Some};
 ghost use Rattle.arachne_machine.specs.declared.pause.Pending.TheVariants as pause;
 
@@ -12,19 +12,19 @@ use arachne_lang::{Class, Name, Program};
 use arachne_machine::Pending;
 use std::alloc::{AllocError, Global};
 
-/// A thread that forks one, and ends behind that. It makes no steps of the program.
+/// A thread that forks a child and then ends. It makes no step of the program.
 #[derive(Drop)]
 pub struct Hasty {
-    /// That of the root, which each of them has.
+    /// The root's name, which all of these threads have.
     name: Name,
     tag: u64,
     parent: Option<ThreadId>,
     pending: Option<Pending>,
-    /// Whether it ends next: a child begins so.
+    /// True if the thread ends in its next slice. This holds for a child from the start.
     has_forked: bool,
 }
 
-/// A child of such a thread, which waits for no place, so that there is no ticket, and of which nothing is kept.
+/// A child, its ticket and the spares, all of them empty: no child waits for a place.
 #[derive(Drop)]
 pub struct Nothing;
 

@@ -1,5 +1,5 @@
-//! Tests of whole runs: what a report says of a program, and that a run goes through its table, its choosers and its
-//! gate. What they test is proved without them.
+//! Tests of whole runs: the report of a program, and that a run uses the table, the choosers and the gate that it is
+//! given. No proof depends on them. Terms are in `docs/glossary.md`.
 #![tactic(auto)]
 
 #[cfg(test)]

@@ -1,4 +1,4 @@
-//! Programs that are run.
+//! Runs of programs over the forms of context table.
 ghost use Rattle.std.specs.Prelude.{◌≡◌, IfOk};
 ghost use Rattle.arachne_lang.specs.Program.{source_of};
 ghost use Rattle.arachne_lang.specs.Checked.{IsChecked};
@@ -39,24 +39,23 @@ mod waiting;
 /// A form of context table, and the jobs that run over it.
 #[derive(Clone, Copy)]
 enum Form {
-    /// The table behind a lock, which answers some calls by itself on the machines that `Altered` names.
+    /// The table behind a lock, `Altered`, which answers some calls itself on some machines.
     Locked,
     Words,
-    /// The table on words, by jobs that end before they await what they have forked.
+    /// The table on words, with jobs that end without awaiting the child that they have forked.
     Hasty,
 }
 
 /// Both forms of table.
 const FORMS: &[Form] = &[Form::Locked, Form::Words];
 
-/// The one behind a lock.
+/// Only the table behind a lock.
 const LOCKED: &[Form] = &[Form::Locked];
 
-/// How many cores a machine has, its quantum, and how many choosers. A run wants one for each core.
+/// The numbers of cores, of steps per slice (the quantum) and of choosers. A run needs a chooser for each core.
 type Machine = (u64, u64, u64);
 
-/// A program: how many ledgers and locks it has, and so many forks within one another, of which the innermost one's
-/// child is the expression.
+/// A program with its numbers of ledgers and locks. `expr` is the child of the innermost of `forks` nested forks.
 #[derive(Clone, Copy)]
 struct Source {
     ledgers: u8,
@@ -65,7 +64,7 @@ struct Source {
     expr: &'static str,
 }
 
-/// The text of a program.
+/// Returns the text of a program.
 fn text_of(alloc: Global, source: &Source) -> Result<String, Fail> {
     let (ledgers, locks, expr) = (source.ledgers, source.locks, source.expr);
     let fronts = "(fork n ".repeat(alloc, source.forks)?;
@@ -73,7 +72,7 @@ fn text_of(alloc: Global, source: &Source) -> Result<String, Fail> {
     Ok(format!(in alloc; "arachne 1\nledgers {ledgers}\nlocks {locks}\n{fronts}{expr}{ends}\n")?)
 }
 
-/// The program of a text, which may run.
+/// Parses and checks the text of a program.
 fn program_of(alloc: Global, source: &Source) -> Result<Program, Fail>
     ensures { IfOk result (λ program. IsChecked (source_of program)) }
 {
@@ -83,7 +82,7 @@ fn program_of(alloc: Global, source: &Source) -> Result<Program, Fail>
     Ok(program)
 }
 
-/// Runs a program over a table on words.
+/// Runs a program over the table on words.
 fn run_on_words<'p, R: Threads + Wait + Clock + Sync>(
     rt: &R,
     alloc: Global,
@@ -99,7 +98,7 @@ fn run_on_words<'p, R: Threads + Wait + Clock + Sync>(
     )
 }
 
-/// Runs a program over a table behind a lock.
+/// Runs a program over the table behind a lock.
 fn run_on_lock<'p, R: Threads + Wait + Clock + Sync>(
     rt: &R,
     alloc: Global,
@@ -115,7 +114,7 @@ fn run_on_lock<'p, R: Threads + Wait + Clock + Sync>(
     )
 }
 
-/// Runs a program's text over the table on words by jobs that end before they await what they have forked.
+/// Runs a program over the table on words, with jobs that end without awaiting the child that they have forked.
 fn run_hastily<'p, R: Threads + Wait + Clock + Sync>(
     rt: &R,
     alloc: Global,
@@ -131,7 +130,7 @@ fn run_hastily<'p, R: Threads + Wait + Clock + Sync>(
     )
 }
 
-/// How a run is set up on a machine whose cores have so many places each, and its choosers.
+/// Returns the setup of a run with `slots` places per core, and its choosers.
 fn setup_of(
     alloc: Global,
     machine: Machine,

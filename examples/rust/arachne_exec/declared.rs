@@ -57,7 +57,7 @@ pub const RUN: u32 = 13;
 /// The worker has set its idle bit, and then found none of its blocks shown: sleep until somebody unparks it.
 pub const PARK: u32 = 14;
 
-/// No job was found: ask again.
+/// No job was found, or a block is shown that may have one: ask again.
 pub const AGAIN: u32 = 15;
 
 /// The job is ready.
@@ -66,7 +66,8 @@ pub const READY: u32 = 16;
 /// The job waits for a wake.
 pub const BLOCKED: u32 = 17;
 
-/// The job has not begun to run since it became ready; or it runs, and is ready again where it would block next.
+/// The job is ready, or runs: a take or a start uses the wake up, and else it is ready again where it would block
+/// next. So it is with the name that the next job at a free place will have.
 pub const MARKED: u32 = 18;
 
 /// It was marked already.

@@ -10,14 +10,14 @@
 //! Calls on different handles, in as many threads as there are, are fine. None may be made from a signal handler.
 #![allow(dead_code)]
 
-/// It is done.
+/// The call succeeded.
 pub const DONE: u32 = 0;
 
-/// The handle holds nothing, or holds something where it may not, or the event is out of place. Nothing has
+/// The handle holds nothing, or is in use although it must be empty, or the event is not allowed now. Nothing has
 /// changed.
 pub const REFUSED: u32 = 1;
 
-/// There is no memory. Nothing has changed.
+/// Memory was refused. Nothing has changed.
 pub const NO_MEMORY: u32 = 2;
 
 /// A client begins.
@@ -32,38 +32,38 @@ pub const WAIT: u32 = 5;
 /// A client asks for a number of cores.
 pub const ASK: u32 = 6;
 
-/// The bytes are fewer than those of a message.
+/// There are fewer bytes than a message has.
 pub const SHORT: u32 = 7;
 
-/// There is no such kind of message.
+/// The kind of message is unknown.
 pub const KIND: u32 = 8;
 
 /// The client speaks another version of the protocol.
 pub const VERSION: u32 = 9;
 
-/// There is no such priority.
+/// The priority is out of range.
 pub const PRIORITY: u32 = 10;
 
-/// There is no such place.
+/// The place is out of range.
 pub const PLACE: u32 = 11;
 
-/// A number that the message has no use for isn't 0.
+/// A number that the message does not use is not 0.
 pub const UNUSED: u32 = 12;
 
 /// There is nothing to do.
 pub const NOTHING: u32 = 13;
 
-/// The core was taken from the thread: move it from there.
+/// The core was taken from the thread: move the thread away from it.
 pub const TAKEN: u32 = 14;
 
-/// The thread, which floats, was given the core: move it there.
+/// The thread, which floats, was given the core: move the thread there.
 pub const PLACED: u32 = 15;
 
-/// The thread, which waited, was given the core: move it there, and tell it so.
+/// The thread, which waited, was given the core: move the thread there, and notify it.
 pub const GRANTED: u32 = 16;
 
-/// A message of a client. Numbers that it doesn't have are 0. HELLO, JOIN, WAIT or ASK; else why the bytes begin
-/// with no message.
+/// A message of a client. Fields that it does not use are 0. HELLO, JOIN, WAIT or ASK; otherwise the reason that
+/// the bytes do not begin with a message.
 #[repr(C)]
 #[derive(Clone, Copy, Debug, PartialEq, Eq)]
 pub struct ArachneMessage {
@@ -78,7 +78,7 @@ pub struct ArachneMessage {
     pub floats: bool,
 }
 
-/// An arbiter, or nothing, as C lays it out: one pointer, which is null if nothing is held.
+/// An arbiter, or nothing, in C's layout: one pointer, which is null if nothing is held.
 #[repr(C)]
 pub struct ArachneArbiter {
     opaque: *mut u8,
@@ -88,8 +88,8 @@ impl ArachneArbiter {
     pub const NULL: ArachneArbiter = ArachneArbiter { opaque: std::ptr::null_mut() };
 }
 
-/// What is to be done with a thread. Numbers that it doesn't have are 0. TAKEN, PLACED, GRANTED or NOTHING; REFUSED
-/// if the handle holds nothing.
+/// The action that the caller must take on a thread. Fields that it does not use are 0. TAKEN, PLACED, GRANTED or
+/// NOTHING; REFUSED if the handle holds nothing.
 #[repr(C)]
 #[derive(Clone, Copy, Debug, PartialEq, Eq)]
 pub struct ArachneAction {
@@ -99,7 +99,7 @@ pub struct ArachneAction {
     pub place: usize,
 }
 
-/// A client's share of the cores. Cores that it is allowed. Cores that its threads have.
+/// A client's share of the cores. The number of cores that it may have. The number of cores that its threads have.
 #[repr(C)]
 #[derive(Clone, Copy, Debug, PartialEq, Eq)]
 pub struct ArachneShare {
@@ -108,50 +108,52 @@ pub struct ArachneShare {
 }
 
 unsafe extern "C" {
-    /// Reads the message that bytes begin with: HELLO, JOIN, WAIT or ASK. SHORT if they are fewer than 16; else
-    /// KIND, VERSION, PRIORITY, PLACE or UNUSED, by the first of its four numbers that no message has.
+    /// Reads the message at the beginning of the bytes. Returns HELLO, JOIN, WAIT or ASK; SHORT if there are fewer
+    /// than 16 bytes; otherwise KIND, VERSION, PRIORITY, PLACE or UNUSED, by the first of its four numbers that is
+    /// not valid.
     pub fn arachne_message_read(bytes: *const u8, bytes_count: usize) -> ArachneMessage;
 
-    /// Makes an arbiter of the cores 0 to `cores` - 1, without clients, in a handle that holds nothing. DONE;
-    /// REFUSED if the handle holds something, or if there are more than 1,024 cores; NO_MEMORY.
+    /// Makes an arbiter of the cores 0 to `cores` - 1, without clients, in a handle that holds nothing. Returns
+    /// DONE; REFUSED if the handle holds something, or if there are more than 1,024 cores; NO_MEMORY if memory is
+    /// refused.
     pub fn arachne_arbiter_new(arbiter: *mut ArachneArbiter, cores: u32) -> u32;
 
-    /// Frees what a handle holds.
+    /// Frees the arbiter that a handle holds, if it holds one.
     pub fn arachne_arbiter_close(arbiter: *mut ArachneArbiter);
 
-    /// Gives a client a number of 0 to 63 that no other has: with a priority, of which 0 goes first, the cores that
-    /// it reserves, and the most that it may ask for. DONE, or REFUSED. Whether it may have these is the caller's
-    /// to test.
+    /// Adds a client with a number from 0 to 63 that no other client has, with a priority, of which 0 goes first,
+    /// the cores that it reserves, and the greatest number that it may ask for. Returns DONE or REFUSED. The caller
+    /// must check that the client is entitled to these.
     pub fn arachne_arbiter_hello(arbiter: *mut ArachneArbiter, client: usize, priority: u8, reserved: u32, most: u32) -> u32;
 
-    /// Sets the number of cores that a client asks for. DONE, or REFUSED if there is no such client.
+    /// Sets the number of cores that a client asks for. Returns DONE, or REFUSED if there is no such client.
     pub fn arachne_arbiter_ask(arbiter: *mut ArachneArbiter, client: usize, cores: u32) -> u32;
 
-    /// Removes a client, with all of its threads. DONE, or REFUSED if its number is none of 0 to 63.
+    /// Removes a client, with all of its threads. Returns DONE, or REFUSED if its number is greater than 63.
     pub fn arachne_arbiter_leave(arbiter: *mut ArachneArbiter, client: usize) -> u32;
 
-    /// Adds a thread at a place of 0 to 63 of its client that has none. One that floats never waits. DONE, or
+    /// Adds a thread to a client, at a free place from 0 to 63. A thread that floats never waits. Returns DONE or
     /// REFUSED.
     pub fn arachne_arbiter_join(arbiter: *mut ArachneArbiter, client: usize, place: usize, floats: bool) -> u32;
 
-    /// Takes its core from a thread, if it has one, and lets the thread wait until it is granted one. DONE, or
-    /// REFUSED if it floats or waits already, or if there is no such thread.
+    /// Takes the core from a thread, if it has one, and lets the thread wait until it is granted one. Returns DONE,
+    /// or REFUSED if the thread floats or waits already, or does not exist.
     pub fn arachne_arbiter_wait(arbiter: *mut ArachneArbiter, client: usize, place: usize) -> u32;
 
-    /// Removes a thread. DONE, or REFUSED if its client's number or its place is none of 0 to 63.
+    /// Removes a thread. Returns DONE, or REFUSED if its client's number or its place is greater than 63.
     pub fn arachne_arbiter_end(arbiter: *mut ArachneArbiter, client: usize, place: usize) -> u32;
 
-    /// Decides anew how many cores each client is allowed. DONE, or REFUSED.
+    /// Decides anew how many cores each client may have. Returns DONE or REFUSED.
     pub fn arachne_arbiter_decide(arbiter: *mut ArachneArbiter) -> u32;
 
-    /// Takes its core from the last thread of a client that has one, if the client has more than it is allowed: at
-    /// once if that thread floats, else only if the client is late. TAKEN, or NOTHING.
+    /// Takes a core from a client that has more than it may have: from its last thread that has one. If that thread
+    /// floats, the core is taken at once, otherwise only if `late` is set. Returns TAKEN or NOTHING.
     pub fn arachne_arbiter_take_back(arbiter: *mut ArachneArbiter, client: usize, late: bool) -> ArachneAction;
 
-    /// Gives a free core to a thread that can take one, of a client that has less than it is allowed: the higher
-    /// priority first. GRANTED if the thread waited, PLACED if it floats, or NOTHING.
+    /// Gives a free core to a thread that can take one, of a client that has fewer than it may have. The higher
+    /// priority goes first. Returns GRANTED if the thread waited, PLACED if it floats, or NOTHING.
     pub fn arachne_arbiter_give(arbiter: *mut ArachneArbiter) -> ArachneAction;
 
-    /// Returns how many cores a client is allowed, and how many it has.
+    /// Returns the number of cores that a client may have, and the number that it has.
     pub fn arachne_arbiter_share(arbiter: *mut ArachneArbiter, client: usize) -> ArachneShare;
 }

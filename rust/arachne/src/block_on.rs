@@ -1,13 +1,15 @@
-//! A future on the kernel thread that calls, and a task's yield.
+//! Running a future on the calling thread, yielding, and futures from closures.
 
 use crate::sync::atomic::{AtomicBool, Ordering::*};
 use crate::sync::thread::{self, Thread};
 use crate::sync::Arc;
+use crate::timer;
 use std::cell::RefCell;
 use std::fmt;
 use std::future::Future;
 use std::pin::Pin;
 use std::task::{Context, Poll, Wake, Waker};
+use std::time::Duration;
 
 struct Parker {
     thread: Thread,
@@ -35,7 +37,9 @@ pub(crate) fn forget_parker() {
     PARKER.with(|parker| *parker.borrow_mut() = None);
 }
 
-/// Runs a future on this thread, which sleeps while the future waits. Within a task it blocks the worker.
+/// Runs a future on the calling thread, which sleeps while the future waits.
+///
+/// Within a task it blocks the worker; use `await` there.
 ///
 /// ```
 /// let (sender, receiver) = arachne::channel(1);
@@ -57,17 +61,38 @@ pub fn block_on<F: Future>(future: F) -> F::Output {
             return output;
         }
         while !parker.woken.swap(false, SeqCst) {
-            thread::park();
+            park();
         }
     }
 }
 
-/// A future that is ready at its second poll; see `yield_now`.
+/// Nanoseconds after which a waiting `block_on` fires the timers of its thread itself.
+const LATE: u64 = 2_000_000;
+
+/// Parks until this thread is unparked, or its timers are late: the worker that looks after them is in a long poll, or
+/// is this thread.
+fn park() {
+    let timers = timer::of_this_thread();
+    let due = timers.map_or(u64::MAX, |timers| timers.next().saturating_add(LATE));
+    let now = timer::now();
+    match timers {
+        Some(timers) if due <= now => drop(timers.fire(now)),
+        Some(_) if due != u64::MAX => thread::park_timeout(Duration::from_nanos(due - now)),
+        _ => thread::park(),
+    }
+}
+
+/// The future of `yield_now`: ready at its second poll.
+///
+/// ```
+/// let pause: arachne::Yield = arachne::yield_now();
+/// arachne::block_on(pause);
+/// ```
 #[must_use = "a yield does nothing unless it is awaited"]
 #[derive(Debug)]
 pub struct Yield(bool);
 
-/// Lets others run first: for a task that computes for long, or always finds what it awaits.
+/// Lets other tasks run first: for a task that computes for long, or always finds what it awaits.
 ///
 /// ```
 /// let runtime = arachne::Runtime::new(1);
@@ -99,7 +124,16 @@ impl Future for Yield {
     }
 }
 
-/// A future from a function that polls; see `poll_fn`. It may be moved between polls.
+/// The future of `poll_fn`. It may be moved between polls.
+///
+/// ```
+/// use std::task::{Context, Poll};
+/// fn ready(_: &mut Context<'_>) -> Poll<u32> {
+///     Poll::Ready(42)
+/// }
+/// let future: arachne::PollFn<fn(&mut Context<'_>) -> Poll<u32>> = arachne::poll_fn(ready);
+/// assert_eq!(arachne::block_on(future), 42);
+/// ```
 pub struct PollFn<F>(F);
 impl<F> Unpin for PollFn<F> {}
 
@@ -109,7 +143,7 @@ impl<F> fmt::Debug for PollFn<F> {
     }
 }
 
-/// Returns a future that is ready once this function returns so. As std's, which rustc 1.63 lacks.
+/// Returns a future that calls `poll` at each poll. It is std's function, which rustc 1.63 lacks.
 ///
 /// ```
 /// use std::task::Poll;

@@ -1,4 +1,4 @@
-//! Work that blocks its kernel thread, on a bounded pool of such threads beside the workers.
+//! Blocking work, on a bounded pool of threads beside the workers.
 
 use crate::shared::{entered, here, Shared};
 use crate::sync::thread;
@@ -11,7 +11,7 @@ use std::pin::Pin;
 use std::task::{Context, Poll, RawWaker, RawWakerVTable, Waker};
 use std::time::Duration;
 
-/// How long a thread of the pool waits for more work before it ends.
+/// The time for which a thread of the pool waits for more work before it ends.
 const PATIENCE: Duration = Duration::from_secs(5);
 
 #[derive(Default)]
@@ -76,7 +76,7 @@ impl Pool {
                     unsafe { task::end(raw) };
                     panic!("no kernel thread for blocking work: {error}");
                 }
-                // One of those that there are gets to it.
+                // One of the existing threads runs it later.
                 Err(_) => {}
             }
         }
@@ -111,13 +111,13 @@ impl Pool {
         self.changed.notify_all();
     }
 
-    /// Whether some work waits for a thread, or is in one.
+    /// Returns true if work waits for a thread, or runs.
     pub(crate) fn is_busy(&self) -> bool {
         let state = self.state.lock().unwrap();
         !state.work.is_empty() || state.idle < state.threads
     }
 
-    /// Cancels what has not begun, and waits until all threads have ended.
+    /// Cancels the work that has not begun, and accepts no more.
     pub(crate) fn close(&self) {
         let mut state = self.state.lock().unwrap();
         state.stop = true;
@@ -126,8 +126,13 @@ impl Pool {
         drop(state);
         // SAFETY: nobody else has them, and none was begun.
         left.into_iter().for_each(|raw| unsafe { task::end(raw) });
+    }
+
+    /// Waits until all threads have ended, for at most `time`. Returns true if they have.
+    pub(crate) fn wait_for_end(&self, time: Duration) -> bool {
         let state = self.state.lock().unwrap();
-        drop(self.changed.wait_while(state, |state| state.threads != 0).unwrap());
+        let (state, _) = self.changed.wait_timeout_while(state, time, |state| state.threads != 0).unwrap();
+        state.threads == 0
     }
 }
 
@@ -143,8 +148,9 @@ impl Shared {
     }
 }
 
-/// Runs a closure that may block on a kernel thread of the runtime's pool. What has begun there can't be aborted.
-/// Within it, `block_on` waits for a future.
+/// Runs a closure that may block, on a thread of the runtime's blocking pool. Returns the handle on its result.
+///
+/// Once it has begun it can't be aborted. Within it, `block_on` waits for a future.
 ///
 /// ```
 /// let runtime = arachne::Runtime::new(1);

@@ -11,7 +11,7 @@ use std::pin::Pin;
 use std::task::{Context, Poll, Waker};
 
 struct Node {
-    /// It left the line because it was its turn.
+    /// It was taken out of the line because it is its turn.
     called: AtomicBool,
     slot: Slot,
 }
@@ -44,6 +44,7 @@ impl<T> State<T> {
     }
 }
 
+/// Takes the first of a line, whose turn it is now.
 fn call(line: &mut VecDeque<Arc<Node>>) -> Option<Arc<Node>> {
     let node = line.pop_front()?;
     node.called.store(true, SeqCst);
@@ -56,7 +57,7 @@ fn wake(node: Option<Arc<Node>>) {
     }
 }
 
-/// One that was woken and takes nothing hands its turn on.
+/// Removes a node from a line. If its turn had come already, returns the next one, which gets the turn.
 fn leave(line: &mut VecDeque<Arc<Node>>, node: &Arc<Node>) -> Option<Arc<Node>> {
     match line.iter().position(|other| Arc::ptr_eq(other, node)) {
         Some(at) => {
@@ -67,7 +68,7 @@ fn leave(line: &mut VecDeque<Arc<Node>>, node: &Arc<Node>) -> Option<Arc<Node>> 
     }
 }
 
-/// Why a value was not sent at once; the value comes back.
+/// The error of `Sender::try_send`, with the value that was not sent.
 ///
 /// ```
 /// let (sender, receiver) = arachne::channel(1);
@@ -78,9 +79,9 @@ fn leave(line: &mut VecDeque<Arc<Node>>, node: &Arc<Node>) -> Option<Arc<Node>> 
 /// ```
 #[derive(Clone, Copy, PartialEq, Eq)]
 pub enum SendError<T> {
-    /// The receivers are gone.
+    /// All receivers are gone.
     Closed(T),
-    /// There is no room.
+    /// The channel is full.
     Full(T),
 }
 
@@ -102,13 +103,29 @@ impl<T> fmt::Display for SendError<T> {
 }
 impl<T> std::error::Error for SendError<T> {}
 
-/// The end that sends; see `channel`.
+/// The sending end of a `channel`. It may be cloned.
+///
+/// ```
+/// let (sender, receiver) = arachne::channel(2);
+/// let other: arachne::Sender<u32> = sender.clone();
+/// sender.try_send(1).unwrap();
+/// other.try_send(2).unwrap();
+/// assert_eq!(receiver.len(), 2);
+/// ```
 pub struct Sender<T>(Arc<Mutex<State<T>>>);
 
-/// The end that receives; see `channel`. Each value goes to one receiver.
+/// The receiving end of a `channel`. It may be cloned; each value goes to one receiver.
+///
+/// ```
+/// let (sender, receiver) = arachne::channel(2);
+/// let other: arachne::Receiver<u32> = receiver.clone();
+/// sender.try_send(1).unwrap();
+/// assert_eq!((other.try_recv(), receiver.try_recv()), (Some(1), None));
+/// assert!(receiver.is_empty());
+/// ```
 pub struct Receiver<T>(Arc<Mutex<State<T>>>);
 
-/// A channel with room for so many values, at least one.
+/// Returns the two ends of a channel with room for `room` values, at least one.
 ///
 /// ```
 /// let (sender, receiver) = arachne::channel(16);
@@ -153,12 +170,21 @@ impl<T> fmt::Debug for Receiver<T> {
 }
 
 impl<T> Sender<T> {
-    /// Sends once there is room. Dropped before, the value is not sent.
+    /// Sends a value, once there is room. If the receivers are gone, the error is the value.
+    ///
+    /// If the future is dropped before it is ready, the value is not sent.
+    ///
+    /// ```
+    /// let (sender, receiver) = arachne::channel(1);
+    /// arachne::block_on(sender.send(1)).unwrap();
+    /// drop(receiver);
+    /// assert_eq!(arachne::block_on(sender.send(2)), Err(2));
+    /// ```
     pub fn send(&self, value: T) -> Send<'_, T> {
         Send { channel: &self.0, value: Some(value), node: None }
     }
 
-    /// Sends if there is room now.
+    /// Sends a value if there is room now; see the example at `SendError`.
     pub fn try_send(&self, value: T) -> Result<(), SendError<T>> {
         let mut state = self.0.lock().unwrap();
         if state.receivers == 0 {
@@ -176,12 +202,20 @@ impl<T> Sender<T> {
 }
 
 impl<T> Receiver<T> {
-    /// The next value; None once all senders are gone and it is empty.
+    /// Waits for the next value; returns None once all senders are gone and the channel is empty.
+    ///
+    /// ```
+    /// let (sender, receiver) = arachne::channel(1);
+    /// sender.try_send(1).unwrap();
+    /// drop(sender);
+    /// assert_eq!(arachne::block_on(receiver.recv()), Some(1));
+    /// assert_eq!(arachne::block_on(receiver.recv()), None);
+    /// ```
     pub fn recv(&self) -> Recv<'_, T> {
         Recv { channel: &self.0, node: None }
     }
 
-    /// Returns the next value, if one is there.
+    /// Takes the next value if there is one, or returns None; see the example at `Receiver`.
     #[must_use]
     pub fn try_recv(&self) -> Option<T> {
         let mut state = self.0.lock().unwrap();
@@ -192,20 +226,28 @@ impl<T> Receiver<T> {
         Some(value)
     }
 
-    /// Returns how many values wait to be received.
+    /// Returns the number of values that wait to be received; see the example at `Sender`.
     #[must_use]
     pub fn len(&self) -> usize {
         self.0.lock().unwrap().values.len()
     }
 
-    /// Returns true if no value waits to be received.
+    /// Returns true if no value waits to be received; see the example at `Receiver`.
     #[must_use]
     pub fn is_empty(&self) -> bool {
         self.len() == 0
     }
 }
 
-/// A future that has sent a value; see `Sender::send`. Its error is the value, if the receivers are gone.
+/// The future of `Sender::send`.
+///
+/// ```
+/// let (sender, receiver) = arachne::channel(1);
+/// let sends: arachne::Send<'_, u32> = sender.send(42);
+/// assert_eq!(receiver.try_recv(), None);      // nothing is sent before it is awaited
+/// arachne::block_on(sends).unwrap();
+/// assert_eq!(receiver.try_recv(), Some(42));
+/// ```
 #[must_use = "a value is sent once its future is awaited"]
 pub struct Send<'a, T> {
     channel: &'a Mutex<State<T>>,
@@ -264,7 +306,14 @@ impl<T> Drop for Send<'_, T> {
     }
 }
 
-/// A future of the next value; see `Receiver::recv`.
+/// The future of `Receiver::recv`.
+///
+/// ```
+/// let (sender, receiver) = arachne::channel(1);
+/// let next: arachne::Recv<'_, u32> = receiver.recv();
+/// sender.try_send(42).unwrap();
+/// assert_eq!(arachne::block_on(next), Some(42));
+/// ```
 #[must_use = "a value is received once its future is awaited"]
 pub struct Recv<'a, T> {
     channel: &'a Mutex<State<T>>,
@@ -348,7 +397,7 @@ impl<T> Drop for Receiver<T> {
         state.receivers -= 1;
         let last = state.receivers == 0;
         let all = if last { std::mem::take(&mut state.sending) } else { VecDeque::new() };
-        // Nobody receives these: whoever waits for an answer that one of them would bring is told so by its drop.
+        // Nobody can receive these values. Dropping them wakes those who wait for a reply through one of them.
         let values = if last { std::mem::take(&mut state.values) } else { VecDeque::new() };
         drop(state);
         all.iter().for_each(|node| node.called.store(true, SeqCst));

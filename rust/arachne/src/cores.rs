@@ -1,4 +1,8 @@
-//! How many cores a runtime holds: what the machine gives it, and what the load wants.
+//! The number of active cores: the limit that the machine sets, and the policy that follows the load.
+//!
+//! The load is the average over time of the number of tasks that were ready at a worker's looks. It is judged at each
+//! interval of the policy, and sooner after a request for a core. A worker that gives its core back waits; another one
+//! looks after its blocks and timers. The limit is read each second while there is a policy.
 
 use crate::core::Estimator;
 use crate::shared::{Context, Shared, Worker};
@@ -27,17 +31,25 @@ pub(crate) enum Advice {
     Remove,
 }
 
-/// How cores follow the load. In thousandths: of a ready task a scan from which a core is asked for, and of a core that
-/// the use has to have fallen before one is given back.
+/// How the number of active cores follows the load; see `Builder::policy`.
+///
+/// ```
+/// use std::time::Duration;
+/// // Asks for a core at an average of two ready tasks per look, judged each 20 ms; keeps two cores.
+/// let policy = arachne::Policy { load: 2000, every: Duration::from_millis(20), min_cores: 2, ..Default::default() };
+/// let runtime = arachne::Builder::new(4).policy(policy).build().unwrap();
+/// assert!(runtime.stats().active >= 2);
+/// ```
 #[derive(Clone, Copy, Debug)]
 pub struct Policy {
-    /// A core is asked for if at least `load` thousandths of a task are ready at a look.
+    /// A core is asked for if the ready tasks per look exceed this on average, in thousandths of a task.
     pub load: u64,
-    /// A core is given back once the use has fallen by `hysteresis` thousandths of a core.
+    /// A core is given back once the use has fallen by this below that at which it was asked for, in thousandths of a
+    /// core.
     pub hysteresis: u64,
-    /// How often the load is judged.
+    /// The time between two judgements.
     pub every: Duration,
-    /// So many cores are kept.
+    /// The number of cores that are never given back.
     pub min_cores: usize,
 }
 
@@ -47,8 +59,15 @@ impl Default for Policy {
     }
 }
 
-/// Whole processors that this process may use: by its affinity, and by its control group's `cpu.max` (of version 1:
-/// `cpu.cfs_quota_us`), rounded up.
+/// Returns the number of processors that this process may use.
+///
+/// It is limited by the affinity mask, and by the control group's `cpu.max` (`cpu.cfs_quota_us` in version 1), rounded
+/// up.
+///
+/// ```
+/// let runtime = arachne::Runtime::new(arachne::available_cores());
+/// assert!(runtime.stats().workers.len() >= 1);
+/// ```
 #[must_use]
 pub fn available_cores() -> usize {
     if cfg!(feature = "explore") {
@@ -63,7 +82,7 @@ fn whole(thousandths: usize) -> usize {
     (thousandths + 999) / 1000
 }
 
-/// What this process's control group, or one above it, allows, in thousandths of a processor.
+/// Returns the least quota of this process's control group and those above it, in thousandths of a processor.
 fn quota() -> Option<usize> {
     let groups = fs::read_to_string("/proc/self/cgroup").ok()?;
     let mut least = None;
@@ -94,7 +113,7 @@ fn quota_of(group: &str) -> Option<usize> {
     Some(words.next()?? * 1000 / words.next()??.max(1))
 }
 
-/// After a core was asked for, the load is judged so many times sooner than else, so many times.
+/// After a request for a core, this many judgements are made at the usual interval divided by this number.
 const SOON: u32 = 4;
 
 /// The least and the most nanoseconds between two judgements under an arbiter.
@@ -102,24 +121,24 @@ const WITH_ARBITER: (u64, u64) = (2_000_000, 5_000_000);
 /// The nanoseconds after a core was asked for of an arbiter in which none goes back: each goes to another process.
 const CALM: u64 = 50_000_000;
 
-/// What one worker judges for all.
+/// The state of the policy, which the first worker applies for all.
 pub(crate) struct Judge {
     estimator: Estimator,
     policy: Policy,
-    /// By worker.
+    /// By worker, its totals at the last judgement.
     last: Vec<Totals>,
     at: u64,
     looked: u64,
     most: usize,
-    /// So many judgements are made soon, since a core was asked for.
+    /// The number of judgements still to be made at shorter intervals, since a core was asked for.
     soon: u32,
-    /// When a core was last asked for.
+    /// The time of the last request for a core.
     added: u64,
-    /// A load was seen to begin, and is judged by the next sample.
+    /// A load began within the last sample; the next one is judged.
     begins: bool,
 }
 
-/// What a worker has counted, and for how long it had no work or no processor.
+/// A worker's counts, and the nanoseconds in which it had no work, or waited for a processor.
 #[derive(Clone, Copy, Default)]
 struct Totals {
     runnable: u64,
@@ -150,25 +169,28 @@ impl Judge {
         ((self.every(1, shared.arbiter.is_up()) / 1_000_000) as i32).clamp(1, 20)
     }
 
-    /// Returns the nanoseconds between two judgements that are made this many times sooner than else.
+    /// Returns the nanoseconds between two judgements: the usual interval divided by `times`.
     fn every(&self, times: u32, up: bool) -> u64 {
         let (least, most) = if up { WITH_ARBITER } else { (0, u64::MAX) };
         ((self.policy.every.as_nanos() as u64).min(most) / times as u64).max(least)
     }
 
-    /// More is ready than makes the core ask for more, and cores were idle for a part of that time: so the load began
-    /// within it. The use of such a sample would be kept as that at which a core more was wanted, and that core kept
-    /// until the use is less.
+    /// Returns true if the load began in the middle of this sample: enough tasks are ready to ask for a core, yet cores
+    /// were idle for part of the time.
+    ///
+    /// Such a sample is not judged. Its low use would be recorded as that at which the core was asked for, and the core
+    /// would be kept until the use is lower still.
     fn is_begin(&self, sample: Sample) -> bool {
         let wants = sample.runnable * 1000 > self.policy.load * sample.scans;
         wants && sample.busy * 10 < sample.elapsed * sample.cores * 9
     }
 
+    /// Judges the load if the interval is over, and asks for a core or gives one back.
     pub(crate) fn judge(&mut self, shared: &'static Shared) {
         let now = now();
         let elapsed = now - self.at;
         let up = shared.arbiter.is_up();
-        // If one more core was asked for, it is soon seen whether another one is wanted.
+        // Shorter intervals after a request show soon if another core is needed.
         if elapsed < self.every(if self.soon != 0 { SOON } else { 1 }, up) {
             return;
         }
@@ -181,7 +203,7 @@ impl Judge {
         }
         let active = shared.active.0.load(Relaxed);
         shared.counts.core_time.fetch_add(elapsed * active as u64, Relaxed);
-        // Those that were active all the time: an arbiter grants a core at any time.
+        // Only the workers that were active all the time: an arbiter may grant a core in the middle of a sample.
         let sample = sample(&self.last, &totals(shared, active.min(self.last.len()), now), elapsed);
         self.begins = !self.begins && self.is_begin(sample);
         if self.begins {
@@ -219,7 +241,7 @@ fn totals(shared: &Shared, active: usize, now: u64) -> Vec<Totals> {
     shared.workers[..active].iter().map(|line| of(&line.0)).collect()
 }
 
-/// Nanoseconds that a worker's kernel thread was ready and had no processor.
+/// Returns the nanoseconds in which a worker's thread was ready and had no processor.
 fn waited(account: &crate::sync::Mutex<Option<fs::File>>) -> u64 {
     let mut text = [0; 64];
     let len = account.lock().unwrap().as_ref().and_then(|file| file.read_at(&mut text, 0).ok()).unwrap_or(0);
@@ -227,8 +249,10 @@ fn waited(account: &crate::sync::Mutex<Option<fs::File>>) -> u64 {
     text.split_whitespace().nth(1).and_then(|word| word.parse().ok()).unwrap_or(0)
 }
 
-/// A worker's looks at its words say how many tasks were ready while it was busy; in the time in which it had no work
-/// none was. Time that was waited for a processor is no use of a core, and what was ready meanwhile asks for none.
+/// Returns the load and the use of these workers since `last`.
+///
+/// A worker's looks count the tasks that were ready while it was busy; while it had no work, none was. The time in
+/// which it waited for a processor counts neither as use of a core nor as load.
 fn sample(last: &[Totals], totals: &[Totals], elapsed: u64) -> Sample {
     let cores = totals.len() as u64;
     let mut sample = Sample { cores, runnable: 0, scans: (elapsed * cores).max(1), busy: 0, elapsed };
@@ -244,12 +268,13 @@ fn sample(last: &[Totals], totals: &[Totals], elapsed: u64) -> Sample {
 }
 
 impl Shared {
-    /// A worker's core is given back: its kernel thread waits until the core is asked for again.
+    /// Gives this worker's core back: lays down all jobs in its hand, and waits until the core is asked for again.
     pub(crate) fn give_back(&self, context: &Context, turn: &mut Turn) {
         self.lay_down(context, turn);
         let worker = context.worker;
         let (gate, waits) = &worker.given_back;
         worker.away.store(true, SeqCst);
+        // After all is laid down: the keeper, which may be about to sleep, looks at this worker's blocks and timers.
         self.ring(self.keeper(context.me));
         if self.arbiter.is_up() {
             self.wait_for_core(context.me);
@@ -263,8 +288,9 @@ impl Shared {
         self.goes_on();
     }
 
+    /// Sets the number of active workers, and wakes all.
     pub(crate) fn set_active(&self, active: usize) {
-        // With the lock of each: one that is about to wait sees it, and that an arbiter is up, if it is since before.
+        // Under the lock of each, so that a worker that is about to wait sees it, and an arbiter that came up before.
         for (number, line) in self.workers.iter().enumerate() {
             *line.0.given_back.0.lock().unwrap() = number >= active;
         }

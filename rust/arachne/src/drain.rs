@@ -1,8 +1,9 @@
 //! An orderly end, and a limit of what is accepted.
 
 use crate::block_on::poll_fn;
+use crate::net::Async;
 use crate::runtime::Runtime;
-use crate::shared::{here, Context as Worker, Shared};
+use crate::shared::{here, is_own, Context as Worker, Shared};
 use crate::sync::atomic::{AtomicBool, AtomicUsize, Ordering::*};
 use crate::sync::{thread, Arc, Instant, Mutex};
 use crate::sys;
@@ -11,11 +12,12 @@ use std::collections::BTreeMap;
 use std::fmt;
 use std::future::Future;
 use std::io;
+use std::os::unix::io::{AsRawFd, RawFd};
 use std::pin::Pin;
 use std::task::{Context, Poll, Waker};
 use std::time::Duration;
 
-/// Who waits for the end of a runtime.
+/// The wakers of all who wait for the end of a runtime to begin.
 #[derive(Default)]
 pub(crate) struct Draining {
     begun: AtomicBool,
@@ -39,31 +41,49 @@ impl Draining {
     }
 }
 
-/// Returns true if this task's runtime is about to end: what is in flight may still end, and nothing new is begun.
-/// Outside of a runtime it returns false.
+/// Returns true once `Runtime::shutdown_within` was called for this task's runtime; false outside of a runtime.
+///
+/// A task should then finish its work in flight and begin nothing new.
+///
+/// ```
+/// let runtime = arachne::Runtime::new(1);
+/// let task = runtime.spawn(async {
+///     while !arachne::is_stopping() {
+///         arachne::sleep(std::time::Duration::from_millis(1)).await;
+///     }
+/// });
+/// assert_eq!(runtime.shutdown_within(std::time::Duration::from_secs(5)).aborted, 0);
+/// arachne::block_on(task).unwrap();
+/// ```
 #[must_use]
 pub fn is_stopping() -> bool {
     here().map_or(false, |shared| shared.draining.has_begun())
 }
 
-/// A future that is ready once the runtime is about to end; see `stopping`.
+/// The future of `stopping`: ready once the runtime's end has begun.
+///
+/// ```
+/// async fn waits_at_most_until_the_end(receiver: arachne::Receiver<u32>) -> Option<u32> {
+///     let mut end: arachne::Stopping = arachne::stopping();
+///     end.or(receiver.recv()).await.flatten()
+/// }
+/// ```
 #[must_use = "it waits once it is awaited"]
 pub struct Stopping {
     shared: Option<&'static Shared>,
-    /// Where it waits, and the waker that it left there.
+    /// The key and the waker by which it waits.
     waits: Option<(u64, Waker)>,
-    /// Polls since the end began in which its task had not looked at a socket before.
+    /// Polls since the end began in which its task had not tried a socket before this future.
     blind: u32,
 }
 
-/// Such polls at most: a task that chooses by chance what to poll first looks at its socket before in one of them.
+/// The most such polls that stay pending: a task that polls in a random order tries its socket first in one of them.
 const BLIND: u32 = 4;
 
-/// Waits until `Runtime::shutdown_within` is called: a connection that has nothing in flight ends then; see
-/// `Stopping::or`.
+/// Waits until `Runtime::shutdown_within` is called, so that an idle connection can end; see `Stopping::or`.
 ///
-/// A task that also waits for a socket is told once it has tried to read in the same poll, in whatever order it polls
-/// the two, so that a request that has come by then is read and is in flight. (It is told after a few polls at most.)
+/// In a task that also waits for a socket it is ready only after that task has tried to read in the same poll, in
+/// whatever order it polls the two, or after a few polls. So a request that has arrived by then is still read.
 ///
 /// ```
 /// use std::time::Duration;
@@ -80,9 +100,22 @@ pub fn stopping() -> Stopping {
 }
 
 impl Stopping {
-    /// Returns a future's output, or None if the end has begun and the future is not ready. The future is polled first.
+    /// Waits for a future's output; returns None if the end has begun and the future is not ready.
     ///
-    /// A connection reads by it, `end.or(stream.read(&mut buffer)).await`, with one `let mut end = stopping()`.
+    /// The future is polled first. It may be used again and again, for each read of a connection.
+    ///
+    /// ```
+    /// async fn serve(stream: arachne::net::TcpStream) -> std::io::Result<()> {
+    ///     let (mut buffer, mut end) = ([0; 4096], arachne::stopping());
+    ///     while let Some(read) = end.or(stream.read(&mut buffer)).await {
+    ///         match read? {
+    ///             0 => break,
+    ///             len => stream.write_all(&buffer[..len]).await?,
+    ///         }
+    ///     }
+    ///     Ok(())
+    /// }
+    /// ```
     pub async fn or<F: Future>(&mut self, mut future: F) -> Option<F::Output> {
         poll_fn(|cx| {
             // SAFETY: the future is in this function's frame until it is dropped, and nothing else has a name for it.
@@ -127,7 +160,7 @@ impl Future for Stopping {
             waiting.1.insert(key, cx.waker().clone());
             self.waits = Some((key, cx.waker().clone()));
         }
-        // Whoever begins the end sets the word, and then takes the wakers.
+        // Checked again with the waker in place: `begin` sets the flag before it takes the wakers.
         if shared.draining.has_begun() {
             return Poll::Ready(());
         }
@@ -135,7 +168,7 @@ impl Future for Stopping {
     }
 }
 
-/// True in a poll of a task, by the task's own waker, that has not tried to read yet.
+/// Returns true in a poll of a task, by its own waker, that has not tried to read a socket yet.
 fn is_blind(waker: &Waker) -> bool {
     Worker::with(|worker| worker.map_or(false, |worker| is_of_running(waker, worker) && worker.reads.get() == 0))
 }
@@ -148,26 +181,49 @@ impl Drop for Stopping {
     }
 }
 
-/// What `Runtime::shutdown_within` found.
+/// The result of `Runtime::shutdown_within`.
+///
+/// ```
+/// let runtime = arachne::Runtime::new(1);
+/// runtime.spawn(std::future::pending::<()>());
+/// let ended: arachne::Ended = runtime.shutdown_within(std::time::Duration::from_millis(1));
+/// assert_eq!(ended.aborted, 1);
+/// ```
 #[derive(Clone, Copy, PartialEq, Eq, Debug)]
 #[non_exhaustive]
 pub struct Ended {
-    /// Tasks that had not ended by the deadline, and were dropped; without those of `spawn_background`.
+    /// The number of tasks that were dropped at the deadline, not counting those of `spawn_background`.
     pub aborted: u64,
 }
 
 impl Runtime {
-    /// Tasks that were spawned and have not ended.
+    /// Returns the number of tasks that were spawned and have not ended.
+    ///
+    /// ```
+    /// let runtime = arachne::Runtime::new(1);
+    /// let _waits = runtime.spawn(std::future::pending::<()>());
+    /// assert_eq!(runtime.live(), 1);
+    /// ```
     #[must_use]
     pub fn live(&self) -> u64 {
         self.shared().live()
     }
 
-    /// Stops accepting (once nobody waits to be accepted `TcpListener::accept` returns an error), `stopping` is ready,
-    /// waits until every task has ended but for those of `spawn_background`, and then, or at the deadline, drops those
-    /// that have not. Returns once all kernel threads are joined: a poll that runs at the deadline, or work on the
-    /// blocking pool, is waited for. A `deadline` beyond the clock's times, such as `Duration::MAX`, is none.
-    pub fn shutdown_within(self, deadline: Duration) -> Ended {
+    /// Ends the runtime in order: lets its tasks finish, and drops those that have not by the deadline.
+    ///
+    /// From the call on `stopping` is ready, and `accept` of a listener fails once all who had connected are accepted.
+    /// Tasks of `spawn_background` are not waited for. A poll in progress at the deadline is waited for. Blocking work
+    /// that still runs then goes on without the runtime, and the tasks that it spawns are cancelled. `Duration::MAX` is
+    /// no deadline.
+    ///
+    /// ```
+    /// use std::time::Duration;
+    /// let runtime = arachne::Runtime::new(1);
+    /// let task = runtime.spawn(arachne::sleep(Duration::from_millis(5)));
+    /// assert_eq!(runtime.shutdown_within(Duration::from_secs(5)).aborted, 0);
+    /// assert!(task.is_finished());
+    /// ```
+    pub fn shutdown_within(mut self, deadline: Duration) -> Ended {
         let until = Instant::now().checked_add(deadline);
         self.shared().draining.begin();
         let busy = || self.shared().awaited() != 0 || self.shared().blocking.is_busy();
@@ -175,12 +231,16 @@ impl Runtime {
             thread::sleep(Duration::from_micros(500));
         }
         let aborted = self.shared().awaited();
-        self.shutdown();
+        if is_own(self.shared()) {
+            self.shutdown();
+        } else {
+            self.end(until);
+        }
         Ended { aborted }
     }
 }
 
-/// A signal that this process hears from now on, in place of what it did at it.
+/// A signal that this process catches, instead of its previous action; threads can wait for it.
 ///
 /// ```no_run
 /// # fn main() -> std::io::Result<()> {
@@ -192,23 +252,70 @@ impl Runtime {
 /// # }
 /// ```
 #[derive(Debug)]
-pub struct Signal(i32);
+pub struct Signal(Async<Event>);
 
-impl Signal {
-    /// 15 is SIGTERM. One that was heard before is heard by this one alone from then on.
-    pub fn heard(number: i32) -> io::Result<Signal> {
-        let event = sys::new_blocking_event()?;
-        sys::raise_at(number, event)?;
-        Ok(Signal(event))
-    }
+/// An eventfd that a signal handler raises, and which is therefore never closed.
+#[derive(Debug)]
+struct Event(RawFd);
 
-    /// Blocks this kernel thread until the signal has come since the last wait.
-    pub fn wait(&self) -> bool {
-        sys::await_event(self.0)
+impl AsRawFd for Event {
+    fn as_raw_fd(&self) -> RawFd {
+        self.0
     }
 }
 
-/// So many of something at once, and no more: the next one is told at once.
+impl Signal {
+    /// Catches the signal of this number from now on; 15 is SIGTERM, 2 is SIGINT.
+    ///
+    /// If it was already caught by an earlier `Signal`, only the new one hears it from then on.
+    ///
+    /// ```
+    /// # fn main() -> std::io::Result<()> {
+    /// let reload = arachne::Signal::heard(10)?;       // SIGUSR1
+    /// let id = std::process::id().to_string();
+    /// std::process::Command::new("kill").args(["-USR1", &id]).status()?;
+    /// assert!(reload.wait());
+    /// # Ok(())
+    /// # }
+    /// ```
+    pub fn heard(number: i32) -> io::Result<Signal> {
+        let event = sys::new_event()?;
+        sys::raise_at(number, event)?;
+        Ok(Signal(Async::new(Event(event))?))
+    }
+
+    /// Waits until the signal comes, or returns at once if it has come since the last wait.
+    ///
+    /// This is the form for tasks; `wait` blocks its thread, and in `spawn_blocking` would hold up the runtime's end.
+    /// If several tasks wait, one of them gets the signal. Like a socket it belongs to the runtime in which it first
+    /// waits.
+    ///
+    /// ```
+    /// # fn main() -> std::io::Result<()> {
+    /// let (runtime, reload) = (arachne::Runtime::new(1), arachne::Signal::heard(12)?);       // SIGUSR2
+    /// let task = runtime.spawn(async move { reload.recv().await });
+    /// std::process::Command::new("kill").args(["-USR2", &std::process::id().to_string()]).status()?;
+    /// runtime.block_on(task).unwrap()
+    /// # }
+    /// ```
+    ///
+    /// # Errors
+    /// If it has to wait outside of a runtime.
+    pub async fn recv(&self) -> io::Result<()> {
+        let not_yet = || io::Error::from(io::ErrorKind::WouldBlock);
+        let take = |event: &Event| sys::take_event(event.0).then_some(()).ok_or_else(not_yet);
+        self.0.read_with(take).await
+    }
+
+    /// Blocks the calling thread until the signal comes, or returns at once if it has come since the last wait.
+    ///
+    /// Returns true, or false if the wait fails. In a task use `recv`. See the example at `heard`.
+    pub fn wait(&self) -> bool {
+        sys::await_event(self.0.get_ref().0)
+    }
+}
+
+/// Limits concurrent use to a maximum. Beyond it, `enter` returns None without waiting.
 ///
 /// ```
 /// let limit = arachne::Limit::new(1);
@@ -221,18 +328,42 @@ impl Signal {
 pub struct Limit(Arc<(AtomicUsize, usize)>);
 
 /// A place under a limit, given back when this is dropped; see `Limit::enter`.
+///
+/// ```
+/// let limit = arachne::Limit::new(8);
+/// let ticket: arachne::Ticket = limit.enter().unwrap();
+/// assert_eq!(limit.count(), 1);
+/// drop(ticket);
+/// assert_eq!(limit.count(), 0);
+/// ```
 #[derive(Debug)]
 #[must_use = "a place is given back when this is dropped"]
 pub struct Ticket(Limit);
 
 impl Limit {
-    /// Returns a limit of `most` at once.
+    /// Returns a limit of `most` concurrent uses. Its clones share the count.
+    ///
+    /// ```
+    /// let limit = arachne::Limit::new(1);
+    /// let other = limit.clone();
+    /// let _ticket = limit.enter();
+    /// assert!(other.enter().is_none());
+    /// ```
     #[must_use]
     pub fn new(most: usize) -> Limit {
         Limit(Arc::new((AtomicUsize::new(0), most)))
     }
 
-    /// Returns a place, or None if all are taken.
+    /// Takes a place, or returns None if all are taken.
+    ///
+    /// ```
+    /// let limit = arachne::Limit::new(100);
+    /// let answer = match limit.enter() {
+    ///     Some(_ticket) => "served",
+    ///     None => "busy, try again",
+    /// };
+    /// assert_eq!(answer, "served");
+    /// ```
     #[must_use]
     pub fn enter(&self) -> Option<Ticket> {
         let (count, most) = &*self.0;
@@ -240,7 +371,7 @@ impl Limit {
         entered.is_ok().then(|| Ticket(self.clone()))
     }
 
-    /// Returns how many there are now.
+    /// Returns the number of places that are taken; see the example at `Ticket`.
     #[must_use]
     pub fn count(&self) -> usize {
         self.0 .0.load(SeqCst)

@@ -1,43 +1,42 @@
-//! A worker's hand: the jobs that it has and does not run yet. Whoever is free takes of them at any time, whatever the
-//! worker does meanwhile.
+//! A worker's hand: its local queues of jobs. Other workers may steal from them at any time.
 
 use crate::core::Job;
 use crate::sync::atomic::{AtomicU64, Ordering::*};
 
-/// Jobs that were taken of another worker at once, at most.
+/// The most stolen jobs in a hand.
 pub(crate) const FIRST: usize = 8;
-/// Places of the line, a power of two.
+/// The length of the line, a power of two.
 pub(crate) const LINE: usize = 64;
 
-/// What a worker has in hand. It alone puts jobs there.
+/// The jobs in a worker's hand. Only that worker puts jobs there.
 #[derive(Default)]
 pub(crate) struct Hand {
     pub(crate) next: Next,
-    /// Jobs that were taken of other workers; they run before all others that are ready.
+    /// Stolen jobs. They run before all others that are ready.
     pub(crate) first: Jobs<FIRST>,
-    /// Jobs that run once what was ready before has run.
+    /// Jobs that run after those that were ready before them.
     pub(crate) line: Jobs<LINE>,
 }
 
 impl Hand {
-    /// Returns true if nothing is in hand.
+    /// Returns true if no job is in hand.
     pub(crate) fn is_empty(&self) -> bool {
         self.next.is_empty() && self.waits() == 0
     }
 
-    /// Returns how many jobs are in hand behind the next one.
+    /// Returns the number of jobs in hand behind the next one.
     pub(crate) fn waits(&self) -> usize {
         self.first.len() + self.line.len()
     }
 
-    /// Takes the job that would run first of those behind the next one; if `next`, that one too, as the last.
+    /// Takes the first of the jobs behind the next one. If there is none and `next` is true, takes the next one.
     pub(crate) fn take(&self, next: bool) -> Option<Job> {
         let behind = self.first.take(false).or_else(|| self.line.take(false));
         behind.or_else(|| if next { self.next.take(false) } else { None })
     }
 }
 
-/// A place for one job.
+/// Storage for one job.
 #[derive(Default)]
 struct Slot {
     name: AtomicU64,
@@ -59,12 +58,13 @@ impl Slot {
     }
 }
 
-/// Takes what a slot has, by a step of this count from `seen` on; Err, with the count, if another was quicker. If
-/// nobody else ever takes, `alone`, a plain step does.
+/// Takes the job of a slot by advancing `count` from `seen`. Returns the current count if another thread was quicker.
 ///
-/// The count only grows, and a slot is written again only once its worker has seen the step by which its job was taken.
-/// So whoever makes the step has read what was put there: it has seen the end of the put before, and what is put later
-/// is put after the step. What another has read meanwhile may be of both, and is dropped.
+/// If `alone`, no other thread ever takes, and a plain store suffices.
+///
+/// The slot must be read before the count is advanced. The count only grows, and the worker writes a slot again only
+/// after it has seen the advance by which its job was taken. So a thread that advances the count has read one whole
+/// job; what a slower thread has read may be a mixture of two, and is discarded.
 #[inline]
 fn take(count: &AtomicU64, seen: u64, slot: &Slot, alone: bool) -> Result<Job, u64> {
     let job = slot.get();
@@ -75,12 +75,13 @@ fn take(count: &AtomicU64, seen: u64, slot: &Slot, alone: bool) -> Result<Job, u
     count.compare_exchange(seen, seen + 1, AcqRel, Acquire).map(|_| job)
 }
 
-/// The job that runs next, if there is one. The worker whose hand it is puts it there, and any takes it. It is on cache
-/// lines of its own: its worker writes there at each wake, while others look at what is behind.
+/// The slot of the job that runs next. The hand's worker puts it there, and any thread takes it.
+///
+/// It is on cache lines of its own: its worker writes there at each wake, while others read the rest of the hand.
 #[derive(Default)]
 #[repr(align(128))]
 pub(crate) struct Next {
-    /// How often one was put or taken: it is odd while there is one.
+    /// The number of puts and takes; odd while there is a job.
     steps: AtomicU64,
     slot: Slot,
 }
@@ -91,7 +92,7 @@ impl Next {
         self.steps.load(Acquire) % 2 == 0
     }
 
-    /// Puts a job here. False, and nothing is done, while there is one.
+    /// Puts a job here. Returns false, and does nothing, if there is one already.
     #[inline]
     pub(crate) fn put(&self, job: Job) -> bool {
         let steps = self.steps.load(Acquire);
@@ -112,7 +113,7 @@ impl Next {
     }
 }
 
-/// Jobs in the order in which they run. The worker whose hand it is puts them there, and any takes them.
+/// A queue of jobs. The hand's worker puts them there, and any thread takes them.
 pub(crate) struct Jobs<const ROOM: usize> {
     taken: AtomicU64,
     put: AtomicU64,
@@ -138,7 +139,7 @@ impl<const ROOM: usize> Jobs<ROOM> {
         self.len() == 0
     }
 
-    /// Puts a job behind the others. False, and nothing is done, where there are `most`, or no room.
+    /// Puts a job at the end. Returns false, and does nothing, if there are `most` jobs already, or no room.
     #[inline]
     pub(crate) fn put(&self, job: Job, most: usize) -> bool {
         let (put, taken) = (self.put.load(Relaxed), self.taken.load(Acquire));

@@ -1,7 +1,8 @@
-//! A handle on a runtime, for kernel threads that may outlive it.
+//! A handle on a runtime, which may outlive it.
 
 use crate::runtime::{Runtime, Stats};
 use crate::shared::{here, Shared};
+use crate::spawn::Refused;
 use crate::sync::atomic::{AtomicU64, Ordering::*};
 use crate::sync::thread;
 use crate::task::{self, About, JoinHandle};
@@ -9,12 +10,14 @@ use std::fmt;
 use std::future::Future;
 use std::panic::Location;
 
-/// One call of a handle that is under way; the bits above it count how often the door was opened or closed.
+/// One call of a handle in progress. The bits from `TURN` on count how often the door was opened or closed.
 const CALL: u64 = 1;
 const TURN: u64 = 1 << 32;
 
-/// What lets calls of handles in while the runtime is there. What a runtime's kernel threads share goes to a later
-/// runtime, which the handles of this one must not reach: so each has the count of the turns at which it was made.
+/// Lets calls of handles in only while their runtime exists.
+///
+/// The state that a runtime's threads share is used again by a later runtime, which old handles must not reach. So a
+/// handle keeps the count of turns at which it was made.
 #[derive(Default)]
 pub(crate) struct Door(AtomicU64);
 
@@ -23,7 +26,7 @@ impl Door {
         self.0.fetch_add(TURN, SeqCst);
     }
 
-    /// Lets nobody in any more, and waits for those that are within.
+    /// Closes the door, and waits for the calls in progress.
     pub(crate) fn close(&self) {
         self.0.fetch_add(TURN, SeqCst);
         while self.0.load(SeqCst) % TURN != 0 {
@@ -35,7 +38,10 @@ impl Door {
         self.0.load(SeqCst) / TURN
     }
 
-    /// Calls within, if the door was not closed since so many turns and is open: by then that number is odd.
+    /// Makes a call, if the door is open and `turns` is its current count. The count is odd while it is open.
+    ///
+    /// The call must be counted before the turns are compared: `close` changes the turns first, and then waits for the
+    /// calls.
     fn within<T>(&self, turns: u64, call: impl FnOnce() -> T) -> Option<T> {
         struct Leave<'a>(&'a AtomicU64);
         impl Drop for Leave<'_> {
@@ -49,8 +55,9 @@ impl Door {
     }
 }
 
-/// A handle on a runtime that spawns from any kernel thread. What it spawns once the runtime has ended is dropped, and
-/// the task's handle tells `JoinError::Cancelled`.
+/// A handle on a runtime, by which any thread can spawn.
+///
+/// A task that it spawns after the runtime has ended is dropped at once, and fails with `JoinError::Cancelled`.
 ///
 /// ```
 /// let runtime = arachne::Runtime::new(2);
@@ -75,7 +82,13 @@ impl Handle {
         Handle { shared, turns: shared.door.turns() }
     }
 
-    /// Returns a handle on the runtime whose task, `block_on` or `enter` this is.
+    /// Returns a handle on the runtime of the calling task, `block_on` or `enter`.
+    ///
+    /// ```
+    /// let runtime = arachne::Runtime::new(1);
+    /// let handle = runtime.block_on(async { arachne::Handle::current() });
+    /// assert_eq!(arachne::block_on(handle.spawn(async { 42 })).unwrap(), 42);
+    /// ```
     ///
     /// # Panics
     /// Outside of a runtime.
@@ -85,13 +98,24 @@ impl Handle {
         Handle::try_current().expect("Handle::current outside of a runtime")
     }
 
-    /// As `current`, or None outside of a runtime.
+    /// Like `current`, or returns None outside of a runtime.
+    ///
+    /// ```
+    /// assert!(arachne::Handle::try_current().is_none());
+    /// assert!(arachne::Runtime::new(1).enter(|| arachne::Handle::try_current().is_some()));
+    /// ```
     #[must_use]
     pub fn try_current() -> Option<Handle> {
         here().map(Handle::of)
     }
 
-    /// Begins a task, as `Runtime::spawn`.
+    /// Spawns a task, as `Runtime::spawn` does.
+    ///
+    /// ```
+    /// let runtime = arachne::Runtime::new(1);
+    /// let task = runtime.handle().spawn(async { 42 });
+    /// assert_eq!(runtime.block_on(task).unwrap(), 42);
+    /// ```
     #[track_caller]
     pub fn spawn<F>(&self, future: F) -> JoinHandle<F::Output>
     where
@@ -106,7 +130,58 @@ impl Handle {
         }
     }
 
-    /// Runs a closure that may block, as `spawn_blocking`.
+    /// Spawns a task at the workers in turn, as the function `spawn_balanced` does.
+    ///
+    /// ```
+    /// let runtime = arachne::Runtime::new(2);
+    /// let task = runtime.handle().spawn_balanced(async { 42 });
+    /// assert_eq!(runtime.block_on(task).unwrap(), 42);
+    /// ```
+    #[track_caller]
+    pub fn spawn_balanced<F>(&self, future: F) -> JoinHandle<F::Output>
+    where
+        F: Future + Send + 'static,
+        F::Output: Send + 'static,
+    {
+        let (about, mut future) = (About { spawned: Location::caller(), name: None }, Some(future));
+        let begin = || future.take().map(|future| self.shared.spawn_task(future, about, true));
+        match self.shared.door.within(self.turns, begin).flatten() {
+            Some(handle) => handle,
+            None => cancelled(future.expect("a future that was not spawned"), about),
+        }
+    }
+
+    /// Spawns a task, or hands the future back if no place is free, if tasks already wait for one, or if the runtime
+    /// has ended.
+    ///
+    /// ```
+    /// let runtime = arachne::Runtime::new(1);
+    /// let handle = runtime.handle();
+    /// assert!(handle.try_spawn(async { 42 }).is_ok());
+    /// drop(runtime);
+    /// assert!(handle.try_spawn(async { 42 }).is_err());
+    /// ```
+    #[track_caller]
+    pub fn try_spawn<F>(&self, future: F) -> Result<JoinHandle<F::Output>, Refused<F>>
+    where
+        F: Future + Send + 'static,
+        F::Output: Send + 'static,
+    {
+        let (about, mut future) = (About { spawned: Location::caller(), name: None }, Some(future));
+        let begin = || future.take().map(|future| self.shared.try_spawn_task(future, about));
+        match self.shared.door.within(self.turns, begin).flatten() {
+            Some(spawned) => spawned,
+            None => Err(Refused(future.expect("a future that was not spawned"))),
+        }
+    }
+
+    /// Runs a closure that may block, as the function `spawn_blocking` does.
+    ///
+    /// ```
+    /// let runtime = arachne::Runtime::new(1);
+    /// let task = runtime.handle().spawn_blocking(|| std::fs::read_to_string("/proc/version"));
+    /// assert!(runtime.block_on(task).unwrap().is_ok());
+    /// ```
     #[track_caller]
     pub fn spawn_blocking<T: Send + 'static>(&self, work: impl FnOnce() -> T + Send + 'static) -> JoinHandle<T> {
         let (about, mut work) = (About { spawned: Location::caller(), name: None }, Some(work));
@@ -117,14 +192,22 @@ impl Handle {
         }
     }
 
-    /// Returns what the runtime's workers have counted until now, as `Runtime::stats`; nothing once it has ended.
+    /// Returns the counts of the workers until now, as `Runtime::stats` does; all zero once the runtime has ended.
+    ///
+    /// ```
+    /// let runtime = arachne::Runtime::new(2);
+    /// let handle = runtime.handle();
+    /// assert_eq!(handle.stats().workers.len(), 2);
+    /// drop(runtime);
+    /// assert_eq!(handle.stats().workers.len(), 0);
+    /// ```
     #[must_use]
     pub fn stats(&self) -> Stats {
         self.shared.door.within(self.turns, || Runtime::stats_of(self.shared)).unwrap_or_default()
     }
 }
 
-/// A task that has ended before it began.
+/// Returns the handle of a task that was cancelled before it began.
 fn cancelled<F>(future: F, about: About) -> JoinHandle<F::Output>
 where
     F: Future + Send + 'static,

@@ -1,4 +1,4 @@
-//! Ticks of a period.
+//! Intervals: ticks at a fixed period.
 
 use crate::block_on::poll_fn;
 use crate::sync::Instant;
@@ -8,22 +8,43 @@ use std::pin::Pin;
 use std::task::{Context, Poll};
 use std::time::Duration;
 
-/// A tick that comes later than that after its time was missed.
+/// A tick that comes this late counts as missed.
 const LATE: Duration = Duration::from_millis(5);
 
-/// What follows a tick that was missed.
+/// When the ticks after a missed one come; see `Interval::set_missed_tick_behavior`.
+///
+/// ```
+/// use arachne::MissedTickBehavior;
+/// use std::time::{Duration, Instant};
+/// arachne::Runtime::new(1).block_on(async {
+///     let mut interval = arachne::interval(Duration::from_millis(20));
+///     interval.set_missed_tick_behavior(MissedTickBehavior::Delay);
+///     interval.tick().await;
+///     std::thread::sleep(Duration::from_millis(100));
+///     interval.tick().await;              // at once, as it is late
+///     let late = Instant::now();
+///     interval.tick().await;              // a period later
+///     assert!(late.elapsed() >= Duration::from_millis(15));
+/// });
+/// ```
 #[derive(Clone, Copy, PartialEq, Eq, Debug, Default)]
 pub enum MissedTickBehavior {
-    /// The ticks that were missed, at once.
+    /// The missed ticks come at once, one after the other.
     #[default]
     Burst,
-    /// A tick a period later than the one that came late.
+    /// The next tick comes a period after the late one.
     Delay,
-    /// The next tick whose time is to come: those that were missed are left out.
+    /// The missed ticks are left out; the next comes at its original time.
     Skip,
 }
 
-/// Ticks of a period; see `interval`.
+/// Ticks at a fixed period; see `interval`.
+///
+/// ```
+/// use std::time::Duration;
+/// let mut each: arachne::Interval = arachne::Runtime::new(1).enter(|| arachne::interval(Duration::from_secs(1)));
+/// assert_eq!(each.period(), Duration::from_secs(1));
+/// ```
 #[derive(Debug)]
 pub struct Interval {
     sleep: Sleep,
@@ -32,7 +53,7 @@ pub struct Interval {
     missed: MissedTickBehavior,
 }
 
-/// Ticks at once, and then once each period.
+/// Returns an interval that ticks at once, and then once per `period`.
 ///
 /// ```
 /// use std::time::{Duration, Instant};
@@ -52,7 +73,16 @@ pub fn interval(period: Duration) -> Interval {
     interval_at(Instant::now(), period)
 }
 
-/// Ticks at `start`, and then once each period.
+/// Returns an interval that ticks at `start`, and then once per `period`.
+///
+/// ```
+/// use std::time::{Duration, Instant};
+/// let start = Instant::now() + Duration::from_millis(5);
+/// arachne::Runtime::new(1).block_on(async {
+///     assert_eq!(arachne::interval_at(start, Duration::from_millis(1)).tick().await, start);
+/// });
+/// assert!(Instant::now() >= start);
+/// ```
 ///
 /// # Panics
 /// If the period is zero.
@@ -63,12 +93,22 @@ pub fn interval_at(start: Instant, period: Duration) -> Interval {
 }
 
 impl Interval {
-    /// Waits for the next tick; returns the time at which it was due. No tick is lost if this future is dropped.
+    /// Waits for the next tick, and returns the time at which it was due.
+    ///
+    /// No tick is lost if this future is dropped. See the example at `interval`.
     pub async fn tick(&mut self) -> Instant {
         poll_fn(|cx: &mut Context<'_>| self.poll_tick(cx)).await
     }
 
-    /// As `tick`, by a poll. The task that polled last is woken.
+    /// Polls for the next tick; see `tick`. Only the task that polled last is woken.
+    ///
+    /// ```
+    /// use std::time::Duration;
+    /// arachne::Runtime::new(1).block_on(async {
+    ///     let mut interval = arachne::interval(Duration::from_millis(1));
+    ///     arachne::poll_fn(|cx| interval.poll_tick(cx)).await;
+    /// });
+    /// ```
     pub fn poll_tick(&mut self, cx: &mut Context<'_>) -> Poll<Instant> {
         if Pin::new(&mut self.sleep).poll(cx).is_pending() {
             return Poll::Pending;
@@ -95,18 +135,29 @@ impl Interval {
         Pin::new(&mut self.sleep).reset(due);
     }
 
-    /// The next tick comes a period from now.
+    /// Sets the next tick to a period from now.
+    ///
+    /// ```
+    /// use std::time::{Duration, Instant};
+    /// arachne::Runtime::new(1).block_on(async {
+    ///     let mut interval = arachne::interval(Duration::from_millis(5));
+    ///     let begin = Instant::now();
+    ///     interval.reset();                   // without it the first tick comes at once
+    ///     interval.tick().await;
+    ///     assert!(begin.elapsed() >= Duration::from_millis(5));
+    /// });
+    /// ```
     pub fn reset(&mut self) {
         self.set(Instant::now() + self.period);
     }
 
-    /// Returns the period.
+    /// Returns the period; see the example at `Interval`.
     #[must_use]
     pub fn period(&self) -> Duration {
         self.period
     }
 
-    /// Sets what follows a tick that was missed.
+    /// Sets when the ticks after a missed one come: `Burst` by default. See the example at `MissedTickBehavior`.
     pub fn set_missed_tick_behavior(&mut self, behavior: MissedTickBehavior) {
         self.missed = behavior;
     }

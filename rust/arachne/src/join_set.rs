@@ -1,4 +1,4 @@
-//! A set of tasks, whose outputs come in the order in which the tasks end.
+//! A set of tasks, whose outputs are returned in the order in which the tasks end.
 
 use crate::block_on::poll_fn;
 use crate::reactor::Slot;
@@ -11,13 +11,13 @@ use std::fmt;
 use std::future::Future;
 use std::task::{Context, Poll, Wake, Waker};
 
-/// The numbers of tasks that have ended, and who waits for one.
+/// The numbers of the tasks that have ended, and the waker of the task that waits for one.
 struct Ended {
     numbers: Mutex<VecDeque<u64>>,
     waits: Slot,
 }
 
-/// The waker that a task's handle has.
+/// The waker in a task's handle: it records that the task has ended.
 struct Tells {
     number: u64,
     ended: Arc<Ended>,
@@ -33,7 +33,7 @@ impl Wake for Tells {
     }
 }
 
-/// Tasks whose outputs are of one type. Dropped, it aborts those that have not ended.
+/// A set of tasks whose outputs have one type. Dropping it aborts those that have not ended.
 ///
 /// ```
 /// let runtime = arachne::Runtime::new(2);
@@ -67,7 +67,13 @@ impl<T> Default for JoinSet<T> {
 }
 
 impl<T> JoinSet<T> {
-    /// Returns a set without tasks.
+    /// Returns an empty set.
+    ///
+    /// ```
+    /// let mut tasks = arachne::JoinSet::<u32>::new();
+    /// assert!(tasks.is_empty() && tasks.len() == 0);
+    /// assert!(arachne::block_on(tasks.join_next()).is_none());
+    /// ```
     #[must_use]
     pub fn new() -> JoinSet<T> {
         let table = here().map_or(usize::MAX, |shared| shared.table);
@@ -75,19 +81,28 @@ impl<T> JoinSet<T> {
         JoinSet { tasks: BTreeMap::new(), made: 0, ended }
     }
 
-    /// Returns the number of tasks whose output was not taken.
+    /// Returns the number of tasks whose output has not been taken; see the example at `new`.
     #[must_use]
     pub fn len(&self) -> usize {
         self.tasks.len()
     }
 
-    /// Returns true if there is no such task.
+    /// Returns true if there is no such task; see the example at `new`.
     #[must_use]
     pub fn is_empty(&self) -> bool {
         self.tasks.is_empty()
     }
 
-    /// Begins a task of this set, as `spawn` does.
+    /// Spawns a task of this set, as the function `spawn` does.
+    ///
+    /// ```
+    /// arachne::Runtime::new(1).block_on(async {
+    ///     let mut tasks = arachne::JoinSet::new();
+    ///     let handle = tasks.spawn(std::future::pending::<()>());
+    ///     handle.abort();
+    ///     assert!(tasks.join_next().await.unwrap().unwrap_err().is_cancelled());
+    /// });
+    /// ```
     ///
     /// # Panics
     /// Outside of a runtime.
@@ -108,13 +123,23 @@ impl<T> JoinSet<T> {
         handle
     }
 
-    /// Returns the output of a task that has ended, which is no longer of the set, once there is one; None if the set
-    /// is empty. No output is lost if this future is dropped.
+    /// Waits until a task has ended, removes it and returns its output; returns None if the set is empty.
+    ///
+    /// No output is lost if this future is dropped. See the example at `JoinSet`.
     pub async fn join_next(&mut self) -> Option<Result<T, JoinError>> {
         poll_fn(|cx: &mut Context<'_>| self.poll_join_next(cx)).await
     }
 
-    /// As `join_next`, by a poll. The task that polled last is woken.
+    /// Polls for the output of a task that has ended; see `join_next`. Only the task that polled last is woken.
+    ///
+    /// ```
+    /// arachne::Runtime::new(1).block_on(async {
+    ///     let mut tasks = arachne::JoinSet::new();
+    ///     tasks.spawn(async { 42 });
+    ///     let output = arachne::poll_fn(|cx| tasks.poll_join_next(cx)).await;
+    ///     assert_eq!(output.unwrap().unwrap(), 42);
+    /// });
+    /// ```
     pub fn poll_join_next(&mut self, cx: &mut Context<'_>) -> Poll<Option<Result<T, JoinError>>> {
         if let Some(output) = self.try_join_next() {
             return Poll::Ready(Some(output));
@@ -123,19 +148,27 @@ impl<T> JoinSet<T> {
             return Poll::Ready(None);
         }
         self.ended.waits.set(cx.waker());
-        // One may have ended before it could see who waits.
+        // Checked again with the waker in place: a task may have ended before it could see it.
         match self.try_join_next() {
             Some(output) => Poll::Ready(Some(output)),
             None => Poll::Pending,
         }
     }
 
-    /// As `join_next`, or None if no task has ended that was not joined.
+    /// Like `join_next`, but returns None if no task has ended.
+    ///
+    /// ```
+    /// arachne::Runtime::new(1).block_on(async {
+    ///     let mut tasks = arachne::JoinSet::new();
+    ///     tasks.spawn(std::future::pending::<()>());
+    ///     assert!(tasks.try_join_next().is_none());
+    /// });
+    /// ```
     #[must_use]
     pub fn try_join_next(&mut self) -> Option<Result<T, JoinError>> {
         loop {
             let number = self.ended.numbers.lock().unwrap().pop_front()?;
-            // One that was detached isn't of the set any more.
+            // A task that was detached is no longer in the set.
             if let Some(task) = self.tasks.remove(&number) {
                 return task.output();
             }
@@ -143,17 +176,46 @@ impl<T> JoinSet<T> {
     }
 
     /// Aborts all tasks of the set. They stay in it until they are joined.
+    ///
+    /// ```
+    /// arachne::Runtime::new(1).block_on(async {
+    ///     let mut tasks = arachne::JoinSet::new();
+    ///     tasks.spawn(std::future::pending::<()>());
+    ///     tasks.abort_all();
+    ///     assert!(tasks.join_next().await.unwrap().is_err());
+    /// });
+    /// ```
     pub fn abort_all(&mut self) {
         self.tasks.values().for_each(JoinHandle::abort);
     }
 
     /// Aborts all tasks of the set, and waits until they have ended.
+    ///
+    /// ```
+    /// arachne::Runtime::new(1).block_on(async {
+    ///     let mut tasks = arachne::JoinSet::new();
+    ///     tasks.spawn(std::future::pending::<()>());
+    ///     tasks.shutdown().await;
+    ///     assert!(tasks.is_empty());
+    /// });
+    /// ```
     pub async fn shutdown(&mut self) {
         self.abort_all();
         while self.join_next().await.is_some() {}
     }
 
-    /// Lets all tasks run on, without the set.
+    /// Removes all tasks from the set without aborting them.
+    ///
+    /// ```
+    /// arachne::Runtime::new(1).block_on(async {
+    ///     let (sender, receiver) = arachne::channel(1);
+    ///     let mut tasks = arachne::JoinSet::new();
+    ///     tasks.spawn(async move { sender.send(42).await });
+    ///     tasks.detach_all();
+    ///     drop(tasks);
+    ///     assert_eq!(receiver.recv().await, Some(42));
+    /// });
+    /// ```
     pub fn detach_all(&mut self) {
         self.tasks.clear();
     }

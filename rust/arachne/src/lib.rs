@@ -6,19 +6,44 @@
 //! assert_eq!(runtime.block_on(task).unwrap(), 42);
 //! ```
 //!
-//! What is proved is the core: that no two handles have one task in hand, that a waker of a task that has ended wakes
-//! no other, that a task which is ready is shown whenever no call is under way. This crate, which says who uses which
-//! handle, is only tested. `docs/rust.md` says which rules it has to keep for the core's promises to reach a program.
+//! A server that echoes:
+//!
+//! ```no_run
+//! use arachne::net::{TcpListener, TcpStream};
+//!
+//! async fn echo(stream: TcpStream) -> std::io::Result<()> {
+//!     let mut buffer = [0; 4096];
+//!     loop {
+//!         match stream.read(&mut buffer).await? {
+//!             0 => return Ok(()),
+//!             len => stream.write_all(&buffer[..len]).await?,
+//!         }
+//!     }
+//! }
+//!
+//! fn main() -> std::io::Result<()> {
+//!     let listener = TcpListener::bind("127.0.0.1:7000")?;
+//!     arachne::Runtime::new(arachne::available_cores()).block_on(async {
+//!         loop {
+//!             arachne::spawn_balanced(echo(listener.accept().await?.0));
+//!         }
+//!     })
+//! }
+//! ```
+//!
+//! The core is proved: no two handles have one task in hand, a waker of a task that has ended wakes no other task, and
+//! a ready task is visible to the workers whenever no call is in progress. This crate decides which thread uses which
+//! handle, and is only tested. `docs/rust.md` lists the rules that it must keep for the proofs to apply to a program.
 //!
 //! Most names are tokio's, or std's. Outside of a runtime `spawn` and a sleep panic, and a socket that has to wait
-//! returns an error: they belong in a task, or in `Runtime::block_on`. Linux, 64 bits, rustc 1.63 or later.
+//! returns an error: use them in a task, or in `Runtime::block_on`. Linux, 64 bits, rustc 1.63 or later.
 //!
-//! | Feature | What |
+//! | Feature | Meaning |
 //! |---|---|
-//! | (none) | links the proved core, of the folder that `ARACHNE_LIBS` names: `libarachne_exec_c.a`, `liblibc_c.a` |
-//! | `model` | the core's steps by hand in its place: it needs no archive, and it is **not** the proved code |
+//! | (none) | links the proved core: the archives in the folder above the crate, or in that of `ARACHNE_LIBS` |
+//! | `model` | the core's steps written by hand instead: needs no archive, and is **not** the proved code |
 //! | `tokio-io` | tokio's `AsyncRead` and `AsyncWrite` for `net::TcpStream` and `net::UnixStream` |
-//! | `futures-io` | the same of futures-io |
+//! | `futures-io` | those of futures-io |
 
 #![cfg(all(target_os = "linux", target_pointer_width = "64"))]
 #![deny(missing_docs)]
@@ -65,6 +90,6 @@ pub use runtime::{Builder, Runtime, Stats, WorkerStats};
 pub use semaphore::{Acquire, AcquireError, OwnedSemaphorePermit, Semaphore, SemaphorePermit, TryAcquireError};
 #[cfg(feature = "explore")]
 pub use shared::{forget_runtimes, forget_thread, set_active};
-pub use spawn::{spawn, spawn_background, spawn_balanced, spawn_named, Refused};
+pub use spawn::{spawn, spawn_background, spawn_balanced, spawn_named, try_spawn, Refused};
 pub use task::{AbortHandle, About, JoinError, JoinHandle, Label, Panic};
 pub use timer::{sleep, sleep_until, timeout, Elapsed, Sleep, Timeout};

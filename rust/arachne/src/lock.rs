@@ -1,4 +1,4 @@
-//! A lock for tasks and threads: the core says who holds it and who is next, which is whoever waits longest.
+//! A lock for tasks and threads. The core decides who holds it, and who is next: the one that waits longest.
 
 use crate::core::{Asked, Freed, LockCore};
 use crate::reactor::Slot;
@@ -12,13 +12,15 @@ use std::ops::{Deref, DerefMut};
 use std::pin::Pin;
 use std::task::{Context, Poll};
 
-/// One that waits. The line has a count of it, as a number.
+/// A waiter. The core's queue has a reference count of it, as a number.
 struct Node {
     granted: AtomicBool,
     slot: Slot,
 }
 
-/// A value that one holder at a time has. Its guard may be held while a task waits.
+/// A lock around a value, for tasks and threads. Its guard may be held across `await`.
+///
+/// Waiters get it in the order in which they asked for it.
 ///
 /// ```
 /// use std::sync::Arc;
@@ -39,13 +41,19 @@ unsafe impl<T: ?Sized + Send> Send for Lock<T> {}
 unsafe impl<T: ?Sized + Send> Sync for Lock<T> {}
 
 impl<T> Lock<T> {
-    /// A lock that nobody holds.
+    /// Returns a lock that is free.
+    ///
+    /// ```
+    /// let lock = arachne::Lock::new(vec![1, 2]);
+    /// arachne::block_on(async { lock.lock().await.push(3) });
+    /// assert_eq!(lock.into_inner(), [1, 2, 3]);
+    /// ```
     #[must_use]
     pub fn new(value: T) -> Lock<T> {
         Lock { core: LockCore::default(), value: UnsafeCell::new(value) }
     }
 
-    /// Returns the value. Nobody can hold the lock.
+    /// Returns the value; see the example at `new`.
     pub fn into_inner(self) -> T {
         self.value.into_inner()
     }
@@ -64,18 +72,36 @@ impl<T: ?Sized> fmt::Debug for Lock<T> {
 }
 
 impl<T: ?Sized> Lock<T> {
-    /// Waits for the lock. A future that is dropped while it waits leaves the line.
+    /// Waits for the lock, in line. A future that is dropped while it waits leaves the line.
+    ///
+    /// ```
+    /// let lock = arachne::Lock::new(1);
+    /// let guard = arachne::block_on(lock.lock());
+    /// assert_eq!(*guard, 1);
+    /// ```
     pub fn lock(&self) -> Locking<'_, T> {
         Locking { lock: self, node: None }
     }
 
-    /// Takes the lock, if it is free.
+    /// Takes the lock if it is free, or returns None.
+    ///
+    /// ```
+    /// let lock = arachne::Lock::new(1);
+    /// let guard = lock.try_lock();
+    /// assert!(guard.is_some() && lock.try_lock().is_none());
+    /// ```
     #[must_use]
     pub fn try_lock(&self) -> Option<Guard<'_, T>> {
         self.core.try_ask().map(|who| Guard { lock: self, who, _node: None })
     }
 
-    /// Returns the value without taking the lock: nobody else has a reference to it.
+    /// Returns the value without taking the lock, which nobody else has a reference to.
+    ///
+    /// ```
+    /// let mut lock = arachne::Lock::new(1);
+    /// *lock.get_mut() += 1;
+    /// assert_eq!(lock.into_inner(), 2);
+    /// ```
     pub fn get_mut(&mut self) -> &mut T {
         self.value.get_mut()
     }
@@ -83,10 +109,10 @@ impl<T: ?Sized> Lock<T> {
     fn free(&self, who: u64) {
         if let Freed::HandedOn(next) = self.core.free(who) {
             if next % 2 == 1 {
-                // One that didn't want to wait, and is about to see that it has the lock.
+                // A `try_ask` that is withdrawing: it is about to see that it holds the lock.
                 return;
             }
-            // SAFETY: whoever was queued left a count of its node for whoever hands the lock on to it.
+            // SAFETY: a waiter leaves a count of its node with the core, for the holder that hands the lock on to it.
             let node = unsafe { Arc::from_raw(next as usize as *const Node) };
             node.granted.store(true, SeqCst);
             node.slot.wake();
@@ -94,7 +120,13 @@ impl<T: ?Sized> Lock<T> {
     }
 }
 
-/// A future of a lock's guard; see `Lock::lock`.
+/// The future of `Lock::lock`.
+///
+/// ```
+/// let lock = arachne::Lock::new(1);
+/// let waits: arachne::Locking<'_, u32> = lock.lock();
+/// assert_eq!(*arachne::block_on(waits), 1);
+/// ```
 #[must_use = "a lock is taken once its future is awaited"]
 pub struct Locking<'a, T: ?Sized> {
     lock: &'a Lock<T>,
@@ -134,7 +166,7 @@ impl<'a, T: ?Sized> Future for Locking<'a, T> {
                 Poll::Pending
             }
             Asked::Granted => {
-                // SAFETY: the count that was left above, which nobody was told of.
+                // SAFETY: the count that was left above; the core has not kept it, as nobody had to wait.
                 drop(unsafe { Arc::from_raw(who) });
                 Poll::Ready(Guard { lock, who: who as usize as u64, _node: Some(node) })
             }
@@ -147,21 +179,29 @@ impl<T: ?Sized> Drop for Locking<'_, T> {
         if let Some(node) = self.node.take() {
             let who = Arc::as_ptr(&node);
             if self.lock.core.withdraw(who as usize as u64) {
-                // SAFETY: the count that the line had, which has left it.
+                // SAFETY: the count that the core's queue had; the waiter has left the queue.
                 drop(unsafe { Arc::from_raw(who) });
             } else {
-                // It was handed the lock meanwhile.
+                // The lock was handed to it meanwhile, so it must be freed.
                 self.lock.free(who as usize as u64);
             }
         }
     }
 }
 
-/// The value of a lock, which is held until this is dropped.
+/// Access to the value of a lock, which is held until this is dropped.
+///
+/// ```
+/// let lock = arachne::Lock::new(1);
+/// let mut guard: arachne::Guard<'_, u32> = lock.try_lock().unwrap();
+/// *guard += 1;
+/// drop(guard);
+/// assert_eq!(*lock.try_lock().unwrap(), 2);
+/// ```
 pub struct Guard<'a, T: ?Sized> {
     lock: &'a Lock<T>,
     who: u64,
-    /// Its address is the holder's name, so nobody else may get it.
+    /// Keeps the node's address, which is the holder's name in the core, from being used by another node.
     _node: Option<Arc<Node>>,
 }
 // SAFETY: it is the value's one holder, on whatever thread.

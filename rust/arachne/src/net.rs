@@ -1,7 +1,26 @@
-//! Sockets and other descriptors over the runtime's reactor. One belongs to the runtime where it first has to wait.
+//! Sockets and other descriptors over the runtime's epoll. A socket belongs to the runtime in which it first waits.
 //!
-//! Names are std's: `bind` and `from_std` don't wait, so they aren't `async`; and reads and writes take `&self`, so one
-//! task may read (by an `Arc`, say) while another writes.
+//! Names are std's. `bind` and `from_std` don't wait, so they aren't `async`. Reads and writes take `&self`, so tasks
+//! may share a socket (by an `Arc`, say). Any number of them may wait for it in its methods; an event wakes all. Of
+//! several tasks that call a `poll_` function of one direction, or read by the traits of tokio or futures-io, only the
+//! last one is woken.
+//!
+//! Futures of single operations, such as `read`, `write`, `accept` and `recv_from`, lose nothing if they are dropped.
+//! `read_exact` and `write_all` may have moved a part of the bytes by then.
+//!
+//! ```
+//! use arachne::net::{TcpListener, TcpStream};
+//! # fn main() -> std::io::Result<()> {
+//! let runtime = arachne::Runtime::new(2);
+//! let listener = TcpListener::bind("127.0.0.1:0")?;
+//! let at = listener.local_addr()?;
+//! let server = runtime.spawn(async move { listener.accept().await?.0.write_all(b"hello").await });
+//! let mut buffer = [0; 5];
+//! runtime.block_on(async { TcpStream::connect(at).await?.read_exact(&mut buffer).await })?;
+//! assert_eq!(&buffer, b"hello");
+//! runtime.block_on(server)?
+//! # }
+//! ```
 
 use crate::block_on::poll_fn;
 use crate::drain::is_stopping;
@@ -14,7 +33,7 @@ use crate::waker::is_of_running;
 use std::fmt;
 use std::future::Future;
 use std::io::{self, ErrorKind::WouldBlock, IoSlice, Read, Write};
-use std::net::Shutdown;
+use std::net::{Shutdown, SocketAddr, ToSocketAddrs};
 use std::os::unix::io::{AsFd, AsRawFd, BorrowedFd, RawFd};
 use std::pin::Pin;
 use std::task::{Context, Poll, Waker};
@@ -33,11 +52,40 @@ struct Registered {
     key: Key,
 }
 
-/// A descriptor's reactor, once it has one.
+/// A descriptor, and its entry in a reactor once it has one.
 struct Registration {
     fd: RawFd,
     at: once::Once<Registered>,
     registering: Mutex<()>,
+}
+
+/// The part of a future that waits for a socket to read or to write, as any number may at once.
+struct Waiting<'a, const READS: bool> {
+    of: &'a Registration,
+    key: u64,
+}
+
+impl<const READS: bool> Waiting<'_, READS> {
+    #[inline]
+    fn join(&mut self, io: &Io, waker: &Waker) {
+        if READS { &io.readers } else { &io.writers }.join(&mut self.key, waker);
+    }
+
+    #[inline(never)]
+    fn leave(&self) {
+        if let Some(at) = self.of.at.get() {
+            if READS { &at.io.readers } else { &at.io.writers }.leave(self.key);
+        }
+    }
+}
+
+impl<const READS: bool> Drop for Waiting<'_, READS> {
+    #[inline]
+    fn drop(&mut self) {
+        if self.key != 0 {
+            self.leave();
+        }
+    }
 }
 
 impl Drop for Registration {
@@ -54,14 +102,14 @@ struct Source<S: AsRawFd> {
     socket: S,
 }
 
-/// A value that is written once.
+/// A cell that is written once.
 mod once {
     use crate::sync::atomic::{AtomicPtr, Ordering::*};
     use std::ptr;
 
     pub(super) struct Once<T>(AtomicPtr<T>);
 
-    // SAFETY: as of a `Box<T>` that is shared once it is written.
+    // SAFETY: as for a `Box<T>` that is shared once it is written.
     unsafe impl<T: Send + Sync> Sync for Once<T> {}
     // SAFETY: the same.
     unsafe impl<T: Send> Send for Once<T> {}
@@ -77,7 +125,7 @@ mod once {
             unsafe { self.0.load(Acquire).as_ref() }
         }
 
-        /// The value, where none was written before.
+        /// Writes the value, unless one was written before.
         pub(super) fn set(&self, value: T) {
             let value = Box::into_raw(Box::new(value));
             if self.0.compare_exchange(ptr::null_mut(), value, AcqRel, Acquire).is_err() {
@@ -91,16 +139,17 @@ mod once {
         fn drop(&mut self) {
             let value = *self.0.get_mut();
             if !value.is_null() {
-                // SAFETY: from `into_raw` in `set`, and freed here alone.
+                // SAFETY: from `into_raw` in `set`, and only freed here.
                 drop(unsafe { Box::from_raw(value) });
             }
         }
     }
 }
 
-/// Whether a read may be made here. In a poll of a task there is one, and more until its worker is to look out. Nothing
-/// is put off once the end has begun, nor for a waker that isn't the task's: its poll gives no worker back
-/// (`block_on`).
+/// Returns true if the current poll may read now; if not, the task yields to its worker first.
+///
+/// A poll may always make one read, and more until its worker's next look is due. No read is put off once the runtime's
+/// end has begun, nor under a waker that isn't the task's own, whose poll doesn't return to the worker (`block_on`).
 #[inline]
 fn may_read(waker: &Waker) -> bool {
     Worker::with(|worker| match worker {
@@ -115,11 +164,12 @@ impl<S: AsRawFd> Source<S> {
         Source { of, socket }
     }
 
-    /// The socket, which no reactor knows any more.
+    /// Returns the socket, removed from its reactor.
     fn into_inner(self) -> S {
         self.socket
     }
 
+    /// Returns the entry in the reactor; makes it at the first call, in the current runtime.
     fn registered(&self) -> io::Result<&Registered> {
         let Registration { at, registering, .. } = &self.of;
         if let Some(at) = at.get() {
@@ -135,16 +185,54 @@ impl<S: AsRawFd> Source<S> {
         Ok(at.get().expect("registered"))
     }
 
-    /// Tries until the descriptor isn't ready. `len` is the room of the try: one that moved less has emptied it, as
-    /// epoll's page has it.
+    #[inline]
+    fn waiting<const READS: bool>(&self) -> Waiting<'_, READS> {
+        Waiting { of: &self.of, key: 0 }
+    }
+
+    /// Waits until an attempt of the operation returns anything but `WouldBlock`; see `attempt`.
+    #[inline]
+    fn wait<'a, const READS: bool, T>(
+        &'a self,
+        len: usize,
+        mut attempt: impl FnMut(&S) -> io::Result<T> + 'a,
+        moved: impl Fn(&T) -> usize + 'a,
+    ) -> impl Future<Output = io::Result<T>> + 'a
+    where
+        T: 'a,
+    {
+        let mut waiting = self.waiting::<READS>();
+        poll_fn(move |cx: &mut Context<'_>| {
+            self.attempt(cx, READS, len, &mut attempt, &moved, |io, waker| waiting.join(io, waker))
+        })
+    }
+
+    /// Polls the operation; see `attempt`. Of several tasks that poll one direction the last one is woken.
     #[inline]
     fn poll<T>(
         &self,
         cx: &mut Context<'_>,
         reads: bool,
         len: usize,
+        attempt: impl FnMut(&S) -> io::Result<T>,
+        moved: impl Fn(&T) -> usize,
+    ) -> Poll<io::Result<T>> {
+        self.attempt(cx, reads, len, attempt, moved, |io, waker| if reads { &io.reader } else { &io.writer }.set(waker))
+    }
+
+    /// Attempts an operation as long as the descriptor is ready; otherwise calls `register` and returns `Pending`.
+    ///
+    /// `len` is the size of the buffer. An attempt that `moved` fewer bytes has emptied the socket (or filled it), so
+    /// that the descriptor is no longer ready (see epoll(7)).
+    #[inline]
+    fn attempt<T>(
+        &self,
+        cx: &mut Context<'_>,
+        reads: bool,
+        len: usize,
         mut attempt: impl FnMut(&S) -> io::Result<T>,
         moved: impl Fn(&T) -> usize,
+        mut register: impl FnMut(&Io, &Waker),
     ) -> Poll<io::Result<T>> {
         let may_read = || !reads || may_read(cx.waker());
         let at = match self.of.at.get() {
@@ -160,16 +248,16 @@ impl<S: AsRawFd> Source<S> {
             },
         };
         let io = &at.io;
-        let (ready, closed, slot) =
-            if reads { (READ, READ_CLOSED, &io.reader) } else { (WRITE, WRITE_CLOSED, &io.writer) };
+        let (ready, closed) = if reads { (READ, READ_CLOSED) } else { (WRITE, WRITE_CLOSED) };
         let mut state = io.state.load(Acquire);
         let mut untold = false;
         loop {
             if state & (ready | closed) == 0 {
-                slot.set(cx.waker());
+                // Before the state is read again: an event changes the state, and then wakes who is registered.
+                register(io, cx.waker());
                 state = io.state.load(SeqCst);
                 if state & (ready | closed) == 0 {
-                    // Once the end has begun, what has come and nobody was told of yet is read too.
+                    // Once the end has begun, one attempt reads data whose event has not been delivered yet.
                     if untold || !reads || !at.shared.draining.has_begun() {
                         return Poll::Pending;
                     }
@@ -196,44 +284,64 @@ impl<S: AsRawFd> Source<S> {
     }
 }
 
-/// The number of connections that may wait to be accepted. std asks for 128; one beyond tries again after a second.
+/// Looks up a host's addresses, on the runtime's blocking pool.
+///
+/// ```
+/// # fn main() -> std::io::Result<()> {
+/// let lookup = arachne::net::lookup_host("localhost:80");
+/// let found = arachne::Runtime::new(1).block_on(lookup)?;
+/// assert!(found.into_iter().all(|address| address.ip().is_loopback() && address.port() == 80));
+/// # Ok(())
+/// # }
+/// ```
+///
+/// # Panics
+/// Outside of a runtime.
+pub async fn lookup_host(host: impl ToSocketAddrs + Send + 'static) -> io::Result<Vec<SocketAddr>> {
+    crate::spawn_blocking(move || host.to_socket_addrs().map(Iterator::collect)).await?
+}
+
+/// The backlog of a listener. std has 128; a client beyond it tries again after a second.
 const BACKLOG: i32 = 4096;
 
-/// Accepts by that call. Once the end has begun and nobody waits to be accepted, an error.
+/// Polls for a connection. Fails once the end has begun and all who had connected are accepted.
 fn poll_accept<S: AsRawFd, T>(
     listener: &Source<S>,
     cx: &mut Context<'_>,
+    waiting: &mut Waiting<'_, true>,
     accept: impl Fn(&S) -> io::Result<T>,
 ) -> Poll<io::Result<T>> {
     loop {
         let was_stopping = is_stopping();
-        let polled = listener.poll(cx, true, usize::MAX, &accept, |_| usize::MAX);
+        let register = |io: &Io, waker: &Waker| waiting.join(io, waker);
+        let polled = listener.attempt(cx, true, usize::MAX, &accept, |_| usize::MAX, register);
         if polled.is_ready() || !is_stopping() {
             return polled;
         }
         if was_stopping {
-            // Whoever had connected before was accepted.
+            // All who had connected before are accepted.
             return Poll::Ready(Err(io::Error::new(io::ErrorKind::Other, "the runtime is about to end")));
         }
-        // The end began meanwhile. The try may have been put off, so there is one more, which isn't.
+        // The end began during the attempt, which may have been put off. The next one isn't.
     }
 }
 
-/// As `poll_accept`, woken when the end begins too.
+/// Waits for a connection; also woken when the end begins.
 async fn accept<S: AsRawFd, T>(listener: &Source<S>, accept: impl Fn(&S) -> io::Result<T>) -> io::Result<T> {
-    let mut stopping = crate::drain::stopping();
+    let (mut stopping, mut waiting) = (crate::drain::stopping(), listener.waiting());
     poll_fn(|cx: &mut Context<'_>| {
-        let polled = poll_accept(listener, cx, &accept);
+        let polled = poll_accept(listener, cx, &mut waiting, &accept);
         if polled.is_pending() && Pin::new(&mut stopping).poll(cx).is_ready() {
-            return poll_accept(listener, cx, &accept);
+            return poll_accept(listener, cx, &mut waiting, &accept);
         }
         polled
     })
     .await
 }
 
-/// Any descriptor that epoll can watch: a pipe, an eventfd, a socket of a kind that has no type here. Its reads and
-/// writes are calls of `S` that return `WouldBlock` where they would wait.
+/// Any descriptor that epoll can watch: a pipe, an eventfd, a socket of a kind that has no type here.
+///
+/// Its reads and writes are calls of `S` that return `WouldBlock` instead of waiting.
 ///
 /// ```
 /// use std::{io::{Read, Write}, os::unix::net::UnixStream};
@@ -249,43 +357,89 @@ async fn accept<S: AsRawFd, T>(listener: &Source<S>, accept: impl Fn(&S) -> io::
 pub struct Async<S: AsRawFd>(Source<S>);
 
 impl<S: AsRawFd> Async<S> {
-    /// Takes a descriptor, which doesn't block from then on. It is to stay the same for as long as this has it.
+    /// Takes a descriptor, and makes it non-blocking. `source` must keep the same descriptor.
+    ///
+    /// ```
+    /// # fn main() -> std::io::Result<()> {
+    /// let (near, _far) = std::os::unix::net::UnixStream::pair()?;
+    /// let near = arachne::net::Async::new(near)?;
+    /// let now = std::io::Read::read(&mut near.get_ref(), &mut [0; 5]);
+    /// assert_eq!(now.unwrap_err().kind(), std::io::ErrorKind::WouldBlock);
+    /// # Ok(())
+    /// # }
+    /// ```
     pub fn new(source: S) -> io::Result<Async<S>> {
         sys::set_nonblocking(source.as_raw_fd())?;
         Ok(Async(Source::new(source)))
     }
 
-    /// Returns what was taken, for calls that don't wait.
+    /// Returns the inner value, for calls that don't wait; see the example at `new`.
     pub fn get_ref(&self) -> &S {
         &self.0.socket
     }
 
-    /// Gives back what was taken, which still doesn't block.
+    /// Returns the inner value, which stays non-blocking.
+    ///
+    /// ```
+    /// # fn main() -> std::io::Result<()> {
+    /// let (near, _far) = std::os::unix::net::UnixStream::pair()?;
+    /// let near = arachne::net::Async::new(near)?.into_inner();
+    /// near.set_nonblocking(false)?;
+    /// # Ok(())
+    /// # }
+    /// ```
     pub fn into_inner(self) -> S {
         self.0.into_inner()
     }
 
-    /// Calls this until it returns something other than `WouldBlock`, each time once there is something to read.
-    pub async fn read_with<T>(&self, mut attempt: impl FnMut(&S) -> io::Result<T>) -> io::Result<T> {
-        poll_fn(|cx: &mut Context<'_>| self.poll_read_with(cx, &mut attempt)).await
+    /// Calls `attempt` whenever there may be something to read, until it returns anything but `WouldBlock`.
+    ///
+    /// See the example at `Async`.
+    pub async fn read_with<T>(&self, attempt: impl FnMut(&S) -> io::Result<T>) -> io::Result<T> {
+        // The number of bytes moved isn't known, so the descriptor counts as ready until a call returns `WouldBlock`.
+        self.0.wait::<true, _>(0, attempt, |_| 0).await
     }
 
-    /// As `read_with`, each time once there is room to write.
-    pub async fn write_with<T>(&self, mut attempt: impl FnMut(&S) -> io::Result<T>) -> io::Result<T> {
-        poll_fn(|cx: &mut Context<'_>| self.poll_write_with(cx, &mut attempt)).await
+    /// Calls `attempt` whenever there may be room to write, until it returns anything but `WouldBlock`.
+    ///
+    /// ```
+    /// use std::{io::{Read, Write}, os::unix::net::UnixStream};
+    /// # fn main() -> std::io::Result<()> {
+    /// let (near, mut far) = UnixStream::pair()?;
+    /// let near = arachne::net::Async::new(near)?;
+    /// let mut buffer = [0; 5];
+    /// arachne::Runtime::new(1).block_on(near.write_with(|mut near| near.write(b"hello")))?;
+    /// far.read_exact(&mut buffer)?;
+    /// assert_eq!(&buffer, b"hello");
+    /// # Ok(())
+    /// # }
+    /// ```
+    pub async fn write_with<T>(&self, attempt: impl FnMut(&S) -> io::Result<T>) -> io::Result<T> {
+        self.0.wait::<false, _>(0, attempt, |_| 0).await
     }
 
-    /// As `read_with`, by a poll. The task that polled last is woken.
+    /// Polls a read; see `read_with`. Only the task that polled last to read is woken.
+    ///
+    /// ```
+    /// use std::{io::{Read, Write}, os::unix::net::UnixStream};
+    /// # fn main() -> std::io::Result<()> {
+    /// let (mut near, far) = UnixStream::pair()?;
+    /// near.write_all(b"hello")?;
+    /// let (far, mut buffer) = (arachne::net::Async::new(far)?, [0; 5]);
+    /// let reads = arachne::poll_fn(|cx| far.poll_read_with(cx, |mut far| far.read(&mut buffer)));
+    /// assert_eq!(arachne::Runtime::new(1).block_on(reads)?, 5);
+    /// # Ok(())
+    /// # }
+    /// ```
     pub fn poll_read_with<T>(
         &self,
         cx: &mut Context<'_>,
         attempt: impl FnMut(&S) -> io::Result<T>,
     ) -> Poll<io::Result<T>> {
-        // How much a call moved isn't known, so the descriptor counts as ready until one returns `WouldBlock`.
         self.0.poll(cx, true, 0, attempt, |_| 0)
     }
 
-    /// As `write_with`, by a poll. The task that polled last is woken.
+    /// Polls a write; see `write_with`, and the example at `poll_read_with`. Only the task that polled last is woken.
     pub fn poll_write_with<T>(
         &self,
         cx: &mut Context<'_>,
@@ -301,17 +455,27 @@ impl<S: AsRawFd + fmt::Debug> fmt::Debug for Async<S> {
     }
 }
 
-/// What all sockets have: std's as it came, and its descriptor.
+/// Conversions and the descriptor, for each type of socket. `$make` makes one of std's for the example.
 macro_rules! socket {
-    ($name:ident, $std:ty) => {
+    ($name:ident, $std:ty, $make:literal) => {
         impl $name {
-            /// Takes one of std's, which doesn't block from then on. What else is set there stays as it is.
+            /// Takes a socket of std's, and makes it non-blocking. Its other options stay as they are.
+            ///
+            /// ```
+            /// # fn main() -> std::io::Result<()> {
+            #[doc = concat!("let socket = ", $make, ";")]
+            #[doc = concat!("let socket = arachne::net::", stringify!($name), "::from_std(socket)?;")]
+            /// let socket = socket.into_std()?;
+            /// socket.set_nonblocking(false)?;
+            /// # Ok(())
+            /// # }
+            /// ```
             pub fn from_std(socket: $std) -> io::Result<$name> {
                 socket.set_nonblocking(true)?;
                 Ok($name(Source::new(socket)))
             }
 
-            /// Gives std's back, which still doesn't block (`set_nonblocking`).
+            /// Returns the socket of std's, which stays non-blocking; see the example at `from_std`.
             pub fn into_std(self) -> io::Result<$std> {
                 Ok(self.0.into_inner())
             }
@@ -323,15 +487,15 @@ macro_rules! socket {
             }
         }
 
-        /// For options that this crate has no call for. What is read or written by the descriptor the runtime doesn't
-        /// see.
+        /// Gives access to options that have no method here. Don't read or write by the descriptor: the runtime would
+        /// not see it.
         impl AsRawFd for $name {
             fn as_raw_fd(&self) -> RawFd {
                 self.0.socket.as_raw_fd()
             }
         }
 
-        /// As `AsRawFd`.
+        /// Like `AsRawFd`.
         impl AsFd for $name {
             fn as_fd(&self) -> BorrowedFd<'_> {
                 self.0.socket.as_fd()
@@ -340,38 +504,97 @@ macro_rules! socket {
     };
 }
 
-/// What a connection has: reads and writes.
+/// Reads and writes, for each type of connection. `$pair` makes two that are connected for the examples.
 macro_rules! stream {
-    ($name:ident) => {
+    ($name:ident, $pair:literal) => {
         impl $name {
-            /// Ends reading, writing or both.
+            /// Shuts down reading, writing or both.
+            ///
+            /// ```
+            /// # fn main() -> std::io::Result<()> {
+            #[doc = $pair]
+            /// near.shutdown(std::net::Shutdown::Write)?;
+            /// assert_eq!(runtime.block_on(far.read(&mut [0; 5]))?, 0);        // the end
+            /// # Ok(())
+            /// # }
+            /// ```
             pub fn shutdown(&self, how: Shutdown) -> io::Result<()> {
                 self.0.socket.shutdown(how)
             }
 
-            /// As `read`, by a poll. The task that polled last to read is woken.
+            /// Polls a read; see `read`. Only the task that polled last to read is woken.
+            ///
+            /// ```
+            /// # fn main() -> std::io::Result<()> {
+            #[doc = $pair]
+            /// runtime.block_on(near.write_all(b"hello"))?;
+            /// let mut buffer = [0; 5];
+            /// assert_eq!(runtime.block_on(arachne::poll_fn(|cx| far.poll_read(cx, &mut buffer)))?, 5);
+            /// # Ok(())
+            /// # }
+            /// ```
             pub fn poll_read(&self, cx: &mut Context<'_>, buffer: &mut [u8]) -> Poll<io::Result<usize>> {
                 let len = buffer.len();
                 self.0.poll(cx, true, len, |mut socket| socket.read(buffer), |&n| n)
             }
 
-            /// As `write`, by a poll. The task that polled last to write is woken.
+            /// Polls a write; see `write`. Only the task that polled last to write is woken.
+            ///
+            /// ```
+            /// # fn main() -> std::io::Result<()> {
+            #[doc = $pair]
+            /// assert_eq!(runtime.block_on(arachne::poll_fn(|cx| near.poll_write(cx, b"hello")))?, 5);
+            /// runtime.block_on(far.read_exact(&mut [0; 5]))
+            /// # }
+            /// ```
             pub fn poll_write(&self, cx: &mut Context<'_>, bytes: &[u8]) -> Poll<io::Result<usize>> {
                 self.0.poll(cx, false, bytes.len(), |mut socket| socket.write(bytes), |&n| n)
             }
 
-            /// As `poll_write`, of several pieces in a row.
+            /// Polls a write of several pieces in a row; see `poll_write`.
+            ///
+            /// ```
+            /// # fn main() -> std::io::Result<()> {
+            #[doc = $pair]
+            /// let pieces = [std::io::IoSlice::new(b"he"), std::io::IoSlice::new(b"llo")];
+            /// assert_eq!(runtime.block_on(arachne::poll_fn(|cx| near.poll_write_vectored(cx, &pieces)))?, 5);
+            /// runtime.block_on(far.read_exact(&mut [0; 5]))
+            /// # }
+            /// ```
             pub fn poll_write_vectored(&self, cx: &mut Context<'_>, bytes: &[IoSlice<'_>]) -> Poll<io::Result<usize>> {
                 let len = bytes.iter().map(|slice| slice.len()).sum();
                 self.0.poll(cx, false, len, |mut socket| socket.write_vectored(bytes), |&n| n)
             }
 
-            /// Reads at most `buffer.len()` bytes, once there are some; returns how many, 0 at the end.
+            /// Reads at most `buffer.len()` bytes, once there are some. Returns their number, 0 at the end.
+            ///
+            /// ```
+            /// # fn main() -> std::io::Result<()> {
+            #[doc = $pair]
+            /// let mut buffer = [0; 16];
+            /// runtime.block_on(near.write_all(b"hello"))?;
+            /// let len = runtime.block_on(far.read(&mut buffer))?;
+            /// assert_eq!(&buffer[..len], b"hello");
+            /// # Ok(())
+            /// # }
+            /// ```
             pub async fn read(&self, buffer: &mut [u8]) -> io::Result<usize> {
-                poll_fn(|cx: &mut Context<'_>| self.poll_read(cx, buffer)).await
+                let len = buffer.len();
+                self.0.wait::<true, _>(len, |mut socket| socket.read(buffer), |&n| n).await
             }
 
-            /// Fills the buffer. Returns an error if the end comes before.
+            /// Fills the buffer. Fails with `UnexpectedEof` if the connection ends before.
+            ///
+            /// ```
+            /// # fn main() -> std::io::Result<()> {
+            #[doc = $pair]
+            /// let mut buffer = [0; 5];
+            /// runtime.block_on(near.write_all(b"hello"))?;
+            /// runtime.block_on(far.read_exact(&mut buffer))?;
+            /// assert_eq!(&buffer, b"hello");
+            /// # Ok(())
+            /// # }
+            /// ```
             pub async fn read_exact(&self, mut buffer: &mut [u8]) -> io::Result<()> {
                 while !buffer.is_empty() {
                     match self.read(buffer).await? {
@@ -382,12 +605,20 @@ macro_rules! stream {
                 Ok(())
             }
 
-            /// Writes some of the bytes, at least one, once there is room; returns how many.
+            /// Writes some of the bytes, at least one, once there is room. Returns their number.
+            ///
+            /// ```
+            /// # fn main() -> std::io::Result<()> {
+            #[doc = $pair]
+            /// assert_eq!(runtime.block_on(near.write(b"hello"))?, 5);
+            /// runtime.block_on(far.read_exact(&mut [0; 5]))
+            /// # }
+            /// ```
             pub async fn write(&self, bytes: &[u8]) -> io::Result<usize> {
-                poll_fn(|cx: &mut Context<'_>| self.poll_write(cx, bytes)).await
+                self.0.wait::<false, _>(bytes.len(), |mut socket| socket.write(bytes), |&n| n).await
             }
 
-            /// Writes all of the bytes.
+            /// Writes all of the bytes; see the example at `read_exact`.
             pub async fn write_all(&self, mut bytes: &[u8]) -> io::Result<()> {
                 while !bytes.is_empty() {
                     match self.write(bytes).await? {
@@ -426,11 +657,11 @@ macro_rules! stream {
                 buffer: &mut tokio::io::ReadBuf<'_>,
             ) -> Poll<io::Result<()>> {
                 // Not `initialize_unfilled`, which writes zeros to all of the room at each read.
-                // SAFETY: the read writes to these bytes alone, and reads none of them.
+                // SAFETY: the read only writes to these bytes, and reads none of them.
                 let room = unsafe { &mut *(buffer.unfilled_mut() as *mut [std::mem::MaybeUninit<u8>] as *mut [u8]) };
                 match $name::poll_read(&self, cx, room) {
                     Poll::Ready(Ok(n)) => {
-                        // SAFETY: the read has written so many.
+                        // SAFETY: the read has written `n` bytes.
                         unsafe { buffer.assume_init(n) };
                         buffer.advance(n);
                         Poll::Ready(Ok(()))
@@ -464,10 +695,34 @@ macro_rules! stream {
         }
     };
 }
-socket!(TcpListener, std::net::TcpListener);
-socket!(TcpStream, std::net::TcpStream);
-stream!(TcpStream);
-socket!(UdpSocket, std::net::UdpSocket);
-socket!(UnixListener, std::os::unix::net::UnixListener);
-socket!(UnixStream, std::os::unix::net::UnixStream);
-stream!(UnixStream);
+socket!(TcpListener, std::net::TcpListener, "std::net::TcpListener::bind(\"127.0.0.1:0\")?");
+socket!(
+    TcpStream,
+    std::net::TcpStream,
+    "std::net::TcpStream::connect(std::net::TcpListener::bind(\"127.0.0.1:0\")?.local_addr()?)?"
+);
+stream!(
+    TcpStream,
+    "use arachne::net::{TcpListener, TcpStream};
+let runtime = arachne::Runtime::new(1);
+let listener = TcpListener::bind(\"127.0.0.1:0\")?;
+let near = runtime.block_on(TcpStream::connect(listener.local_addr()?))?;
+let (far, _) = runtime.block_on(listener.accept())?;"
+);
+socket!(UdpSocket, std::net::UdpSocket, "std::net::UdpSocket::bind(\"127.0.0.1:0\")?");
+socket!(
+    UnixListener,
+    std::os::unix::net::UnixListener,
+    "{
+    let path = std::env::temp_dir().join(format!(\"arachne-std-{}\", std::process::id()));
+    let listener = std::os::unix::net::UnixListener::bind(&path)?;
+    std::fs::remove_file(path)?;
+    listener
+}"
+);
+socket!(UnixStream, std::os::unix::net::UnixStream, "std::os::unix::net::UnixStream::pair()?.0");
+stream!(
+    UnixStream,
+    "let runtime = arachne::Runtime::new(1);
+let (near, far) = arachne::net::UnixStream::pair()?;"
+);

@@ -1,6 +1,6 @@
-//! To see a running program: what each task waits for how long, hooks, and how long ready tasks waited to be taken.
+//! Observing a runtime: the states of its tasks, hooks, and a histogram of the time for which ready tasks waited.
 //!
-//! A runtime that is not built with `Builder::observed` keeps none of this, and pays a test of a constant a step.
+//! A runtime built without `Builder::observed` records none of this; it pays one test per step.
 
 use crate::core::Job;
 use crate::shared::Shared;
@@ -12,8 +12,10 @@ use std::panic::Location;
 use std::ptr;
 use std::time::Duration;
 
-/// What a host may want to hear of its tasks (a tracing library's spans, say). Each is called on the kernel thread that
-/// makes the step; `id` is a number that no other task of the runtime ever has. None may panic.
+/// Callbacks at the steps of tasks, for a tracing library, say; see `Builder::hooks`.
+///
+/// Each is called on the thread that makes the step, and must not panic. `id` is a number that no other task of the
+/// runtime ever has.
 ///
 /// ```
 /// use std::sync::{Arc, atomic::{AtomicUsize, Ordering::SeqCst}};
@@ -34,7 +36,7 @@ pub trait Hooks: Send + Sync {
     fn spawned(&self, _about: &About) {}
     /// A poll of this task begins.
     fn poll_begins(&self, _id: u64, _about: &About) {}
-    /// That poll ends. If the task has ended, `ended` follows.
+    /// The poll ends. If the task has ended, `ended` follows.
     fn poll_ends(&self, _id: u64) {}
     /// The task that waits at this place was made ready.
     fn woken(&self, _place: usize) {}
@@ -42,14 +44,14 @@ pub trait Hooks: Send + Sync {
     fn ended(&self, _id: u64) {}
 }
 
-/// Times from ready to taken: `counts[i]` are those below 2^i microseconds that are in none before.
+/// The number of classes of the histogram; see `Stats::ready_to_taken`.
 pub(crate) const HISTOGRAM: usize = 24;
 
 #[derive(Default)]
 struct Record {
     spawned: AtomicPtr<Location<'static>>,
     label: AtomicPtr<Label>,
-    /// The task's name and its time, in one of these three states; the others are 0.
+    /// The task's name plus one (0: none), and for each of three states since when the task has been in it (0: not).
     name: AtomicU64,
     waits_since: AtomicU64,
     ready_since: AtomicU64,
@@ -63,7 +65,7 @@ pub(crate) struct Observer {
     histogram: [AtomicU64; HISTOGRAM],
 }
 
-/// What a task does at this moment; see `TaskInfo`.
+/// A task's current state; see the example at `Runtime::tasks`.
 #[derive(Clone, Copy, PartialEq, Eq, Debug)]
 #[non_exhaustive]
 pub enum Doing {
@@ -75,7 +77,7 @@ pub enum Doing {
     Runs,
 }
 
-/// A task that has begun and has not ended; see `Runtime::tasks`.
+/// A task in progress; see the example at `Runtime::tasks`.
 #[derive(Clone, Copy, Debug)]
 #[non_exhaustive]
 pub struct TaskInfo {
@@ -83,9 +85,9 @@ pub struct TaskInfo {
     pub id: u64,
     /// Where it was spawned, and its name.
     pub about: About,
-    /// Its state now.
+    /// Its current state.
     pub doing: Doing,
-    /// For how long it does that.
+    /// The time since which it is in that state.
     pub age: Duration,
 }
 
@@ -124,7 +126,7 @@ impl Observer {
         }
     }
 
-    /// The job's poll begins.
+    /// Records that the job's poll begins.
     #[inline]
     pub(crate) fn begins(&self, job: &Job, about: &About) {
         if self.is_on() {
@@ -148,7 +150,7 @@ impl Observer {
         self.tell(|hooks| hooks.poll_begins(job.name, about));
     }
 
-    /// The job's poll has ended.
+    /// Records that the job's poll has ended.
     #[inline]
     pub(crate) fn stops(&self, job: &Job, ended: bool) {
         if self.is_on() {
@@ -167,7 +169,7 @@ impl Observer {
         }
     }
 
-    /// The job at that place is ready from now on.
+    /// Records that the job at this place is ready from now on.
     #[inline]
     pub(crate) fn ready(&self, place: usize) {
         if self.is_on() {
@@ -180,7 +182,7 @@ impl Observer {
         std::array::from_fn(|i| self.histogram[i].load(Relaxed))
     }
 
-    /// All tasks that have begun and have not ended, as they are while the list is made.
+    /// Returns all tasks in progress, each as it is when the list reaches it.
     pub(crate) fn tasks(&self) -> Vec<TaskInfo> {
         let now = now();
         self.records.iter().filter_map(|record| record.info(now)).collect()
@@ -209,7 +211,7 @@ impl Record {
 }
 
 impl Shared {
-    /// The poll that a worker is in: its task's name and what is known of it.
+    /// Returns the task that a worker polls now: its name, and where it was spawned.
     pub(crate) fn running(&self, worker: usize) -> Option<(u64, About)> {
         let worker = &self.workers[worker].0;
         let name = worker.running.load(Relaxed);

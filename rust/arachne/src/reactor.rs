@@ -1,4 +1,10 @@
-//! One epoll for all workers: what the sockets tell, and how a worker that sleeps is woken.
+//! The epoll of a runtime: the events of its sockets, and the waking of the worker that sleeps there.
+//!
+//! One worker waits there. It asks for as many events as run in about 100 us, at most 8; the only worker for as many as
+//! its hand has room for. The tasks of these events stay in its hand, in the order of the events. The other events stay
+//! with the kernel for whoever looks next, so that they don't wait for a worker that loses its processor; if there may
+//! be more, a sleeping worker is woken. A worker that has ready jobs of its own looks too; the tasks that it wakes then
+//! become ready in their blocks, unless it is the only worker.
 
 use crate::sync::atomic::{AtomicU64, AtomicUsize, Ordering::*};
 use crate::sync::{Arc, Condvar, Mutex};
@@ -14,14 +20,14 @@ pub(crate) const WRITE: u64 = 2;
 pub(crate) const READ_CLOSED: u64 = 4;
 pub(crate) const WRITE_CLOSED: u64 = 8;
 const TICK: u64 = 256;
-/// A waker that is no task's of this runtime.
+/// In place of a name: the waker is not that of a task of this runtime.
 const OTHER: u64 = NOBODY - 1;
-/// The number of the event that ends a wait.
+/// The key of the eventfd that ends a wait.
 const WOKEN: u64 = 0;
-/// Events of one look at most.
+/// The most events of one look.
 pub(crate) const EVENTS: usize = 64;
 
-/// Who is to be woken. A task of the runtime is one word, and needs no lock; any other waker has one.
+/// A waker that is registered for one event. A task of this runtime is one word without a lock; others take a lock.
 pub(crate) struct Slot {
     table: usize,
     name: AtomicU64,
@@ -48,6 +54,12 @@ impl Slot {
 
     #[inline]
     pub(crate) fn wake(&self) {
+        if self.name.load(SeqCst) != NOBODY {
+            self.wake_it();
+        }
+    }
+
+    fn wake_it(&self) {
         match self.name.swap(NOBODY, SeqCst) {
             NOBODY => {}
             OTHER => {
@@ -61,16 +73,115 @@ impl Slot {
     }
 }
 
-/// What is known of a descriptor, and who waits for it. The bits above the lowest eight count what was told, so that a
-/// bit is cleared only where nothing was told since it was seen.
+/// The readiness of a descriptor, and the wakers of the tasks that wait for it.
+///
+/// The bits above the lowest eight count the events, so that a bit is cleared only if there was no event since it was
+/// read.
 pub(crate) struct Io {
     pub(crate) state: AtomicU64,
+    /// The last waker of the `poll_` functions, which replace it at each call.
     pub(crate) reader: Slot,
     pub(crate) writer: Slot,
+    /// The wakers of futures, of which any number may wait.
+    pub(crate) readers: Waiters,
+    pub(crate) writers: Waiters,
+}
+
+/// The futures that wait for one direction of a descriptor. An event wakes all.
+pub(crate) struct Waiters {
+    table: usize,
+    /// The name of one task of this runtime, which needs no lock. Its future may be gone.
+    first: AtomicU64,
+    /// The number of others, and their wakers by key.
+    count: AtomicUsize,
+    others: Mutex<(u64, Vec<(u64, Waker)>)>,
+}
+
+impl Waiters {
+    fn new(table: usize) -> Waiters {
+        Waiters { table, first: AtomicU64::new(NOBODY), count: AtomicUsize::new(0), others: Mutex::default() }
+    }
+
+    /// Registers a future's waker. `key` is 0 at first, and then the future's until `leave`.
+    ///
+    /// The caller must read the state after that: an event changes the state before it looks here.
+    #[inline]
+    pub(crate) fn join(&self, key: &mut u64, waker: &Waker) {
+        if *key == 0 {
+            if let Some(name) = name_in(waker, self.table) {
+                match self.first.compare_exchange(NOBODY, name, SeqCst, SeqCst) {
+                    Ok(_) => return,
+                    Err(first) if first == name => return,
+                    Err(_) => {}
+                }
+            }
+        }
+        self.join_others(key, waker);
+    }
+
+    #[inline(never)]
+    fn join_others(&self, key: &mut u64, waker: &Waker) {
+        let mut others = self.others.lock().unwrap();
+        let (made, waiting) = &mut *others;
+        if let Some((_, old)) = waiting.iter_mut().find(|(of, _)| *of == *key) {
+            if !old.will_wake(waker) {
+                let old = std::mem::replace(old, waker.clone());
+                // Without the lock: the drop of a waker may drop a future that leaves.
+                drop(others);
+                drop(old);
+            }
+            return;
+        }
+        *made += 1;
+        *key = *made;
+        waiting.push((*made, waker.clone()));
+        self.count.store(waiting.len(), SeqCst);
+    }
+
+    /// Forgets a future that is dropped.
+    pub(crate) fn leave(&self, key: u64) {
+        let mut others = self.others.lock().unwrap();
+        let left = others.1.iter().position(|(of, _)| *of == key).map(|at| others.1.swap_remove(at));
+        self.count.store(others.1.len(), SeqCst);
+        drop(others);
+        drop(left);
+    }
+
+    #[inline]
+    fn wake(&self) {
+        if self.first.load(SeqCst) != NOBODY {
+            match self.first.swap(NOBODY, SeqCst) {
+                NOBODY => {}
+                name => wake_name(self.table, name),
+            }
+        }
+        if self.count.load(SeqCst) != 0 {
+            self.wake_others();
+        }
+    }
+
+    #[inline(never)]
+    fn wake_others(&self) {
+        let mut others = self.others.lock().unwrap();
+        let waiting = std::mem::take(&mut others.1);
+        self.count.store(0, SeqCst);
+        drop(others);
+        waiting.into_iter().for_each(|(_, waker)| waker.wake());
+    }
 }
 
 impl Io {
-    /// Clears bits, unless something was told since they were seen; the state after that.
+    fn new(table: usize) -> Io {
+        Io {
+            state: AtomicU64::new(0),
+            reader: Slot::new(table),
+            writer: Slot::new(table),
+            readers: Waiters::new(table),
+            writers: Waiters::new(table),
+        }
+    }
+
+    /// Clears bits, unless there was an event since `seen` was read. Returns the state after that.
     #[inline]
     pub(crate) fn clear(&self, seen: u64, bits: u64) -> u64 {
         match self.state.compare_exchange(seen, seen & !bits, SeqCst, SeqCst) {
@@ -97,21 +208,23 @@ impl Io {
         let _ = self.state.fetch_update(SeqCst, SeqCst, |state| Some((state | bits).wrapping_add(TICK)));
         if bits & READ != 0 {
             self.reader.wake();
+            self.readers.wake();
         }
         if bits & WRITE != 0 {
             self.writer.wake();
+            self.writers.wake();
         }
     }
 }
 
-/// Descriptors by number. The number has a count of its uses, so that an event of one that is gone finds nobody.
+/// The descriptors by key. A key has a use count, so that a late event of a removed descriptor finds nobody.
 #[derive(Default)]
 struct Sources {
     all: Vec<(u32, Option<Arc<Io>>)>,
     free: Vec<u32>,
 }
 
-/// What one look at the epoll has found. What is beyond the number that was asked for stays with the kernel, in order.
+/// The events of one look at the epoll. Those beyond the number asked for stay with the kernel, in order.
 pub(crate) struct Found {
     events: [Event; EVENTS],
     count: usize,
@@ -127,7 +240,7 @@ impl Found {
         found
     }
 
-    /// There may be more.
+    /// Returns true if there may be more events.
     pub(crate) fn is_full(&self) -> bool {
         self.count == self.asked
     }
@@ -139,13 +252,13 @@ impl Found {
 
 pub(crate) struct Reactor {
     epoll: RawFd,
-    /// It stays raised until whoever waits has seen it.
+    /// The eventfd that ends a wait. It stays raised until a waiter has seen it.
     event: RawFd,
     used: AtomicUsize,
     sources: Mutex<Sources>,
 }
 
-/// Where a source stands in its reactor.
+/// The key of a descriptor in its reactor.
 #[derive(Clone, Copy)]
 pub(crate) struct Key(u64);
 
@@ -167,7 +280,7 @@ impl Reactor {
     }
 
     pub(crate) fn add(&self, fd: RawFd, table: usize) -> io::Result<(Arc<Io>, Key)> {
-        let io = Arc::new(Io { state: AtomicU64::new(0), reader: Slot::new(table), writer: Slot::new(table) });
+        let io = Arc::new(Io::new(table));
         let key = {
             let mut sources = self.sources.lock().unwrap();
             let at = sources.free.pop().unwrap_or(sources.all.len() as u32) as usize;
@@ -210,13 +323,15 @@ impl Reactor {
         io.as_ref().filter(|_| *uses as u64 == data >> 32).cloned()
     }
 
-    /// What there is now, at most so many.
+    /// Returns at most `most` events that are there now.
     pub(crate) fn look(&self, most: usize) -> Found {
         Found::of(self.epoll, 0, most)
     }
 
-    /// Waits so many milliseconds (-1: for ever) for something, or for `notify`. One worker at a time waits. Where the
-    /// event of `notify` is beyond what was asked for, it ends the next wait too.
+    /// Waits for events or for `notify`, for at most `timeout` milliseconds (-1: for ever).
+    ///
+    /// Only one worker at a time may wait. If the event of `notify` is beyond the `most` events asked for, it ends the
+    /// next wait too.
     pub(crate) fn wait(&self, timeout: i32, most: usize) -> Found {
         let found = Found::of(self.epoll, timeout, most);
         if found.events[..found.count].iter().any(|event| event.data == WOKEN) {
@@ -225,7 +340,7 @@ impl Reactor {
         found
     }
 
-    /// Wakes who is told of; how many descriptors told something.
+    /// Wakes the tasks that wait for these events. Returns the number of descriptors that had one.
     pub(crate) fn tell(&self, found: &Found) -> usize {
         let sockets = found.events[..found.count].iter().filter(|event| event.data != WOKEN);
         sockets
@@ -237,7 +352,7 @@ impl Reactor {
     }
 }
 
-/// What a worker sleeps on while another waits in the epoll.
+/// A worker sleeps on its bell while another waits in the epoll.
 #[derive(Default)]
 pub(crate) struct Bell {
     rung: Mutex<bool>,
@@ -245,13 +360,13 @@ pub(crate) struct Bell {
 }
 
 impl Bell {
-    /// Ends a wait, now or at the next.
+    /// Ends the current wait, or the next one.
     pub(crate) fn ring(&self) {
         *self.rung.lock().unwrap() = true;
         self.heard.notify_one();
     }
 
-    /// Waits so many milliseconds (-1: for ever); whether it was rung since the last wait.
+    /// Waits for at most `timeout` milliseconds (-1: for ever). Returns true if it was rung since the last wait.
     pub(crate) fn wait(&self, timeout: i32) -> bool {
         let rung = self.rung.lock().unwrap();
         let silent = |rung: &mut bool| !*rung;

@@ -1,4 +1,4 @@
-//! A runtime: how it is built, what it is asked, and how it ends.
+//! A runtime: how it is built, how it is inspected, and how it ends.
 
 use crate::arbiter::Wish;
 use crate::block_on::block_on;
@@ -11,7 +11,7 @@ use crate::shared::{entered, is_own, with_hands, Context, Shared};
 use crate::spawn::Refused;
 use crate::sync::atomic::Ordering::*;
 use crate::sync::thread;
-use crate::sync::Arc;
+use crate::sync::{Arc, Instant};
 use crate::task::{self, About, JoinHandle, Label};
 use crate::timer::now;
 use crate::waker::NOBODY;
@@ -23,14 +23,14 @@ use std::mem::ManuallyDrop;
 use std::panic::Location;
 use std::time::Duration;
 
-/// Jobs that a worker may have in hand: the one that runs, the next one and one that it displaces, and those in its
-/// hand with what it took of another.
+/// The most jobs that a worker may have in hand: the one that runs, the next one and one that it displaces, those in
+/// line, and those that were stolen.
 const HANDS: usize = 3 + crate::worker::HAND + crate::hand::FIRST;
 
-/// The function that each kernel thread calls before its first task.
+/// The function that each thread calls before its first task.
 type Starts = Arc<dyn Fn() + Send + Sync>;
 
-/// How a runtime is to be.
+/// Configures a runtime, and builds it.
 ///
 /// ```
 /// # fn main() -> std::io::Result<()> {
@@ -62,7 +62,14 @@ impl fmt::Debug for Builder {
 }
 
 impl Builder {
-    /// So many workers (1 to 64), each a kernel thread. `available_cores` says how many processors there are.
+    /// Returns the defaults for a runtime of `cores` workers (1 to 64), each a kernel thread.
+    ///
+    /// `available_cores` returns the number of processors.
+    ///
+    /// ```
+    /// let runtime = arachne::Builder::new(3).build().unwrap();
+    /// assert_eq!(runtime.stats().workers.len(), 3);
+    /// ```
     pub fn new(cores: usize) -> Builder {
         Builder {
             cores: cores.clamp(1, 64),
@@ -80,81 +87,181 @@ impl Builder {
         }
     }
 
-    /// Room for so many tasks that have begun and not ended: rounded up to 4,096 for each worker, at most 1,048,576.
-    /// Tasks beyond that wait in a queue until one ends, or are refused by `try_spawn`.
+    /// Sets the number of tasks that may be in progress at a time: 65,536 by default, at most 1,048,576.
+    ///
+    /// It is rounded up to a multiple of 4,096 for each worker. Tasks beyond it wait in a queue until one ends, or are
+    /// refused by `try_spawn`.
+    ///
+    /// ```
+    /// let runtime = arachne::Builder::new(1).places(4096).build().unwrap();
+    /// let wait = || std::future::pending::<()>();
+    /// let waiting: Vec<_> = (0..4096).map(|_| runtime.spawn(wait())).collect();
+    /// assert!(runtime.try_spawn(wait()).is_err());
+    /// assert_eq!(waiting.len(), 4096);
+    /// ```
     pub fn places(mut self, places: usize) -> Builder {
         self.places = places.min(MOST_SHARDS * SHARD * BLOCK);
         self
     }
 
-    /// Cores are given back and asked for by load.
+    /// Lets the number of active cores follow the load. Without a policy all are active.
+    ///
+    /// ```
+    /// let runtime = arachne::Builder::new(4).policy(arachne::Policy::default()).build().unwrap();
+    /// while runtime.stats().active > 1 {          // it is idle, so all but one are given back
+    ///     std::thread::yield_now();
+    /// }
+    /// ```
     pub fn policy(mut self, policy: Policy) -> Builder {
         self.policy = Some(policy);
         self
     }
 
     /// Shares the machine's processors with other processes, by the arbiter (`rust/arbiter`) that listens at `path`.
-    /// Each worker's core is a processor that it grants; the first worker runs without one too. Asked for are as many
-    /// as the policy wants, or else as there are workers. `priority` is 0, which goes first, to 7; `reserved` cores (at
-    /// most 65,535) are this runtime's before others get more than is reserved for them.
     ///
-    /// Without an arbiter, or if it refuses, all is as it is without this call. It is looked for each second.
+    /// The arbiter grants each worker a processor; the first worker also runs without one. The runtime asks for as many
+    /// as its policy wants, or for one per worker. `priority` is 0 (first) to 7; `reserved` cores (at most 65,535) go
+    /// to this runtime before others get more than is reserved for them.
+    ///
+    /// If there is no arbiter, or it refuses, the runtime works as without this call, and tries again each second.
+    ///
+    /// ```
+    /// let builder = arachne::Builder::new(4).arbiter("/run/arachne-arbiter.sock", 0, 1);
+    /// let runtime = builder.build().unwrap();     // also if nothing listens there
+    /// assert_eq!(runtime.block_on(async { 42 }), 42);
+    /// ```
     pub fn arbiter(mut self, path: impl Into<std::path::PathBuf>, priority: u8, reserved: usize) -> Builder {
         self.arbiter = Some(Wish { path: path.into(), priority, reserved: reserved.min(u16::MAX as usize) });
         self
     }
 
-    /// Keeps each worker on a processor of its own, unless an arbiter does.
+    /// Keeps each worker on a processor of its own, unless there is an arbiter, which does that itself.
+    ///
+    /// ```
+    /// let runtime = arachne::Builder::new(2).pinned(true).build().unwrap();
+    /// let text = runtime.block_on(runtime.spawn(async { std::fs::read_to_string("/proc/thread-self/status") }));
+    /// let text = text.unwrap().unwrap();
+    /// let allowed = text.lines().find(|line| line.starts_with("Cpus_allowed_list")).unwrap();
+    /// assert!(!allowed.contains(&['-', ','][..]), "one processor: {allowed}");
+    /// ```
     pub fn pinned(mut self, pin: bool) -> Builder {
         self.pin = pin;
         self
     }
 
-    /// For how long at a time a worker wants a processor that other kernel threads want too: Linux (6.12 and later)
-    /// gives one sooner to a worker that wakes and asks for less. 100 us, its least, unless it is said here; None
-    /// leaves what the system has (some 3 ms), for tasks that compute for long beside others that do.
+    /// Sets the time slice that workers request from Linux (6.12 and later): 100 us by default, which is its least.
+    ///
+    /// A thread that wakes gets a processor sooner if its slice is shorter. None keeps the system's slice (some 3 ms),
+    /// which suits tasks that compute for long beside other busy threads.
+    ///
+    /// ```
+    /// let runtime = arachne::Builder::new(2).slices(None).build().unwrap();
+    /// assert_eq!(runtime.block_on(runtime.spawn(async { 42 })).unwrap(), 42);
+    /// ```
     pub fn slices(mut self, slice: Option<Duration>) -> Builder {
         self.slice = slice;
         self
     }
 
-    /// Kernel threads for `spawn_blocking` at most: 512 unless it is said here. One is begun if none is idle, and ends
-    /// after five seconds without work.
+    /// Sets the most threads for `spawn_blocking`: 512 by default, at least one.
+    ///
+    /// A thread starts if none is idle, and ends after five seconds without work.
+    ///
+    /// ```
+    /// let runtime = arachne::Builder::new(1).blocking_threads(1).build().unwrap();
+    /// let name = || std::thread::current().id();
+    /// let (one, other) = runtime.block_on(async {
+    ///     let (one, other) = (arachne::spawn_blocking(name), arachne::spawn_blocking(name));
+    ///     (one.await.unwrap(), other.await.unwrap())
+    /// });
+    /// assert_eq!(one, other);     // one after the other, on one thread
+    /// ```
     pub fn blocking_threads(mut self, most: usize) -> Builder {
         self.blocking = most;
         self
     }
 
-    /// Keeps what `Runtime::tasks` and `Stats::ready_to_taken` say: 48 bytes a place, and some 100 ns a poll.
+    /// Records what `Runtime::tasks` and `Stats::ready_to_taken` return, for 48 bytes a place and some 100 ns a poll.
+    ///
+    /// ```
+    /// let runtime = arachne::Builder::new(1).observed().build().unwrap();
+    /// runtime.block_on(runtime.spawn(async { arachne::yield_now().await })).unwrap();
+    /// assert!(runtime.stats().ready_to_taken.iter().sum::<u64>() > 0);
+    /// ```
     pub fn observed(mut self) -> Builder {
         self.observed = true;
         self
     }
 
-    /// As `observed`, and calls these at each step.
+    /// Like `observed`, and calls these hooks at each step of a task; see `Hooks`.
+    ///
+    /// ```
+    /// struct Prints;
+    /// impl arachne::Hooks for Prints {
+    ///     fn poll_begins(&self, id: u64, about: &arachne::About) {
+    ///         println!("{id}: {about}");
+    ///     }
+    /// }
+    /// let runtime = arachne::Builder::new(1).hooks(std::sync::Arc::new(Prints)).build().unwrap();
+    /// runtime.block_on(runtime.spawn_named("greeter", async {})).unwrap();
+    /// ```
     pub fn hooks(mut self, hooks: Arc<dyn Hooks>) -> Builder {
         self.observed = true;
         self.hooks = Some(hooks);
         self
     }
 
-    /// Called on each kernel thread that polls tasks, before the first: on the workers, and on the watcher of
-    /// `watch_polls`. For what tasks look up in their kernel thread, as crates do that ask for a runtime of tokio:
-    /// `std::mem::forget(handle.enter())` of one that runs beside this one. A panic there ends the process.
+    /// Calls a function on each thread that polls tasks, before its first task: the workers, and the watcher of
+    /// `watch_polls`.
+    ///
+    /// It can set up thread-locals that tasks expect, such as tokio's: `std::mem::forget(handle.enter())` for the
+    /// handle of a runtime of tokio that runs beside this one. A panic there ends the process.
+    ///
+    /// ```
+    /// use std::cell::Cell;
+    /// thread_local!(static READY: Cell<bool> = const { Cell::new(false) });
+    /// let runtime = arachne::Builder::new(2).on_worker_start(|| READY.with(|it| it.set(true))).build().unwrap();
+    /// assert!(runtime.block_on(runtime.spawn(async { READY.with(Cell::get) })).unwrap());
+    /// ```
     pub fn on_worker_start(mut self, starts: impl Fn() + Send + Sync + 'static) -> Builder {
         self.starts = Some(Arc::new(starts));
         self
     }
 
-    /// A watcher names each poll that takes longer than that on the standard error stream (unless `log` is false), and
-    /// looks after the ready tasks, sockets and timers of a worker that is in one.
+    /// Starts a watcher thread that reports polls which take longer than `longer`, and works around them.
+    ///
+    /// Each such poll is counted in `Stats::slow_polls` and, if `log`, named on the standard error stream. Meanwhile
+    /// the watcher looks after the ready tasks, sockets and timers of its worker.
+    ///
+    /// ```
+    /// use std::time::Duration;
+    /// let runtime = arachne::Builder::new(1).watch_polls(Duration::from_millis(10), false).build().unwrap();
+    /// let handle = runtime.handle();
+    /// let blocks = runtime.spawn(async move {
+    ///     while handle.stats().slow_polls == 0 {
+    ///         std::thread::sleep(Duration::from_millis(1));
+    ///     }
+    /// });
+    /// runtime.block_on(blocks).unwrap();
+    /// assert_eq!(runtime.stats().slow_polls, 1);
+    /// ```
     pub fn watch_polls(mut self, longer: Duration, log: bool) -> Builder {
         (self.slow, self.log) = (Some(longer), log);
         self
     }
 
-    /// Begins the workers. Returns an error if memory, descriptors or kernel threads are refused, or if the process has
-    /// 32 runtimes of other shapes.
+    /// Starts the workers, and returns the runtime.
+    ///
+    /// Fails if memory, descriptors or threads are refused, or if the process has 32 runtimes. A runtime that has ended
+    /// counts too, until one of its shape (cores, places, observed) takes its place.
+    ///
+    /// ```
+    /// # fn main() -> std::io::Result<()> {
+    /// let runtime = arachne::Builder::new(arachne::available_cores()).build()?;
+    /// assert_eq!(runtime.block_on(async { 42 }), 42);
+    /// # Ok(())
+    /// # }
+    /// ```
     pub fn build(self) -> io::Result<Runtime> {
         let each = ((self.places + SHARD * BLOCK - 1) / (SHARD * BLOCK) + self.cores - 1) / self.cores;
         let most = MOST_SHARDS / self.cores * self.cores;
@@ -216,42 +323,58 @@ impl Builder {
     }
 }
 
-/// What the workers have counted; see `Runtime::stats`.
+/// Counts of a runtime; see `Runtime::stats`.
+///
+/// ```
+/// let runtime = arachne::Runtime::new(2);
+/// runtime.block_on(runtime.spawn(async { arachne::yield_now().await })).unwrap();
+/// let stats = runtime.stats(); // a poll counts once it is over
+/// assert!(stats.polls <= 2);
+/// assert_eq!(stats.polls, stats.workers.iter().map(|worker| worker.polls).sum());
+/// ```
 #[derive(Clone, Debug, Default)]
 #[non_exhaustive]
 pub struct Stats {
-    /// Cores held now; under an arbiter at least 1, if the first worker has none of its own too.
+    /// Active cores. Under an arbiter at least 1, even if the first worker has no core of its own.
     pub active: usize,
-    /// An arbiter says how many there may be.
+    /// True if an arbiter decides how many cores may be active.
     pub arbiter: bool,
     /// Polls of tasks.
     pub polls: u64,
     /// Tasks that ended on a worker.
     pub ended: u64,
-    /// Looks at other workers that brought jobs.
+    /// Successful steals from other workers.
     pub takes: u64,
-    /// How often a worker went to sleep.
+    /// Sleeps of workers.
     pub parks: u64,
-    /// Tasks that found no place at once.
+    /// Tasks that had to wait for a free place.
     pub queued: u64,
     /// Cores that the policy asked for.
     pub adds: u64,
     /// Cores that the policy gave back.
     pub removes: u64,
-    /// The time for which cores were held, added up over the cores; with a policy alone.
+    /// The time for which cores were active, summed over the cores. Only counted with a policy.
     pub core_time: Duration,
-    /// Polls that took longer than `Builder::watch_polls` says, and jobs that the watcher ran meanwhile.
+    /// Polls that took longer than the limit of `Builder::watch_polls`.
     pub slow_polls: u64,
-    /// See `slow_polls`.
+    /// Polls that the watcher made in place of workers that were stuck.
     pub rescued: u64,
-    /// The same of each worker.
+    /// The counts of each worker.
     pub workers: Vec<WorkerStats>,
-    /// By power of two of microseconds, how long ready tasks waited to be taken; of an observed runtime alone. Number
-    /// i counts times below 2^i that are in none before.
+    /// A histogram of the times for which ready tasks waited to be taken; empty unless the runtime is observed.
+    ///
+    /// Number i counts the times from 2^(i-1) up to 2^i microseconds, number 0 those below one, the last all others.
     pub ready_to_taken: Vec<u64>,
 }
 
-/// The counts of one worker; see `Stats::workers`.
+/// Counts of one worker; see `Stats::workers`.
+///
+/// ```
+/// let runtime = arachne::Runtime::new(1);
+/// runtime.block_on(runtime.spawn(async {})).unwrap();
+/// let worker = runtime.stats().workers[0];
+/// assert!(worker.polls <= 1); // a poll counts once it is over
+/// ```
 #[derive(Clone, Copy, Debug, Default)]
 #[non_exhaustive]
 pub struct WorkerStats {
@@ -259,18 +382,20 @@ pub struct WorkerStats {
     pub polls: u64,
     /// Tasks that ended here.
     pub ended: u64,
-    /// Looks at other workers that brought jobs.
+    /// Successful steals from other workers.
     pub takes: u64,
-    /// Tasks that waited and were made ready here.
+    /// Waiting tasks that were woken here.
     pub wakes: u64,
-    /// How often it went to sleep.
+    /// Sleeps.
     pub parks: u64,
-    /// For how long it had nothing to do.
+    /// The time without work.
     pub idle: Duration,
 }
 
-/// Kernel threads that run tasks. Dropped, it ends as by `shutdown`; where one of its own tasks, or its blocking work,
-/// drops it, another kernel thread ends it, and nobody is told when it has ended.
+/// A runtime: worker threads that run tasks.
+///
+/// Dropping it ends it as `shutdown` does. If it is dropped by one of its own tasks, or by its blocking work, another
+/// thread ends it, and the drop returns at once.
 ///
 /// ```
 /// let runtime = arachne::Runtime::new(4);
@@ -291,7 +416,12 @@ impl fmt::Debug for Runtime {
 }
 
 impl Runtime {
-    /// Returns a runtime of this many workers, and for the rest as `Builder::new` has it.
+    /// Returns a runtime of `cores` workers, and otherwise with the defaults of `Builder::new`.
+    ///
+    /// ```
+    /// let runtime = arachne::Runtime::new(arachne::available_cores());
+    /// assert_eq!(runtime.block_on(async { 42 }), 42);
+    /// ```
     ///
     /// # Panics
     /// If `Builder::build` returns an error.
@@ -300,7 +430,13 @@ impl Runtime {
         Builder::new(cores).build().expect("a runtime")
     }
 
-    /// Begins a task.
+    /// Spawns a task, from any thread. Returns the handle on its output.
+    ///
+    /// ```
+    /// let runtime = arachne::Runtime::new(2);
+    /// let task = runtime.spawn(async { "done" });
+    /// assert_eq!(runtime.block_on(task).unwrap(), "done");
+    /// ```
     #[track_caller]
     pub fn spawn<F>(&self, future: F) -> JoinHandle<F::Output>
     where
@@ -310,7 +446,28 @@ impl Runtime {
         self.shared.spawn_task(future, About { spawned: Location::caller(), name: None }, false)
     }
 
-    /// As `spawn`, with a name.
+    /// Like `spawn`, but puts the tasks at the workers in turn; see the function `spawn_balanced`.
+    ///
+    /// ```
+    /// let runtime = arachne::Runtime::new(2);
+    /// let task = runtime.spawn_balanced(async { 42 });
+    /// assert_eq!(runtime.block_on(task).unwrap(), 42);
+    /// ```
+    #[track_caller]
+    pub fn spawn_balanced<F>(&self, future: F) -> JoinHandle<F::Output>
+    where
+        F: Future + Send + 'static,
+        F::Output: Send + 'static,
+    {
+        self.shared.spawn_task(future, About { spawned: Location::caller(), name: None }, true)
+    }
+
+    /// Like `spawn`, with a name for the task; see the function `spawn_named`.
+    ///
+    /// ```
+    /// let task = arachne::Runtime::new(1).spawn_named("sweeper", async {});
+    /// assert_eq!(task.about().name.unwrap().as_str(), "sweeper");
+    /// ```
     #[track_caller]
     pub fn spawn_named<F>(&self, name: &str, future: F) -> JoinHandle<F::Output>
     where
@@ -320,7 +477,13 @@ impl Runtime {
         self.shared.spawn_task(future, About { spawned: Location::caller(), name: Some(Label::of(name)) }, false)
     }
 
-    /// As `spawn`, for a task that `shutdown_within` doesn't wait for; see the function of this name.
+    /// Like `spawn`, for a task that `shutdown_within` doesn't wait for; see the function `spawn_background`.
+    ///
+    /// ```
+    /// let runtime = arachne::Runtime::new(1);
+    /// runtime.spawn_background(std::future::pending::<()>());
+    /// assert_eq!(runtime.shutdown_within(std::time::Duration::from_secs(60)).aborted, 0);     // at once
+    /// ```
     #[track_caller]
     pub fn spawn_background<F>(&self, future: F) -> JoinHandle<F::Output>
     where
@@ -330,7 +493,15 @@ impl Runtime {
         self.shared.spawn_background(future, About { spawned: Location::caller(), name: None })
     }
 
-    /// As `spawn`, unless no place is free, or tasks wait for one: the future comes back.
+    /// Like `spawn`, but hands the future back if no place is free, or if tasks already wait for one.
+    ///
+    /// ```
+    /// let runtime = arachne::Runtime::new(1);
+    /// match runtime.try_spawn(async { 42 }) {
+    ///     Ok(task) => assert_eq!(runtime.block_on(task).unwrap(), 42),
+    ///     Err(arachne::Refused(future)) => assert_eq!(runtime.block_on(future), 42),
+    /// }
+    /// ```
     #[track_caller]
     pub fn try_spawn<F>(&self, future: F) -> Result<JoinHandle<F::Output>, Refused<F>>
     where
@@ -340,23 +511,48 @@ impl Runtime {
         self.shared.try_spawn_task(future, About { spawned: Location::caller(), name: None })
     }
 
-    /// Returns a handle that spawns from any kernel thread, and may outlive the runtime.
+    /// Returns a handle that spawns from any thread, and may outlive the runtime.
+    ///
+    /// ```
+    /// let runtime = arachne::Runtime::new(1);
+    /// let handle = runtime.handle();
+    /// drop(runtime);
+    /// assert!(arachne::block_on(handle.spawn(async {})).unwrap_err().is_cancelled());
+    /// ```
     #[must_use]
     pub fn handle(&self) -> Handle {
         Handle::of(self.shared)
     }
 
-    /// Runs a future on this kernel thread, with this runtime for its spawns, sockets and timers.
+    /// Runs a future on the calling thread, with this runtime for its spawns, sockets and timers.
+    ///
+    /// ```
+    /// let runtime = arachne::Runtime::new(2);
+    /// let sum = runtime.block_on(async { arachne::spawn(async { 1 }).await.unwrap() + 1 });
+    /// assert_eq!(sum, 2);
+    /// ```
     pub fn block_on<F: Future>(&self, future: F) -> F::Output {
         entered(self.shared, || block_on(future))
     }
 
-    /// Runs `f` with this runtime for its spawns, sockets and timers.
+    /// Runs a function with this runtime for its spawns, sockets and timers.
+    ///
+    /// ```
+    /// let runtime = arachne::Runtime::new(1);
+    /// let task = runtime.enter(|| arachne::spawn(async { 42 }));
+    /// assert_eq!(arachne::block_on(task).unwrap(), 42);
+    /// ```
     pub fn enter<T>(&self, f: impl FnOnce() -> T) -> T {
         entered(self.shared, f)
     }
 
-    /// Returns what the workers have counted until now.
+    /// Returns the counts of the workers until now.
+    ///
+    /// ```
+    /// let runtime = arachne::Runtime::new(2);
+    /// runtime.block_on(runtime.spawn(async {})).unwrap();
+    /// assert_eq!(runtime.stats().workers.len(), 2);
+    /// ```
     #[must_use]
     pub fn stats(&self) -> Stats {
         Runtime::stats_of(self.shared)
@@ -393,13 +589,33 @@ impl Runtime {
         }
     }
 
-    /// All tasks that have begun and have not ended, with what they do and for how long; of an observed runtime alone.
+    /// Returns all tasks in progress, with their states; none unless the runtime is observed.
+    ///
+    /// ```
+    /// let runtime = arachne::Builder::new(1).observed().build().unwrap();
+    /// let _waits = runtime.spawn_named("waits", std::future::pending::<()>());
+    /// let tasks = loop {
+    ///     let tasks = runtime.tasks();
+    ///     if tasks.iter().any(|task| task.doing == arachne::Doing::Waits) {
+    ///         break tasks;
+    ///     }
+    /// };
+    /// assert_eq!(tasks[0].about.name.unwrap().as_str(), "waits");
+    /// ```
     #[must_use]
     pub fn tasks(&self) -> Vec<TaskInfo> {
         self.shared.observer.tasks()
     }
 
-    /// At that signal (10 is SIGUSR1) the list of `tasks` is written to the standard error stream.
+    /// Writes the list of `tasks` to the standard error stream at each signal of this number (10 is SIGUSR1).
+    ///
+    /// ```no_run
+    /// # fn main() -> std::io::Result<()> {
+    /// let runtime = arachne::Builder::new(4).observed().build()?;
+    /// runtime.list_tasks_at(10)?;                 // `kill -USR1` lists them
+    /// # Ok(())
+    /// # }
+    /// ```
     pub fn list_tasks_at(&self, signal: i32) -> io::Result<()> {
         let (shared, signal) = (self.shared, Signal::heard(signal)?);
         let list = move || {
@@ -416,14 +632,27 @@ impl Runtime {
         self.shared
     }
 
-    /// Stops: no task runs from then on, and each that has not ended is dropped, on this kernel thread; its handle
-    /// tells `Cancelled`. Returns once all workers' kernel threads are joined, and those of the blocking pool, which
-    /// are waited for. For an end within a time see `shutdown_within`.
+    /// Ends the runtime: drops all tasks that have not ended, and joins its threads.
+    ///
+    /// No task is polled from then on. The tasks are dropped on the calling thread, and their handles return
+    /// `Cancelled`. Polls in progress, and work that runs on the blocking pool, are waited for, without a limit. See
+    /// `shutdown_within` for an end that lets tasks finish.
+    ///
+    /// ```
+    /// let runtime = arachne::Runtime::new(1);
+    /// let waits = runtime.spawn(std::future::pending::<()>());
+    /// runtime.shutdown();
+    /// assert!(arachne::block_on(waits).unwrap_err().is_cancelled());
+    /// ```
     pub fn shutdown(self) {
         drop(self);
     }
 
-    fn end(&mut self) {
+    /// Ends the runtime; returns at `until` even if work on the blocking pool still runs.
+    pub(crate) fn end(&mut self, until: Option<Instant>) {
+        if self.ended {
+            return;
+        }
         let shared = self.shared;
         shared.arbiter.close();
         shared.stop.store(true, SeqCst);
@@ -434,24 +663,50 @@ impl Runtime {
             shared.ring(number);
         }
         self.threads.drain(..).for_each(|thread| drop(thread.join()));
-        if self.ended {
-            return;
-        }
         self.ended = true;
         entered(shared, || end_all(shared));
         shared.blocking.close();
+        let left = || until.map_or(LOOK, |until| until.saturating_duration_since(Instant::now()));
+        while !shared.blocking.wait_for_end(left().min(LOOK)) {
+            end_spawned(shared);
+            if left().is_zero() {
+                shared.door.close();
+                // Another thread waits for the rest; if none can be started, the state is never used again.
+                let _ = thread::Builder::new().name("arachne-end".into()).spawn(move || end_later(shared));
+                return;
+            }
+        }
         shared.door.close();
         entered(shared, || end_all(shared));
         shared.give();
     }
 }
 
+/// The time between two looks for tasks that blocking work has spawned since the end.
+const LOOK: Duration = Duration::from_millis(10);
+
+/// Waits for blocking work that outlives its runtime. Only then a later runtime may use the state.
+fn end_later(shared: &'static Shared) {
+    while !shared.blocking.wait_for_end(LOOK) {
+        end_spawned(shared);
+    }
+    entered(shared, || end_all(shared));
+    shared.give();
+}
+
+/// Ends the tasks that blocking work has spawned since the end: it may wait for them.
+fn end_spawned(shared: &'static Shared) {
+    if shared.live() != 0 {
+        entered(shared, || end_all(shared));
+    }
+}
+
 impl Drop for Runtime {
     fn drop(&mut self) {
-        if !is_own(self.shared) {
-            return self.end();
+        if self.ended || !is_own(self.shared) {
+            return self.end(None);
         }
-        // No thread joins itself. Where no other is to be had, the runtime runs on.
+        // A thread can't join itself. If no other can be started, the runtime runs on.
         let threads = std::mem::take(&mut self.threads);
         let rest = ManuallyDrop::new(Runtime { shared: self.shared, threads, ended: self.ended });
         let ends = move || drop(ManuallyDrop::into_inner(rest));
@@ -459,7 +714,7 @@ impl Drop for Runtime {
     }
 }
 
-/// A panic of the loop itself, not of a task, would leave jobs in a hand that nobody has.
+/// Aborts the process if dropped: a panic in a worker's own loop would lose the jobs in its hand.
 struct EndsTheProcess;
 impl Drop for EndsTheProcess {
     fn drop(&mut self) {
@@ -468,8 +723,10 @@ impl Drop for EndsTheProcess {
     }
 }
 
-/// Ends each task that has not ended. No worker runs; a kernel thread may be in the midst of a wake or a spawn, so the
-/// tables are gone through until as many have ended as were spawned.
+/// Ends all tasks that have not ended.
+///
+/// No worker runs any more, but other threads may be within a wake or a spawn. So it searches the tables again until as
+/// many tasks have ended as were spawned.
 fn end_all(shared: &'static Shared) {
     loop {
         end_queued(shared);
@@ -481,7 +738,7 @@ fn end_all(shared: &'static Shared) {
     }
 }
 
-/// Ends the tasks that found no place.
+/// Ends the tasks that wait for a place.
 fn end_queued(shared: &'static Shared) {
     loop {
         let raw = match shared.queue.lock().unwrap().pop_front() {
@@ -495,7 +752,7 @@ fn end_queued(shared: &'static Shared) {
     }
 }
 
-/// Makes each task ready that waits, and ends all that are ready.
+/// Makes all blocked tasks ready, and ends all ready tasks.
 fn end_placed(shared: &'static Shared) {
     let mut jobs = Vec::new();
     with_hands(shared, |hands| {
@@ -508,7 +765,7 @@ fn end_placed(shared: &'static Shared) {
             }
         }
         for block in 0..shared.roomy.len() * SHARD {
-            // Each block is asked itself: what shows where jobs are ready may have missed one.
+            // Every block, and not only those that the summary shows: it may have missed one.
             while let Some(job) = hands.take_any(block) {
                 jobs.push(job.job);
                 hands.finish(&job);

@@ -1,4 +1,4 @@
-//! A semaphore: so many permits, given in the order in which they were asked for. Names and answers are tokio's.
+//! A semaphore, whose permits are given in the order of the requests. Names and results are tokio's.
 
 use crate::reactor::Slot;
 use crate::shared::here;
@@ -23,7 +23,7 @@ struct State {
     line: VecDeque<Arc<Node>>,
 }
 
-/// So many permits.
+/// A number of permits, which tasks take and give back.
 ///
 /// ```
 /// use std::sync::Arc;
@@ -45,7 +45,13 @@ impl fmt::Debug for Semaphore {
     }
 }
 
-/// The semaphore is closed.
+/// The error of `Semaphore::acquire`: the semaphore is closed.
+///
+/// ```
+/// let permits = arachne::Semaphore::new(0);
+/// permits.close();
+/// assert_eq!(arachne::block_on(permits.acquire()).unwrap_err().to_string(), "the semaphore is closed");
+/// ```
 #[derive(Clone, Copy, PartialEq, Eq, Debug)]
 #[non_exhaustive]
 pub struct AcquireError;
@@ -57,12 +63,19 @@ impl fmt::Display for AcquireError {
 }
 impl std::error::Error for AcquireError {}
 
-/// Why permits were not taken at once.
+/// The error of `Semaphore::try_acquire`.
+///
+/// ```
+/// let permits = arachne::Semaphore::new(1);
+/// assert_eq!(permits.try_acquire_many(2).unwrap_err(), arachne::TryAcquireError::NoPermits);
+/// permits.close();
+/// assert_eq!(permits.try_acquire().unwrap_err(), arachne::TryAcquireError::Closed);
+/// ```
 #[derive(Clone, Copy, PartialEq, Eq, Debug)]
 pub enum TryAcquireError {
     /// The semaphore is closed.
     Closed,
-    /// There are not so many, or somebody waits.
+    /// There are too few permits, or others wait for some.
     NoPermits,
 }
 
@@ -77,56 +90,93 @@ impl fmt::Display for TryAcquireError {
 impl std::error::Error for TryAcquireError {}
 
 impl Semaphore {
-    /// So many permits, which nobody has.
+    /// Returns a semaphore with `permits` available permits.
+    ///
+    /// ```
+    /// assert_eq!(arachne::Semaphore::new(3).available_permits(), 3);
+    /// ```
     #[must_use]
     pub fn new(permits: usize) -> Semaphore {
         Semaphore { state: Mutex::new(State { permits, ..State::default() }) }
     }
 
-    /// Returns how many permits nobody has, whether or not somebody waits for more of them.
+    /// Returns the number of available permits, even if a task waits for more than that; see the example at `new`.
     #[must_use]
     pub fn available_permits(&self) -> usize {
         self.state.lock().unwrap().permits
     }
 
-    /// Waits for a permit, in line. Returns an error if the semaphore is closed.
+    /// Waits for a permit, in line. Fails if the semaphore is closed.
+    ///
+    /// ```
+    /// let permits = arachne::Semaphore::new(1);
+    /// let permit = arachne::block_on(permits.acquire()).unwrap();
+    /// assert_eq!(permits.available_permits(), 0);
+    /// drop(permit);
+    /// assert_eq!(permits.available_permits(), 1);
+    /// ```
     pub fn acquire(&self) -> Acquire<'_> {
         self.acquire_many(1)
     }
 
-    /// Waits for `wants` permits at once, in line. Returns an error if the semaphore is closed.
+    /// Waits for `wants` permits at once, in line. Fails if the semaphore is closed.
+    ///
+    /// ```
+    /// let permits = arachne::Semaphore::new(5);
+    /// let _three = arachne::block_on(permits.acquire_many(3)).unwrap();
+    /// assert_eq!(permits.available_permits(), 2);
+    /// ```
     pub fn acquire_many(&self, wants: u32) -> Acquire<'_> {
         Acquire { semaphore: self, wants: wants as usize, node: None }
     }
 
-    /// As `acquire`, for a permit that may be given to another task.
+    /// Like `acquire`, for a permit that may go to another task; see the example at `Semaphore`.
     pub async fn acquire_owned(self: Arc<Self>) -> Result<OwnedSemaphorePermit, AcquireError> {
         self.acquire_many_owned(1).await
     }
 
-    /// As `acquire_many`, for permits that may be given to another task.
+    /// Like `acquire_many`, for permits that may go to another task.
+    ///
+    /// ```
+    /// let permits = std::sync::Arc::new(arachne::Semaphore::new(5));
+    /// let all = arachne::block_on(permits.clone().acquire_many_owned(5)).unwrap();
+    /// std::thread::spawn(move || drop(all)).join().unwrap();
+    /// assert_eq!(permits.available_permits(), 5);
+    /// ```
     pub async fn acquire_many_owned(self: Arc<Self>, wants: u32) -> Result<OwnedSemaphorePermit, AcquireError> {
         self.acquire_many(wants).await?.forget();
         Ok(OwnedSemaphorePermit { semaphore: self, count: wants as usize })
     }
 
-    /// Takes a permit, if one is there and nobody waits.
+    /// Takes a permit if one is available and nobody waits; see the example at `TryAcquireError`.
     pub fn try_acquire(&self) -> Result<SemaphorePermit<'_>, TryAcquireError> {
         self.try_acquire_many(1)
     }
 
-    /// Takes `wants` permits, if they are there and nobody waits.
+    /// Takes `wants` permits if they are available and nobody waits; see the example at `TryAcquireError`.
     pub fn try_acquire_many(&self, wants: u32) -> Result<SemaphorePermit<'_>, TryAcquireError> {
         let count = wants as usize;
         self.take(count).map(|()| SemaphorePermit { semaphore: self, count })
     }
 
-    /// As `try_acquire`, for a permit that may be given to another task.
+    /// Like `try_acquire`, for a permit that may go to another task.
+    ///
+    /// ```
+    /// let permits = std::sync::Arc::new(arachne::Semaphore::new(1));
+    /// let permit = permits.clone().try_acquire_owned();
+    /// assert!(permit.is_ok() && permits.try_acquire_owned().is_err());
+    /// ```
     pub fn try_acquire_owned(self: Arc<Self>) -> Result<OwnedSemaphorePermit, TryAcquireError> {
         self.try_acquire_many_owned(1)
     }
 
-    /// As `try_acquire_many`, for permits that may be given to another task.
+    /// Like `try_acquire_many`, for permits that may go to another task.
+    ///
+    /// ```
+    /// let permits = std::sync::Arc::new(arachne::Semaphore::new(3));
+    /// let two = permits.clone().try_acquire_many_owned(2);
+    /// assert!(two.is_ok() && permits.try_acquire_many_owned(2).is_err());
+    /// ```
     pub fn try_acquire_many_owned(self: Arc<Self>, wants: u32) -> Result<OwnedSemaphorePermit, TryAcquireError> {
         let count = wants as usize;
         self.take(count)?;
@@ -145,14 +195,29 @@ impl Semaphore {
         Ok(())
     }
 
-    /// Adds permits.
+    /// Adds `count` permits, and wakes those who wait for them.
+    ///
+    /// ```
+    /// let permits = std::sync::Arc::new(arachne::Semaphore::new(0));
+    /// let adds = permits.clone();
+    /// std::thread::spawn(move || adds.add_permits(1));
+    /// arachne::block_on(permits.acquire()).unwrap().forget();
+    /// ```
     pub fn add_permits(&self, count: usize) {
         let mut state = self.state.lock().unwrap();
         state.permits += count;
         self.grant(state);
     }
 
-    /// From now on no permit is given: who waits, or asks, is told so. Permits that are held stay so.
+    /// Closes the semaphore: all who wait for permits, or request some later, get an error.
+    ///
+    /// Permits that are held stay valid.
+    ///
+    /// ```
+    /// let permits = arachne::Semaphore::new(1);
+    /// permits.close();
+    /// assert!(permits.is_closed() && permits.try_acquire().is_err());
+    /// ```
     pub fn close(&self) {
         let mut state = self.state.lock().unwrap();
         state.closed = true;
@@ -161,13 +226,13 @@ impl Semaphore {
         line.iter().for_each(|node| node.slot.wake());
     }
 
-    /// Returns true if `close` was called.
+    /// Returns true if `close` was called; see the example there.
     #[must_use]
     pub fn is_closed(&self) -> bool {
         self.state.lock().unwrap().closed
     }
 
-    /// Gives the first in line theirs, and wakes them without the lock.
+    /// Gives the first in line their permits as far as these go, and wakes them after the lock is released.
     fn grant(&self, mut state: crate::sync::MutexGuard<'_, State>) {
         let mut granted = Vec::new();
         while state.line.front().map_or(false, |node| node.wants <= state.permits) {
@@ -182,7 +247,13 @@ impl Semaphore {
     }
 }
 
-/// A future of permits. Dropped while it waits, it leaves the line.
+/// The future of `Semaphore::acquire`. If it is dropped while it waits, it leaves the line.
+///
+/// ```
+/// let permits = arachne::Semaphore::new(1);
+/// let waits: arachne::Acquire<'_> = permits.acquire();
+/// assert!(arachne::block_on(waits).is_ok());
+/// ```
 #[must_use = "permits are taken once the future is awaited"]
 pub struct Acquire<'a> {
     semaphore: &'a Semaphore,
@@ -204,7 +275,7 @@ impl<'a> Future for Acquire<'a> {
         if let Some(node) = &self.node {
             node.slot.set(cx.waker());
             if !node.granted.load(SeqCst) {
-                // Whoever closes takes the line, and then wakes.
+                // Checked after the waker is set: `close` sets the flag before it wakes the line.
                 return if semaphore.is_closed() { Poll::Ready(Err(AcquireError)) } else { Poll::Pending };
             }
             self.node = None;
@@ -247,14 +318,29 @@ impl Drop for Acquire<'_> {
     }
 }
 
-/// Permits, given back when this is dropped.
+/// Permits of a semaphore, given back when this is dropped.
+///
+/// ```
+/// let permits = arachne::Semaphore::new(2);
+/// let permit: arachne::SemaphorePermit<'_> = permits.try_acquire().unwrap();
+/// drop(permit);
+/// permits.try_acquire().unwrap().forget();
+/// assert_eq!(permits.available_permits(), 1);
+/// ```
 #[must_use = "permits are given back when this is dropped"]
 pub struct SemaphorePermit<'a> {
     semaphore: &'a Semaphore,
     count: usize,
 }
 
-/// As `SemaphorePermit`, of a semaphore that is shared by an `Arc`.
+/// Like `SemaphorePermit`, of a semaphore in an `Arc`: it may go to another task.
+///
+/// ```
+/// let permits = std::sync::Arc::new(arachne::Semaphore::new(1));
+/// let permit: arachne::OwnedSemaphorePermit = permits.clone().try_acquire_owned().unwrap();
+/// std::thread::spawn(move || drop(permit)).join().unwrap();
+/// assert_eq!(permits.available_permits(), 1);
+/// ```
 #[must_use = "permits are given back when this is dropped"]
 pub struct OwnedSemaphorePermit {
     semaphore: Arc<Semaphore>,
@@ -270,7 +356,7 @@ macro_rules! permit {
         }
 
         impl $($permit)* {
-            /// Keeps the permits from being given back.
+            /// Keeps the permits from being given back; see the example at `SemaphorePermit`.
             pub fn forget(mut self) {
                 self.count = 0;
             }

@@ -1,4 +1,4 @@
-//! What the kernel threads of a runtime share, and what each of them has of its own.
+//! The state that a runtime's kernel threads share, and the state of each of them.
 
 use crate::arbiter::Client;
 use crate::blocking::Pool;
@@ -26,7 +26,7 @@ mod explored;
 #[cfg(feature = "explore")]
 pub use explored::{forget_runtimes, forget_thread, set_active};
 
-/// Runtimes of a process at a time, as each has wakers of its own.
+/// The most runtimes of a process at a time: each needs a table of waker functions.
 pub(crate) const TABLES: usize = 32;
 
 /// No worker's number.
@@ -35,45 +35,49 @@ pub(crate) const NO_ONE: usize = usize::MAX;
 #[allow(clippy::declare_interior_mutable_const)]
 const NO_TABLE: AtomicPtr<Shared> = AtomicPtr::new(ptr::null_mut());
 static ALL: [AtomicPtr<Shared>; TABLES] = [NO_TABLE; TABLES];
-/// How many of them were made, and those that no runtime has now. They are never freed: a waker may be kept for ever.
+/// The number of `Shared` made so far, and those that no runtime uses now.
+///
+/// They are never freed, since a waker may be kept for ever.
 static POOL: Mutex<(usize, Vec<&'static Shared>)> = Mutex::new((0, Vec::new()));
 
-/// What a runtime's kernel threads share.
+/// The state that a runtime's kernel threads share.
 pub(crate) struct Shared {
     pub(crate) table: usize,
     pub(crate) root: Mutex<Root>,
     pub(crate) workers: Box<[Line<Worker>]>,
     pub(crate) reactor: Reactor,
-    /// Posts of workers that sleep: who waits in the epoll, and who looks at it now and then while that one runs tasks.
+    /// The worker that waits in the epoll, and its deputy, which polls it now and then while the former runs tasks.
     pub(crate) waits: Line<AtomicUsize>,
     pub(crate) deputy: Line<AtomicUsize>,
-    /// When a worker that ran tasks last looked at the epoll.
+    /// The time of the last look at the epoll by a worker that runs tasks.
     pub(crate) looked: Line<AtomicU64>,
-    /// Milliseconds between two looks of the deputy, and of who waits in the epoll.
+    /// Milliseconds between two looks at the others by the deputy, and by the worker that waits in the epoll.
     pub(crate) rests: AtomicI32,
     pub(crate) pauses: AtomicI32,
-    /// By shard: blocks that may have a free place.
+    /// By shard, its blocks that may have a free place, as bits.
     pub(crate) roomy: Box<[Line<AtomicU64>]>,
-    /// By place: the name of the task that first waited there last, to end it when the runtime ends.
+    /// By place, the name of the last task that waited there, so that it can be ended with the runtime.
     pub(crate) names: Box<[AtomicU64]>,
-    /// Workers that sleep, and how many look for work: both only say whom it may be worth to wake.
+    /// The workers that sleep, as bits, and the number that search for work. They only decide whom it is worth to wake.
     pub(crate) sleepers: Line<AtomicU64>,
     pub(crate) searching: Line<AtomicUsize>,
     pub(crate) active: Line<AtomicUsize>,
-    /// Tasks that found no place, not yet begun.
+    /// Tasks that wait for a free place, and have not begun.
     pub(crate) queue: Mutex<VecDeque<Raw>>,
     pub(crate) queued: Line<AtomicUsize>,
-    /// There is no place for what is queued until a task ends.
+    /// No queued task can get a place until a task ends.
     pub(crate) clogged: AtomicBool,
     pub(crate) stop: AtomicBool,
     pub(crate) next_home: AtomicUsize,
+    /// The timers of threads that are no workers. They belong to the first worker.
+    pub(crate) visitors: Timers,
     pub(crate) blocking: Pool,
     pub(crate) observer: Observer,
     pub(crate) draining: Draining,
     pub(crate) door: Door,
-    /// Tasks spawned from outside.
+    /// The number of tasks spawned by threads that are not workers.
     pub(crate) spawned: Line<AtomicU64>,
-    /// Tasks that a drain doesn't wait for: how many were spawned, and how many of their futures are dropped.
+    /// Background tasks, which a drain doesn't wait for: the number spawned, and the number of futures dropped.
     pub(crate) background: (AtomicU64, AtomicU64),
     /// The arbiter by which processes share the machine's cores, if this runtime has one.
     pub(crate) arbiter: Client,
@@ -91,21 +95,22 @@ pub(crate) struct Counts {
     pub(crate) ended_elsewhere: AtomicU64,
 }
 
-/// What others see of a worker. Its counts are written by itself alone.
+/// The part of a worker that other threads see. Only the worker itself writes its counts.
 pub(crate) struct Worker {
     pub(crate) bell: Bell,
     pub(crate) hand: Hand,
     pub(crate) timers: Timers,
     /// True while the core is given back.
     pub(crate) given_back: (Mutex<bool>, Condvar),
-    /// It has laid down all that it had in hand, and waits for its core.
+    /// The worker has laid down all jobs in its hand, and waits for its core.
     pub(crate) away: AtomicBool,
-    /// Its shards, and the seats that park in the name of their numbers. Whoever looks after them takes the lock.
+    /// The worker's shards. The seats by which their numbers park are in `parking`.
     pub(crate) shards: Box<[usize]>,
-    /// How many of its shards, from the first on, ever had a task: the others needn't be looked at. It only grows.
+    /// The number of its shards, from the first on, that ever had a task. It only grows; the others are not searched.
     pub(crate) used: AtomicUsize,
     /// The block of its shards in which the next task may find room.
     pub(crate) roomy: Line<AtomicUsize>,
+    /// The right to park its numbers. The worker that looks after them takes the lock.
     pub(crate) parking: Mutex<Vec<Parking>>,
     pub(crate) polls: AtomicU64,
     pub(crate) spawned: AtomicU64,
@@ -113,15 +118,15 @@ pub(crate) struct Worker {
     pub(crate) takes: AtomicU64,
     pub(crate) wakes: AtomicU64,
     pub(crate) parks: AtomicU64,
-    /// Looks that the policy counts, and what was ready at them.
+    /// Looks counted for the policy, and the sum of the ready jobs at them.
     pub(crate) scans: AtomicU64,
     pub(crate) runnable: AtomicU64,
-    /// Nanoseconds without work, and since when (0: it has work).
+    /// Nanoseconds without work, and the time since which there is none (0: there is work).
     pub(crate) idle: AtomicU64,
     pub(crate) idle_since: AtomicU64,
-    /// The kernel's account of this thread: how long it ran, and how long it waited for a processor.
+    /// The thread's `/proc` file `schedstat`: the time it ran, and the time it waited for a processor.
     pub(crate) account: Mutex<Option<File>>,
-    /// The name of the task in whose poll it is, for the watcher, and what is known of it.
+    /// For the watcher: the name of the task that is polled now, where it was spawned, and its label.
     pub(crate) running: AtomicU64,
     pub(crate) site: AtomicPtr<Location<'static>>,
     pub(crate) label: AtomicPtr<Label>,
@@ -162,7 +167,7 @@ impl Worker {
         }
     }
 
-    /// For the watcher: the task whose poll begins.
+    /// Publishes the task whose poll begins, for the watcher.
     #[inline]
     pub(crate) fn begins(&self, name: u64, about: &About) {
         self.site.store(about.spawned as *const _ as *mut _, Relaxed);
@@ -170,19 +175,19 @@ impl Worker {
         self.running.store(name, Relaxed);
     }
 
-    /// The shards that may have tasks.
+    /// Returns the shards that may have tasks.
     #[inline]
     pub(crate) fn used_shards(&self) -> &[usize] {
         &self.shards[..self.used.load(Relaxed)]
     }
 
-    /// Nanoseconds without work until now.
+    /// Returns the nanoseconds without work until now.
     pub(crate) fn idle_time(&self, now: u64) -> u64 {
         let since = self.idle_since.load(Relaxed);
         self.idle.load(Relaxed) + if since == 0 { 0 } else { now.saturating_sub(since) }
     }
 
-    /// It has work, or may have some, from now on; the time.
+    /// Ends the time without work, and returns the current time.
     pub(crate) fn ends_idling(&self) -> u64 {
         let now = now();
         add(&self.idle, now.saturating_sub(self.idle_since.swap(0, Relaxed)));
@@ -199,7 +204,7 @@ impl Worker {
     }
 }
 
-/// The runtime of this number, if one was ever made.
+/// Returns the shared state of this number, if one was ever made.
 #[inline]
 pub(crate) fn shared_of(table: usize) -> Option<&'static Shared> {
     // SAFETY: what was stored there once is never freed.
@@ -207,8 +212,9 @@ pub(crate) fn shared_of(table: usize) -> Option<&'static Shared> {
 }
 
 impl Shared {
-    /// One that nobody has, of this shape: an old one, or a new one. Err where there are 32 of other shapes or in use,
-    /// or memory or descriptors are refused.
+    /// Returns an unused `Shared` of this shape: one of an ended runtime, or a new one.
+    ///
+    /// Fails if all 32 are in use or of other shapes, or if memory or descriptors are refused.
     pub(crate) fn get(workers: usize, shards: usize, observed: bool) -> io::Result<&'static Shared> {
         let mut pool = POOL.lock().unwrap();
         let alike =
@@ -229,7 +235,7 @@ impl Shared {
         Ok(shared)
     }
 
-    /// A new one, for ever. None where memory for its table is refused.
+    /// Makes a new `Shared`, which is never freed. Returns None if memory for its table is refused.
     fn make(table: usize, workers: usize, shards: usize, observed: bool) -> io::Result<Option<&'static Shared>> {
         let mut root = match Root::new(shards) {
             Some(root) => root,
@@ -266,6 +272,7 @@ impl Shared {
             clogged: AtomicBool::new(false),
             stop: AtomicBool::new(false),
             next_home: AtomicUsize::new(0),
+            visitors: Timers::default(),
             blocking: Pool::default(),
             observer: Observer::new(if observed { places } else { 0 }),
             draining: Draining::default(),
@@ -311,32 +318,34 @@ impl Shared {
         (self.spawned.0.load(SeqCst) + self.sum(|worker| &worker.spawned)) as i64
     }
 
-    /// Tasks that were spawned and have not ended.
+    /// Returns the number of tasks that were spawned and have not ended.
     pub(crate) fn live(&self) -> u64 {
         let ended = self.ended();
         (self.spawned() - ended).max(0) as u64
     }
 
-    /// Those of them for which a drain waits; never too few, whatever happens meanwhile. A task in the background is
-    /// counted as such after it is counted as spawned, and no longer before it is counted as ended.
+    /// Returns the number of tasks for which a drain waits, those of the background left out.
+    ///
+    /// It is never too low, even while tasks begin and end: `spawned` counts a background task before `background.0`
+    /// does, and `background.1` counts it before `ended` does. So the counts must be read in the reverse order.
     pub(crate) fn awaited(&self) -> u64 {
         let ended = self.ended() - self.background.1.load(SeqCst) as i64;
         let background = self.background.0.load(SeqCst) as i64;
         (self.spawned() - background - ended).max(0) as u64
     }
 
-    /// Nobody uses it any more.
+    /// Gives this state back, for a later runtime. No thread of the ended one uses it any more.
     pub(crate) fn give(&'static self) {
         POOL.lock().unwrap().1.push(self);
     }
 
-    /// The worker whose place that is.
+    /// Returns the worker to whose blocks this place belongs.
     #[inline]
     pub(crate) fn home(&self, place: usize) -> usize {
         place / (BLOCK * SHARD) % NUMBERS % self.workers.len()
     }
 
-    /// The worker that looks after this one's words and timers: itself, or where its core is given back, another.
+    /// Returns the worker that looks after this one's blocks and timers: itself, or another if it has no core.
     #[inline]
     pub(crate) fn keeper(&self, worker: usize) -> usize {
         let active = self.active.0.load(SeqCst);
@@ -348,22 +357,22 @@ impl Shared {
     }
 }
 
-/// What a worker's kernel thread has of its own, for calls from within a task.
+/// A worker's own state, for calls from within a task.
 pub(crate) struct Context {
     pub(crate) shared: &'static Shared,
     pub(crate) me: usize,
     pub(crate) hands: Hands,
     pub(crate) worker: &'static Worker,
-    /// No other kernel thread ever takes jobs out of this worker's hand.
+    /// No other thread ever takes jobs out of this worker's hand.
     pub(crate) alone: bool,
     /// The name of the task that runs here, and whether it woke itself.
     pub(crate) current: Cell<u64>,
     pub(crate) woken: Cell<bool>,
-    /// Reads of sockets in this poll, and when this worker last looked out or had nothing to do.
+    /// The number of reads of sockets in this poll, and the time at which the worker last looked out or was idle.
     pub(crate) reads: Cell<u32>,
     pub(crate) looked: Cell<u64>,
-    /// What a wake makes ready runs next here. Where not, a wake that makes ready wakes no other worker, and the first
-    /// `room` tasks that are woken stay in this worker's hand, in order.
+    /// A job that is woken runs next here. If false, the first `room` woken jobs go into this worker's line, in order,
+    /// the others become ready in their blocks, and no worker is woken to help.
     pub(crate) keeps: Cell<bool>,
     pub(crate) room: Cell<usize>,
     random: Cell<u64>,
@@ -394,7 +403,7 @@ impl Context {
         }
     }
 
-    /// This thread's context while it is a worker.
+    /// Calls with this thread's context, or with None if the thread is no worker.
     #[inline]
     pub(crate) fn with<R>(call: impl FnOnce(Option<&Context>) -> R) -> R {
         let context = CONTEXT.with(Cell::get);
@@ -402,7 +411,7 @@ impl Context {
         call(unsafe { context.as_ref() })
     }
 
-    /// Runs `f` as this worker.
+    /// Runs `f` with this context as the thread's.
     pub(crate) fn enter<R>(&self, f: impl FnOnce() -> R) -> R {
         struct Leave;
         impl Drop for Leave {
@@ -415,8 +424,9 @@ impl Context {
         f()
     }
 
-    /// Whether the poll that runs here may read more: its first read may, and others until it is time to look out. So
-    /// a socket that always has more doesn't keep its worker.
+    /// Returns true if the current poll may read a socket: once always, and again until the next look is due.
+    ///
+    /// So a socket that always has more doesn't keep its worker.
     #[inline]
     pub(crate) fn may_read(&self) -> bool {
         let reads = self.reads.replace(self.reads.get() + 1);
@@ -436,18 +446,18 @@ fn next_random(mut x: u64) -> u64 {
     x ^ x << 17
 }
 
-/// The runtime that this thread has entered, or whose worker it is.
+/// Returns the runtime that this thread has entered, or whose worker it is.
 pub(crate) fn here() -> Option<&'static Shared> {
     ENTERED.with(Cell::get).or_else(|| Context::with(|worker| worker.map(|w| w.shared)))
 }
 
-/// Whether this thread is one of the runtime's, or has entered it.
+/// Returns true if this thread is a worker of the runtime, or has entered it.
 pub(crate) fn is_own(shared: &Shared) -> bool {
     let is_it = |at: Option<&'static Shared>| at.map_or(false, |at| ptr::eq(at, shared));
     is_it(ENTERED.with(Cell::get)) || is_it(Context::with(|worker| worker.map(|w| w.shared)))
 }
 
-/// Runs `f` with this runtime as that of spawns, sockets and timers.
+/// Runs `f` with this runtime for its spawns, sockets and timers.
 pub(crate) fn entered<R>(shared: &'static Shared, f: impl FnOnce() -> R) -> R {
     struct Leave(Option<&'static Shared>);
     impl Drop for Leave {
@@ -459,7 +469,7 @@ pub(crate) fn entered<R>(shared: &'static Shared, f: impl FnOnce() -> R) -> R {
     f()
 }
 
-/// A kernel thread that is no worker: its seat at each table that it came to.
+/// The seats of a thread that is no worker, by runtime.
 struct Visitor {
     seats: Vec<Option<Hands>>,
 }
@@ -474,7 +484,7 @@ impl Drop for Visitor {
     }
 }
 
-/// Calls with a seat of this thread, which is no worker of that runtime.
+/// Calls with a seat of this thread, for a thread that is no worker of the runtime.
 pub(crate) fn with_hands<R>(shared: &'static Shared, call: impl FnOnce(&Hands) -> R) -> R {
     let mut call = Some(call);
     let visited = SEATS.try_with(|visitor| {
@@ -492,7 +502,7 @@ pub(crate) fn with_hands<R>(shared: &'static Shared, call: impl FnOnce(&Hands) -
     match (visited, call) {
         (Ok(Some(result)), _) => result,
         (_, Some(call)) => {
-            // The thread ends: seats for this one call.
+            // The thread is ending and its seats are gone, or they are in use: seats for this call only.
             let mut root = shared.root.lock().unwrap_or_else(|e| e.into_inner());
             let hands = root.crew(1, 1).and_then(|mut crew| crew.pop()).expect("no memory for a seat");
             let result = call(&hands);

@@ -1,4 +1,4 @@
-//! Where a new task is put, and the functions that make one.
+//! Spawning: the functions that make a task, and the choice of its place.
 
 use crate::core::{Hands, Spawned, SHARD};
 use crate::shared::{add, here, with_hands, Context, Shared};
@@ -10,10 +10,23 @@ use std::panic::Location;
 use std::pin::Pin;
 use std::task::{self as std_task, Poll};
 
-/// Tasks from outside that go to one worker before the next one gets some.
+/// The number of tasks from other threads that go to one worker before the next one gets some.
 const IN_A_ROW: usize = 16;
 
-/// No place is free: the future comes back; see `Runtime::try_spawn`.
+/// The error of `try_spawn`: no place is free. It has the future.
+///
+/// ```
+/// let runtime = arachne::Builder::new(1).places(1).build().unwrap();     // rounded up to 4,096
+/// let mut waiting = Vec::new();
+/// let refused = loop {
+///     match runtime.try_spawn(std::future::pending::<()>()) {
+///         Ok(task) => waiting.push(task),
+///         Err(refused) => break refused,
+///     }
+/// };
+/// waiting.remove(0).abort();
+/// runtime.spawn(refused.0);       // begins once the aborted task has ended
+/// ```
 pub struct Refused<F>(
     /// The future.
     pub F,
@@ -25,7 +38,7 @@ impl<F> fmt::Debug for Refused<F> {
     }
 }
 
-/// A future that is counted for as long as it isn't dropped.
+/// The future of a background task, counted until it is dropped.
 struct Background<F> {
     future: F,
     _counted: Counted,
@@ -48,9 +61,10 @@ impl<F: Future> Future for Background<F> {
 }
 
 impl Shared {
-    /// Puts a task into a free place of a worker's blocks. Tasks that are spawned one after the other stand in the
-    /// blocks of a shard in turn: the marks of neighbours in a block share a cache line, on which workers that wake
-    /// them would meet.
+    /// Puts a task into a free place of a worker's blocks.
+    ///
+    /// Consecutive tasks go to the blocks of a shard in turn: the marks of neighbours in a block share a cache line, on
+    /// which the workers that wake them would contend.
     pub(crate) fn spawn_at(&self, hands: &Hands, worker: usize, raw: Raw, keep: bool) -> Spawned {
         let (shards, next) = (&*self.workers[worker].0.shards, &self.workers[worker].0.roomy.0);
         let hint = next.load(Relaxed);
@@ -73,7 +87,7 @@ impl Shared {
                 let (bit, at) = (bits & bits.wrapping_neg(), shard * SHARD + bits.trailing_zeros() as usize);
                 let mut spawned = hands.spawn(at, raw, keep);
                 if spawned == Spawned::Full {
-                    // Whoever frees a place sets the bit after that; so it is cleared first, and the block tried again.
+                    // Cleared before the second try: a thread that frees a place sets the bit after that.
                     roomy.fetch_and(!bit, SeqCst);
                     spawned = hands.spawn(at, raw, keep);
                     if spawned != Spawned::Full {
@@ -90,7 +104,9 @@ impl Shared {
         Spawned::Full
     }
 
-    /// A new task: at this worker, or from outside at each in turn. Where no place is free, it waits in the queue.
+    /// Puts a new task into a place, or into the queue if none is free.
+    ///
+    /// The place is this worker's, or each worker's in turn if `balanced` or if this thread is no worker.
     #[inline]
     pub(crate) fn spawn(&'static self, raw: Raw, balanced: bool) {
         if !self.place_new(raw, balanced) {
@@ -98,7 +114,7 @@ impl Shared {
         }
     }
 
-    /// Counts a new task, and puts it into a place. False where none is free, or tasks wait for one.
+    /// Counts a new task, and puts it into a place. Returns false if none is free, or if tasks wait for one.
     #[inline]
     fn place_new(&'static self, raw: Raw, balanced: bool) -> bool {
         Context::with(|worker| match worker {
@@ -139,7 +155,7 @@ impl Shared {
         }
     }
 
-    /// At the first worker from `home` on that has room.
+    /// Puts a new task into a place of the first worker from `home` on that has a free one. Returns false if none has.
     fn spawn_among(&self, hands: &Hands, home: usize, raw: Raw) -> bool {
         if self.queued.0.load(Relaxed) != 0 {
             return false;
@@ -161,6 +177,7 @@ impl Shared {
             self.queued.0.fetch_add(1, SeqCst);
         }
         self.counts.queued.fetch_add(1, Relaxed);
+        // After it is counted: a worker looks at the count last before it sleeps.
         self.rouse_any();
     }
 
@@ -186,7 +203,7 @@ impl Shared {
         handle
     }
 
-    /// As `spawn_task`, or the future back.
+    /// Like `spawn_task`, but hands the future back if no place is free.
     pub(crate) fn try_spawn_task<F>(&'static self, future: F, about: About) -> Result<JoinHandle<F::Output>, Refused<F>>
     where
         F: Future + Send + 'static,
@@ -200,15 +217,16 @@ impl Shared {
             self.observer.spawns(&about);
             return Ok(handle);
         }
-        // It was counted as spawned.
+        // `place_new` has counted it as spawned.
         self.counts.ended_elsewhere.fetch_add(1, SeqCst);
         // SAFETY: nobody else has it, and it was not polled.
         Err(Refused(unsafe { task::unmake(raw, handle) }))
     }
 }
 
-/// Begins a task of the runtime whose task or `block_on` this is. It runs next on this worker, unless the task that
-/// spawns it goes on for long.
+/// Spawns a task on the runtime of the calling task or `block_on`. Returns the handle on its output.
+///
+/// It runs next on this worker, or on another if the spawning task goes on for long.
 ///
 /// ```
 /// let sum = arachne::Runtime::new(2).block_on(async {
@@ -231,7 +249,7 @@ where
     here().expect("spawn outside of a runtime").spawn_task(future, about, false)
 }
 
-/// As `spawn`, with a name, which `Runtime::tasks` and the watcher of slow polls say.
+/// Like `spawn`, with a name for the task, which `Runtime::tasks` and the watcher of slow polls report.
 ///
 /// ```
 /// let name = arachne::Runtime::new(1).block_on(async { arachne::spawn_named("sweeper", async {}).about().name });
@@ -250,7 +268,7 @@ where
     here().expect("spawn outside of a runtime").spawn_task(future, about, false)
 }
 
-/// As `spawn`, at the workers in turn: for tasks that live long, such as a connection's.
+/// Like `spawn`, but puts the tasks at the workers in turn: for tasks that live long, such as a connection's.
 ///
 /// ```
 /// # async fn serve(_: arachne::net::TcpStream) {}
@@ -273,9 +291,33 @@ where
     here().expect("spawn outside of a runtime").spawn_task(future, about, true)
 }
 
-/// As `spawn`, for a task that serves the others and doesn't end, such as one that sweeps a store:
-/// `Runtime::shutdown_within` doesn't wait for it. It is dropped once the others have ended, or at the deadline. What
-/// it spawns itself is waited for, unless it is spawned so too.
+/// Like `spawn`, but hands the future back if no place is free, or if tasks already wait for one.
+///
+/// ```
+/// arachne::Runtime::new(1).block_on(async {
+///     match arachne::try_spawn(async { 42 }) {
+///         Ok(task) => assert_eq!(task.await.unwrap(), 42),
+///         Err(arachne::Refused(future)) => assert_eq!(future.await, 42),
+///     }
+/// });
+/// ```
+///
+/// # Panics
+/// Outside of a runtime.
+#[track_caller]
+pub fn try_spawn<F>(future: F) -> Result<JoinHandle<F::Output>, Refused<F>>
+where
+    F: Future + Send + 'static,
+    F::Output: Send + 'static,
+{
+    let about = About { spawned: Location::caller(), name: None };
+    here().expect("try_spawn outside of a runtime").try_spawn_task(future, about)
+}
+
+/// Like `spawn`, for a task that doesn't end by itself, such as one that sweeps a store.
+///
+/// `Runtime::shutdown_within` doesn't wait for it, and drops it once the other tasks have ended or at the deadline.
+/// Tasks that it spawns are waited for, unless they are spawned by this function too.
 ///
 /// ```
 /// use std::time::Duration;

@@ -1,5 +1,6 @@
-//! What kernel threads share and wait on: the standard library's. In the explorer's form, which is for tests alone,
-//! each step of these asks its scheduler (`rust/explore`) which thread goes on. No other module names `std::sync`.
+//! Atomics, locks and threads: the standard library's, or the explorer's. No other module names `std::sync`.
+//!
+//! In the explorer's form, which is only for tests, each step asks its scheduler (`rust/explore`) which thread runs.
 
 #[cfg(feature = "explore")]
 pub(crate) use explorer::{atomic, clock, thread, told, wait, Arc, Condvar, Instant, Mutex, MutexGuard, RwLock};
@@ -12,19 +13,19 @@ mod plain {
     pub(crate) use std::thread;
     pub(crate) use std::time::Instant;
 
-    /// Calls what reads the clock.
+    /// Calls a function that reads the clock.
     #[inline(always)]
     pub(crate) fn clock(call: impl FnOnce() -> u64) -> u64 {
         call()
     }
 
-    /// Calls what waits in the epoll, for so many milliseconds.
+    /// Calls a function that waits in the epoll for `timeout` milliseconds.
     #[inline(always)]
     pub(crate) fn wait(_epoll: i32, timeout: i32, mut call: impl FnMut(i32) -> usize) -> usize {
         call(timeout)
     }
 
-    /// An epoll may have something to tell.
+    /// Announces that an epoll may have an event.
     #[inline(always)]
     pub(crate) fn told() {}
 }

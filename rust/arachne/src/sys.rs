@@ -1,6 +1,6 @@
-//! Linux's calls that the crate needs, declared by hand: epoll, eventfd, sockets, affinity, slices, a shared page.
+//! The calls of Linux that the crate needs: epoll, eventfd, sockets, affinity, time slices, a shared page.
 //!
-//! The declarations are those of Linux's C library on 64 bits. The functions around the calls are safe.
+//! They are declared by hand, as in Linux's C library on 64 bits. The functions around the calls are safe.
 
 use crate::sync::atomic::{AtomicI32, AtomicU32, Ordering::*};
 use crate::sync::{clock, told, wait as wait_in};
@@ -23,6 +23,7 @@ extern "C" {
     fn epoll_ctl(epoll: i32, operation: i32, fd: i32, event: *mut Event) -> i32;
     fn epoll_wait(epoll: i32, events: *mut Event, most: i32, timeout: i32) -> i32;
     fn eventfd(count: u32, flags: i32) -> i32;
+    fn poll(descriptors: *mut Polled, count: u64, timeout: i32) -> i32;
     fn close(fd: i32) -> i32;
     fn read(fd: i32, bytes: *mut u8, count: usize) -> isize;
     fn write(fd: i32, bytes: *const u8, count: usize) -> isize;
@@ -38,6 +39,13 @@ extern "C" {
     fn syscall(number: i64, ...) -> i64;
     fn recvmsg(fd: i32, header: *mut Header, flags: i32) -> isize;
     fn mmap(at: *mut u8, len: usize, protection: i32, flags: i32, fd: i32, offset: i64) -> *mut u8;
+}
+
+#[repr(C)]
+struct Polled {
+    fd: i32,
+    wanted: i16,
+    found: i16,
 }
 
 #[repr(C)]
@@ -113,7 +121,9 @@ pub(crate) fn unwatch(epoll: RawFd, fd: RawFd) {
     unsafe { epoll_ctl(epoll, DELETE, fd, &mut Event { events: 0, data: 0 }) };
 }
 
-/// How many of `events` were told; none where the call was interrupted. `timeout` is in milliseconds, -1 for ever.
+/// Waits for events, for at most `timeout` milliseconds (-1: for ever).
+///
+/// Returns the number of events written to `events`; 0 if the call was interrupted.
 pub(crate) fn wait(epoll: RawFd, events: &mut [Event], timeout: i32) -> usize {
     wait_in(epoll, timeout, |timeout| {
         // SAFETY: the kernel writes at most as many events as the slice has, and any bytes are an event.
@@ -121,7 +131,7 @@ pub(crate) fn wait(epoll: RawFd, events: &mut [Event], timeout: i32) -> usize {
     })
 }
 
-/// Raises the event, which makes its descriptor readable.
+/// Raises an event, which makes its descriptor readable.
 pub(crate) fn raise(event: RawFd) {
     let one = 1u64.to_ne_bytes();
     // SAFETY: there are eight bytes to read from.
@@ -136,7 +146,7 @@ pub(crate) fn lower(event: RawFd) {
     unsafe { read(event, count.as_mut_ptr(), 8) };
 }
 
-/// Lets reads and writes of a descriptor return `WouldBlock`.
+/// Makes reads and writes of a descriptor return `WouldBlock` instead of waiting.
 pub(crate) fn set_nonblocking(fd: RawFd) -> io::Result<()> {
     const GET_FLAGS: i32 = 3;
     const SET_FLAGS: i32 = 4;
@@ -146,13 +156,13 @@ pub(crate) fn set_nonblocking(fd: RawFd) -> io::Result<()> {
     checked(unsafe { fcntl(fd, SET_FLAGS, flags | NON_BLOCKING) }).map(drop)
 }
 
-/// Sets the number of connections that may wait at a socket that listens already.
+/// Sets the backlog of a socket that listens already.
 pub(crate) fn listen(fd: RawFd, backlog: i32) -> io::Result<()> {
     // SAFETY: a call with numbers alone.
     checked(unsafe { listen_call(fd, backlog) }).map(drop)
 }
 
-/// A socket that doesn't block, and whose connection may still be in progress.
+/// Starts a connection to an address. Returns a non-blocking socket, whose connection may still be in progress.
 pub(crate) fn start_connect(to: &std::net::SocketAddr) -> io::Result<RawFd> {
     let mut bytes = [0u8; 28];
     bytes[2..4].copy_from_slice(&to.port().to_be_bytes());
@@ -171,10 +181,10 @@ pub(crate) fn start_connect(to: &std::net::SocketAddr) -> io::Result<RawFd> {
     begin_connect(family, &mut bytes[..len])
 }
 
-/// As `start_connect`, to who listens at a path. `WouldBlock` if as many wait there as may.
+/// Like `start_connect`, to a Unix socket's path. Fails with `WouldBlock` if its backlog is full.
 pub(crate) fn connect_unix(path: &Path) -> io::Result<RawFd> {
     let (path, mut bytes) = (path.as_os_str().as_bytes(), [0u8; 110]);
-    // A byte of zero ends it.
+    // The path is ended by a zero byte.
     if path.is_empty() || path.len() > 107 || path.contains(&0) {
         return Err(io::ErrorKind::InvalidInput.into());
     }
@@ -182,8 +192,7 @@ pub(crate) fn connect_unix(path: &Path) -> io::Result<RawFd> {
     begin_connect(1, &mut bytes[..3 + path.len()])
 }
 
-/// A stream socket whose connection is made or in progress: to an address that is laid out as its family's, which is
-/// its first two bytes.
+/// Starts a connection to an address in the family's layout, whose first two bytes are the family.
 fn begin_connect(family: u16, address: &mut [u8]) -> io::Result<RawFd> {
     address[..2].copy_from_slice(&family.to_ne_bytes());
     // SAFETY: a call with numbers alone.
@@ -198,7 +207,7 @@ fn begin_connect(family: u16, address: &mut [u8]) -> io::Result<RawFd> {
     }
 }
 
-/// Nanoseconds of the system's monotonic clock.
+/// Returns the nanoseconds of the system's monotonic clock.
 #[inline]
 pub(crate) fn now() -> u64 {
     clock(|| {
@@ -209,7 +218,7 @@ pub(crate) fn now() -> u64 {
     })
 }
 
-/// The processors that this kernel thread may run on.
+/// Returns the processors that the calling thread may run on; none if the call fails.
 pub(crate) fn affinity() -> Vec<usize> {
     let mut mask = [0u64; 16];
     // SAFETY: the mask has the 128 bytes that are said.
@@ -220,12 +229,12 @@ pub(crate) fn affinity() -> Vec<usize> {
     (0..1024).filter(|cpu| mask[cpu / 64] >> (cpu % 64) & 1 == 1).collect()
 }
 
-/// Keeps this kernel thread on one processor.
+/// Keeps the calling thread on one processor.
 pub(crate) fn pin(cpu: usize) -> bool {
     set_affinity(0, &[cpu])
 }
 
-/// Keeps a kernel thread of this process on these processors; 0 is the calling one.
+/// Keeps a thread of this process on these processors; 0 is the calling one. Returns true if it succeeds.
 pub(crate) fn set_affinity(thread: u32, cpus: &[usize]) -> bool {
     let mut mask = [0u64; 16];
     cpus.iter().for_each(|cpu| mask[cpu / 64 % 16] |= 1 << (cpu % 64));
@@ -233,7 +242,7 @@ pub(crate) fn set_affinity(thread: u32, cpus: &[usize]) -> bool {
     unsafe { sched_setaffinity(thread as i32, 128, mask.as_ptr()) == 0 }
 }
 
-/// Returns the kernel's number of this thread.
+/// Returns the kernel's number of the calling thread.
 pub(crate) fn thread_number() -> Option<u32> {
     std::fs::read_link("/proc/thread-self").ok()?.file_name()?.to_str()?.parse().ok()
 }
@@ -262,15 +271,16 @@ pub(crate) fn receive_with(socket: RawFd) -> io::Result<([u8; 16], Option<File>)
     Ok((bytes, has_fd.then(|| unsafe { File::from_raw_fd(rights.fd) })))
 }
 
-/// Maps the first number of a file that another process writes: in the place of an earlier mapping of this function, or
-/// where the kernel chooses, if `at` is null.
+/// Maps the first number of a file that another process writes, in place of an earlier mapping of this function.
+///
+/// If `at` is null, the kernel chooses the address.
 pub(crate) fn map_page(file: &File, at: *mut AtomicU32) -> io::Result<*mut AtomicU32> {
     const PAGE: usize = 4096;
     const READ: i32 = 1;
     const SHARED: i32 = 1;
     const FIXED: i32 = 0x10;
     let flags = if at.is_null() { SHARED } else { SHARED | FIXED };
-    // SAFETY: nothing is mapped there but an earlier page, and who reads that reads a number before and after.
+    // SAFETY: only an earlier page is mapped there, and its readers find a number before the call and after it.
     let mapped = unsafe { mmap(at as *mut u8, PAGE, READ, flags, file.as_raw_fd(), 0) };
     if mapped as isize == -1 {
         return Err(io::Error::last_os_error());
@@ -278,20 +288,20 @@ pub(crate) fn map_page(file: &File, at: *mut AtomicU32) -> io::Result<*mut Atomi
     Ok(mapped as *mut AtomicU32)
 }
 
-/// To begin with, as rustc 1.63 can't say it within the array.
+/// The initial value; rustc 1.63 doesn't take the expression within the array.
 #[allow(clippy::declare_interior_mutable_const)]
 const NO_EVENT: AtomicI32 = AtomicI32::new(-1);
-/// By signal, the event to raise.
+/// The event to raise, by signal.
 static SIGNALLED: [AtomicI32; 65] = [NO_EVENT; 65];
 
 extern "C" fn handler(number: i32) {
-    // In a signal's context this may raise an event, and nothing else.
+    // Within a signal handler this may only raise an event.
     if let Some(event) = SIGNALLED.get(number as usize) {
         raise(event.load(SeqCst));
     }
 }
 
-/// Raises the event at that signal, in place of what the process did at it. A signal has one event: the last given.
+/// Makes a signal raise this event, instead of its previous action or event.
 pub(crate) fn raise_at(number: i32, event: RawFd) -> io::Result<()> {
     let kept = SIGNALLED.get(number as usize).ok_or(io::ErrorKind::InvalidInput)?;
     kept.store(event, SeqCst);
@@ -302,20 +312,29 @@ pub(crate) fn raise_at(number: i32, event: RawFd) -> io::Result<()> {
     }
 }
 
-/// Waits until the event is raised, and clears it.
-pub(crate) fn await_event(event: RawFd) -> bool {
+/// Clears an event that is raised. Returns false if it isn't.
+pub(crate) fn take_event(event: RawFd) -> bool {
     let mut count = [0; 8];
     // SAFETY: there are eight bytes to write to.
     unsafe { read(event, count.as_mut_ptr(), 8) == 8 }
 }
 
-/// As `new_event`, one that blocks who waits for it.
-pub(crate) fn new_blocking_event() -> io::Result<RawFd> {
-    // SAFETY: a call with numbers alone.
-    checked(unsafe { eventfd(0, CLOSE_ON_EXEC) })
+/// Blocks the calling thread until the event is raised, and clears it. Returns false if the wait fails.
+pub(crate) fn await_event(event: RawFd) -> bool {
+    let mut polled = Polled { fd: event, wanted: 1, found: 0 };
+    loop {
+        // SAFETY: there is one descriptor, which lives through the call.
+        if let Err(error) = checked(unsafe { poll(&mut polled, 1, -1) }) {
+            if error.kind() != io::ErrorKind::Interrupted {
+                return false;
+            }
+        } else if take_event(event) {
+            return true;
+        }
+    }
 }
 
-/// The numbers of Linux's calls that set and get how a kernel thread is scheduled, where they are known.
+/// The numbers of the calls `sched_setattr` and `sched_getattr`, on architectures for which they are known.
 #[cfg(target_arch = "x86_64")]
 const SCHEDULING: Option<(i64, i64)> = Some((314, 315));
 #[cfg(any(target_arch = "aarch64", target_arch = "riscv64"))]
@@ -323,11 +342,13 @@ const SCHEDULING: Option<(i64, i64)> = Some((274, 275));
 #[cfg(not(any(target_arch = "x86_64", target_arch = "aarch64", target_arch = "riscv64")))]
 const SCHEDULING: Option<(i64, i64)> = None;
 
-/// For how many nanoseconds at a time this kernel thread wants a processor that others want too (Linux 6.12): what asks
-/// for less is sooner given one when it wakes. Nothing changes for a thread of another policy than the usual one.
+/// Requests a time slice of `nanos` for the calling thread (Linux 6.12 and later). Returns None if it isn't possible.
+///
+/// A waking thread with a shorter slice gets a processor sooner. A thread of another policy than the default one is
+/// left unchanged.
 pub(crate) fn ask_for_slices(nanos: u64) -> Option<()> {
     let (set, get) = SCHEDULING?;
-    // Its own length and the policy, flags, priorities, the slice, and three that the usual policy doesn't have.
+    // `struct sched_attr`: its size and the policy, flags, priorities, the slice, and three for other policies.
     let mut attributes = [0u64; 7];
     // SAFETY: the attributes have the 56 bytes that are said.
     let got = unsafe { syscall(get, 0i32, attributes.as_mut_ptr(), 56u32, 0u32) };

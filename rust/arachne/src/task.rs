@@ -1,5 +1,7 @@
-//! A task: its future, then its output, behind one pointer. The runtime owns it until it has ended, and the handle on
-//! its output until that is dropped; whoever is last frees it.
+//! A task: its future, then its output, behind one pointer.
+//!
+//! It is shared by the runtime, until the task has ended, and by its handles, until they are dropped; the last one
+//! frees it.
 
 use crate::sync::atomic::{AtomicU32, AtomicU64, Ordering::*};
 use crate::sync::Mutex;
@@ -14,36 +16,44 @@ use std::pin::Pin;
 use std::ptr::NonNull;
 use std::task::{Context, Poll, Waker};
 
-/// The output is there.
+/// The task has ended, and its output is stored.
 const COMPLETE: u32 = 1;
-/// A handle on the output is there.
+/// There is a `JoinHandle`.
 const JOINED: u32 = 2;
-/// `join_waker` is set, and the ender's to read.
+/// `join_waker` is set; only the thread that ends the task may read it.
 const WAITING: u32 = 4;
-/// The ender no longer touches the task.
+/// The thread that ended the task no longer touches it.
 const SETTLED: u32 = 8;
-/// It is to end at its next turn.
+/// The task must end at its next turn.
 const ABORTED: u32 = 16;
-/// It had abort handles before it ended: the ender touches the task until it is settled.
+/// There were abort handles before the task ended: the thread that ends it touches it until `SETTLED`.
 const SHARED: u32 = 32;
 /// One abort handle; the bits from here on count them.
 const ONE: u32 = 64;
-/// A handle on the output, or an abort handle, is there.
+/// There is a `JoinHandle` or an abort handle.
 const HELD: u32 = JOINED | !(ONE - 1);
 
 /// The value with which a task panicked; see `JoinError::Panicked`.
+///
+/// ```
+/// let runtime = arachne::Runtime::new(1);
+/// match runtime.block_on(runtime.spawn(async { panic!("on purpose") })) {
+///     Err(arachne::JoinError::Panicked(panic)) => assert_eq!(panic.message(), Some("on purpose")),
+///     other => unreachable!("{other:?}"),
+/// }
+/// ```
 pub struct Panic(Box<dyn Any + Send>);
-// SAFETY: by a shared one its text alone is seen, and both types of text are `Sync`.
+// SAFETY: a shared reference gives access only to the message, whose two types are `Sync`.
 unsafe impl Sync for Panic {}
 
 impl Panic {
-    /// Returns its text, if it has one.
+    /// Returns the message, if the value is a string; see the example at `Panic`.
     #[must_use]
     pub fn message(&self) -> Option<&str> {
         self.0.downcast_ref::<&str>().copied().or(self.0.downcast_ref::<String>().map(|s| &**s))
     }
 
-    /// Returns the payload, for `std::panic::resume_unwind`.
+    /// Returns the payload, for `std::panic::resume_unwind`; see `JoinError::into_panic`.
     #[must_use]
     pub fn into_inner(self) -> Box<dyn Any + Send> {
         self.0
@@ -59,7 +69,7 @@ impl fmt::Debug for Panic {
     }
 }
 
-/// Why a task has no output.
+/// The reason why a task has no output.
 ///
 /// ```
 /// let runtime = arachne::Runtime::new(1);
@@ -69,28 +79,34 @@ impl fmt::Debug for Panic {
 /// ```
 #[non_exhaustive]
 pub enum JoinError {
-    /// It panicked with this.
+    /// The task panicked with this value.
     Panicked(Panic),
-    /// `JoinHandle::abort` ended it.
+    /// The task was aborted by a handle.
     Aborted,
-    /// The runtime ended before it did.
+    /// The runtime ended before the task did.
     Cancelled,
 }
 
 impl JoinError {
-    /// Returns true if the task panicked.
+    /// Returns true if the task panicked; see the example at `JoinError`.
     #[must_use]
     pub fn is_panic(&self) -> bool {
         matches!(self, JoinError::Panicked(_))
     }
 
-    /// Returns true if the task was aborted, or the runtime ended before it did.
+    /// Returns true if the task was aborted, or if the runtime ended before it; see the example at `JoinHandle`.
     #[must_use]
     pub fn is_cancelled(&self) -> bool {
         !self.is_panic()
     }
 
-    /// Returns what the task panicked with, for `std::panic::resume_unwind`.
+    /// Returns the panic's payload, for `std::panic::resume_unwind`.
+    ///
+    /// ```
+    /// let runtime = arachne::Runtime::new(1);
+    /// let error = runtime.block_on(runtime.spawn(async { panic!("on purpose") })).unwrap_err();
+    /// assert_eq!(error.into_panic().downcast_ref::<&str>(), Some(&"on purpose"));
+    /// ```
     ///
     /// # Panics
     /// If the task didn't panic; see `try_into_panic`.
@@ -103,7 +119,15 @@ impl JoinError {
         }
     }
 
-    /// Returns what the task panicked with, or this error if it didn't panic.
+    /// Returns the panic's payload, or this error if the task didn't panic.
+    ///
+    /// ```
+    /// let runtime = arachne::Runtime::new(1);
+    /// let task = runtime.spawn(std::future::pending::<()>());
+    /// task.abort();
+    /// let error = runtime.block_on(task).unwrap_err().try_into_panic().unwrap_err();
+    /// assert!(error.is_cancelled());
+    /// ```
     pub fn try_into_panic(self) -> Result<Box<dyn Any + Send>, JoinError> {
         match self {
             JoinError::Panicked(panic) => Ok(panic.into_inner()),
@@ -111,7 +135,7 @@ impl JoinError {
         }
     }
 
-    /// What it panicked with, where that is a text.
+    /// Returns the panic's message, if there is one.
     fn message(&self) -> Option<&str> {
         match self {
             JoinError::Panicked(panic) => panic.message(),
@@ -151,19 +175,19 @@ impl From<JoinError> for std::io::Error {
 }
 
 struct VTable {
-    /// Polls the future; true where it has ended, and the output is laid down.
+    /// Polls the future. Returns true if it has ended; then the output is stored.
     poll: unsafe fn(*mut Header, &mut Context<'_>) -> bool,
-    /// Drops the future, with an error for its output.
+    /// Drops the future, and stores an error as its output.
     cancel: unsafe fn(*mut Header, JoinError),
     take_output: unsafe fn(*mut Header, *mut ()),
-    /// Drops the output, if nobody has taken it.
+    /// Drops the output, unless it was taken.
     drop_output: unsafe fn(*mut Header),
     free: unsafe fn(*mut Header),
 }
 
 pub(crate) struct Header {
     state: AtomicU32,
-    /// The runtime's number and the task's name there, once it has been polled.
+    /// The runtime's number, and the task's name there; written before its first poll.
     table: AtomicU32,
     name: AtomicU64,
     vtable: &'static VTable,
@@ -171,7 +195,14 @@ pub(crate) struct Header {
     about: About,
 }
 
-/// What is known of a task: where it was spawned, and the name that it was given; see `JoinHandle::about`.
+/// A task's origin: where it was spawned, and its name if it has one.
+///
+/// ```
+/// let task = arachne::Runtime::new(1).spawn_named("greeter", async {});
+/// let about: arachne::About = task.about();
+/// assert!(about.spawned.file().ends_with(".rs"));
+/// assert!(about.to_string().starts_with("greeter ("));
+/// ```
 #[derive(Clone, Copy, PartialEq, Eq, Debug)]
 #[non_exhaustive]
 pub struct About {
@@ -181,7 +212,7 @@ pub struct About {
     pub name: Option<&'static Label>,
 }
 
-/// A name for tasks. Equal names are one label, and a label is kept for good, so a program has a bounded number.
+/// A name for tasks. Equal names share one label, which is never freed: use a bounded number of names.
 ///
 /// ```
 /// assert!(std::ptr::eq(arachne::Label::of("sweeper"), arachne::Label::of("sweeper")));
@@ -192,7 +223,7 @@ pub struct Label(String);
 static LABELS: Mutex<Vec<&'static Label>> = Mutex::new(Vec::new());
 
 impl Label {
-    /// Returns the label of this text, which is made at the first call.
+    /// Returns the label of this text. Makes it at the first call; see the example at `Label`.
     pub fn of(text: &str) -> &'static Label {
         let mut labels = LABELS.lock().unwrap();
         if let Some(label) = labels.iter().find(|label| label.0 == text) {
@@ -204,6 +235,10 @@ impl Label {
     }
 
     /// Returns the text.
+    ///
+    /// ```
+    /// assert_eq!(arachne::Label::of("sweeper").as_str(), "sweeper");
+    /// ```
     #[must_use]
     pub fn as_str(&self) -> &str {
         &self.0
@@ -231,9 +266,10 @@ struct Task<F: Future> {
     stage: UnsafeCell<Stage<F>>,
 }
 
-/// The runtime's part of a task, as the number that the core keeps: made by `new`, used by `run`, spent by its end.
+/// The runtime's reference to a task, as the number that the core stores: made by `new`, consumed by its end.
 pub(crate) type Raw = u64;
 
+/// Makes a task of a future. Returns the runtime's reference, and the handle on the output.
 pub(crate) fn new<F>(future: F, about: About) -> (Raw, JoinHandle<F::Output>)
 where
     F: Future + Send + 'static,
@@ -260,10 +296,10 @@ where
     (at.as_ptr() as usize as Raw, JoinHandle { at, of: PhantomData })
 }
 
-/// The future of a task that has not begun.
+/// Returns the future of a task that has not begun, and frees the task.
 ///
 /// # Safety
-/// `raw` and the handle are what `new` answered for this future, and nobody else has them.
+/// `raw` and the handle must be those that `new` returned for this future, and nobody else may have them.
 pub(crate) unsafe fn unmake<F: Future>(raw: Raw, handle: JoinHandle<F::Output>) -> F {
     std::mem::forget(handle);
     let task = Box::from_raw(at(raw).cast::<Task<F>>());
@@ -278,15 +314,16 @@ fn at(raw: Raw) -> *mut Header {
     raw as usize as *mut Header
 }
 
-/// Polls a task; true where it has ended, which its handle has been told, and `raw` is spent.
+/// Polls a task, or ends it if it was aborted. Returns true if it has ended; then its handle was woken, and `raw` is
+/// consumed.
 ///
 /// # Safety
-/// `raw` is from `new` and not spent, and the caller has it in hand.
+/// `raw` must be from `new` and not consumed, and the caller must have the task in hand.
 #[inline]
 pub(crate) unsafe fn run(raw: Raw, table: usize, name: u64, cx: &mut Context<'_>) -> bool {
     let header = at(raw);
     if (*header).name.load(Relaxed) == NOBODY {
-        // Whoever aborts sets its bit and then reads the name; here the name is written and then the bit is read.
+        // The name must be written before the bit is read: `abort` sets the bit before it reads the name.
         (*header).table.store(table as u32, Relaxed);
         (*header).name.store(name, SeqCst);
     }
@@ -299,29 +336,32 @@ pub(crate) unsafe fn run(raw: Raw, table: usize, name: u64, cx: &mut Context<'_>
     true
 }
 
-/// Ends a task that has not ended, without its output.
+/// Cancels a task that has not ended.
 ///
 /// # Safety
-/// As of `run`.
+/// As for `run`.
 pub(crate) unsafe fn end(raw: Raw) {
     let header = at(raw);
     ((*header).vtable.cancel)(header, JoinError::Cancelled);
     complete(header);
 }
 
+/// Returns where the task was spawned, and its name.
+///
 /// # Safety
-/// As of `run`.
+/// As for `run`.
 #[inline]
 pub(crate) unsafe fn about(raw: Raw) -> About {
     (*at(raw)).about
 }
 
+/// Marks a task as ended, wakes who waits for it, and frees it if there is no handle.
 unsafe fn complete(header: *mut Header) {
     let before = (*header).state.fetch_or(COMPLETE, AcqRel);
     if before & HELD == 0 {
         ((*header).vtable.free)(header);
     } else if before & (WAITING | SHARED) != 0 {
-        // The handle's side leaves the waker alone while COMPLETE is set and SETTLED is not.
+        // The handle doesn't touch the waker while COMPLETE is set and SETTLED is not.
         let waker = if before & WAITING != 0 { (*(*header).join_waker.get()).take() } else { None };
         if let Some(waker) = waker {
             let _ = catch_unwind(AssertUnwindSafe(|| waker.wake()));
@@ -333,15 +373,15 @@ unsafe fn complete(header: *mut Header) {
             ((*header).vtable.free)(header);
         }
     }
-    // With neither, the handle has the task for itself from the moment that it sees COMPLETE.
+    // With neither flag the handle owns the task as soon as it sees COMPLETE, so it must not be touched from here on.
 }
 
-/// Whether the ender has done with a task of that state.
+/// Returns true if a task in this state is no longer touched by the thread that ended it.
 fn is_settled(state: u32) -> bool {
     state & COMPLETE != 0 && (state & (WAITING | SHARED) == 0 || state & SETTLED != 0)
 }
 
-/// Ends the task at its next turn, unless it has ended.
+/// Marks the task to end at its next turn, and wakes it.
 fn abort(header: &Header) {
     header.state.fetch_or(ABORTED, SeqCst);
     let name = header.name.load(SeqCst);
@@ -372,7 +412,7 @@ unsafe fn cancel<F: Future>(header: *mut Header, why: JoinError) {
     lay((*task).stage.get(), Err(why));
 }
 
-/// Drops the future in place, and lays the output down.
+/// Drops the future in place, and stores the output. If that drop panics, the panic replaces an output that was Ok.
 unsafe fn lay<F: Future>(stage: *mut Stage<F>, output: Result<F::Output, JoinError>) {
     let dropped = catch_unwind(AssertUnwindSafe(|| std::ptr::drop_in_place(stage)));
     let output = match (dropped, output) {
@@ -405,7 +445,7 @@ unsafe fn free<F: Future>(header: *mut Header) {
     let _ = catch_unwind(AssertUnwindSafe(|| drop(task)));
 }
 
-/// A handle on a task's output: a future of it. Dropped, it leaves the task to run on its own.
+/// A handle on a task, and the future of its output. Dropping it leaves the task running.
 ///
 /// ```
 /// let runtime = arachne::Runtime::new(2);
@@ -418,9 +458,9 @@ pub struct JoinHandle<T> {
     at: NonNull<Header>,
     of: PhantomData<T>,
 }
-// SAFETY: the handle reads the output, and drops it, on the thread that has it; all else of the task is atomic.
+// SAFETY: the output is read and dropped on the thread that has the handle; all other access to the task is atomic.
 unsafe impl<T: Send> Send for JoinHandle<T> {}
-// SAFETY: what a shared handle can do is atomic.
+// SAFETY: a shared handle gives only atomic access.
 unsafe impl<T: Send> Sync for JoinHandle<T> {}
 impl<T> Unpin for JoinHandle<T> {}
 
@@ -437,31 +477,41 @@ impl<T> JoinHandle<T> {
         unsafe { self.at.as_ref() }
     }
 
-    /// Returns true once the output can be had without waiting.
+    /// Returns true once the task has ended.
+    ///
+    /// ```
+    /// let runtime = arachne::Runtime::new(1);
+    /// let task = runtime.spawn(async { 42 });
+    /// while !task.is_finished() {
+    ///     std::thread::yield_now();
+    /// }
+    /// assert_eq!(runtime.block_on(task).unwrap(), 42);        // without waiting
+    /// ```
     #[must_use]
     pub fn is_finished(&self) -> bool {
         self.header().state.load(Acquire) & COMPLETE != 0
     }
 
-    /// Ends the task at its next turn: its future is dropped, and the handle's output is `JoinError::Aborted`. A task
-    /// that has ended, or ends in the turn that runs, has its output as before.
+    /// Aborts the task: its future is dropped at its next turn, and the output is `JoinError::Aborted`.
+    ///
+    /// A task that has ended, or ends in the current turn, keeps its output. See the example at `JoinHandle`.
     pub fn abort(&self) {
         abort(self.header());
     }
 
-    /// Returns a handle that can abort the task and says if it has ended. It doesn't keep the output.
+    /// Returns a handle that can abort the task, without its output; see the example at `AbortHandle`.
     #[must_use]
     pub fn abort_handle(&self) -> AbortHandle {
         let share = |state| (state & COMPLETE == 0).then_some((state | SHARED) + ONE);
         match self.header().state.fetch_update(AcqRel, Acquire, share) {
             Ok(before) if before > u32::MAX / 2 => std::process::abort(),
             Ok(_) => AbortHandle(Some(self.at)),
-            // One that has ended needs none.
+            // The task has ended: there is nothing to abort.
             Err(_) => AbortHandle(None),
         }
     }
 
-    /// Returns where the task was spawned, and its name.
+    /// Returns where the task was spawned, and its name; see the example at `About`.
     #[must_use]
     pub fn about(&self) -> About {
         self.header().about
@@ -469,12 +519,12 @@ impl<T> JoinHandle<T> {
 }
 
 impl<T> JoinHandle<T> {
-    /// Returns true if the output is there. Otherwise the waker is woken once it is.
+    /// Returns true if the task has ended. Otherwise keeps the waker, which is woken at its end.
     pub(crate) fn is_there(&mut self, waker: &Waker) -> bool {
         let header = self.header();
         let mut state = header.state.load(Acquire);
         if state & (COMPLETE | WAITING) == WAITING {
-            // Take the waker back, unless the task ends first.
+            // Takes the waker back before it is changed, unless the task ends first.
             state = header.state.fetch_and(!WAITING, AcqRel);
             if state & COMPLETE != 0 {
                 header.state.fetch_or(WAITING, AcqRel);
@@ -491,22 +541,22 @@ impl<T> JoinHandle<T> {
             if header.state.fetch_or(WAITING, AcqRel) & COMPLETE == 0 {
                 return false;
             }
-            // It ended before it could see who waits, so nobody else reads the waker.
+            // The task ended before WAITING was set, so nobody else reads the waker.
             header.state.fetch_and(!WAITING, AcqRel);
         }
         true
     }
 
-    /// Takes the output, which is there.
+    /// Takes the output of a task that has ended.
     fn take(&mut self) -> Poll<Result<T, JoinError>> {
         let mut output: Poll<Result<T, JoinError>> = Poll::Pending;
         let to: *mut Poll<Result<T, JoinError>> = &mut output;
-        // SAFETY: the output is laid down, and of this type; the handle alone takes it.
+        // SAFETY: the output is stored, and of this type; only the handle takes it.
         unsafe { (self.header().vtable.take_output)(self.at.as_ptr(), to.cast()) };
         output
     }
 
-    /// The output, if it is there.
+    /// Returns the output, if the task has ended.
     pub(crate) fn output(mut self) -> Option<Result<T, JoinError>> {
         match self.is_finished().then(|| self.take())? {
             Poll::Ready(output) => Some(output),
@@ -530,15 +580,15 @@ impl<T> Drop for JoinHandle<T> {
     fn drop(&mut self) {
         let header = self.header();
         if header.state.load(Relaxed) & SHARED != 0 {
-            // Of one that has ended the output is this handle's; of one that hasn't, its ender drops it.
+            // If the task has ended, the output is this handle's to drop; otherwise that of the thread that ends it.
             let leave = |state| (state & COMPLETE == 0).then_some(state & !JOINED);
             if header.state.fetch_update(AcqRel, Acquire, leave).is_ok() {
                 return;
             }
-            // SAFETY: the output is laid down, and nobody else takes it.
+            // SAFETY: the output is stored, and nobody else takes it.
             unsafe { (header.vtable.drop_output)(self.at.as_ptr()) };
         }
-        // Not ended: the ender frees it. Ended and telling: the ender frees it too, and so do abort handles.
+        // If the task has not ended, or its end isn't settled, the thread that ends it or an abort handle frees it.
         let before = header.state.fetch_and(!JOINED, AcqRel);
         if before & HELD == JOINED && is_settled(before) {
             // SAFETY: the ender no longer touches it, and the handles are gone.
@@ -547,7 +597,7 @@ impl<T> Drop for JoinHandle<T> {
     }
 }
 
-/// A handle that can abort a task, and has nothing of its output; of `JoinHandle::abort_handle` and `JoinSet::spawn`.
+/// A handle that can abort a task, without its output; from `JoinHandle::abort_handle` or `JoinSet::spawn`.
 ///
 /// ```
 /// let runtime = arachne::Runtime::new(1);
@@ -558,7 +608,7 @@ impl<T> Drop for JoinHandle<T> {
 /// assert!(handle.is_finished());
 /// ```
 pub struct AbortHandle(Option<NonNull<Header>>);
-// SAFETY: what it can do is atomic; whoever is last frees the task, whose output is `Send`.
+// SAFETY: it gives only atomic access; the last handle frees the task, whose output is `Send`.
 unsafe impl Send for AbortHandle {}
 // SAFETY: the same.
 unsafe impl Sync for AbortHandle {}
@@ -569,14 +619,14 @@ impl AbortHandle {
         self.0.map(|at| unsafe { &*at.as_ptr() })
     }
 
-    /// Ends the task, as `JoinHandle::abort`.
+    /// Aborts the task, as `JoinHandle::abort` does; see the example at `AbortHandle`.
     pub fn abort(&self) {
         if let Some(header) = self.header() {
             abort(header);
         }
     }
 
-    /// Returns true once the task has ended.
+    /// Returns true once the task has ended; see the example at `AbortHandle`.
     #[must_use]
     pub fn is_finished(&self) -> bool {
         self.header().map_or(true, |header| header.state.load(Acquire) & COMPLETE != 0)
@@ -586,7 +636,7 @@ impl AbortHandle {
 impl Clone for AbortHandle {
     fn clone(&self) -> AbortHandle {
         if let Some(header) = self.header() {
-            // As of an `Arc`: so many are never there, unless they are forgotten.
+            // As in `Arc`: there can only be this many if handles are leaked.
             if header.state.fetch_add(ONE, Relaxed) > u32::MAX / 2 {
                 std::process::abort();
             }

@@ -1,4 +1,4 @@
-//! Sleeping and time limits: each worker has its timers, which it looks at when it looks at the epoll.
+//! Sleeps and timeouts. Each worker has a queue of timers, which it checks when it polls the epoll.
 
 use crate::shared::{here, shared_of, Context as Worker, Shared};
 use crate::sync::atomic::{AtomicU64, Ordering::*};
@@ -24,7 +24,7 @@ struct Queue {
 
 /// The timers of one worker.
 pub(crate) struct Timers {
-    /// When the first is due; `u64::MAX` where there is none.
+    /// The time at which the first is due; `u64::MAX` if there is none.
     next: AtomicU64,
     queue: Mutex<Queue>,
 }
@@ -41,7 +41,7 @@ impl Timers {
         self.next.load(SeqCst)
     }
 
-    /// Adds one; true where it is the first that is due.
+    /// Adds a timer. Returns its key, and true if it is the first that is due.
     fn add(&self, at: u64, waker: Waker) -> (Key, bool) {
         let mut queue = self.queue.lock().unwrap();
         queue.made += 1;
@@ -54,7 +54,7 @@ impl Timers {
         (key, first)
     }
 
-    /// Another waker for one that waits. False where it was woken.
+    /// Replaces the waker of a timer. Returns false if the timer has fired.
     fn renew(&self, key: Key, waker: &Waker) -> bool {
         let mut queue = self.queue.lock().unwrap();
         match queue.waiting.get_mut(&key) {
@@ -68,7 +68,7 @@ impl Timers {
         }
     }
 
-    /// Removes one; its waker, unless it was woken.
+    /// Removes a timer. Returns its waker, unless it has fired.
     fn remove(&self, key: Key) -> Option<Waker> {
         let mut queue = self.queue.lock().unwrap();
         let waker = queue.waiting.remove(&key);
@@ -82,7 +82,7 @@ impl Timers {
         self.next.store(queue.waiting.keys().next().map_or(u64::MAX, |key| key.0), SeqCst);
     }
 
-    /// Wakes those that are due; how many.
+    /// Fires the timers that are due at `now`. Returns their number.
     pub(crate) fn fire(&self, now: u64) -> usize {
         let due = {
             let mut queue = self.queue.lock().unwrap();
@@ -97,7 +97,7 @@ impl Timers {
     }
 }
 
-/// Where a sleep waits, and the name of the task whose waker it left there: `NOBODY` if it is none of that runtime.
+/// A sleep's timer, and the name of the task whose waker is there: `NOBODY` for a waker that is no task's.
 struct Waits {
     timers: &'static Timers,
     key: Key,
@@ -105,14 +105,20 @@ struct Waits {
     name: u64,
 }
 
-/// A future that is ready at its time; see `sleep`. It may be moved between polls.
+/// The future of `sleep`. It may be moved between polls, so it needs no `pin!`.
+///
+/// ```
+/// use std::time::Duration;
+/// let pause: arachne::Sleep = arachne::sleep(Duration::from_millis(1));
+/// arachne::Runtime::new(1).block_on(pause);
+/// ```
 #[must_use = "a sleep does nothing unless it is awaited"]
 pub struct Sleep {
     at: u64,
     waits: Option<Waits>,
 }
 
-/// Waits for at least so long; a worker looks at its timers once a millisecond at best.
+/// Waits for at least `duration`. The resolution is a millisecond.
 ///
 /// ```
 /// use std::time::{Duration, Instant};
@@ -125,7 +131,7 @@ pub fn sleep(duration: Duration) -> Sleep {
     Sleep { at: now().saturating_add(nanos), waits: None }
 }
 
-/// As `sleep`, until a moment.
+/// Waits until `moment`, or a little longer; see `sleep`.
 ///
 /// ```
 /// use std::time::{Duration, Instant};
@@ -144,7 +150,7 @@ impl fmt::Debug for Sleep {
 }
 
 impl Sleep {
-    /// Sets another time, also for who waits now.
+    /// Sets the time anew, also if a task waits already.
     ///
     /// ```
     /// use std::{pin::Pin, time::{Duration, Instant}};
@@ -165,13 +171,13 @@ impl Sleep {
 
     fn start(&mut self, shared: &'static Shared, waker: &Waker) {
         let me = Worker::with(|worker| worker.filter(|w| std::ptr::eq(w.shared, shared)).map(|w| w.me));
-        let worker = &shared.workers[me.unwrap_or(0)].0;
-        let (key, first) = worker.timers.add(self.at, waker.clone());
+        let timers = me.map_or(&shared.visitors, |me| &shared.workers[me].0.timers);
+        let (key, first) = timers.add(self.at, waker.clone());
         if first && me.is_none() {
             shared.ring(0);
         }
         let (table, name) = (shared.table, name_in(waker, shared.table).unwrap_or(NOBODY));
-        self.waits = Some(Waits { timers: &worker.timers, key, table, name });
+        self.waits = Some(Waits { timers, key, table, name });
     }
 }
 
@@ -182,7 +188,7 @@ impl Future for Sleep {
             return Poll::Ready(());
         }
         match &mut self.waits {
-            // Without a look at the timers: whoever has fired this one since its time came has woken this task.
+            // The task's own waker is in place already, so the queue needn't be locked.
             Some(waits) if name_in(cx.waker(), waits.table) == Some(waits.name) => {}
             Some(waits) if waits.timers.renew(waits.key, cx.waker()) => {
                 waits.name = name_in(cx.waker(), waits.table).unwrap_or(NOBODY);
@@ -201,7 +207,11 @@ impl Drop for Sleep {
     }
 }
 
-/// The time was over before the future was ready; see `timeout`.
+/// The error of `timeout`: the time was over before the future was ready.
+///
+/// ```
+/// assert_eq!(std::io::Error::from(arachne::Elapsed).kind(), std::io::ErrorKind::TimedOut);
+/// ```
 #[derive(Clone, Copy, PartialEq, Eq, Debug)]
 pub struct Elapsed;
 
@@ -218,7 +228,14 @@ impl From<Elapsed> for std::io::Error {
     }
 }
 
-/// A future that is ready at its time, or sooner; see `timeout`.
+/// The future of `timeout`.
+///
+/// ```
+/// use std::time::Duration;
+/// let (_sender, receiver) = arachne::channel::<u32>(1);
+/// let waits: arachne::Timeout<arachne::Recv<'_, u32>> = arachne::timeout(Duration::from_millis(1), receiver.recv());
+/// assert!(arachne::Runtime::new(1).block_on(waits).is_err());
+/// ```
 #[must_use = "a timeout does nothing unless it is awaited"]
 #[derive(Debug)]
 pub struct Timeout<F> {
@@ -226,7 +243,7 @@ pub struct Timeout<F> {
     sleep: Sleep,
 }
 
-/// Waits for the future's output, or for `Elapsed` once so much time is over.
+/// Waits for a future's output for at most `duration`. After that it returns `Elapsed`.
 ///
 /// ```
 /// use std::time::Duration;
@@ -252,9 +269,16 @@ impl<F: Future> Future for Timeout<F> {
     }
 }
 
-/// How long a worker that looks after these may sleep, in milliseconds, -1 for ever.
+/// Returns the timers that futures of this thread use: those of its worker, or of all threads that are no workers.
+pub(crate) fn of_this_thread() -> Option<&'static Timers> {
+    let shared = here()?;
+    let me = Worker::with(|worker| worker.filter(|w| std::ptr::eq(w.shared, shared)).map(|w| w.me));
+    Some(me.map_or(&shared.visitors, |me| &shared.workers[me].0.timers))
+}
+
+/// Returns for how many milliseconds a worker that looks after these timers may sleep; -1 is for ever.
 pub(crate) fn rest(shared: &Shared, workers: impl Iterator<Item = usize>) -> i32 {
-    let next = workers.map(|worker| shared.workers[worker].0.timers.next()).min().unwrap_or(u64::MAX);
+    let next = workers.map(|worker| shared.next_timer(worker)).min().unwrap_or(u64::MAX);
     if next == u64::MAX {
         return -1;
     }

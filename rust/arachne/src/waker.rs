@@ -1,6 +1,6 @@
-//! Wakers of tasks: a task's name in the one word that a waker has, and a table of functions for each runtime.
+//! Wakers of tasks: the waker's one word is the task's name, and each runtime has a table of functions.
 //!
-//! So a waker is copied and dropped for nothing, and one of a task that has ended finds nobody.
+//! So cloning and dropping a waker costs nothing, and the waker of a task that has ended wakes nobody.
 
 use crate::core::{place_of, Woken};
 use crate::hand::LINE;
@@ -29,21 +29,21 @@ macro_rules! tables {
 static VTABLES: [RawWakerVTable; TABLES] =
     tables!(0 1 2 3 4 5 6 7 8 9 10 11 12 13 14 15 16 17 18 19 20 21 22 23 24 25 26 27 28 29 30 31);
 
-/// The waker of a task, which must not be dropped, and needs no drop.
+/// Returns the waker of a task. It needs no drop.
 #[inline]
 pub(crate) fn waker_of(table: usize, name: u64) -> ManuallyDrop<Waker> {
     // SAFETY: the functions of VTABLES take any word.
     ManuallyDrop::new(unsafe { Waker::from_raw(RawWaker::new(name as usize as *const (), &VTABLES[table])) })
 }
 
-/// Whether this waker is that of the task which the worker polls.
+/// Returns true if this is the waker of the task that the worker polls now.
 #[inline]
 pub(crate) fn is_of_running(waker: &Waker, worker: &Worker) -> bool {
     let name = worker.current.get();
     name != NOBODY && waker.will_wake(&waker_of(worker.shared.table, name))
 }
 
-/// The name of the running task, where this waker is the task's and of this runtime.
+/// Returns the name of the running task, if this is its waker and it is a task of this runtime.
 #[inline]
 pub(crate) fn name_in(waker: &Waker, table: usize) -> Option<u64> {
     Worker::with(|worker| {
@@ -52,7 +52,7 @@ pub(crate) fn name_in(waker: &Waker, table: usize) -> Option<u64> {
     })
 }
 
-/// Wakes the task of this name, if there is one.
+/// Wakes the task of this name, unless it has ended.
 pub(crate) fn wake_name(table: usize, name: u64) {
     let shared = match shared_of(table) {
         Some(shared) => shared,
@@ -61,7 +61,7 @@ pub(crate) fn wake_name(table: usize, name: u64) {
     Worker::with(|worker| match worker {
         Some(worker) if worker.shared.table == table => {
             if worker.current.get() == name {
-                // It is in this worker's hand: it rests as ready once its poll returns.
+                // It is being polled by this worker, which makes it ready again once the poll returns.
                 worker.woken.set(true);
                 return;
             }

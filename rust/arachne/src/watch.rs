@@ -1,4 +1,4 @@
-//! The watcher of slow polls: names them, and looks after the ready tasks, sockets and timers of who is in one.
+//! The watcher of slow polls: reports them, and looks after the ready tasks, sockets and timers of their workers.
 
 use crate::core::{Hands, Job, Rested, SHARD};
 use crate::reactor::EVENTS;
@@ -10,7 +10,7 @@ use crate::timer::now;
 use crate::waker::{waker_of, NOBODY};
 use std::time::Duration;
 
-/// For so many nanoseconds it looks after workers that are stuck, before it looks who else is.
+/// The nanoseconds for which it looks after stuck workers before it searches for others.
 const TURN: u64 = 2_000_000;
 
 struct Seen {
@@ -26,7 +26,7 @@ pub(crate) fn run(shared: &'static Shared, hands: Hands, longer: Duration, log: 
     let longer = longer.as_nanos() as u64;
     let mut seen: Vec<Seen> =
         shared.workers.iter().map(|_| Seen { polls: 0, name: NOBODY, since: 0, told: false }).collect();
-    // Workers in a poll that takes long, for whom this one looks after words and timers.
+    // The workers in a long poll, as bits; the watcher looks after their blocks and timers.
     let mut stuck = 0;
     while !shared.stop.load(SeqCst) {
         if stuck == 0 {
@@ -36,7 +36,7 @@ pub(crate) fn run(shared: &'static Shared, hands: Hands, longer: Duration, log: 
         stuck = 0;
         for (worker, seen) in seen.iter_mut().enumerate() {
             let age = age_of_poll(shared, worker, seen, now);
-            // A worker is relieved before its poll is one to be named: once it was seen in it at three looks.
+            // Help begins well before the poll is reported: after about three looks at which it was in progress.
             if age > longer / 12 {
                 stuck |= 1 << worker;
             }
@@ -53,7 +53,7 @@ pub(crate) fn run(shared: &'static Shared, hands: Hands, longer: Duration, log: 
     shared.root.lock().unwrap().join(hands);
 }
 
-/// For how long the worker has been in one poll, as far as was seen; 0 where it is in none.
+/// Returns for how long the worker has been seen in its current poll, in nanoseconds; 0 if it is in none.
 fn age_of_poll(shared: &Shared, worker: usize, seen: &mut Seen, now: u64) -> u64 {
     let counts = &shared.workers[worker].0;
     let (polls, name) = (counts.polls.load(Relaxed), counts.running.load(Relaxed));
@@ -73,8 +73,9 @@ fn tell(shared: &Shared, worker: usize, age: u64, log: bool) {
     }
 }
 
-/// In place of workers that are stuck: looks at the epoll and their timers, and wakes another worker or, where each is
-/// stuck, runs what is ready. Until each that was stuck gets on, or a while is over and others may be.
+/// Stands in for stuck workers: polls the epoll, fires their timers, and wakes another worker for their ready jobs.
+///
+/// If all workers are stuck it runs these jobs itself. It returns once none of them is stuck any more, or after `TURN`.
 fn rescue(shared: &'static Shared, hands: &Hands, stuck: u64) {
     let polls: Vec<u64> = shared.workers.iter().map(|w| w.0.polls.load(Relaxed)).collect();
     let all = u64::MAX >> (64 - shared.active.0.load(Relaxed));
@@ -108,7 +109,7 @@ fn rescue(shared: &'static Shared, hands: &Hands, stuck: u64) {
     }
 }
 
-/// Runs what is ready at a worker's places; how many ran.
+/// Runs up to 64 ready jobs of a worker's blocks. Returns the number that ran.
 fn run_some(shared: &'static Shared, hands: &Hands, worker: usize) -> usize {
     let mut ran = 0;
     for &shard in shared.workers[worker].0.used_shards() {

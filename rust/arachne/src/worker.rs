@@ -1,7 +1,27 @@
-//! A worker's loop: runs what is ready, looks at the epoll and its timers, helps others, and sleeps.
+//! A worker's loop: runs ready jobs, polls the epoll and its timers, steals from other workers, and parks.
 //!
-//! Which handle has a task and whether a worker may sleep is the core's to say. What is decided here is where a worker
-//! looks next, and whom it is worth to wake.
+//! The core decides which handle has a job and whether a worker may park. This module decides where a worker looks
+//! next, and which sleeping worker to wake.
+//!
+//! **Next.** A job that another makes ready or spawns runs next on the same worker, up to `NEXTS` in a row. A job that
+//! it displaces becomes ready in its block. One that yields, or would be beyond `NEXTS`, goes into the worker's line.
+//!
+//! **Order.** Then the worker sweeps its blocks with ready jobs: of each it takes once every job that was ready as the
+//! block's turn came. At the end of a round all jobs in its line run, in order. So a job that is ready again and again
+//! makes no other wait for more than a round.
+//!
+//! **Looking out.** After `LOOK_OUT` polls, or by time if polls are long, a worker looks at its timers, and at the
+//! ready words and the hands of workers that make no progress, of which it takes up to two jobs each; also at the
+//! epoll, by time only if no other worker has lately. If polls are long (fewer than `FEW` fit into `LOOK_TIME`), a
+//! worker within one counts as making no progress; then more is taken only after the stolen jobs and one of its own
+//! have run, and not during its line, unless the other has been in its poll for `LONG_POLL`. At every `LONG`th such
+//! look it also fires the timers of a worker that has made no progress since the first.
+//!
+//! **Helping.** All ready jobs can be taken by any free worker, those in hands too: first the one that would run first.
+//! An idle worker takes half of the ready jobs of another or, at last, half of those in its hand behind the next one; a
+//! single job only if its worker sleeps or makes no progress. Stolen jobs run before all that is ready there, and may
+//! be stolen again. A worker sleeps only if no other has two jobs or more that it could run. While one is idle, the
+//! others keep in hand only the jobs of about `LOOK_TIME`, and wake it for more.
 
 use crate::core::{place_of, Hands, Job, Rested, Spawned, BLOCK, SHARD};
 use crate::cores::Judge;
@@ -10,76 +30,73 @@ use crate::reactor::{Found, EVENTS};
 use crate::shared::{add, Context, Shared, NO_ONE};
 use crate::sync::atomic::{AtomicUsize, Ordering::*};
 use crate::task::{self, Raw};
-use crate::timer::now;
+use crate::timer::{now, Timers};
 use crate::waker::{waker_of, NOBODY};
 
 mod sleepers;
 
-/// How many tasks in a row may run that each was made ready by the one before.
+/// The longest chain of jobs that run one after the other because each was made ready by the one before.
 const NEXTS: u32 = 128;
 
-/// A worker looks at the epoll, its timers and others after `LOOK_OUT` polls, or about `LOOK_TIME` nanoseconds,
-/// whatever is next. By time it looks at the epoll only if no other worker has for `LOOK_TIME`.
+/// A worker looks at the epoll, its timers and other workers after `LOOK_OUT` polls or about `LOOK_TIME` nanoseconds,
+/// even if it has jobs to run. A look that is due by time skips the epoll if another worker has looked there within
+/// `LOOK_TIME`.
 const LOOK_OUT: u32 = 64;
 pub(crate) const LOOK_TIME: u64 = 100_000;
-/// The same for a worker that is alone, as nobody else could run what it finds. By time it looks at the epoll only
-/// after `LONELY_LOOK`: what it finds there runs behind what it has in hand.
+/// The same for the only active worker: nobody else could run the jobs that a look finds. A look that is due by time
+/// polls the epoll only after `LONELY_LOOK`, since the jobs found there run behind those in hand.
 const LONELY_TIME: u64 = 500_000;
 const LONELY_LOOK: u64 = 2_000_000;
-/// Polls after which the worker that judges how many cores there should be looks at its clock.
+/// The worker that applies the core policy reads its clock after this many polls.
 const JUDGED: u32 = 8;
-/// How many of these looks at which another worker had not got on there are until its timers are looked at too.
+/// After this many looks in a row at which another worker had made no progress, its timers are fired for it.
 const LONG: u32 = 8;
-/// Nanoseconds without a poll's end after which a busy worker takes also what is to run next at another.
+/// Nanoseconds in one poll after which a busy worker also takes the job that would run next at the stuck one.
 const LONG_POLL: u64 = 1_000_000;
-/// Looks at blocks that are shown and have nothing after which they are hidden.
+/// After this many looks at empty blocks that the summary still shows, the worker hides its empty blocks.
 const STALE: u32 = 16;
-/// Jobs in hand at most: of those that one look at the epoll tells of, of another worker's, and of any while somebody
-/// has nothing to do.
+/// The most jobs in hand from one look at the epoll, or from another worker; and in all while a worker is idle.
 const FEW: usize = 8;
-/// Jobs in hand at most of those that woke themselves, or were next after many in a row; and of any, if a worker is
-/// alone.
+/// The most jobs in line that yielded or ended a chain (`KEPT`), and of any kind for the only worker (`HAND`).
 const KEPT: usize = 16;
 pub(crate) const HAND: usize = 48;
-/// Events and timers of one look that are left for others, from which on another worker is woken to help; so it is if
-/// there may be more events.
+/// If a look finds this many events and timers beyond the room in hand, another worker is woken to help.
 const MANY: usize = 4;
 
-/// The policy asks for no more cores for more ready jobs at a worker than that.
+/// Counting the ready jobs of a worker for the core policy stops here.
 const CROWD: u32 = 128;
 
-/// Where a worker is in its rounds.
+/// A worker's position in its rounds, and the progress that it has seen of the other workers.
 pub(crate) struct Turn {
-    /// How many jobs it has taken of others, and how many of those in line run before the words are looked at again.
-    /// Others may have taken them.
+    /// Stolen jobs left to run, and jobs of the line to run before the next sweep. Others may have taken some of both.
     first: usize,
     line_left: usize,
-    /// The block that is swept, which of its places were ready as its turn came and were not passed since, and which of
-    /// this worker's blocks is next.
+    /// The block that is being swept, those of its places that were ready when the sweep began and are still to come,
+    /// and the number of the next block.
     block: usize,
     wanted: u64,
     next: usize,
-    /// How many looks at its blocks were at ones that are shown and have nothing.
+    /// Looks at empty blocks that the summary still shows.
     stale: u32,
     chain: u32,
-    /// Polls since it last looked out or had nothing to do, and how many take `LOOK_TIME`.
+    /// Polls since the last look or idle time, and the number of polls that take about `LOOK_TIME`.
     polls: u32,
     most: u32,
-    /// Looks are counted, and what is ready at them, for the policy; and at each the arbiter may want cores back.
+    /// Each look counts the ready jobs for the policy, and checks if the arbiter wants the core back.
     counts: bool,
-    /// By worker: its polls at the last look, at how many looks in a row it had not got on, and since when.
+    /// By worker: its polls at the last look, the looks in a row without progress (modulo `LONG`), and since when.
     seen: Vec<u64>,
     stood: Vec<u32>,
     since: Vec<u64>,
-    /// By worker: its polls at the last look before a sleep, and when that was.
+    /// By worker: its polls at the last look before a sleep; and the time of that look.
     met: Vec<u64>,
     looked: u64,
-    /// Milliseconds between its looks while it sleeps, and the polls of all workers at the last.
+    /// Milliseconds between its looks while it sleeps, and the polls of all workers at the last of them.
     rests: i32,
     watched: u64,
-    /// Whether it had jobs of others to run after its last look.
+    /// The last look left it with stolen jobs to run.
     helps: bool,
-    /// It slept and woke by itself, and has not run a job since.
+    /// It woke from a sleep by itself, and has neither run a job nor called `goes_on` since.
     unsaid: bool,
 }
 
@@ -108,7 +125,7 @@ impl Turn {
         }
     }
 
-    /// How many polls take the time between two looks, by those since the last.
+    /// Estimates how many polls take `LOOK_TIME`, from those since the last look; starts the next measurement.
     fn pace(&mut self, context: &Context, now: u64) {
         if self.polls != 0 {
             let fitting = self.polls as u64 * LOOK_TIME / now.saturating_sub(context.looked.get()).max(1);
@@ -118,14 +135,14 @@ impl Turn {
         context.looked.set(now);
     }
 
-    /// Returns true if it is time to look, by polls that are long enough to be timed.
+    /// Returns true if the time for a look has come. Only called if polls are so long that the clock is worth reading.
     #[inline]
     fn is_over(&self, context: &Context, alone: bool) -> bool {
         let time = if alone { LONELY_TIME } else { LOOK_TIME };
         now().saturating_sub(context.looked.get()) >= time
     }
 
-    /// Jobs that this worker keeps in hand while another has nothing to do: as many as run until its next look.
+    /// Returns how many jobs this worker keeps in hand while another is idle: those that run before its next look.
     #[inline]
     fn few(&self) -> usize {
         FEW.min(self.most as usize)
@@ -135,8 +152,10 @@ impl Turn {
 impl Shared {
     // --------------------------------------------------------------------------------------- whom to wake
 
-    /// A job became ready in its block: the core has said which worker it is to wake, and if that one is awake,
-    /// another may help.
+    /// Wakes a worker for a job that has become ready in its block.
+    ///
+    /// If the core asks for an `unpark`, that is the worker that looks after the block. Otherwise, unless `quiet`, any
+    /// sleeping worker is woken to help.
     #[inline]
     pub(crate) fn published(&self, name: u64, unpark: bool, quiet: bool) {
         if unpark {
@@ -153,7 +172,7 @@ impl Shared {
         self.published(job.name, unpark, false);
     }
 
-    /// A job in this worker's hand runs next here. What it displaces is ready for all.
+    /// Sets the job that runs next on this worker. A job that was next before is made ready for all.
     #[inline]
     pub(crate) fn set_next(&self, context: &Context, job: Job) {
         if !context.worker.hand.next.put(job) {
@@ -161,17 +180,17 @@ impl Shared {
         }
     }
 
-    /// Apart, so that what is done mostly is short.
+    /// The rare part of `set_next`, not inlined.
     #[inline(never)]
     fn displace_next(&self, context: &Context, job: Job) {
         if let Some(waits) = context.worker.hand.next.take(context.alone) {
             self.make_ready(context, &waits);
         }
-        // By now there is none, whoever has taken it.
+        // The slot is empty now: the job was taken either here or by another worker.
         context.worker.hand.next.put(job);
     }
 
-    /// Makes ready what a worker has in hand. Nobody is woken for them but workers at whose places they are.
+    /// Makes ready all jobs in a worker's hand. Only the workers whose blocks they belong to are woken for them.
     pub(crate) fn relieve(&self, hands: &Hands, other: usize) {
         while let Some(job) = self.workers[other].0.hand.take(true) {
             hands.gets(&job, other);
@@ -179,19 +198,22 @@ impl Shared {
         }
     }
 
+    /// Wakes a worker, if it sleeps. Returns true if this call woke it.
     fn rouse(&self, worker: usize) -> bool {
         let bit = 1 << worker;
         if self.sleepers.0.load(SeqCst) & bit == 0 || self.sleepers.0.fetch_and(!bit, SeqCst) & bit == 0 {
             return false;
         }
-        // It counts as looking around from now on, so that nobody else is woken until it is awake.
+        // Counted as searching before it wakes, so that no second worker is woken until it has looked.
         self.searching.0.fetch_add(1, SeqCst);
         self.ring(worker);
         true
     }
 
-    /// Ends a worker's sleep, or else its next. A worker that can be heard of as asleep keeps its post: if it has
-    /// taken one after it was looked up here, it sees what the caller did before this call.
+    /// Ends a worker's current sleep, or its next one.
+    ///
+    /// The worker may start to wait in the epoll after `waits` was read here, and then misses the bell. It still sees
+    /// what the caller did before this call: it takes that post before it checks for work.
     pub(crate) fn ring(&self, worker: usize) {
         if self.waits.0.load(SeqCst) == worker {
             self.reactor.notify();
@@ -200,7 +222,7 @@ impl Shared {
         }
     }
 
-    /// Wakes a worker that sleeps, unless one looks around: best one that has no post.
+    /// Wakes a sleeping worker, unless one is already searching: if possible not the one in the epoll or its deputy.
     #[inline]
     pub(crate) fn rouse_any(&self) {
         let sleepers = self.sleepers.0.load(SeqCst);
@@ -213,7 +235,9 @@ impl Shared {
         }
     }
 
-    /// The last one that looked around, and stays awake, sees that what nobody was woken for is looked at.
+    /// Ends a search by a worker that stays awake. If it was the last one, wakes another for work that may be left.
+    ///
+    /// While it searched, nobody was woken for new work, so the decrement must come before the check.
     fn stop_looking(&self, hands: &Hands) {
         if self.searching.0.fetch_sub(1, SeqCst) != 1 {
             return;
@@ -228,7 +252,7 @@ impl Shared {
         }
     }
 
-    /// A worker that was about to sleep, or slept, is awake; whether it was woken by another.
+    /// Marks this worker as awake, after a sleep or an attempt to sleep. Returns true if another worker woke it.
     fn awake(&self, context: &Context) -> bool {
         let bit = 1 << context.me;
         let roused = self.sleepers.0.load(SeqCst) & bit == 0 || self.sleepers.0.fetch_and(!bit, SeqCst) & bit == 0;
@@ -238,7 +262,7 @@ impl Shared {
         roused
     }
 
-    /// Nobody waits in the epoll, or stands in for one who does.
+    /// Returns true if no worker waits in the epoll, and none is its deputy.
     fn is_unattended(&self) -> bool {
         self.waits.0.load(SeqCst) == NO_ONE && self.deputy.0.load(SeqCst) == NO_ONE
     }
@@ -253,12 +277,12 @@ impl Shared {
         self.queued.0.load(SeqCst) != 0 && !self.clogged.load(SeqCst)
     }
 
-    /// Returns how many jobs seem ready at a worker's places, up to about eight.
+    /// Returns the number of jobs that seem ready in a worker's blocks; it stops counting at eight.
     pub(crate) fn ready(&self, hands: &Hands, worker: usize) -> u32 {
         self.ready_up_to(hands, worker, 8)
     }
 
-    /// Returns how many jobs seem ready at a worker's places; it stops counting at `most`.
+    /// Returns the number of jobs that seem ready in a worker's blocks; it stops counting at `most`.
     fn ready_up_to(&self, hands: &Hands, worker: usize, most: u32) -> u32 {
         let mut count = 0;
         for &shard in self.workers[worker].0.used_shards() {
@@ -274,7 +298,7 @@ impl Shared {
 
     // --------------------------------------------------------------------------------------- one task
 
-    /// Runs a job in hand, and lays it down.
+    /// Runs a job in hand, then finishes it or lays it down.
     #[inline]
     fn run(&self, context: &Context, turn: &mut Turn, job: Job) {
         let name = job.name;
@@ -301,11 +325,12 @@ impl Shared {
         self.rest(context, job);
     }
 
-    /// Lays a job down that has not ended: it waits, or is behind all that is ready here.
+    /// Lays down a job that has not ended: it is blocked, or, if it was woken, goes behind all that is ready here.
     #[inline]
     fn rest(&self, context: &Context, job: Job) {
         let name = job.name;
         if !context.woken.get() {
+            // Before the job is blocked: the end of the runtime finds blocked jobs by these names.
             let kept = &self.names[job.place()];
             if kept.load(Relaxed) != name {
                 kept.store(name, Relaxed);
@@ -323,6 +348,8 @@ impl Shared {
         self.set_behind(context, job, self.kept());
     }
 
+    /// Ends a job. In this order: `spawn_at` hides a block before it tries it again, and `begin_queued` sets `clogged`
+    /// before its second try, so the place must be free before either is looked at.
     #[inline]
     fn finish(&self, context: &Context, job: &Job) {
         context.hands.finish(job);
@@ -333,7 +360,7 @@ impl Shared {
         }
     }
 
-    /// The block may have a free place.
+    /// Marks a block as one that may have a free place.
     #[inline]
     pub(crate) fn show_room(&self, block: usize) {
         let (word, bit) = (&self.roomy[block / SHARD].0, 1 << (block % SHARD));
@@ -344,7 +371,7 @@ impl Shared {
 
     // --------------------------------------------------------------------------------------- what is next
 
-    /// The next job to run, in this worker's hand.
+    /// Returns the next job to run, in this worker's hand; looks out first if that is due.
     #[inline]
     fn pick(&'static self, context: &Context, turn: &mut Turn) -> Option<Job> {
         let is_over = |turn: &Turn| turn.most < LOOK_OUT && turn.polls >= 1 && turn.is_over(context, self.is_alone());
@@ -358,7 +385,7 @@ impl Shared {
         self.pick_next(context, turn).or_else(|| self.pick_ready(context, turn))
     }
 
-    /// The job that the last one made ready, unless there were many in a row.
+    /// Takes the job that the last one made ready, unless the chain is too long: then that job goes into the line.
     #[inline]
     fn pick_next(&self, context: &Context, turn: &mut Turn) -> Option<Job> {
         if let Some(job) = context.worker.hand.next.take(context.alone) {
@@ -373,7 +400,7 @@ impl Shared {
         None
     }
 
-    /// Behind all that is ready here: it stays in hand, unless `most` are in line already.
+    /// Puts a job behind all that is ready here. It stays in hand unless `most` jobs are already in line.
     #[inline]
     pub(crate) fn set_behind(&self, context: &Context, job: Job, most: usize) {
         if !context.worker.hand.line.put(job, most) {
@@ -381,8 +408,7 @@ impl Shared {
         }
     }
 
-    /// How many jobs stay in line of those that woke themselves, or were next after many in a row: one while somebody
-    /// has nothing to do.
+    /// Returns how many jobs that yielded or ended a chain stay in line: one while any worker is idle.
     #[inline]
     fn kept(&self) -> usize {
         match self.all_busy() {
@@ -429,7 +455,7 @@ impl Shared {
         }
     }
 
-    /// The next ready job of this worker's blocks, in turn. At the end of a round over them what is in hand goes first.
+    /// Takes the next ready job of this worker's blocks, in turn. At the end of a round the jobs in line run first.
     #[inline]
     fn sweep(&self, context: &Context, turn: &mut Turn) -> Option<Job> {
         loop {
@@ -455,8 +481,10 @@ impl Shared {
         }
     }
 
-    /// The first of a worker's blocks, from this number on, that has ready jobs: the number behind it, which block it
-    /// is, and which of its places have one. Counts those that are shown and have none.
+    /// Finds a worker's first block with ready jobs, from number `from` on.
+    ///
+    /// Returns the number after it, the block, and its places with a ready job, as bits. Adds to `stale` the empty
+    /// blocks that the summary still shows.
     #[inline]
     fn find_block(&self, hands: &Hands, owner: usize, from: usize, stale: &mut u32) -> Option<(usize, usize, u64)> {
         let first = from / SHARD;
@@ -479,14 +507,14 @@ impl Shared {
         None
     }
 
-    /// Puts a task that found no place into one of this worker, or of another, and keeps it in hand if that may be.
-    /// None if there is no place.
+    /// Puts a queued task into a place of this worker, or of another, and keeps it in hand if possible. Returns None if
+    /// there is no place.
     fn begin_queued(&'static self, context: &Context) -> Option<Option<Job>> {
         let raw = self.pop_queued()?;
         if let Some(job) = self.place(context, raw) {
             return Some(job);
         }
-        // Whoever ends a task from now on sees that there is room again; a place that was freed before is seen here.
+        // The flag must be set before the second try: a place that is freed later clears it, one freed before is found.
         self.clogged.store(true, SeqCst);
         if let Some(job) = self.place(context, raw) {
             self.clogged.store(false, SeqCst);
@@ -524,21 +552,21 @@ impl Shared {
 
     // --------------------------------------------------------------------------------------- others
 
-    /// The workers whose cores were given back and after whom this one looks.
+    /// Returns the workers without a core whose jobs and timers this one looks after.
     fn lodgers(&self, me: usize) -> impl Iterator<Item = usize> {
         let active = self.active.0.load(SeqCst);
         (active..self.workers.len()).filter(move |&other| other % active == me)
     }
 
-    /// Looks at epoll and timers, and takes a job of one that doesn't get on or has nobody: whatever is next here.
-    /// Returns false if this worker's core is asked back. Apart, so that what is done at each poll is short.
+    /// Looks at the epoll, the timers and the other workers, even if there are jobs to run. Returns false if this
+    /// worker's core is asked back.
     #[inline(never)]
     fn look_out(&self, context: &Context, turn: &mut Turn, by_time: bool) -> bool {
         if context.worker.hand.line.len() > turn.few() && !self.all_busy() {
             self.rouse_any();
         }
-        // What is ready here goes first, and if polls are long what is in hand goes last. One that is alone runs what
-        // it finds in that order.
+        // The jobs of this look must not run before those that are ready here, nor, if polls are long, before those
+        // in line. The only worker takes them anyway, since it runs all in that order.
         let (alone, lasts) = (self.is_alone(), turn.few() < FEW);
         let first = |turn: &Turn| turn.wanted == 0 && !self.mine(context);
         let takes = alone || (context.worker.hand.line.is_empty() || !lasts) && first(turn);
@@ -561,10 +589,10 @@ impl Shared {
         !turn.counts || !self.is_asked_back(context.me)
     }
 
-    /// Takes jobs of workers that don't get on, and fires their timers.
+    /// Takes jobs of workers that make no progress, and fires their timers.
     fn look_at_others(&self, context: &Context, turn: &mut Turn) {
-        // If polls are long, one that runs one doesn't get on either. Then more is taken once what was taken has run and
-        // a job of its own behind it, and unless another has been in its poll for long, all that is in line.
+        // If polls are long, a worker within one counts as making no progress. More is taken from it only after the
+        // jobs taken before and one of this worker's own have run, and its line too unless that poll is very long.
         let (active, long_polls) = (self.active.0.load(Relaxed), turn.few() < FEW);
         for other in 0..self.workers.len() {
             let worker = &self.workers[other].0;
@@ -582,7 +610,7 @@ impl Shared {
             }
             let (long, sleeps) = (stands && turn.stood[other] == 0, self.sleepers.0.load(Relaxed) >> other & 1 == 1);
             if long && !sleeps {
-                // In a long poll, or without a processor: its timers would wait for it, unless another has them.
+                // It is in a long poll or has no processor, and nobody else fires its timers.
                 if other < active {
                     self.fire_quietly(context, other);
                 }
@@ -592,7 +620,7 @@ impl Shared {
             if !gets_on && !sleeps && may_help {
                 self.take_out(context, turn, other, 2, lasts);
             }
-            // Who makes something ready for one that sleeps wakes somebody, so that is looked at now and then.
+            // A sleeping worker's blocks are looked at only now and then: a publish there wakes somebody.
             if (long || !sleeps) && may_help && self.ready(&context.hands, other) != 0 {
                 self.help(context, turn, other, 2);
             }
@@ -600,7 +628,7 @@ impl Shared {
         turn.helps = turn.first != 0;
     }
 
-    /// Takes up to `most` jobs of one of another worker's blocks, which run next here.
+    /// Takes up to `most` ready jobs of one of another worker's blocks; they run next here.
     fn help(&self, context: &Context, turn: &mut Turn, other: usize, most: usize) -> bool {
         let (hands, stale) = (&context.hands, &mut 0);
         let start = context.random() as usize % (self.workers[other].0.used_shards().len() * SHARD);
@@ -611,7 +639,7 @@ impl Shared {
         self.has_taken(context, turn, got)
     }
 
-    /// Takes up to `most` jobs out of another worker's hand, which run next here; with `next` also the one that is to
+    /// Takes up to `most` jobs out of another worker's hand; they run next here. With `next`, also the one that would
     /// run next there.
     fn take_out(&self, context: &Context, turn: &mut Turn, other: usize, most: usize, next: bool) -> bool {
         let most = most.min(FIRST - context.worker.hand.first.len());
@@ -624,7 +652,7 @@ impl Shared {
         self.has_taken(context, turn, got)
     }
 
-    /// A job that was taken of another worker runs before what is ready here.
+    /// Puts a stolen job before all that is ready here.
     fn set_first(&self, context: &Context, job: Job) {
         if !context.worker.hand.first.put(job, FIRST) {
             self.make_ready(context, &job);
@@ -639,16 +667,17 @@ impl Shared {
         got != 0
     }
 
-    /// Returns how many tasks that a look wakes may stay in this worker's hand.
+    /// Returns how many of the tasks woken by a look may stay in this worker's hand.
     fn room(&self, context: &Context, turn: &Turn) -> usize {
         let most = if self.is_alone() { HAND } else { turn.few() };
         most.saturating_sub(context.worker.hand.line.len())
     }
 
-    /// For how many events a worker asks: for as many as stay in its hand. The others stay with the kernel, whose order
-    /// is that of their coming, for whoever looks next: made ready at the places of one that has lost its processor
-    /// they would wait for it, and run before what is in hand. If none stays, it asks for some that are left for
-    /// others, or that run in the order of their places.
+    /// Returns how many events to ask the epoll for: as many as fit into this worker's hand.
+    ///
+    /// The others stay with the kernel, in their order, for whoever looks next. Made ready here, they would wait for
+    /// this worker if it loses its processor, and run before the jobs in line. With no room it asks for a few, for
+    /// others to take.
     fn asks(&self, room: usize) -> usize {
         match room {
             0 if self.is_alone() => EVENTS,
@@ -662,14 +691,15 @@ impl Shared {
         self.active.0.load(Relaxed) == 1
     }
 
-    /// Looks at the epoll, and fires timers; how many there were.
+    /// Looks at the epoll and fires the timers that are due. Returns the number of events and timers.
     fn look_at_events(&self, context: &Context, room: usize) -> usize {
         let found = if self.reactor.is_used() { self.reactor.look(self.asks(room)) } else { Found::NOTHING };
         self.hear(context, &found, room)
     }
 
-    /// Wakes the tasks of these events, and fires timers; returns how many. The first `room` stay in this worker's hand
-    /// so that nobody else is woken for them.
+    /// Wakes the tasks of these events, and fires the timers that are due. Returns the number of both.
+    ///
+    /// The first `room` of these tasks stay in this worker's hand, without waking another worker.
     fn hear(&self, context: &Context, found: &Found, room: usize) -> usize {
         context.keeps.set(false);
         context.room.set(room);
@@ -685,7 +715,7 @@ impl Shared {
         heard
     }
 
-    /// Fires the timers of a worker that doesn't get on; how many.
+    /// Fires the timers of a worker that makes no progress, without waking others. Returns their number.
     fn fire_quietly(&self, context: &Context, other: usize) -> usize {
         context.keeps.set(false);
         let fired = self.fire(other);
@@ -693,21 +723,30 @@ impl Shared {
         fired
     }
 
+    /// Fires a worker's timers that are due. Returns their number.
     pub(crate) fn fire(&self, owner: usize) -> usize {
-        let timers = &self.workers[owner].0.timers;
-        if timers.next() == u64::MAX {
+        if self.next_timer(owner) == u64::MAX {
             return 0;
         }
         let now = now();
-        if timers.next() <= now {
-            timers.fire(now)
+        let fire = |timers: &Timers| if timers.next() <= now { timers.fire(now) } else { 0 };
+        fire(&self.workers[owner].0.timers) + if owner == 0 { fire(&self.visitors) } else { 0 }
+    }
+
+    /// Returns the time at which a worker's first timer is due; `u64::MAX` if there is none.
+    #[inline]
+    pub(crate) fn next_timer(&self, owner: usize) -> u64 {
+        let own = self.workers[owner].0.timers.next();
+        if owner == 0 {
+            own.min(self.visitors.next())
         } else {
-            0
+            own
         }
     }
 
-    /// Runs some of what is ready at other workers' places, or at last in their hands: half of what one has there, if
-    /// it has more than one job; else one, if its worker sleeps or doesn't get on.
+    /// Steals from another worker: half of its ready jobs or, with `last`, of those in its hand behind the next one.
+    ///
+    /// A worker's single job is stolen only if that worker sleeps or makes no progress. Returns true if it got any.
     fn steal(&self, context: &Context, turn: &mut Turn, last: bool) -> bool {
         let count = self.workers.len();
         let offset = context.random() as usize % count;
@@ -729,6 +768,7 @@ impl Shared {
 
     // --------------------------------------------------------------------------------------- the loop
 
+    /// Runs a worker until the runtime stops.
     pub(crate) fn work(&'static self, context: &Context, mut judge: Option<Judge>, counts: bool) {
         let mut turn = Turn::new(self, counts);
         let worker = context.worker;
@@ -764,7 +804,7 @@ impl Shared {
         self.lay_down(context, &mut turn);
     }
 
-    /// With nothing of its own to do: events, unless another waits for them; and timers.
+    /// Looks for events, unless another worker waits in the epoll, and fires timers. Returns the number of both.
     fn look_when_idle(&self, context: &Context, turn: &mut Turn) -> usize {
         let room = self.room(context, turn);
         if self.waits.0.load(Relaxed) != NO_ONE {
@@ -772,19 +812,20 @@ impl Shared {
         }
         let heard = self.look_at_events(context, room);
         if heard != 0 && self.is_alone() {
-            // Its hand may be full of what it found: a look by time before that has run would find no room.
+            // Its hand may be full now: a look by time before these jobs have run would find no room.
             turn.pace(context, now());
             self.looked.0.store(context.looked.get(), Relaxed);
         }
         heard
     }
 
+    /// Takes ready jobs of the workers without a core that this one looks after. Returns true if it got any.
     fn help_lodgers(&self, context: &Context, turn: &mut Turn) -> bool {
         self.lodgers(context.me)
             .any(|other| self.ready(&context.hands, other) != 0 && self.help(context, turn, other, FEW))
     }
 
-    /// Makes all ready that is in this worker's hand.
+    /// Makes all jobs in this worker's hand ready.
     pub(crate) fn lay_down(&self, context: &Context, turn: &mut Turn) {
         while let Some(job) = context.worker.hand.take(true) {
             let unpark = context.hands.rest_ready(&job);

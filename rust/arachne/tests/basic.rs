@@ -1,4 +1,4 @@
-//! The crate used as its page says.
+//! The crate used as docs/rust.md says.
 use arachne::*;
 use std::sync::atomic::*;
 use std::sync::Arc;

@@ -1,4 +1,4 @@
-//! What is dropped, aborted or ended before it was done: nothing is kept, nobody waits for ever, and who asks is told.
+//! Futures, tasks and runtimes that are dropped, aborted or ended early: nothing leaks, and nobody waits for ever.
 use arachne::{
     block_on, channel, net, sleep, spawn, spawn_blocking, stopping, timeout, yield_now, Builder, JoinError, Lock,
     Runtime, Semaphore,
@@ -13,7 +13,7 @@ use std::thread;
 use std::time::{Duration, Instant};
 
 const MS: Duration = Duration::from_millis(1);
-/// Longer than a machine with much else to do keeps anything waiting.
+/// Longer than a busy machine delays anything.
 const LONG: Duration = Duration::from_secs(120);
 
 struct Nobody;
@@ -30,7 +30,7 @@ impl Wake for Woken {
     }
 }
 
-/// One poll, with a waker of nobody's.
+/// Polls once, with a waker that wakes nobody.
 fn poll_once<F: Future + Unpin>(future: &mut F) -> Poll<F::Output> {
     let waker = Arc::new(Nobody).into();
     Pin::new(future).poll(&mut Context::from_waker(&waker))
@@ -44,7 +44,7 @@ impl Drop for OnDrop {
     }
 }
 
-/// Polls a future with a waker that is counted, lets it be ready, and polls on until it is. The waker is freed then.
+/// Polls a future with a counted waker, makes it ready, and polls until it is. Then the waker must have been freed.
 fn frees_its_waker(runtime: &Runtime, what: &str, future: impl Future, let_it: impl FnOnce()) {
     let (mut future, counted, start) = (Box::pin(future), Arc::new(Nobody), Instant::now());
     let mut poll = || {
@@ -63,7 +63,7 @@ fn frees_its_waker(runtime: &Runtime, what: &str, future: impl Future, let_it: i
     }
 }
 
-/// The same of a future that is dropped while it waits.
+/// The same for a future that is dropped while it waits.
 fn frees_its_waker_at_drop(runtime: &Runtime, what: &str, future: impl Future) {
     let (mut future, counted) = (Box::pin(future), Arc::new(Nobody));
     let waker = counted.clone().into();
@@ -83,6 +83,9 @@ fn wakers_of_others_are_freed() {
     frees_its_waker_at_drop(&runtime, "a semaphore", semaphore.acquire());
     frees_its_waker_at_drop(&runtime, "a sleep", sleep(LONG));
     frees_its_waker_at_drop(&runtime, "the end", stopping());
+    let (near, far) = arachne::net::UnixStream::pair().unwrap();
+    frees_its_waker_at_drop(&runtime, "a read", far.read(&mut [0; 8]));
+    frees_its_waker(&runtime, "a read", far.read(&mut [0; 8]), || runtime.block_on(near.write_all(b"hello")).unwrap());
     frees_its_waker(&runtime, "a receiver", receiver.recv(), || sender.try_send(1).unwrap());
     frees_its_waker(&runtime, "a lock", lock.lock(), || drop(guard));
     frees_its_waker(&runtime, "a semaphore", semaphore.acquire(), || drop(permit));
@@ -93,7 +96,7 @@ fn wakers_of_others_are_freed() {
     frees_its_waker(&runtime, "a handle", task, || gate.add_permits(1));
 }
 
-/// A turn that was given to a future which is dropped before it saw that goes to the next one in line.
+/// If a future is dropped after it got its turn and before it saw that, the next one in line gets the turn.
 #[test]
 fn a_turn_that_was_given_is_handed_on_at_drop() {
     let (sender, receiver) = channel(1);
@@ -118,7 +121,7 @@ fn a_turn_that_was_given_is_handed_on_at_drop() {
     assert_eq!(semaphore.available_permits(), 2);
 }
 
-/// Both ends of a channel hear that the other is gone, and what nobody receives any more is dropped.
+/// Both ends of a channel see that the other is gone, and values that nobody can receive are dropped.
 #[test]
 fn whoever_waits_hears_that_the_other_end_is_gone() {
     let runtime = Runtime::new(1);
@@ -181,7 +184,7 @@ fn what_is_aborted_before_it_begins_never_runs() {
     }
 }
 
-/// What waits for a timer is polled when it is due, and not again.
+/// A task that waits for a timer is polled once when it is due, and not again.
 #[test]
 fn a_timer_wakes_once() {
     let runtime = Runtime::new(2);
@@ -276,6 +279,67 @@ fn the_end_waits_for_work_that_blocks() {
     assert!(matches!(block_on(block_on(asks_late).unwrap()), Err(JoinError::Cancelled)));
 }
 
+/// Blocking work that doesn't end holds `shutdown_within` up until its deadline only, and no later runtime gets its
+/// tasks.
+#[test]
+fn the_end_leaves_work_that_blocks_for_ever() {
+    let (release, blocks) = std::sync::mpsc::channel::<()>();
+    let runtime = Runtime::new(1);
+    let handle = runtime.handle();
+    let work = runtime.enter(|| {
+        spawn_blocking(move || {
+            blocks.recv().unwrap_err();
+            let spawned = block_on(spawn(async { 1 }));
+            (spawned, block_on(spawn_blocking(|| 2)))
+        })
+    });
+    let idle = runtime.spawn(std::future::pending::<()>());
+    assert_eq!(runtime.shutdown_within(20 * MS).aborted, 1);
+    assert!(matches!(block_on(idle), Err(JoinError::Cancelled)));
+    assert!(matches!(block_on(handle.spawn(async {})), Err(JoinError::Cancelled)));
+    let next = Runtime::new(1);
+    assert_eq!(block_on(next.spawn(async { 7 })).unwrap(), 7);
+    drop(release);
+    let (spawned, asked) = block_on(work).unwrap();
+    assert!(matches!((spawned, asked), (Err(JoinError::Cancelled), Err(JoinError::Cancelled))));
+    assert_eq!(next.live(), 0);
+}
+
+/// Blocking work that waits for a task which it has spawned after the end began doesn't hold the end up.
+#[test]
+fn the_end_cancels_what_work_that_blocks_has_spawned() {
+    let runtime = Runtime::new(1);
+    let began = Arc::new(AtomicBool::new(false));
+    let (begins, handle) = (began.clone(), runtime.handle());
+    let work = handle.spawn_blocking(move || {
+        begins.store(true, SeqCst);
+        thread::sleep(20 * MS);
+        block_on(spawn(async { 1 }))
+    });
+    while !began.load(SeqCst) {
+        thread::yield_now();
+    }
+    drop(runtime);
+    assert!(matches!(block_on(work).unwrap(), Err(JoinError::Cancelled)));
+}
+
+/// The only worker is in a poll that doesn't end: the timers of other threads fire, and so do its own in a `block_on`.
+#[test]
+fn timers_of_other_threads_fire_while_the_worker_blocks() {
+    let (runtime, blocks) = (Runtime::new(1), Arc::new(AtomicBool::new(true)));
+    let blocked = blocks.clone();
+    let task = runtime.spawn(async move {
+        block_on(sleep(2 * MS));
+        while blocked.load(SeqCst) {
+            thread::sleep(MS);
+        }
+    });
+    assert!(runtime.block_on(timeout(10 * MS, sleep(LONG))).is_err());
+    runtime.block_on(sleep(MS));
+    blocks.store(false, SeqCst);
+    runtime.block_on(task).unwrap();
+}
+
 #[test]
 fn a_runtime_is_entered_and_ended_within_a_task_of_another_or_its_own() {
     let (outer, inner) = (Runtime::new(1), Runtime::new(1));
@@ -298,7 +362,7 @@ fn a_runtime_is_entered_and_ended_within_a_task_of_another_or_its_own() {
     drop(block_on(drops));
 }
 
-/// The last waker with which a future of the end was polled is woken, and no other.
+/// `stopping` wakes only the last waker that it was polled with.
 #[test]
 fn who_waits_for_the_end_may_change() {
     let runtime = Runtime::new(1);
@@ -313,7 +377,7 @@ fn who_waits_for_the_end_may_change() {
     assert_eq!(woken, [0, 0, 1]);
 }
 
-/// A wake reaches the worker that sleeps, whosever place the task has, where the other is in a poll that doesn't end.
+/// A wake reaches the sleeping worker, whichever worker's place the task has, if the other is in an endless poll.
 #[test]
 fn a_sleeper_is_woken_beside_a_busy_worker() {
     let runtime = Runtime::new(2);
@@ -395,7 +459,7 @@ fn a_panic_leaks_nothing_and_is_told() {
     assert_eq!(dropped.load(SeqCst), 2);
 }
 
-/// With no place free, the first one that is tried comes back, and is not put into the queue.
+/// If no place is free, `try_spawn` returns the future, and doesn't put it into the queue.
 #[test]
 fn what_has_no_place_comes_back() {
     let runtime = Builder::new(1).places(1).build().unwrap();

@@ -26,7 +26,7 @@ fn without_comments(text: &str) -> String {
         .join("\n")
 }
 
-/// A type of C as one of Rust.
+/// Returns the Rust type for a type of C.
 fn rust_type(c: &str) -> String {
     let c = c.trim();
     if let Some(to) = c.strip_suffix('*') {
@@ -46,7 +46,7 @@ fn rust_type(c: &str) -> String {
     .to_string()
 }
 
-/// The type and the name of `uint64_t at`, `void *opaque`, `const T *to`.
+/// Returns the type and the name of a declaration such as `uint64_t at`, `void *opaque` or `const T *to`.
 fn declared(text: &str) -> (String, String) {
     let text = text.trim();
     let at = text.rfind(|c: char| !(c.is_alphanumeric() || c == '_')).expect("a type and a name");
@@ -162,7 +162,7 @@ fn declarations_agree_with_the_header() {
     }
 }
 
-/// The comparison sees what it is for.
+/// The comparison detects each kind of difference.
 #[test]
 fn a_slip_would_be_seen() {
     let text =

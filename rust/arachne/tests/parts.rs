@@ -1,4 +1,4 @@
-//! Each part of the crate on its own: abort, time, channel, semaphore, limits, the end, blocking work, what is observed.
+//! Each part of the crate: abort, time, channel, semaphore, limits, the end, blocking work, observation.
 use arachne::{
     block_on, channel, net, sleep, spawn, spawn_background, spawn_blocking, spawn_named, stopping, timeout, yield_now,
     Builder, Doing, Elapsed, Hooks, JoinError, Limit, Lock, Policy, Runtime, Semaphore, SendError, Signal,
@@ -12,7 +12,7 @@ use std::thread;
 use std::time::{Duration, Instant};
 
 const MS: Duration = Duration::from_millis(1);
-/// Longer than a machine with much else to do keeps anything waiting.
+/// Longer than a busy machine delays anything.
 const LONG: Duration = Duration::from_secs(120);
 
 struct Nobody;
@@ -20,7 +20,7 @@ impl Wake for Nobody {
     fn wake(self: Arc<Self>) {}
 }
 
-/// One poll, with a waker of nobody's.
+/// Polls once, with a waker that wakes nobody.
 fn poll_once<F: Future + Unpin>(future: &mut F) -> Poll<F::Output> {
     let waker = Arc::new(Nobody).into();
     std::pin::Pin::new(future).poll(&mut Context::from_waker(&waker))
@@ -316,7 +316,7 @@ fn what_has_no_place_is_refused_or_waits() {
     waiting.into_iter().for_each(|task| block_on(task).unwrap());
 }
 
-/// A listener whose connections each bring a byte back 30 ms after it came.
+/// A listener whose connections return each byte after 30 ms.
 async fn slow_echo(listener: net::TcpListener, accepted: Arc<AtomicUsize>) {
     while let Ok((stream, _)) = listener.accept().await {
         accepted.fetch_add(1, SeqCst);
@@ -603,7 +603,7 @@ fn cores_are_given_back_and_asked_for() {
     busy.into_iter().for_each(|task| block_on(task).unwrap());
 }
 
-/// What is ready is polled, what the epoll returns is seen, and what is due is woken, beside tasks that never rest.
+/// Beside tasks that never rest, ready tasks are polled, events of the epoll are seen, and timers fire.
 #[test]
 fn tasks_that_yield_for_ever_hold_nobody_up() {
     // One worker alone has nobody that looks at its epoll in its place.
@@ -673,7 +673,7 @@ fn tasks_that_yield_for_ever_run_equally_often() {
     }
 }
 
-/// While no worker has nothing to do, one keeps many tasks in its hand. Once another has, most of them are for all.
+/// While all workers are busy, one keeps many tasks in its hand. Once another is idle, it makes most of them ready.
 #[test]
 fn what_is_in_hand_is_for_whoever_has_nothing_to_do() {
     let runtime = Runtime::new(2);
@@ -803,7 +803,7 @@ fn what_is_read_within_block_on_in_a_task_is_not_put_off() {
     assert_eq!(block_on(task).unwrap(), 50);
 }
 
-/// Also if they are more than a worker may have in hand.
+/// The same with more tasks than a worker may have in hand.
 #[test]
 fn sockets_are_heard_in_the_order_in_which_they_were_told_of() {
     for count in [8, 200] {
@@ -911,7 +911,7 @@ fn each_kernel_thread_is_started_before_its_first_task() {
     assert_eq!(count.load(SeqCst), 2);
 }
 
-/// As a caller has it whose errors are boxed.
+/// The type of a caller whose errors are boxed.
 async fn boxed(task: arachne::JoinHandle<u8>) -> Result<u8, Box<dyn std::error::Error + Send + Sync>> {
     Ok(task.await?)
 }
@@ -1007,7 +1007,7 @@ fn other_descriptors_are_awaited() {
     block_on(asks).unwrap();
 }
 
-/// As a program has them that derives Debug for what contains them.
+/// The types in a program's struct that derives Debug.
 #[derive(Debug)]
 #[allow(dead_code)]
 struct Shown<'a> {

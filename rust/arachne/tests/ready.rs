@@ -1,4 +1,4 @@
-//! Ready tasks behind a poll that takes long: whoever is free runs them, wherever they are.
+//! Ready tasks behind a long poll: a free worker runs them, wherever they are.
 use arachne::{block_on, net, sleep, spawn, yield_now, Builder, JoinHandle, Policy, Runtime, Semaphore};
 use std::io::{Read, Write};
 use std::os::unix::net::UnixStream;
@@ -8,11 +8,11 @@ use std::thread;
 use std::time::{Duration, Instant};
 
 const MS: Duration = Duration::from_millis(1);
-/// For so long a poll takes, unless all have begun before.
+/// The length of the blocking poll, unless all have begun before.
 const POLL: Duration = Duration::from_millis(200);
-/// By then each has begun, where processors are free: also where who is free sleeps as they become ready.
+/// The time by which each has begun if processors are free, even if the free workers sleep as the tasks become ready.
 const SOON: Duration = Duration::from_millis(5);
-/// Longer than a machine with much else to do keeps anything waiting.
+/// Longer than a busy machine delays anything.
 const LONG: Duration = Duration::from_secs(60);
 const CORES: usize = 3;
 const BEHIND: usize = 8;
@@ -25,7 +25,7 @@ fn until(what: &str, most: Duration, done: impl Fn() -> bool) {
     }
 }
 
-/// What a round sees: how many are ready behind one that blocks, since when, and when they began.
+/// The record of a round: the number of tasks that are ready behind a blocking one, since when, and their begins.
 #[derive(Clone)]
 struct Seen(Arc<Marks>);
 
@@ -60,7 +60,7 @@ impl Seen {
         self.0.began.lock().unwrap().len() == self.0.behind
     }
 
-    /// Waits until all have begun; how long the last one took. All have, before the poll ends.
+    /// Waits until all have begun, which must be before the poll ends. Returns the delay of the last one.
     fn last(&self) -> Duration {
         until("what is behind a poll", LONG, || self.have_begun());
         let last = *self.0.began.lock().unwrap().iter().max().unwrap();
@@ -73,11 +73,11 @@ impl Seen {
     }
 }
 
-/// Tasks that keep their workers until they are let go.
+/// Tasks that keep their workers busy until they are released.
 struct Busy(Arc<AtomicBool>, Vec<JoinHandle<()>>);
 
 impl Busy {
-    /// At so many workers.
+    /// Keeps `workers` workers busy.
     fn keep(runtime: &Runtime, workers: usize) -> Busy {
         let (end, begun) = (Arc::new(AtomicBool::new(false)), Arc::new(AtomicUsize::new(0)));
         let keep = |_| {
@@ -98,7 +98,7 @@ impl Busy {
     }
 }
 
-/// When a kernel thread that sleeps for a millisecond, again and again, was last woken late: processors were lacking.
+/// A thread that repeatedly sleeps for a millisecond; its result is when it was last woken late, without a processor.
 struct Calm(Arc<AtomicBool>, thread::JoinHandle<Option<Instant>>);
 
 impl Calm {
@@ -123,8 +123,8 @@ impl Calm {
     }
 }
 
-/// Rounds by this function: in each, all that are behind the poll begin before it ends, and soon where the machine is
-/// calm, in most rounds. On one that never is, this sees the former alone.
+/// Checks rounds of this function. In each, all tasks behind the poll must begin before it ends; in most rounds in
+/// which the machine is calm, soon. On a machine that is never calm only the former is checked.
 fn rounds(soon: Duration, behind: usize, round: impl Fn(&Runtime, &Seen, Duration)) {
     let runtime = Runtime::new(CORES);
     let (mut calm, mut late) = (0, Vec::new());
@@ -143,7 +143,7 @@ fn rounds(soon: Duration, behind: usize, round: impl Fn(&Runtime, &Seen, Duratio
     assert!(late.len() * 4 <= calm, "in {calm} calm rounds late: {late:?}");
 }
 
-/// They have yielded while all were busy.
+/// The tasks have yielded while all workers were busy.
 #[test]
 fn what_has_yielded_is_run() {
     // Who becomes free looks there before it sleeps.
@@ -172,7 +172,7 @@ fn what_has_yielded_is_run() {
     });
 }
 
-/// One was to be next, and the others were before it.
+/// One task was to run next, and the others were before it.
 #[test]
 fn what_is_next_is_run() {
     for asleep in [true, false] {
@@ -201,7 +201,7 @@ fn what_is_next_is_run() {
     }
 }
 
-/// All have slept for long, and nobody else is woken: it is the only one that a task makes ready.
+/// All workers have slept for long, and no other is woken: the task is the only one that becomes ready.
 #[test]
 fn what_is_next_is_run_after_a_long_sleep() {
     rounds(SOON, 1, |runtime, seen, _| {
@@ -217,7 +217,7 @@ fn what_is_next_is_run_after_a_long_sleep() {
     });
 }
 
-/// One look at the epoll has told of all, while the others were busy.
+/// One look at the epoll has returned the events of all, while the other workers were busy.
 #[test]
 fn what_was_told_of_is_run() {
     rounds(SOON, BEHIND, |runtime, seen, pause| {
@@ -243,7 +243,7 @@ fn what_was_told_of_is_run() {
     });
 }
 
-/// The same while the others sleep: what whoever waits in the epoll is told of at once.
+/// The same while the others sleep: the worker that waits in the epoll gets all the events at once.
 #[test]
 fn what_was_told_of_is_run_by_who_sleeps() {
     rounds(SOON, BEHIND, |runtime, seen, pause| {
@@ -263,7 +263,7 @@ fn what_was_told_of_is_run_by_who_sleeps() {
     });
 }
 
-/// Others have taken them of a worker that doesn't get on, and the first that runs there blocks.
+/// Other workers have taken the tasks from a stuck one, and the first that they run blocks.
 #[test]
 fn what_was_taken_of_a_worker_that_does_not_get_on_is_run() {
     for asleep in [true, false] {
@@ -291,7 +291,7 @@ fn what_was_taken_of_a_worker_that_does_not_get_on_is_run() {
     }
 }
 
-/// A busy worker takes them too, and at last what was to be next: two workers, of which one is never without work.
+/// A busy worker takes them too, at last the one that was to run next: two workers, of which one is never idle.
 #[test]
 fn what_is_behind_is_run_by_one_that_is_busy() {
     let runtime = Runtime::new(2);
@@ -332,7 +332,7 @@ fn what_is_behind_is_run_by_one_that_is_busy() {
     }
 }
 
-/// Tasks that yield are taken out of hands all the time, and each is polled as often as it yields.
+/// Tasks that yield are stolen out of hands all the time, and each is polled exactly as often as it yields.
 #[test]
 fn a_job_is_taken_once() {
     let runtime = Runtime::new(4);
@@ -383,7 +383,7 @@ fn the_watcher_runs_what_is_behind() {
     }
 }
 
-/// The only core that is left is in a poll: the watcher runs what is at the places of the other, and fires its timers.
+/// The only active core is in a poll: the watcher runs the jobs in the blocks of the other, and fires its timers.
 #[test]
 fn the_watcher_looks_after_a_core_that_was_given_back() {
     let runtime = Builder::new(2).policy(Policy::default()).watch_polls(10 * MS, false).build().unwrap();

@@ -1,4 +1,4 @@
-//! Who sleeps and what wakes it: one worker waits in the epoll, one stands in for it, and the others are woken.
+//! Sleeping workers and their wakes: one waits in the epoll, one is its deputy, and the others wait to be woken.
 use arachne::{block_on, net, sleep, spawn, spawn_balanced, yield_now, Builder, Runtime, Semaphore};
 use std::io::{Read, Write};
 use std::net::SocketAddr;
@@ -8,10 +8,10 @@ use std::thread;
 use std::time::{Duration, Instant};
 
 const MS: Duration = Duration::from_millis(1);
-/// Longer than a machine with much else to do keeps anything waiting.
+/// Longer than a busy machine delays anything.
 const LONG: Duration = Duration::from_secs(120);
 
-/// A server that sends each byte back. At a `b` it blocks its worker until that flag is set, and counts that it does.
+/// A server that echoes each byte. At a `b` it counts itself, and blocks its worker until the flag is set.
 fn echo(runtime: &Runtime, ends: &Arc<AtomicBool>, blocked: &Arc<AtomicUsize>) -> SocketAddr {
     let listener = net::TcpListener::bind("127.0.0.1:0").unwrap();
     let at = listener.local_addr().unwrap();
@@ -60,8 +60,8 @@ fn until(done: impl Fn() -> bool) {
     }
 }
 
-/// Whoever waited in the epoll is in a poll that doesn't end, and then each but one: without a watcher the sockets of
-/// all are seen, also those that come later.
+/// The worker that waited in the epoll is in an endless poll, and then all but one are. Without a watcher the events of
+/// all sockets are still seen, even of those that connect later.
 #[test]
 fn sockets_are_seen_beside_polls_that_block() {
     for (cores, pause) in (2..5).flat_map(|cores| [(cores, MS / 4), (cores, 20 * MS)]) {
@@ -87,7 +87,7 @@ fn sockets_are_seen_beside_polls_that_block() {
     }
 }
 
-/// More sockets are ready at one look than a worker may have in hand, and than one look tells of.
+/// At one look more sockets are ready than a worker may have in hand, and than one look returns.
 #[test]
 fn more_is_told_at_once_than_one_worker_takes() {
     for cores in 1..4 {
@@ -111,7 +111,7 @@ fn more_is_told_at_once_than_one_worker_takes() {
     }
 }
 
-/// Whoever looks at the epoll now and then takes no wake from the worker that waits in it.
+/// A worker that polls the epoll now and then takes no wake from the one that waits in it.
 #[test]
 fn a_wake_of_who_waits_is_left_to_it() {
     let runtime = Runtime::new(2);
@@ -155,7 +155,7 @@ fn a_wake_of_who_waits_is_left_to_it() {
     }
 }
 
-/// Blocks the worker until that flag is set.
+/// Blocks the worker until the flag is set.
 fn blocks(flag: &AtomicBool) {
     let start = Instant::now();
     while !flag.load(SeqCst) {
@@ -164,8 +164,8 @@ fn blocks(flag: &AtomicBool) {
     }
 }
 
-/// What a worker has in hand, or is to run next, is run by another while the worker is in a poll that blocks until it
-/// was: whether the others sleep as that poll begins, or fall asleep later.
+/// Jobs in a worker's hand, and the one to run next, are run by another while the worker is in a poll that waits for
+/// them: if the others sleep as that poll begins, and if they fall asleep later.
 #[test]
 fn what_is_in_hand_is_run_beside_a_poll_that_blocks() {
     for (cores, pause) in (2..5).flat_map(|cores| [(cores, MS / 4), (cores, 20 * MS)]) {
@@ -214,7 +214,7 @@ fn what_is_in_hand_is_run_beside_a_poll_that_blocks() {
     }
 }
 
-/// A poll that blocks until a timer of its worker has told.
+/// A poll that blocks until a timer of its own worker has fired.
 #[test]
 fn timers_are_seen_beside_a_poll_that_blocks() {
     for cores in 2..5 {
@@ -240,7 +240,7 @@ fn timers_are_seen_beside_a_poll_that_blocks() {
     }
 }
 
-/// How often the threads of these folders have slept.
+/// Returns how often the threads of these `/proc` folders have slept.
 fn sleeps(threads: &[String]) -> u64 {
     let of = |thread: &String| {
         let text = std::fs::read_to_string(format!("/proc/{thread}/status")).unwrap();
@@ -250,7 +250,7 @@ fn sleeps(threads: &[String]) -> u64 {
     threads.iter().map(of).sum()
 }
 
-/// By a worker each, what `about` says there.
+/// Calls `about` on each worker, and returns the results.
 fn at_each_worker<T: Send + 'static>(runtime: &Runtime, cores: usize, about: fn() -> T) -> Vec<T> {
     let all: Arc<Mutex<Vec<T>>> = Arc::default();
     let each = all.clone();
@@ -286,7 +286,7 @@ fn an_idle_runtime_sleeps_on() {
     ask(&mut stream, 2);
 }
 
-/// The slices that the kernel says this thread asks for, where it says so.
+/// Returns the time slice of this thread, if the kernel reports one.
 fn slice() -> Option<u64> {
     let text = std::fs::read_to_string("/proc/thread-self/sched").ok()?;
     text.lines().find(|line| line.starts_with("se.slice "))?.split(':').nth(1)?.trim().parse().ok()

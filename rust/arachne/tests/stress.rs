@@ -1,4 +1,4 @@
-//! What an executor must not get wrong, tried hard. ARACHNE_STRESS multiplies the rounds.
+//! Stress tests: stale wakers, lost wakes, leaks, an end at any time, the lock. ARACHNE_STRESS multiplies the rounds.
 use arachne::{block_on, net, poll_fn, spawn, spawn_balanced, yield_now, Builder, JoinError, Lock, Policy, Runtime};
 use std::future::Future;
 use std::pin::Pin;
@@ -22,7 +22,7 @@ impl Rng {
     }
 }
 
-/// Wakers of ended tasks wake no task that stands in their contexts now: its polls are counted.
+/// Wakers of ended tasks wake no later task at the same place: its polls are counted.
 #[test]
 fn stale_wakers_wake_nobody() {
     let rt = Runtime::new(3);
@@ -105,7 +105,7 @@ impl Mailbox {
     }
 }
 
-/// Threads and tasks send to random tasks, while others wake them for nothing and while they run. Each message comes.
+/// Threads and tasks send to random tasks, while others wake these for nothing. Each message arrives.
 #[test]
 fn no_wake_is_lost() {
     let rt = Runtime::new(4);
@@ -263,8 +263,7 @@ fn nothing_leaks() {
     }
 }
 
-/// A runtime ends in the midst of spawns, yields and wakes by other kernel threads: each task is dropped, and its handle
-/// says so.
+/// A runtime ends during spawns, yields and wakes by other threads: each task is dropped, and its handle fails.
 #[test]
 fn the_end_finds_each_task() {
     for round in 0..rounds(100) {
@@ -344,7 +343,7 @@ fn many_wait() {
     assert_eq!(sum, 20_000 * 19_999 / 2);
 }
 
-/// One holder at a time, and asks that are dropped while they wait don't stop the line.
+/// The lock has one holder at a time, and futures that are dropped while they wait don't stop the line.
 #[test]
 fn the_lock_excludes() {
     let rt = Runtime::new(4);
@@ -396,7 +395,7 @@ fn the_lock_excludes() {
     println!("{} asks were dropped while they waited", given_up.load(Relaxed));
 }
 
-/// Bytes come back as they went, over many connections at once, also while cores are given back and taken.
+/// Many connections echo their bytes unchanged, even while cores are given back and asked for.
 #[test]
 fn echo() {
     let rt = Builder::new(4).policy(Policy { every: Duration::from_millis(2), ..Policy::default() }).build().unwrap();

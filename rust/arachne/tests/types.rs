@@ -1,5 +1,5 @@
-//! What a program that comes from tokio looks for: abort handles, sets of tasks, owned permits, intervals, handles of
-//! runtimes, sockets of Unix and of UDP, and std's sockets.
+//! Types that a program ported from tokio needs: abort handles, sets of tasks, owned permits, intervals, handles on
+//! runtimes, Unix and UDP sockets, and std's sockets.
 use arachne::net::{TcpListener, TcpStream, UdpSocket, UnixListener, UnixStream};
 use arachne::{
     block_on, interval, interval_at, sleep, spawn, timeout, yield_now, AcquireError, Handle, JoinError, JoinSet,
@@ -14,7 +14,7 @@ use std::thread;
 use std::time::{Duration, Instant};
 
 const MS: Duration = Duration::from_millis(1);
-/// Longer than a machine with much else to do keeps anything waiting.
+/// Longer than a busy machine delays anything.
 const LONG: Duration = Duration::from_secs(120);
 
 struct OnDrop(Arc<AtomicUsize>);
@@ -24,7 +24,7 @@ impl Drop for OnDrop {
     }
 }
 
-/// A count of drops, and what counts.
+/// A count of drops, and a value that counts its drop.
 fn counted() -> (Arc<AtomicUsize>, OnDrop) {
     let dropped = Arc::new(AtomicUsize::new(0));
     (dropped.clone(), OnDrop(dropped))
@@ -501,4 +501,123 @@ fn datagrams_come_and_go() {
     let far = far.into_std().unwrap();
     assert_eq!(far.recv(&mut [0]).unwrap_err().kind(), std::io::ErrorKind::WouldBlock);
     assert_eq!(UdpSocket::from_std(far).unwrap().local_addr().unwrap(), to);
+}
+
+/// Two tasks wait, and one of them gives up: its wait takes no wake from the other.
+#[test]
+fn a_wait_that_is_given_up_leaves_the_others_their_socket() {
+    let runtime = Runtime::new(2);
+    for _ in 0..20 {
+        let (near, far) = (UdpSocket::bind("127.0.0.1:0").unwrap(), Arc::new(UdpSocket::bind("127.0.0.1:0").unwrap()));
+        let to = far.local_addr().unwrap();
+        let (stays, leaves) = (far.clone(), far);
+        let stays = runtime.spawn(async move { timeout(LONG, stays.recv(&mut [0; 8])).await });
+        runtime.block_on(sleep(MS));
+        let leaves = runtime.spawn(async move { timeout(2 * MS, leaves.recv(&mut [0; 8])).await });
+        assert!(runtime.block_on(leaves).unwrap().is_err());
+        assert_eq!(runtime.block_on(near.send_to(b"hello", to)).unwrap(), 5);
+        assert_eq!(runtime.block_on(stays).unwrap().unwrap().unwrap(), 5);
+    }
+}
+
+/// Tasks and threads wait at one listener: each gets a connection.
+#[test]
+fn several_accept_at_one_listener() {
+    let runtime = Runtime::new(2);
+    let listener = Arc::new(TcpListener::bind("127.0.0.1:0").unwrap());
+    let at = listener.local_addr().unwrap();
+    let accepts = |listener: Arc<TcpListener>| async move { timeout(LONG, listener.accept()).await.unwrap() };
+    let tasks: Vec<_> = (0..4).map(|_| runtime.spawn(accepts(listener.clone()))).collect();
+    let accepted = thread::scope(|scope| {
+        let threads: Vec<_> =
+            (0..2).map(|_| scope.spawn(|| runtime.block_on(accepts(listener.clone())).unwrap())).collect();
+        thread::sleep(5 * MS);
+        let _clients: Vec<_> = (0..6).map(|_| std::net::TcpStream::connect(at).unwrap()).collect();
+        let by_threads = threads.into_iter().map(|thread| thread.join().unwrap()).count();
+        by_threads + tasks.into_iter().map(|task| runtime.block_on(task).unwrap().unwrap()).count()
+    });
+    assert_eq!(accepted, 6);
+}
+
+/// Each of two readers sees the end, and each of two writers gets on once there is room.
+#[test]
+fn several_read_and_write_one_stream() {
+    let runtime = Runtime::new(2);
+    let (near, far) = UnixStream::pair().unwrap();
+    let near = Arc::new(near);
+    let reads =
+        |stream: Arc<UnixStream>| async move { timeout(LONG, stream.read(&mut [0; 8])).await.unwrap().unwrap() };
+    let readers: Vec<_> = (0..2).map(|_| runtime.spawn(reads(near.clone()))).collect();
+    const PART: usize = 1 << 20;
+    let writes = |stream: Arc<UnixStream>| async move {
+        timeout(LONG, stream.write_all(&vec![7; PART])).await.unwrap().unwrap()
+    };
+    let writers: Vec<_> = (0..2).map(|_| runtime.spawn(writes(near.clone()))).collect();
+    runtime.block_on(async {
+        sleep(5 * MS).await;
+        let (mut buffer, mut got) = (vec![0; 1 << 16], 0);
+        while got < 2 * PART {
+            got += far.read(&mut buffer).await.unwrap();
+        }
+    });
+    writers.into_iter().for_each(|writer| runtime.block_on(writer).unwrap());
+    drop(far);
+    readers.into_iter().for_each(|reader| assert_eq!(runtime.block_on(reader).unwrap(), 0));
+}
+
+#[test]
+fn a_task_waits_for_a_signal_and_for_the_end() {
+    let (runtime, signal) = (Runtime::new(2), Arc::new(arachne::Signal::heard(12).unwrap()));
+    let raise = || {
+        let id = std::process::id().to_string();
+        assert!(std::process::Command::new("kill").args(["-USR2", &id]).status().unwrap().success());
+    };
+    let hears = signal.clone();
+    let task = runtime.spawn(async move { hears.recv().await });
+    raise();
+    runtime.block_on(task).unwrap().unwrap();
+    // A thread hears the next one, and a signal that came before is heard at once.
+    raise();
+    assert!(signal.wait());
+    raise();
+    runtime.block_on(signal.recv()).unwrap();
+    // A task that waits for one doesn't keep the runtime from its end.
+    runtime.spawn(async move {
+        let mut end = arachne::stopping();
+        assert!(end.or(signal.recv()).await.is_none());
+    });
+    assert_eq!(runtime.shutdown_within(LONG).aborted, 0);
+}
+
+#[test]
+fn tasks_and_handles_spawn_in_each_way() {
+    let runtime = arachne::Builder::new(1).places(1).build().unwrap();
+    let handle = runtime.handle();
+    assert_eq!(runtime.block_on(handle.spawn_balanced(async { 1 })).unwrap(), 1);
+    assert_eq!(runtime.block_on(runtime.spawn_balanced(async { 2 })).unwrap(), 2);
+    runtime.block_on(async {
+        let task = arachne::try_spawn(async { 3 }).map_err(drop).unwrap();
+        assert_eq!(task.await.unwrap(), 3);
+        let mut waiting = Vec::new();
+        while let Ok(task) = arachne::try_spawn(pending::<()>()) {
+            waiting.push(task);
+        }
+        assert_eq!(waiting.len(), 4096);
+        let (dropped, within) = counted();
+        let refused = handle.try_spawn(async move { drop(within) }).map(drop).unwrap_err();
+        assert_eq!(dropped.load(SeqCst), 0);
+        refused.0.await;
+        assert_eq!(dropped.load(SeqCst), 1);
+    });
+    drop(runtime);
+    assert!(handle.try_spawn(async {}).is_err());
+    assert!(is_cancelled(block_on(handle.spawn_balanced(async {}))));
+}
+
+#[test]
+fn a_host_is_looked_up_beside_the_workers() {
+    let runtime = Runtime::new(1);
+    let found = runtime.block_on(runtime.spawn(arachne::net::lookup_host(("127.0.0.1", 80)))).unwrap().unwrap();
+    assert_eq!(found, [([127, 0, 0, 1], 80).into()]);
+    assert!(runtime.block_on(arachne::net::lookup_host("no such host:80")).is_err());
 }

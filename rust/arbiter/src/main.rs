@@ -1,8 +1,11 @@
 //! Grants whole cores to processes:
-//! arachne-arbiter run SOCKET [--cpuset FOLDER [--sweep] | --rest GROUP..] [--cores LIST] [--keep N] [--open] [--log]
+//! arachne-arbiter run SOCKET [--cpuset FOLDER [--sweep] | --rest GROUP..] [--cores LIST] [--keep N] [--hyperthreads]
+//!     [--turn MILLISECONDS] [--open] [--log]
 //! arachne-arbiter status SOCKET
 //!
-//! Of the processors (LIST, as 0,2-5; else the folder's, or all that it may use) the first N (1) are never granted.
+//! Of the cores (whose processors are LIST, as 0,2-5; else the folder's, or all that it may use) the first N (1) are
+//! never granted. The hyperthreads of a core are granted together, of which the first is used; with --hyperthreads each
+//! is a core. A core that is left over within a priority goes round each MILLISECONDS (100; 0: it stays).
 //! With a FOLDER of cpusets of version 1, granted cores are kept from all processes below it; with --sweep those that
 //! stand in the folder itself are moved below it. With a GROUP of version 2, or several, granted cores are kept from
 //! the processes below these. Else only clients' threads are moved, by their affinity. --open lets every user connect.
@@ -12,6 +15,7 @@ mod host;
 mod means;
 mod status;
 mod sys;
+mod topology;
 
 use arbiter::library::{read, Message, Move, State};
 use arbiter::protocol::*;
@@ -65,7 +69,8 @@ struct Thread {
 }
 
 struct Core {
-    cpu: usize,
+    /// The processors that nobody else has meanwhile, of which its thread has the first.
+    cpus: Vec<usize>,
     /// The client that has it, and the place of its thread; and since when.
     owner: Option<(u32, u32)>,
     since: Instant,
@@ -88,8 +93,18 @@ struct Client {
     forced: u64,
     /// By when it has to have given back what it was asked for.
     until: Option<Instant>,
+    /// The last turn by which it got a core, gave one, or could get none.
+    turned: u64,
     /// By their place in its order.
     threads: BTreeMap<u32, Thread>,
+}
+
+/// A core goes from one client to another of its priority.
+struct Turn {
+    to: u32,
+    /// What clients of that priority are to have then; until then they ask for no more.
+    most: BTreeMap<u32, u32>,
+    until: Instant,
 }
 
 struct Arbiter {
@@ -109,6 +124,11 @@ struct Arbiter {
     clients: BTreeMap<u32, Client>,
     names: u64,
     forced: u64,
+    /// How often a core goes round, and when one was last looked for that is to.
+    every: Duration,
+    looked: Instant,
+    turns: u64,
+    turn: Option<Turn>,
 }
 
 impl Arbiter {
@@ -168,9 +188,10 @@ impl Arbiter {
                 self.join(name, client, thread, place, floats)
             }
             (Role::Control(client), Message::Ask { cores }) => {
-                let client = self.clients.get_mut(client).ok_or("no client")?;
-                client.asked = cores;
-                self.state.ask(client.number, cores).then_some(()).ok_or("no client")
+                let id = *client;
+                self.clients.get_mut(&id).ok_or("no client")?.asked = cores;
+                self.tell(id);
+                Ok(())
             }
             (&Role::Thread(client, place), Message::Wait) => self.take_back(client, place),
             _ => Err("a message that is out of place"),
@@ -207,6 +228,8 @@ impl Arbiter {
             given: 0,
             forced: 0,
             until: None,
+            // Behind those that wait already.
+            turned: self.turns,
             threads: BTreeMap::new(),
         };
         let all = self.clients.values().flat_map(|client| client.threads.values());
@@ -257,6 +280,88 @@ impl Arbiter {
         Ok(())
     }
 
+    // ------------------------------------------------------------------------------------------ turns
+
+    /// The library is told what a client asks for: while a core changes hands in turn, no more than that leaves it.
+    fn tell(&mut self, id: u32) {
+        if let Some(client) = self.clients.get(&id) {
+            let most = self.turn.as_ref().and_then(|turn| turn.most.get(&id));
+            self.state.ask(client.number, most.map_or(client.asked, |&most| most.min(client.asked)));
+        }
+    }
+
+    fn tell_all(&mut self, ids: impl Iterator<Item = u32>) {
+        ids.for_each(|id| self.tell(id));
+    }
+
+    /// When a core is looked for that is to go round, if any may.
+    fn next_turn(&self) -> Option<Instant> {
+        let may = self.clients.len() > 1 && self.turn.is_none() && !self.every.is_zero();
+        may.then_some(self.looked + self.every)
+    }
+
+    /// Among clients of one priority that ask for more than there is, the core that one has more than another goes from
+    /// who has had such a core for the longest to who has had none for the longest.
+    fn take_turns(&mut self) {
+        if !self.next_turn().map_or(false, |at| at <= Instant::now()) {
+            return;
+        }
+        self.looked = Instant::now();
+        for _ in 0..AT_ONCE {
+            let by_turn = |&(_, client): &(&u32, &Client)| client.turned;
+            let gives = |to: &Client| {
+                let of = self.clients.iter().filter(|(_, it)| it.priority == to.priority);
+                of.filter(|(_, it)| it.allowed > to.allowed.max(it.least.min(it.asked))).min_by_key(by_turn)
+            };
+            let waits = self.clients.iter().filter(|(_, to)| to.asked > to.allowed && gives(to).is_some());
+            let (&to, client) = match waits.min_by_key(by_turn) {
+                Some(it) => it,
+                None => return,
+            };
+            let from = gives(client).map_or(to, |(&from, _)| from);
+            if self.begin_turn(from, to) {
+                return;
+            }
+        }
+    }
+
+    /// Returns false, and changes nothing, if the client that waits has no thread for a core more.
+    fn begin_turn(&mut self, from: u32, to: u32) -> bool {
+        let (priority, has) = (self.clients[&to].priority, self.clients[&to].allowed);
+        let alike = self.clients.iter().filter(|(_, client)| client.priority == priority);
+        let mut most: BTreeMap<u32, u32> = alike.map(|(&id, client)| (id, client.allowed)).collect();
+        most.insert(to, has + 1);
+        most.entry(from).and_modify(|most| *most -= 1);
+        self.turns += 1;
+        let ids: Vec<u32> = most.keys().copied().collect();
+        self.turn = Some(Turn { to, most, until: Instant::now() + 2 * PATIENCE });
+        self.tell_all(ids.iter().copied());
+        self.state.decide();
+        let begins = self.state.share(self.clients[&to].number).allowed > has;
+        if !begins {
+            self.turn = None;
+            self.tell_all(ids.into_iter());
+        }
+        for id in [from, to].into_iter().filter(|&id| begins || id == to) {
+            self.clients.get_mut(&id).unwrap().turned = self.turns;
+        }
+        begins
+    }
+
+    /// Once the core has changed hands, or hasn't in time, all ask for what they did.
+    fn end_turn(&mut self) {
+        let turn = match self.turn.take() {
+            Some(turn) => turn,
+            None => return,
+        };
+        let held = self.clients.get(&turn.to).map(|client| self.state.share(client.number).held);
+        if held.map_or(false, |held| held < turn.most[&turn.to]) && Instant::now() < turn.until {
+            self.turn = Some(turn);
+            return;
+        }
+        self.tell_all(turn.most.into_keys());
+    }
+
     // ------------------------------------------------------------------------------------------ what goes
 
     fn send(&mut self, name: u64, words: [u32; 4]) {
@@ -278,7 +383,7 @@ impl Arbiter {
             if thread.is_of(process) {
                 let _ = self.means.unplace(thread.id, &self.rest);
             }
-            self.say(|| format!("core {} back from {client}.{place}", self.cores[core].cpu));
+            self.say(|| format!("core {} back from {client}.{place}", self.cores[core].cpus[0]));
         }
     }
 
@@ -292,7 +397,7 @@ impl Arbiter {
         let client = self.clients.get_mut(&id).unwrap();
         client.given += 1;
         let thread = client.threads.get_mut(&place).unwrap();
-        let (cpu, name) = (self.cores[core].cpu, thread.connection);
+        let (cpu, name) = (self.cores[core].cpus[0], thread.connection);
         thread.core = Some(core);
         (self.cores[core].owner, self.cores[core].since) = (Some((id, place)), Instant::now());
         self.update_rest();
@@ -321,7 +426,7 @@ impl Arbiter {
         };
         let moves = || match self.host.takes(core) {
             true => self.means.unplace(thread.id, &self.rest),
-            false => self.means.place(thread.id, self.cores[core].cpu),
+            false => self.means.place(thread.id, self.cores[core].cpus[0]),
         };
         thread.is_of(process) && moves().is_ok()
     }
@@ -329,7 +434,8 @@ impl Arbiter {
     fn update_rest(&mut self) {
         let (cores, host) = (&self.cores, &self.host);
         let free = (0..cores.len()).filter(|&core| cores[core].owner.is_none() || host.takes(core));
-        let rest: Vec<usize> = self.kept.iter().copied().chain(free.map(|core| cores[core].cpu)).collect();
+        let free = free.flat_map(|core| &cores[core].cpus);
+        let rest: Vec<usize> = self.kept.iter().chain(free).copied().collect();
         if rest != self.rest {
             let all = self.clients.values().flat_map(|it| it.threads.values().map(move |thread| (it.process, thread)));
             let others = all.filter(|(process, thread)| {
@@ -344,6 +450,7 @@ impl Arbiter {
     fn settle(&mut self) {
         loop {
             self.bury();
+            self.end_turn();
             self.state.decide();
             let ids: Vec<u32> = self.clients.keys().copied().collect();
             ids.into_iter().for_each(|id| self.take_from(id));
@@ -439,7 +546,7 @@ impl Arbiter {
         let threads = self.clients.values().flat_map(|client| client.threads.values());
         let known: Vec<u32> = threads.map(|thread| thread.id).collect();
         let processes: Vec<u32> = self.clients.values().map(|client| client.process).collect();
-        let cpus: Vec<usize> = self.cores.iter().map(|core| core.cpu).collect();
+        let cpus: Vec<usize> = self.cores.iter().map(|core| core.cpus[0]).collect();
         self.means.free_strangers(&cpus, &processes, &known, &self.all);
     }
 
@@ -451,7 +558,7 @@ impl Arbiter {
         }
         self.update_rest();
         for core in changed {
-            self.say(|| format!("core {} taken by the host: {}", self.cores[core].cpu, self.host.takes(core)));
+            self.say(|| format!("core {} taken by the host: {}", self.cores[core].cpus[0], self.host.takes(core)));
             let _ = self.set_on_core(core);
         }
     }
@@ -478,7 +585,8 @@ impl Arbiter {
             let owner = owner.map_or("nobody".into(), |(id, thread)| format!("client {id}, thread {thread}"));
             let host = if self.host.takes(nth) { "; the host takes it" } else { "" };
             let seconds = core.since.elapsed().as_secs_f64();
-            text += &format!("processor {}: {owner}, for {seconds:.3} s{host}\n", core.cpu);
+            let (several, cpus) = (if core.cpus.len() > 1 { "s" } else { "" }, means::list(&core.cpus));
+            text += &format!("processor{several} {cpus}: {owner}, for {seconds:.3} s{host}\n");
         }
         text
     }
@@ -494,7 +602,8 @@ impl Arbiter {
             let mut fds = vec![polled(listener.as_raw_fd()), polled(readers.as_raw_fd())];
             fds.extend(self.connections.values().map(|it| polled(it.stream.as_raw_fd())));
             fds.extend(self.clients.values().map(|it| polled(it.ended.as_raw_fd())));
-            let next = self.clients.values().filter_map(|client| client.until).min();
+            let ends = self.clients.values().filter_map(|client| client.until);
+            let next = ends.chain(self.turn.as_ref().map(|turn| turn.until)).chain(self.next_turn()).min();
             let next = next.map_or(1000, |at| at.saturating_duration_since(Instant::now()).as_millis() as i32 + 1);
             let most = if ids.is_empty() { 1000 } else { WINDOW.as_millis() as i32 };
             sys::wait(&mut fds, next.min(most));
@@ -523,6 +632,7 @@ impl Arbiter {
                 self.look_round();
             }
             self.look_at_host();
+            self.take_turns();
             self.settle();
         }
         let ids: Vec<u32> = self.clients.keys().copied().collect();
@@ -571,17 +681,6 @@ fn clock() -> f64 {
     std::time::SystemTime::now().duration_since(std::time::SystemTime::UNIX_EPOCH).unwrap().as_secs_f64()
 }
 
-/// The processors of a list as 0,2-5.
-fn read_list(text: &str) -> Option<Vec<usize>> {
-    let mut cpus = Vec::new();
-    for part in text.split(',') {
-        let mut ends = part.splitn(2, '-').map(|end| end.parse::<usize>().ok());
-        let first = ends.next()??;
-        cpus.extend(first..=ends.next().unwrap_or(Some(first))?);
-    }
-    Some(cpus)
-}
-
 struct Options {
     socket: PathBuf,
     cpuset: Option<PathBuf>,
@@ -589,8 +688,20 @@ struct Options {
     sweep: bool,
     cpus: Vec<usize>,
     keep: usize,
+    hyperthreads: bool,
+    turn: u64,
     open: bool,
     log: bool,
+}
+
+impl Options {
+    /// The processors of each core.
+    fn cores(&self) -> Vec<Vec<usize>> {
+        match self.hyperthreads {
+            true => self.cpus.iter().map(|&cpu| vec![cpu]).collect(),
+            false => topology::by_core(&self.cpus),
+        }
+    }
 }
 
 fn options() -> Option<Options> {
@@ -603,6 +714,8 @@ fn options() -> Option<Options> {
         sweep: false,
         cpus: sys::affinity(),
         keep: 1,
+        hyperthreads: false,
+        turn: 100,
         open: false,
         log: false,
     };
@@ -611,8 +724,10 @@ fn options() -> Option<Options> {
             "--cpuset" => options.cpuset = Some(words.next()?.into()),
             "--rest" => options.groups.push(words.next()?.into()),
             "--sweep" => options.sweep = true,
-            "--cores" => (options.cpus, listed) = (read_list(&words.next()?)?, true),
+            "--cores" => (options.cpus, listed) = (topology::read_list(&words.next()?)?, true),
             "--keep" => options.keep = words.next()?.parse().ok()?,
+            "--hyperthreads" => options.hyperthreads = true,
+            "--turn" => options.turn = words.next()?.parse().ok()?,
             "--open" => options.open = true,
             "--log" => options.log = true,
             _ => return None,
@@ -620,10 +735,10 @@ fn options() -> Option<Options> {
     }
     // Whoever begins it may stand in the rest of the one before.
     if let (Some(folder), false) = (&options.cpuset, listed) {
-        options.cpus = read_list(fs::read_to_string(folder.join("cpuset.cpus")).ok()?.trim())?;
+        options.cpus = topology::read_list(fs::read_to_string(folder.join("cpuset.cpus")).ok()?.trim())?;
     }
     let one = options.cpuset.is_none() || options.groups.is_empty();
-    (one && options.keep >= 1 && options.keep < options.cpus.len()).then_some(options)
+    (one && options.keep >= 1 && options.keep < options.cores().len()).then_some(options)
 }
 
 fn serve(options: &Options) -> io::Result<()> {
@@ -639,7 +754,8 @@ fn serve(options: &Options) -> io::Result<()> {
         println!("swept {}", means.sweep());
     }
     sys::go_first();
-    let (kept, cores) = options.cpus.split_at(options.keep);
+    let mut kept = options.cores();
+    let cores = kept.split_off(options.keep);
     let state =
         State::new(cores.len()).ok_or_else(|| io::Error::new(ErrorKind::Other, "no memory, or too many cores"))?;
     let mut arbiter = Arbiter {
@@ -647,15 +763,19 @@ fn serve(options: &Options) -> io::Result<()> {
         state,
         start: Instant::now(),
         log: options.log,
-        kept: kept.to_vec(),
-        cores: cores.iter().map(|&cpu| Core { cpu, owner: None, since: Instant::now() }).collect(),
-        host: Host::new(cores.to_vec()),
+        kept: kept.concat(),
+        host: Host::new(cores.iter().map(|cpus| cpus[0]).collect()),
+        cores: cores.into_iter().map(|cpus| Core { cpus, owner: None, since: Instant::now() }).collect(),
         rest: options.cpus.clone(),
         all: options.cpus.clone(),
         connections: BTreeMap::new(),
         clients: BTreeMap::new(),
         names: 0,
         forced: 0,
+        every: Duration::from_millis(options.turn),
+        looked: Instant::now(),
+        turns: 0,
+        turn: None,
     };
     println!("ready");
     let ended = arbiter.run(listener, readers);
@@ -682,7 +802,7 @@ fn main() {
     guard(&options.unwrap_or_else(|| {
         eprintln!(
             "arachne-arbiter run SOCKET [--cpuset FOLDER [--sweep] | --rest GROUP..] [--cores LIST] [--keep N] \
-             [--open] [--log]\narachne-arbiter status SOCKET"
+             [--hyperthreads] [--turn MILLISECONDS] [--open] [--log]\narachne-arbiter status SOCKET"
         );
         std::process::exit(2)
     }))

@@ -21,7 +21,7 @@ fn write(file: PathBuf, text: impl ToString) -> io::Result<()> {
         .and_then(|mut f| io::Write::write_all(&mut f, text.to_string().as_bytes()))
 }
 
-fn list(cpus: &[usize]) -> String {
+pub fn list(cpus: &[usize]) -> String {
     cpus.iter().map(|cpu| cpu.to_string()).collect::<Vec<_>>().join(",")
 }
 
@@ -32,6 +32,22 @@ fn numbers(file: PathBuf) -> Vec<u32> {
 pub fn threads_of(process: u32) -> Vec<u32> {
     let entries = fs::read_dir(format!("/proc/{process}/task")).into_iter().flatten().flatten();
     entries.filter_map(|entry| entry.file_name().to_str()?.parse().ok()).collect()
+}
+
+/// Processes of a family at most that are looked at.
+const FAMILY: usize = 256;
+
+/// A process, and those that it has begun, and they.
+fn family(process: u32) -> Vec<u32> {
+    let (mut all, mut nth) = (vec![process], 0);
+    while let Some(&parent) = all.get(nth).filter(|_| all.len() < FAMILY) {
+        for thread in threads_of(parent) {
+            let begun = fs::read_to_string(format!("/proc/{parent}/task/{thread}/children")).unwrap_or_default();
+            all.extend(begun.split_whitespace().filter_map(|word| word.parse::<u32>().ok()));
+        }
+        nth += 1;
+    }
+    all
 }
 
 impl Means {
@@ -120,8 +136,8 @@ impl Means {
         }
     }
 
-    /// Takes those threads off the cores that a client's thread has begun there: each begins in its parent's set, or
-    /// with its affinity. `known` are the clients' own, which are where they should be.
+    /// Takes those threads and processes off the cores that a client's thread has begun there: each begins in its
+    /// parent's set, or with its affinity. `known` are the clients' own, which are where they should be.
     pub fn free_strangers(&self, cpus: &[usize], processes: &[u32], known: &[u32], all: &[usize]) {
         match self {
             Means::Cpusets(top) => {
@@ -131,7 +147,7 @@ impl Means {
                 }
             }
             Means::Affinity(_) => {
-                let others = processes.iter().flat_map(|&process| threads_of(process));
+                let others = processes.iter().flat_map(|&process| family(process)).flat_map(threads_of);
                 for thread in others.filter(|thread| !known.contains(thread)) {
                     if matches!(sys::affinity_of(thread)[..], [cpu] if cpus.contains(&cpu)) {
                         let _ = sys::set_affinity(thread, all);

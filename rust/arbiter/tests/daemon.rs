@@ -68,6 +68,80 @@ fn who_obeys_is_not_waited_for_and_who_floats_never_waits() {
     others.iter_mut().for_each(|thread| assert_eq!(receive(thread).unwrap()[0], GRANT));
 }
 
+/// The processors that this process's first thread may run on.
+fn processors() -> Vec<u32> {
+    let ends = |part: &str| part.split('-').map(|end| end.parse().unwrap()).collect::<Vec<u32>>();
+    let all = processors_of(&std::process::id().to_string());
+    all.split(',').flat_map(|part| ends(part)[0]..=*ends(part).last().unwrap()).collect()
+}
+
+#[test]
+fn a_core_goes_round_among_those_that_want_it_and_can_take_it() {
+    let two = format!("{},{}", processors()[0], processors()[1]);
+    let daemon = Daemon::at(path_of("turns"), &["--cores", &two, "--turn", "40"]);
+    // Neither has this one a thread, nor is it of that one's priority.
+    let ((mut idle, _), (mut low, welcome)) = (daemon.hello(5, 0), daemon.hello(6, 0));
+    let mut never = daemon.thread(welcome[1], 0, false);
+    send(&mut never, [WAIT, 0, 0, 0]);
+    let mut clients: Vec<_> = (0..3).map(|_| daemon.hello(5, 0)).collect();
+    let mut threads: Vec<_> = clients.iter().map(|(_, welcome)| daemon.thread(welcome[1], 0, false)).collect();
+    threads.iter_mut().for_each(|thread| send(thread, [WAIT, 0, 0, 0]));
+    clients.iter_mut().map(|(control, _)| control).for_each(|control| send(control, [ASK, 1, 0, 0]));
+    [&mut idle, &mut low].into_iter().for_each(|control| send(control, [ASK, 1, 0, 0]));
+    let begin = Instant::now();
+    for _ in 0..3 {
+        for (thread, (control, _)) in threads.iter_mut().zip(&mut clients) {
+            assert_eq!(receive(thread).unwrap()[0], GRANT);
+            assert_eq!(receive(control).unwrap()[..2], [ALLOWED, 0]);
+            send(thread, [WAIT, 0, 0, 0]);
+        }
+    }
+    assert!(begin.elapsed() >= Duration::from_millis(8 * 40), "{:?}", begin.elapsed());
+}
+
+/// By a folder in the place of the kernel's, in which each two processors are one core.
+#[test]
+fn hyperthreads_of_one_core_are_granted_together() {
+    let (cpus, folder) = (processors(), path_of("topology"));
+    if cpus.len() < 4 {
+        return println!("skipped: it needs four processors");
+    }
+    let siblings = |nth: usize| format!("{},{}", cpus[nth & 2], cpus[nth & 2 | 1]);
+    for nth in 0..4 {
+        let of = folder.join(format!("cpu{}/topology", cpus[nth]));
+        fs::create_dir_all(&of).unwrap();
+        fs::write(of.join("thread_siblings_list"), siblings(nth) + "\n").unwrap();
+    }
+    for words in [&["--hyperthreads"][..], &[]] {
+        let path = path_of("pairs");
+        let mut command = Command::new(program());
+        command.arg("run").arg(&path).args(["--cores", &format!("{},{}", siblings(0), siblings(2))]).args(words);
+        command.env("ARBITER_TOPOLOGY", &folder);
+        if let Some(folder) = env::var_os("ARBITER_CPUSET") {
+            command.arg("--cpuset").arg(folder);
+        }
+        let daemon = Daemon::begun(command, path);
+        let (mut control, welcome) = daemon.hello(5, 0);
+        assert_eq!(welcome[2], if words.is_empty() { 1 } else { 3 });
+        let mut threads: Vec<_> = (0..2).map(|place| daemon.thread(welcome[1], place, false)).collect();
+        threads.iter_mut().for_each(|thread| send(thread, [WAIT, 0, 0, 0]));
+        send(&mut control, [ASK, 1, 0, 0]);
+        let cpu = receive(&mut threads[0]).unwrap()[1];
+        if words.is_empty() {
+            assert_eq!(cpu, cpus[2]);
+            let text = status(&daemon);
+            assert!(text.contains(&format!("processors {}: client {}", siblings(2), welcome[1])), "{text}");
+            // A client's thread without a core runs on none of its hyperthreads.
+            let (number, _end) = begin();
+            let mut other = daemon.connect();
+            send(&mut other, [JOIN, welcome[1], number, 3 << 1]);
+            let rest = || processors_of(&number.to_string());
+            becomes("it runs on the other core", || rest().split(['-', ',']).all(|it| siblings(0).contains(it)));
+        }
+    }
+    fs::remove_dir_all(&folder).unwrap();
+}
+
 #[test]
 fn what_is_out_of_place_is_refused() {
     let daemon = Daemon::new("refused");

@@ -8,6 +8,7 @@ use std::fs;
 use std::io::{BufRead, BufReader};
 use std::os::unix::fs::MetadataExt;
 use std::os::unix::process::CommandExt;
+use std::process::Command;
 use std::sync::atomic::{AtomicBool, AtomicU64, Ordering::*};
 use std::sync::Arc;
 use std::thread;
@@ -126,25 +127,56 @@ fn a_runtime_that_is_killed_has_no_core() {
     let (daemon, cores) = (Daemon::new("killed"), cores());
     let mut client = other("a_runtime_to_kill", &daemon).spawn().unwrap();
     let mut lines = BufReader::new(client.stdout.take().unwrap()).lines();
-    assert!(lines.any(|line| line.unwrap().ends_with("has all")));
+    let line = lines.find_map(|line| Some(line.unwrap().strip_suffix(" has all")?.to_string())).unwrap();
+    let child: u32 = line.rsplit(' ').next().unwrap().parse().unwrap();
     let (low, load) = busy(&daemon, cores, 7);
     becomes("it has joined", || low.stats().arbiter);
     load.gets_on("it gets on in the rest");
     assert_eq!(active(&low), 1);
     client.kill().unwrap();
     client.wait().unwrap();
-    becomes("it has all", || active(&low) == cores);
+    becomes("it has all, though a child has the connections", || active(&low) == cores);
+    assert!(!processors_of_process(&child.to_string()).is_empty(), "the child lives");
+    kill(child);
 }
 
+extern "C" {
+    fn fork() -> i32;
+    fn pause() -> i32;
+}
+
+/// It forks: the child has its connections and its page, and none of its kernel threads.
 #[test]
 #[ignore = "the test before runs it, and kills it once it has all cores"]
 fn a_runtime_to_kill() {
     let cores = cores();
     let (runtime, load) = busy(&given(), cores, 0);
     becomes("it has all", || runtime.stats().arbiter && active(&runtime) == cores);
+    // SAFETY: the child makes no call but this one.
+    let child = unsafe { fork() };
+    while child == 0 {
+        unsafe { pause() };
+    }
     load.gets_on("it gets on");
-    println!("has all");
+    println!("{child} has all");
     thread::sleep(Duration::from_secs(60));
+}
+
+#[test]
+fn the_core_that_is_left_over_goes_round_within_a_priority() {
+    let (daemon, cores) = (Daemon::new("round"), cores());
+    if cores % 2 == 0 {
+        return println!("skipped: it needs an even number of processors");
+    }
+    let (one, of_one) = busy(&daemon, cores, 7);
+    let (other, of_other) = busy(&daemon, cores, 7);
+    for _ in 0..3 {
+        for (more, less) in [(&one, &other), (&other, &one)] {
+            becomes("each has it in turn", || active(more) == cores / 2 + 1 && active(less) == (cores / 2).max(1));
+        }
+        of_one.gets_on("the one gets on");
+        of_other.gets_on("the other gets on");
+    }
 }
 
 /// The batch has what the one that asks by its load leaves.
@@ -200,9 +232,18 @@ fn what_a_worker_begins_does_not_stay_on_its_core() {
     let (runtime, _load) = busy(&daemon, 2, 0);
     becomes("it has joined", || runtime.stats().arbiter);
     let task = runtime.spawn(async {
+        while processors_of_process("thread-self").contains([',', '-']) {
+            arachne::yield_now().await;
+        }
         let blocking = arachne::spawn_blocking(|| becomes("work that blocks runs in the rest", is_free)).await;
         let begun = thread::spawn(|| becomes("what a task has begun runs in the rest", is_free));
         arachne::spawn_blocking(|| begun.join().unwrap()).await.unwrap();
+        let mut process = Command::new("sleep").arg("100").spawn().unwrap();
+        let id = process.id().to_string();
+        let is_free = move || processors_of_process(&id) == processors_of_process("self");
+        arachne::spawn_blocking(|| becomes("so does a process", is_free)).await.unwrap();
+        process.kill().unwrap();
+        process.wait().unwrap();
         blocking.unwrap();
     });
     arachne::block_on(task).unwrap();

@@ -15,14 +15,14 @@ impl Default for Store {
     }
 }
 
-/// The number before a line's end at `at`, and what comes behind.
+/// Parses the number of the line at `at`. Returns it with the index of the next line; None if the line is incomplete.
 fn number(bytes: &[u8], at: usize) -> Option<Result<(i64, usize), ()>> {
     let end = at + bytes.get(at..)?.windows(2).position(|w| w == b"\r\n")?;
     let parsed = std::str::from_utf8(&bytes[at..end]).ok().and_then(|t| t.parse().ok());
     Some(parsed.map(|n| (n, end + 2)).ok_or(()))
 }
 
-/// The first command's words, and how long it is. None where more has to come.
+/// Returns the first command's words, and its length; None if it is incomplete.
 fn command(bytes: &[u8]) -> Option<Result<(Vec<&[u8]>, usize), ()>> {
     if bytes.is_empty() {
         return None;
@@ -102,7 +102,7 @@ impl Store {
         }
     }
 
-    /// Answers each whole command of `bytes`: how many bytes and commands those are. Err where they are no commands.
+    /// Answers each complete command of `bytes`. Returns the number of bytes and of commands; fails if they are none.
     pub fn serve(&self, bytes: &[u8], out: &mut Vec<u8>) -> Result<(usize, u64), ()> {
         let (mut at, mut count) = (0, 0);
         while let Some(command) = command(&bytes[at..]) {
@@ -123,7 +123,7 @@ fn bulk(text: &[u8], out: &mut Vec<u8>) {
     out.extend(b"\r\n");
 }
 
-/// What a connection has read and not answered.
+/// The bytes that a connection has read and not answered.
 pub struct Buffer {
     pub bytes: Vec<u8>,
     pub len: usize,
@@ -149,12 +149,12 @@ impl Default for Buffer {
     }
 }
 
-/// Waits until the standard input ends, which ends a server.
+/// Waits until the standard input ends, at which a server ends.
 pub fn wait_for_end() {
     let _ = std::io::Read::read_to_end(&mut std::io::stdin(), &mut Vec::new());
 }
 
-/// Arguments of a server: CORES PORT [policy [SOCKET PRIORITY]], the latter of an arbiter.
+/// Parses a server's arguments: `CORES PORT [policy [SOCKET PRIORITY]]`, the last two for an arbiter.
 pub struct Arguments {
     pub cores: usize,
     pub port: u16,

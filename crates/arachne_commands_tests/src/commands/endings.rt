@@ -1,4 +1,4 @@
-//! How a run of the program ends. Every run comes here whose output and faults are compared.
+//! The ends of runs of the program. Every run whose output and faults are compared is made here.
 use super::fakes::{Script, Tray};
 use arachne_commands::drive;
 use std::alloc::{AllocError, Global};
@@ -7,7 +7,7 @@ use std::sync::Wait;
 use std::thread::Threads;
 use std::time::Clock;
 
-/// How a run is to end: its status, its output and its faults, where `usage` stands for a text of `clap`'s.
+/// The expected end of a run: its status, output and faults. `usage` stands for any text of `clap`.
 #[derive(Clone, Copy)]
 pub(super) struct Told<'a> {
     pub(super) status: u8,
@@ -15,7 +15,7 @@ pub(super) struct Told<'a> {
     pub(super) faults: &'a [u8],
 }
 
-/// The end of a run that tells this fault.
+/// Returns the end of a run with this fault.
 pub(super) fn fault(line: &[u8]) -> Told<'_> {
     Told {
         status: 1,
@@ -24,7 +24,7 @@ pub(super) fn fault(line: &[u8]) -> Told<'_> {
     }
 }
 
-/// What a row says of an end: the status, the output, and the faults behind a `!`.
+/// Returns the end that a row spells: the status, the output and, after a `!`, the faults.
 pub(super) fn told_by(row: &str) -> Told<'_> {
     let (status, streams) = row.split_once(' ').unwrap_or((row, ""));
     let (output, faults) = streams.split_once('!').unwrap_or((streams, ""));
@@ -39,7 +39,7 @@ pub(super) fn told_by(row: &str) -> Told<'_> {
     }
 }
 
-/// The faults as a row tells them.
+/// Returns the faults as a row spells them.
 pub(super) fn shown(status: u8, faults: &[u8]) -> &[u8] {
     if status == 2 && !faults.starts_with(b"fault") && !b"fault".starts_with(faults) {
         return b"usage";
@@ -47,8 +47,8 @@ pub(super) fn shown(status: u8, faults: &[u8]) -> &[u8] {
     faults
 }
 
-/// The status with which the program ends. It says nothing of what is read and written, which makes the proofs of the
-/// tests short.
+/// Returns the status with which the program ends. It has no contract on the streams, so that the proofs of the tests
+/// are short.
 pub(super) fn status_of<R: Threads + Wait + Clock + Sync>(
     rt: &R,
     alloc: Global,
@@ -60,8 +60,9 @@ pub(super) fn status_of<R: Threads + Wait + Clock + Sync>(
     drive(rt, alloc, words, input, output, faults)
 }
 
-/// Runs the program on these words and streams, and answers whether it ends as is told. Where all went well the output
-/// is flushed once, at its end, and where the words are refused nothing is read.
+/// Runs the program on these words and streams. Returns whether it ends as expected.
+///
+/// If all went well the output must be flushed once, at its end. If the words are refused nothing must be read.
 pub(super) fn ends<R: Threads + Wait + Clock + Sync>(
     rt: &R,
     alloc: Global,
@@ -82,7 +83,7 @@ pub(super) fn ends<R: Threads + Wait + Clock + Sync>(
     )
 }
 
-/// The program ends so on these words and bytes.
+/// Checks that the program ends as expected on these words and bytes.
 pub(super) fn assert_ends<R: Abort + Threads + Wait + Clock + Sync>(
     rt: &R,
     alloc: Global,

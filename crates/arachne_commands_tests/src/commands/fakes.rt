@@ -1,18 +1,18 @@
-//! A reader and a writer that do as a test says.
+//! A reader and a writer that behave as a test says.
 use std::alloc::{AllocError, Global};
 use std::io::{self, ErrorKind, Read, Write};
 
-/// How a stream fails, and at which of its calls, from 1.
+/// The failure of a stream, and the call, from 1, at which it begins.
 #[derive(Clone, Copy, Debug)]
 pub(super) struct Failure {
     pub(super) at: u64,
-    /// The error. Without one the call moves no byte.
+    /// The error. If there is none, the call moves no byte.
     pub(super) error: Option<ErrorKind>,
-    /// Whether only that call fails, and not those behind it.
+    /// Only that call fails, and no later one.
     pub(super) once: bool,
 }
 
-/// What comes of the call of this number: an error, no byte, or nothing out of the ordinary.
+/// Returns the result of the call of this number if it fails: an error, or no byte.
 fn failed(failure: Option<Failure>, call: u64) -> Option<io::Result<usize>> {
     let failure = failure?;
     if call < failure.at || failure.once && call != failure.at {
@@ -24,24 +24,24 @@ fn failed(failure: Option<Failure>, call: u64) -> Option<io::Result<usize>> {
     }
 }
 
-/// A reader that gives its bytes, so many at a time, and fails where it is told to.
+/// A reader that gives at most `step` bytes at a time, and fails as `failure` says.
 #[derive(Drop)]
 pub(super) struct Script<'a> {
-    /// What it gives.
+    /// The bytes that the reader gives.
     pub(super) bytes: &'a [u8],
-    /// What it gives behind that, again and again.
+    /// The bytes that the reader gives after those, again and again.
     pub(super) again: &'a [u8],
-    /// How many bytes a read gives at most.
+    /// The maximum number of bytes of a read.
     pub(super) step: usize,
     pub(super) failure: Option<Failure>,
-    /// How many bytes it has given.
+    /// The number of bytes given so far.
     pub(super) given: u64,
-    /// How often it was read.
+    /// The number of reads so far.
     pub(super) reads: u64,
 }
 
 impl<'a> Script<'a> {
-    /// A reader that gives these bytes.
+    /// Returns a reader that gives these bytes.
     pub(super) fn of(bytes: &'a [u8]) -> Script<'a> {
         Script {
             bytes,
@@ -72,24 +72,24 @@ impl Read for Script<'_> {
     }
 }
 
-/// A writer that takes so many bytes at a time, and fails where it is told to. It keeps what it takes.
+/// A writer that takes at most `step` bytes at a time, and fails as its failures say. It keeps what it takes.
 #[derive(Drop)]
 pub(super) struct Tray {
     pub(super) kept: Vec<u8>,
-    /// How many bytes a write takes at most.
+    /// The maximum number of bytes of a write.
     pub(super) step: usize,
     pub(super) failure: Option<Failure>,
     pub(super) flush_failure: Option<Failure>,
-    /// How often it was written to.
+    /// The number of writes so far.
     pub(super) writes: u64,
-    /// How often it was flushed.
+    /// The number of flushes so far.
     pub(super) flushes: u64,
-    /// How many bytes were kept at the last flush that did not fail.
+    /// The number of bytes kept at the last flush that did not fail.
     pub(super) flushed: usize,
 }
 
 impl Tray {
-    /// A writer that takes all.
+    /// Returns a writer that takes all bytes.
     pub(super) fn new(alloc: Global) -> Tray {
         Tray {
             kept: Vec::new(alloc),
@@ -102,14 +102,14 @@ impl Tray {
         }
     }
 
-    /// A writer that takes all, and has room for so many bytes.
+    /// Returns a writer that takes all bytes, and has room for `room` of them.
     pub(super) fn with_room(alloc: Global, room: usize) -> Result<Tray, AllocError> {
         let mut tray = Tray::new(alloc);
         tray.kept.try_reserve(room)?;
         Ok(tray)
     }
 
-    /// Whether it was flushed once, behind all that it keeps.
+    /// Returns whether it was flushed exactly once, after all the bytes that it keeps.
     pub(super) fn is_flushed_once(&self) -> bool {
         self.flushes == 1 && self.flushed == self.kept.len()
     }

@@ -1,4 +1,4 @@
-//! Words that spell an order.
+//! Tests of words that spell an order.
 use arachne_commands::read_order;
 use arachne_policy::{CoreOrder, OrderKind};
 

@@ -1,4 +1,4 @@
-//! Texts of samples, and what is read of them.
+//! Tests of texts of samples, and of the samples that are read from them.
 use arachne_commands::read_samples;
 use arachne_policy::Sample;
 use std::test::Fail;

@@ -1,4 +1,4 @@
-//! A process whose memory is used up, and what the program does with the little that is given back.
+//! Tests of the program in a process whose memory is used up, with a little more of it for each run.
 use super::endings::{Told, shown, status_of, told_by};
 use super::fakes::{Script, Tray};
 use super::spelling::spelled;
@@ -9,15 +9,17 @@ use std::sync::Wait;
 use std::thread::Threads;
 use std::time::Clock;
 
-/// The most runs of a row, and how many bytes more there are for each.
+/// The maximum number of runs of a row, and the number of bytes that each has more than the previous one.
 const RUNS: u64 = 5_000;
 
 const BYTES: usize = 100;
 
-/// What is told where memory or a kernel thread is refused.
+/// The lines of faults for refused memory and for a refused kernel thread.
 const WANTS: &[&[u8]] = &[b"fault 30\n", b"fault 35\n"];
 
-/// How the words end on an input: as is told, or by a fault of want of memory or of a kernel thread.
+/// Runs the words on an input. Returns true if they end as expected.
+///
+/// Returns false if memory or a kernel thread was refused, and `None` if they end in any other way.
 fn is_told<R: Threads + Wait + Clock + Sync>(
     rt: &R,
     alloc: Global,
@@ -41,7 +43,7 @@ fn is_told<R: Threads + Wait + Clock + Sync>(
     None
 }
 
-/// Words, an input, and how they end on it.
+/// Words, an input, and their end on it, as rows spell them.
 type Row = (&'static str, &'static str, &'static str);
 
 const ROWS: &[Row] = &[
@@ -70,16 +72,17 @@ const ROWS: &[Row] = &[
     ("arachne help policy", "", "2 !usage"),
 ];
 
-/// The same on several cores. Once all memory was used up the C library gives none to a kernel thread that has just
-/// begun, whatever was given back, so that these need not end as with memory.
+/// Runs on several cores. Once all memory was used up, the C library gives none to a kernel thread that has just begun,
+/// whatever was given back, so that these runs need not end as with memory.
 const ON_CORES: &[Row] = &[(
     "arachne run --cores 4 --quantum 1 --names 0:release:1 1:release:2 2:grant:1",
     "arachne 1|ledgers 0|locks 0|(sweep add 2 (num 0) (num 8) (var 0))|",
     "0 value 28|threads 4|thread /|thread /1|thread /0|thread /0/0|!",
 )];
 
-/// Runs a row's words with memory, with none, and then with a little more each time, until they end as is told, or
-/// that often. It counts the runs.
+/// Runs a row's words with memory, with none, and then with a little more each time.
+///
+/// Stops when they end as expected, or after `most` runs. Returns the number of runs after the first.
 fn ends_at_last<R: Abort + Threads + Wait + Clock + Sync>(
     rt: &R,
     alloc: Global,
@@ -108,7 +111,7 @@ fn ends_at_last<R: Abort + Threads + Wait + Clock + Sync>(
     Ok(runs)
 }
 
-/// At first each has no memory at all, and in the end enough.
+/// The first run of each row has no memory at all, and the last one has enough.
 #[test]
 fn each_growth_is_refused(rt: HostRuntime) -> Result<(), AllocError> {
     for &row in ROWS {

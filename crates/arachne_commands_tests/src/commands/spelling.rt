@@ -1,7 +1,7 @@
-//! How the tables of the tests spell texts.
+//! The texts that the tables of the tests spell.
 use std::alloc::{AllocError, Global};
 
-/// Appends a piece `PART*N]REST`, which is PART so many times and REST, or one with no bracket as it stands.
+/// Appends a piece. `PART*N]REST` is PART, N times, and then REST. A piece without a bracket stands for itself.
 fn append(text: &mut String, piece: &str) -> Result<(), AllocError> {
     let Some((repeated, rest)) = piece.split_once(']') else {
         return text.push_str(piece);
@@ -13,7 +13,7 @@ fn append(text: &mut String, piece: &str) -> Result<(), AllocError> {
     text.push_str(rest)
 }
 
-/// The text that a row spells: a `|` is the end of a line, and `[PART*N]` is PART so many times.
+/// Returns the text that a row spells: a `|` is the end of a line, and `[PART*N]` is PART, N times.
 pub(super) fn spelled(alloc: Global, row: &str) -> Result<String, AllocError> {
     let lines = row.replace(alloc, '|', "\n")?;
     let mut text = String::new(alloc);

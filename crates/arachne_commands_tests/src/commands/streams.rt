@@ -11,10 +11,10 @@ use std::sync::Wait;
 use std::thread::Threads;
 use std::time::Clock;
 
-/// Words, an input, and how they end on it, as rows spell them.
+/// Words, an input, and their end on it, as rows spell them.
 type Row = (&'static str, &'static str, &'static str);
 
-/// Each of the commands, where all goes well.
+/// Each of the commands in a run in which all goes well.
 const COMMANDS: &[Row] = &[
     (
         "arachne run --cores 2 --quantum 1 --names 0:release:1 3:grant:1",
@@ -38,7 +38,7 @@ const COMMANDS: &[Row] = &[
     ),
 ];
 
-/// Each of them on an input that is read by four reads, and the end of it by a fifth.
+/// Each of the commands on an input that takes four reads, with a fifth for its end.
 const LONG: &[Row] = &[
     (
         "arachne run --cores 2",
@@ -62,7 +62,7 @@ const LONG: &[Row] = &[
     ),
 ];
 
-/// Each of them on an input at fault, and words that are refused.
+/// Each of the commands on an input with a fault, and words that are refused.
 const REFUSED: &[Row] = &[
     (
         "arachne run --cores 2",
@@ -79,10 +79,10 @@ const REFUSED: &[Row] = &[
     ("arachne run 0:take:1", "", "2 !fault 26 order 0|"),
 ];
 
-/// How many bytes a stream gives or takes at a time.
+/// The maximum numbers of bytes that a stream gives or takes at a time.
 const STEPS: &[usize] = &[1, 7, usize::MAX];
 
-/// Errors of streams, those after which a program often tries again among them, and whether they come once.
+/// Errors of streams, with those after which programs often try again, and whether each occurs only once.
 const ERRORS: &[(ErrorKind, bool)] = &[
     (ErrorKind::Interrupted, true),
     (ErrorKind::Interrupted, false),
@@ -92,8 +92,10 @@ const ERRORS: &[(ErrorKind, bool)] = &[
     (ErrorKind::Other, false),
 ];
 
-/// Runs a row's words on its input, which is given so many bytes at a time, with each of its reads failing in turn, in
-/// each way. It counts the reads.
+/// Runs a row's words on its input, and lets each of its reads fail in turn, in each way.
+///
+/// The input gives at most `step` bytes at a time. Checks that no read follows a failed one. Returns the number of
+/// reads.
 fn each_read_fails<R: Abort + Threads + Wait + Clock + Sync>(
     rt: &R,
     alloc: Global,
@@ -122,7 +124,7 @@ fn each_read_fails<R: Abort + Threads + Wait + Clock + Sync>(
     Ok(whole.reads)
 }
 
-/// At the start, in mid-stream and at the end.
+/// Reads fail at the start, in mid-stream and at the end.
 #[test]
 fn a_failed_read_is_not_tried_again(rt: HostRuntime) -> Result<(), AllocError> {
     for &row in COMMANDS {
@@ -136,7 +138,7 @@ fn a_failed_read_is_not_tried_again(rt: HostRuntime) -> Result<(), AllocError> {
     Ok(())
 }
 
-/// Text that comes again and again, and the words that read it.
+/// Words, and the text that they read again and again.
 const ENDLESS: &[(&str, &str)] = &[
     ("arachne run", "a"),
     ("arachne eval", "arachne 1\nledgers 0\nlocks 0\n(num 7)\n"),
@@ -144,7 +146,7 @@ const ENDLESS: &[(&str, &str)] = &[
     ("arachne policy", "0 1 1 1 1 7\n"),
 ];
 
-/// The limit of the input comes before any fault of the text.
+/// An input above the limit is reported before any fault of its text.
 #[test]
 fn readers_that_never_end(rt: HostRuntime) -> Result<(), AllocError> {
     for &(words, text) in ENDLESS {
@@ -157,7 +159,7 @@ fn readers_that_never_end(rt: HostRuntime) -> Result<(), AllocError> {
     Ok(())
 }
 
-/// How a write fails: by an error or by taking no byte, once or ever again.
+/// The ways in which a write fails: with an error or by taking no byte, once or at every later call too.
 const FAILS: &[(Option<ErrorKind>, bool)] = &[
     (None, true),
     (None, false),
@@ -169,7 +171,7 @@ const FAILS: &[(Option<ErrorKind>, bool)] = &[
     (Some(ErrorKind::Other), false),
 ];
 
-/// What of a run fails.
+/// The kind of call that fails in a run.
 #[derive(Clone, Copy, Debug)]
 enum Stream {
     Output,
@@ -177,17 +179,17 @@ enum Stream {
     Faults,
 }
 
-/// Words on an input, how they end, and how many bytes each writer takes at a time.
+/// Words on an input, their end, and the number of bytes that each writer takes at a time.
 #[derive(Clone, Copy)]
 struct Case<'a> {
     words: &'a str,
     input: &'a [u8],
-    /// What a row says of its end.
+    /// The end, as a row spells it.
     row: &'a str,
     step: usize,
 }
 
-/// The streams for the output and for the faults, of which one fails so.
+/// Returns the streams for the output and for the faults. Calls of the given kind fail in the given way.
 fn trays(alloc: Global, step: usize, stream: Stream, failure: Option<Failure>) -> (Tray, Tray) {
     let (mut output, mut faults) = (Tray::new(alloc), Tray::new(alloc));
     output.step = step;
@@ -200,13 +202,13 @@ fn trays(alloc: Global, step: usize, stream: Stream, failure: Option<Failure>) -
     (output, faults)
 }
 
-/// What all writes before this one take of this, so many bytes each.
+/// Returns the bytes that all writes before this one take, `step` bytes each.
 fn taken(bytes: &[u8], at: u64, step: usize) -> &[u8] {
     let count = (at as usize).saturating_sub(1).saturating_mul(step);
     &bytes[..count.min(bytes.len())]
 }
 
-/// How a case ends of which this call fails.
+/// Returns the end of a case if this call fails.
 fn told_of<'a>(case: &Case<'a>, stream: Stream, at: u64) -> Told<'a> {
     let told = told_by(case.row);
     match stream {
@@ -227,8 +229,7 @@ fn told_of<'a>(case: &Case<'a>, stream: Stream, at: u64) -> Told<'a> {
     }
 }
 
-/// A case of which one call fails so ends as it is to, and that call is not made again. Without a failure the calls of
-/// each kind are counted.
+/// Runs a case in which one call fails, or none. Checks its end, and returns the number of calls of this kind.
 fn calls_of<R: Abort + Threads + Wait + Clock + Sync>(
     rt: &R,
     alloc: Global,
@@ -252,7 +253,7 @@ fn calls_of<R: Abort + Threads + Wait + Clock + Sync>(
     })
 }
 
-/// Each call of this kind fails in turn, in each way.
+/// Lets each call of this kind fail in turn, in each way. Checks that none follows the failed one.
 fn each_call_fails<R: Abort + Threads + Wait + Clock + Sync>(
     rt: &R,
     alloc: Global,
@@ -270,7 +271,8 @@ fn each_call_fails<R: Abort + Threads + Wait + Clock + Sync>(
     Ok(())
 }
 
-/// Writes of the output, its flush, and writes of a fault's line, which change nothing else.
+/// Writes of the output, its flush, or writes of a fault's line fail. A failure of the fault's line changes nothing
+/// else.
 #[test]
 fn a_failed_write_is_not_tried_again(rt: HostRuntime) -> Result<(), AllocError> {
     let alloc = rt.alloc();
@@ -293,11 +295,13 @@ fn a_failed_write_is_not_tried_again(rt: HostRuntime) -> Result<(), AllocError> 
     Ok(())
 }
 
-/// Words that `clap` explains.
+/// Words to which `clap` answers with a text.
 const USAGE: &[&str] = &["arachne", "arachne eval --cores 4", "arachne run --help"];
 
-/// The status of refused words stays where their text can't be written. The one error that is left out is an
-/// interruption that comes ever again, since `std` writes that text and goes on after each.
+/// The status of refused words is the same if their text cannot be written.
+///
+/// An interruption of every write is left out, since `std` repeats an interrupted write of that text, and would not
+/// end.
 #[test]
 fn a_usage_that_fails_changes_nothing(rt: HostRuntime) -> Result<(), AllocError> {
     let alloc = rt.alloc();
@@ -345,7 +349,7 @@ const LONGEST: &[(Fault, &str)] = &[
     ),
 ];
 
-/// The lines with the largest numbers, also where the writer takes one byte at a time.
+/// The lines with the largest numbers are written whole, also if the writer takes one byte at a time.
 #[test]
 fn the_longest_fault_lines_are_written_whole(rt: HostRuntime) {
     for &(fault, line) in LONGEST {

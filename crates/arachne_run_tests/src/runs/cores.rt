@@ -1,4 +1,4 @@
-//! Which cores run threads, and for how long. A run's first threads go where the choosers say.
+//! The cores on which threads run. The choosers decide to which cores a run's threads are forked.
 use super::facts::{Fact, Telling};
 use super::rows::{Row, rows_hold};
 use super::{FORMS, Source};
@@ -7,7 +7,7 @@ use crate::gates::Watching;
 use arachne_core::SLOTS;
 use std::test::Fail;
 
-/// A thread that forks another and adds up what both give.
+/// A thread that forks another and adds up both values.
 pub(super) const FORK: Source = Source {
     ledgers: 0,
     locks: 0,
@@ -15,7 +15,7 @@ pub(super) const FORK: Source = Source {
     expr: "(fork n (num 2) (num 3) (add (var 0) (var 1)))",
 };
 
-/// A fork's first choice is the low half of a drawn word, its second the high half.
+/// Adds 1 to both choices of a fork: the first is the low half of a drawn word, the second the high half.
 const STEP: u64 = 0x0000_0001_0000_0001;
 
 /// Core k's chooser draws core k + 1.
@@ -25,7 +25,7 @@ const NEXT_CORES: Draws = Draws {
     apart: STEP,
 };
 
-/// The root counts to 1,000 while its child has another core alone.
+/// The root counts to 1,000 while its child has another core to itself.
 pub(super) const ALONE: Source = Source {
     ledgers: 0,
     locks: 0,
@@ -33,7 +33,7 @@ pub(super) const ALONE: Source = Source {
     expr: "(fork x (num 1) (fold (num 0) (num 1000) (num 0) (var 1)) (add (var 0) (var 1)))",
 };
 
-/// A thread that forks one for a core of its own.
+/// A thread that forks an exclusive child, which gets a core to itself.
 pub(super) const EXCLUSIVE: Source = Source {
     ledgers: 0,
     locks: 0,
@@ -41,9 +41,9 @@ pub(super) const EXCLUSIVE: Source = Source {
     expr: "(fork x (num 1) (num 2) (add (var 0) (var 1)))",
 };
 
-/// Three threads and the root have all places while 301 more are forked, for 45 of which there is no room to wait
-/// either. By then 304 words are drawn, of which each chooses the other core than the one before. The next thread is
-/// forked to core 0, and core 1 is empty for one that is to be alone.
+/// The root and three other threads have all places while 301 more are forked, and the queue has no room for 45 of
+/// these. By then 304 words are drawn, each of which chooses the other core than the previous one. So the next thread
+/// is forked to core 0, and core 1 is empty for an exclusive one.
 const WORD_EACH: Row = Row {
     shows: "each fork draws a word, that of a thread that runs in place at once too",
     source: Source {
@@ -71,7 +71,7 @@ const WORD_EACH: Row = Row {
     told: "",
 };
 
-/// A thread that begins at least 1,004 nodes.
+/// A thread that evaluates at least 1,004 nodes.
 pub(super) const LONG: Source = Source {
     ledgers: 0,
     locks: 0,
@@ -81,7 +81,7 @@ pub(super) const LONG: Source = Source {
 
 const ROWS: &[Row] = &[
     WORD_EACH,
-    // With these words both choices of a fork are core 3.
+    // Both choices of the fork are core 3.
     Row {
         shows: "a fork goes where its choices say",
         source: FORK,
@@ -95,7 +95,7 @@ const ROWS: &[Row] = &[
         telling: Telling::Nothing,
         told: "",
     },
-    // Of threads that fork one another each is on the core behind its parent's.
+    // In a chain of threads each is on the core after its parent's.
     Row {
         shows: "each core has its own chooser",
         source: Source {
@@ -173,7 +173,7 @@ const ROWS: &[Row] = &[
         telling: Telling::Nothing,
         told: "",
     },
-    // The root has the only place of the core that is drawn, and the other cores are tried upwards.
+    // The root has the only place of the drawn core, so that the other cores are tried in ascending order.
     Row {
         shows: "where the core that is drawn is full, the lowest that is not gets the thread",
         source: FORK,
@@ -187,7 +187,7 @@ const ROWS: &[Row] = &[
         telling: Telling::Nothing,
         told: "",
     },
-    // Its parent waits for it, and doesn't run it.
+    // The parent waits for its child, and does not run it.
     Row {
         shows: "a thread that has a core alone runs there",
         source: EXCLUSIVE,
@@ -201,7 +201,7 @@ const ROWS: &[Row] = &[
         telling: Telling::Nothing,
         told: "",
     },
-    // The child runs while the root does.
+    // The child runs at the same time as the root.
     Row {
         shows: "a thread that has a core alone runs beside its parent",
         source: ALONE,

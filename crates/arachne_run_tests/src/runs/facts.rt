@@ -1,4 +1,4 @@
-//! What a report, and a gate that watched the run, show.
+//! The facts that a run shows in its report, or at the gate that watched it.
 use super::locks::{events, events_of, grants, grants_are_holds};
 use super::programs::threads_of;
 use crate::gates::Watch;
@@ -8,51 +8,51 @@ use std::alloc::Global;
 use std::sync::atomic::Ordering;
 use std::test::Fail;
 
-/// A number of a run. Those that are asked by a word are 1 where that is so, and else 0.
+/// A number of a run. A condition counts as 1 if it holds, else as 0.
 #[derive(Clone, Copy)]
 pub(super) enum Fact {
     Value,
-    /// How many threads there were.
+    /// The number of threads.
     Threads,
-    /// How many of them ran in a place that they got as they were forked.
+    /// The number of threads that got a place when they were forked.
     Slot,
-    /// Whether the last two did.
+    /// The last two threads of the report got a place when they were forked.
     LastTwoInSlots,
-    /// How many waited for the place in which they ran.
+    /// The number of threads that waited for their place.
     Spill,
-    /// How many of them ran in the place of their parents.
+    /// The number of threads that ran in the places of their parents.
     InPlace,
-    /// Whether no more than this ran in the place of their parents.
+    /// At most this number of threads ran in the places of their parents.
     InPlaceUpTo(u64),
-    /// How many totals there are.
+    /// The number of totals.
     Totals,
     /// The first ledger's total.
     Total,
-    /// How many orders were applied.
+    /// The number of applied orders.
     Applied,
-    /// Whether no more orders than this were applied.
+    /// At most this number of orders was applied.
     AppliesUpTo(u64),
     /// The cores that have entered a slice, a bit for each.
     Cores,
-    /// Whether so many slices were entered.
+    /// At least this number of slices was entered.
     Slices(u64),
-    /// Whether no more slices than this were entered.
+    /// At most this number of slices was entered.
     SlicesUpTo(u64),
-    /// Whether so many children waited with a ticket.
+    /// At least this number of children waited with a ticket.
     Tickets(u64),
-    /// Whether no more sleeps than this ended by their time before something was found.
+    /// At most this number of sleeps timed out before something was found.
     OversleepsUpTo(u64),
-    /// Whether all came that the gate held a core up for.
+    /// All events for which the gate held a core have occurred, and none that must not.
     IsOver,
-    /// How often something happened to the first lock.
+    /// The number of events of the first lock.
     Events,
-    /// How often the first lock was granted.
+    /// The number of grants of the first lock.
     Grants,
-    /// Whether it was granted to those that have held it once.
+    /// The first lock was granted once to each thread that has held it once, and to no other.
     GrantsAreHolds,
 }
 
-/// The number of a fact.
+/// Returns the number of a fact.
 pub(super) fn number(report: &Report, watch: &Watch, fact: Fact) -> u64 {
     match fact {
         Fact::Value => report.value,
@@ -78,7 +78,7 @@ pub(super) fn number(report: &Report, watch: &Watch, fact: Fact) -> u64 {
     }
 }
 
-/// Returns true if there are two threads at least, and the last two had places.
+/// Returns whether there are at least two threads and the last two got a place when they were forked.
 fn are_last_two_in_slots(report: &Report) -> bool {
     let mut in_slots = 0u64;
     for line in report.threads.iter() {
@@ -91,7 +91,7 @@ fn are_last_two_in_slots(report: &Report) -> bool {
     in_slots >= 2
 }
 
-/// How many threads ran so.
+/// Returns the number of threads that ran in this way.
 fn count_of(report: &Report, ran: Ran) -> u64 {
     let mut count = 0u64;
     for line in report.threads.iter() {
@@ -100,19 +100,19 @@ fn count_of(report: &Report, ran: Ran) -> u64 {
     count
 }
 
-/// What is told of a run.
+/// Selects the text that is made of a report.
 #[derive(Clone, Copy)]
 pub(super) enum Telling {
     Nothing,
     /// The value, the totals, and the name and the holds of each thread.
     Threads,
-    /// What happened to the first lock.
+    /// The events of each lock.
     Events,
-    /// How each thread ran.
+    /// The way in which each thread ran.
     Ran,
 }
 
-/// What is told of a run.
+/// Returns the selected text of a report, or the fault if there is none.
 pub(super) fn told(
     alloc: Global,
     answer: &Result<Report, RunFault>,
@@ -127,7 +127,7 @@ pub(super) fn told(
     }
 }
 
-/// How each thread ran: a word for each, the root's first.
+/// Returns a word for each thread, the root's first, that says how it ran.
 fn ran_of(alloc: Global, report: &Report) -> Result<String, Fail> {
     let mut text = String::new(alloc);
     for line in report.threads.iter() {

@@ -1,5 +1,5 @@
-//! Runs that end by a fault while their threads wait, or go on without end: the first fault that was recorded is told,
-//! and all kernel threads are joined.
+//! Runs that end with a fault while their threads wait, or run without end. A run returns the fault that was recorded
+//! first, and joins all kernel threads.
 use super::facts::Telling;
 use super::programs::{SWEEP, SWEPT};
 use super::rows::{Row, rows_hold};
@@ -10,13 +10,13 @@ use arachne_core::SLOTS;
 use arachne_policy::{CoreOrder, OrderKind};
 use std::test::Fail;
 
-/// The machines whose table hands back each thread that is to be finished, so that the first one to end is a fault.
+/// Machines whose table hands back each thread that is to be finished, so that the first one to end is a fault.
 const HANDING_BACK: &[Machine] = &[(5, 1, 5), (5, 100, 5)];
 
-/// Those whose table refuses memory to a claim on a core that is in use.
+/// Machines whose table refuses memory to a claim on a core that is in use.
 const REFUSING: &[Machine] = &[(6, 1, 6), (6, 100, 6)];
 
-/// The choices of forks are cores 1, 2, 3 and so on, in turn.
+/// The choices of successive forks are cores 1, 2, 3 and so on.
 const IN_TURN: Draws = Draws {
     word: CORE_ONE.word,
     step: CORE_ONE.word,
@@ -24,7 +24,7 @@ const IN_TURN: Draws = Draws {
 };
 
 const ROWS: &[Row] = &[
-    // The root's child ends on core 1, once it has counted; the root goes on and on.
+    // The root's child ends on core 1 once it has counted. The root counts without end.
     Row {
         shows: "threads that go on stop",
         source: Source {
@@ -43,7 +43,7 @@ const ROWS: &[Row] = &[
         telling: Telling::Nothing,
         told: "Worker(Token)",
     },
-    // The same while cores 2, 3 and 4 are taken back: they have nothing to do and are parked.
+    // As before, but cores 2, 3 and 4 are taken back. They have nothing to do and are parked.
     Row {
         shows: "parked cores are woken",
         source: Source {
@@ -78,7 +78,7 @@ const ROWS: &[Row] = &[
         telling: Telling::Nothing,
         told: "Worker(Token)",
     },
-    // Of the root and its child on core 1 one holds the lock on and on, and the other waits for it. A child on core 2
+    // Of the root and its child on core 1, one holds the lock without end and the other waits for it. A child on core 2
     // ends.
     Row {
         shows: "a thread that waits for a lock is left",
@@ -98,7 +98,7 @@ const ROWS: &[Row] = &[
         telling: Telling::Nothing,
         told: "Worker(Token)",
     },
-    // Each core has one place. The root forks more children than have one before any ends.
+    // Each core has one place. The root forks more children than there are places before any of them ends.
     Row {
         shows: "children that wait for a place are left",
         source: Source {
@@ -117,7 +117,8 @@ const ROWS: &[Row] = &[
         telling: Telling::Nothing,
         told: "Worker(Token)",
     },
-    // Cores 0 and 1 are full of the root and of its first child, so that its second one runs on and on in its place.
+    // Cores 0 and 1 are full of the root and its first child, so that the second child runs without end in the root's
+    // place.
     Row {
         shows: "a child in place stops",
         source: Source {
@@ -152,7 +153,7 @@ const ROWS: &[Row] = &[
         telling: Telling::Nothing,
         told: "Worker(Token)",
     },
-    // The root's first child goes on and on on core 1, where there is no memory for a second one.
+    // The root's first child runs without end on core 1, for which a second claim is refused memory.
     Row {
         shows: "threads that go on stop",
         source: Source {
@@ -171,7 +172,7 @@ const ROWS: &[Row] = &[
         telling: Telling::Nothing,
         told: "Worker(Memory)",
     },
-    // The same while the others are parked.
+    // As before, but the other cores are parked.
     Row {
         shows: "parked cores are woken",
         source: Source {
@@ -211,8 +212,8 @@ const ROWS: &[Row] = &[
         telling: Telling::Nothing,
         told: "Worker(Memory)",
     },
-    // The root's child ends on core 1 while the root asks for memory there. One fault is recorded first, and the other
-    // then.
+    // The root's child ends on core 1 while the root claims a place there. The refused memory is recorded first, and
+    // the thread that is handed back second.
     Row {
         shows: "the first fault is told",
         source: Source {
@@ -231,7 +232,7 @@ const ROWS: &[Row] = &[
         telling: Telling::Nothing,
         told: "Worker(Memory)",
     },
-    // The other way round.
+    // As before, but the thread is handed back first and the memory is refused second.
     Row {
         shows: "the first fault is told",
         source: Source {
@@ -250,7 +251,7 @@ const ROWS: &[Row] = &[
         telling: Telling::Nothing,
         told: "Worker(Token)",
     },
-    // What runs well in the same process behind all of them.
+    // After all of these, a run in the same process goes well.
     Row {
         shows: "a run goes well behind others that did not",
         source: SWEEP,

@@ -1,5 +1,5 @@
-//! Rules of a run that no clause says and no log shows: tickets and places are counted, a core that is taken back is
-//! left, and what is lost is tried again.
+//! Rules of a run that no contract states and no log shows: tickets and places are counted, a core that is taken back
+//! is left, and a lost claim or wake is repeated.
 use super::cores::EXCLUSIVE;
 use super::facts::{Fact, Telling};
 use super::rows::{Row, rows_hold};
@@ -17,9 +17,9 @@ const CORE_TWO: Draws = Draws {
     apart: 0,
 };
 
-/// The root and another thread have both places. 300 children wait for one in turn until they are awaited, for 44 of
-/// which the queue has no room. Then the other thread ends, all tickets are taken, and of two threads that are forked
-/// the second waits for the place of the first.
+/// The root and another thread have both places. 300 children in turn wait for one until they are awaited, and the
+/// queue has no room for 44 of them. Then the other thread ends, all tickets are taken, and of two further threads the
+/// second waits for the place of the first.
 const TICKETS: Row = Row {
     shows: "as many children wait as the queue has room for, and again once their tickets are taken",
     source: Source {
@@ -43,8 +43,8 @@ const TICKETS: Row = Row {
     told: "",
 };
 
-/// The root has the only place. The first sweep leaves the queue full of tickets whose children are gone. Those of the
-/// halves of the next two that have 1,024 turns find room.
+/// The root has the only place. The first sweep leaves the queue full of tickets whose children are gone. In the next
+/// two sweeps the halves with 1,024 iterations still find room.
 const LARGE: Row = Row {
     shows: "a large half waits though the queue is full of tickets whose children are gone",
     source: Source {
@@ -68,7 +68,7 @@ const LARGE: Row = Row {
     told: "",
 };
 
-/// The root waits for a lock that its first child has. Meanwhile its second child ends, which wakes it.
+/// The root waits for a lock that its first child holds. Meanwhile its second child ends, which wakes the root.
 const STILL_WAITS: Row = Row {
     shows: "a thread that is woken while it waits for a lock waits on",
     source: Source {
@@ -92,7 +92,7 @@ const STILL_WAITS: Row = Row {
     told: "",
 };
 
-/// The root's child is in hand on core 1 when that is taken back, and goes on for long.
+/// The root's child is running on core 1 when that core is taken back, and has many steps left.
 const ANEW: Row = Row {
     shows: "a thread on a core that is taken back is put back after its slice",
     source: Source {
@@ -116,7 +116,8 @@ const ANEW: Row = Row {
     told: "",
 };
 
-/// The same, with a lock that the child has in its first slice: who holds one does not go on on a closed core.
+/// Like `ANEW`, but the child holds a lock from its first slice on. A lock holder, too, is put back if its core is
+/// closed.
 const ANEW_HELD: Row = Row {
     shows: "a thread that holds a lock on a core that is taken back is put back after its slice",
     source: Source {
@@ -128,8 +129,8 @@ const ANEW_HELD: Row = Row {
     ..ANEW
 };
 
-/// A thread that has core 1 alone awaits a child on core 0 while core 1 is closed. The grant lets the run end where its
-/// kernel thread has parked.
+/// A thread that has core 1 to itself awaits a child on core 0 while core 1 is closed. If core 1's kernel thread parks
+/// too early, which is wrong, the later grant lets the run end.
 const PARKS_LAST: Row = Row {
     shows: "a closed core's kernel thread parks only once nothing is left there",
     source: Source {
@@ -160,8 +161,7 @@ const PARKS_LAST: Row = Row {
     told: "",
 };
 
-/// Cores 1 and 2 are taken back. There is nothing on core 1, and on core 2 a thread that comes to wait for the root's
-/// lock.
+/// Cores 1 and 2 are taken back. Core 1 is empty, and core 2 has a thread that comes to wait for the root's lock.
 const BOTH_DRAINED: Row = Row {
     shows: "each core that is taken back is drained",
     source: Source {
@@ -192,7 +192,7 @@ const BOTH_DRAINED: Row = Row {
     told: "",
 };
 
-/// Three threads are on core 1 when that is taken back, one of them in hand.
+/// Three threads are on core 1 when it is taken back, one of them running.
 const MOVED_IN_ORDER: Row = Row {
     shows: "threads are moved to the first core that has room",
     source: Source {
@@ -221,7 +221,7 @@ const MOVED_IN_ORDER: Row = Row {
     told: "",
 };
 
-/// A claim of a whole core is lost at first.
+/// The first two of every three claims of a whole core are lost.
 const LOST_ALONE: Row = Row {
     shows: "a claim of a whole core that is lost is tried again",
     source: EXCLUSIVE,
@@ -236,10 +236,10 @@ const LOST_ALONE: Row = Row {
     told: "slot slot ",
 };
 
-/// The root and fifteen others have all places of the core. The last of them forks one thread after the other, for
-/// which there is no place, until the queue is full. The others end in one scan before it, their places are kept, and
-/// with the last end all of them are given back: its next thread gets one at once, and does not run in place as those
-/// of a whole slice would.
+/// The root and 15 others have all places of the core. The last of them forks one thread after another, for which there
+/// is no place, until the queue is full. The others end in one scan before it, and their places are kept until the last
+/// of them ends, which gives all of them back. So the next thread that is forked gets a place at once. Otherwise the
+/// forks of a whole slice would run in place.
 const GIVEN_BACK: Row = Row {
     shows: "a place that was kept and is given back is free at once",
     source: Source {
@@ -273,7 +273,7 @@ fn what_a_thread_is_due_is_heeded(rt: HostRuntime) -> Result<(), Fail> {
     rows_hold(&rt, rt.alloc(), ROWS)
 }
 
-/// Core 1 is closed at first, and its kernel thread parks. The table opens it only after a while.
+/// Core 1 is closed at first, and its kernel thread parks. The table opens the core only after a pause.
 const OPENED_LATE: Row = Row {
     shows: "a grant unparks the kernel thread once the core is open",
     source: Source {
@@ -323,7 +323,7 @@ fn a_core_that_is_taken_back_is_left(rt: HostRuntime) -> Result<(), Fail> {
     rows_hold(&rt, rt.alloc(), CLOSED)
 }
 
-/// The root awaits its child. Two of three wakes are lost.
+/// The root awaits its child. The first two of every three wakes are lost.
 const LOST_WAKE: Row = Row {
     shows: "a wake that is lost is tried again",
     source: Source {

@@ -1,4 +1,4 @@
-//! Runs whose logs are judged, by the rules of a run, on many machines.
+//! Runs on many machines, whose logs are judged by the rules of a run.
 ghost use Rattle.arachne_lang.specs.Checked.{IsChecked};
 ghost use Rattle.arachne_lang.specs.Program.{source_of};
 
@@ -19,10 +19,10 @@ use std::test::Fail;
 use std::thread::Threads;
 use std::time::Clock;
 
-/// How many entries a log has room for.
+/// The number of entries that a log has room for.
 const ROOM: usize = 120_000;
 
-/// 1 to 64 cores, by quanta from 1 to 10,000.
+/// 1 to 64 cores, by quanta of 1 to 10,000.
 const MANY: &[Machine] = &[
     (1, 1, 1),
     (2, 1, 2),
@@ -46,35 +46,35 @@ const MANY: &[Machine] = &[
     (64, 10_000, 64),
 ];
 
-/// How many of these machines have one quantum.
+/// The number of these machines that have the same quantum.
 const LINE: usize = 5;
 
-/// One core, by the same quanta.
+/// One core, by quanta of 1 to 10,000.
 const ONE: &[Machine] = &[(1, 1, 1), (1, 3, 1), (1, 7, 1), (1, 100, 1), (1, 10_000, 1)];
 
-/// A row over several numbers of places, whose logs are judged.
+/// A row that is run with several numbers of places, and whose logs are judged.
 #[derive(Clone, Copy)]
 struct Judged {
     row: Row,
     slots: &'static [u8],
-    /// How often it is run on each of its machines, each time with another number of places or another form of table.
+    /// The number of runs on each of its machines, each with another number of places or another form of table.
     turns: usize,
-    /// How many orders there are on machines of several cores: releases and grants of cores from 1 on in turn, each due
-    /// a slice after the one before. None: those of the row.
+    /// The number of orders on machines of several cores: releases and grants of cores from 1 on in turn, each due a
+    /// slice after the previous one. If it is 0, the orders are the row's.
     orders: u64,
     has_exclusive: bool,
-    /// The number of the root's fork that is exclusive, if it is ever made.
+    /// The number of the root's exclusive fork, if it is ever made.
     exclusive: Option<u64>,
-    /// How many steps all slices have at least.
+    /// The minimum number of steps of all slices together.
     steps: u64,
-    /// The rules that come up at least once over all runs of the row, beside those of each run.
+    /// The rules that must come up at least once over all runs of the row, besides those of every run.
     rules: &'static [Rule],
 }
 
-/// The rules that come up in each run.
+/// The rules that come up in every run.
 const ALWAYS: &[Rule] = &[Rule::InHand, Rule::Numbers, Rule::Quantum];
 
-/// So many orders, each due a slice after the one before: releases and grants of each core but 0 in turn.
+/// Returns `count` orders, each due a slice after the previous one: releases and grants of each core but 0 in turn.
 fn in_turn(alloc: Global, count: u64, cores: u64) -> Result<Vec<CoreOrder>, AllocError> {
     let mut orders = Vec::new(alloc);
     for after in 0..count {
@@ -89,7 +89,7 @@ fn in_turn(alloc: Global, count: u64, cores: u64) -> Result<Vec<CoreOrder>, Allo
     Ok(orders)
 }
 
-/// The orders of a row on a machine.
+/// Returns the orders of a row on a machine.
 fn orders_of(alloc: Global, judged: &Judged, cores: u64) -> Result<Vec<CoreOrder>, AllocError> {
     if judged.orders > 0 && cores > 1 {
         in_turn(alloc, judged.orders, cores)
@@ -98,8 +98,9 @@ fn orders_of(alloc: Global, judged: &Judged, cores: u64) -> Result<Vec<CoreOrder
     }
 }
 
-/// How often each rule was judged in the log of a run. None is broken, there was room for all, and the steps are as
-/// many as they have to be.
+/// Judges the log of a run. Returns how often each rule was judged.
+///
+/// Fails if a rule is broken, if the log had no room for an entry, or if there are too few steps.
 fn counts_of(
     alloc: Global,
     judged: &Judged,
@@ -163,8 +164,10 @@ fn run_is_lawful<R: Threads + Wait + Clock + Sync>(
     counts_of(alloc, judged, machine, slots, orders.as_slice(), &watch)
 }
 
-/// How many places the cores have and which form of table is run on the machine of this number, in this turn. Turns as
-/// many as there are both, times one another, have each with each; machines that stand side by side differ in both.
+/// Returns the number of places and the form of table for the machine of this number in this turn.
+///
+/// With as many turns as there are combinations of both, each machine has every combination. Machines that stand side
+/// by side differ in both.
 fn kind_of(judged: &Judged, nth: usize, turn: usize) -> (u8, Form) {
     let count = judged.slots.len().max(1);
     let line = nth / LINE;
@@ -176,7 +179,7 @@ fn kind_of(judged: &Judged, nth: usize, turn: usize) -> (u8, Form) {
     (slots, form)
 }
 
-/// Runs a row on each of its machines in each of its turns. Each rule that it has comes up.
+/// Runs a row on each of its machines in each of its turns. Each rule of the row must come up.
 fn is_lawful<R: Threads + Wait + Clock + Sync>(
     rt: &R,
     alloc: Global,
@@ -194,7 +197,7 @@ fn is_lawful<R: Threads + Wait + Clock + Sync>(
     come_up(judged, judged.rules, &counts)
 }
 
-/// Each of these rules was judged.
+/// Fails if one of these rules was never judged.
 fn come_up(judged: &Judged, rules: &[Rule], counts: &Counts) -> Result<(), Fail> {
     let shows = judged.row.shows;
     for &rule in rules {
@@ -262,7 +265,7 @@ fn threads_that_count_keep_the_rules(rt: HostRuntime) -> Result<(), Fail> {
     are_lawful(&rt, rt.alloc(), COUNT)
 }
 
-/// 24 threads hold a lock in turn, and add to a ledger meanwhile.
+/// 24 threads hold a lock in turn, and add to a ledger while they do.
 const HOLDING: Row = Row {
     shows: "threads that hold a lock keep the rules",
     source: Source {
@@ -287,8 +290,8 @@ const HOLDS: Judged = Judged {
     ..COUNTS
 };
 
-/// Six threads of core 0 hold a lock for longer than a holder goes on at once, so that the others come to wait for it,
-/// and each goes on before others once it has it. Meanwhile an order is due in each slice.
+/// Six threads of core 0 hold a lock for longer than a holder may run at once, so that the others come to wait for it.
+/// Each runs before other threads once it has the lock. Meanwhile an order is due in each slice.
 const NEXT: Row = Row {
     shows: "orders are applied before the slice of a thread that goes next",
     source: Source {
@@ -329,7 +332,7 @@ fn threads_that_hold_a_lock_keep_the_rules(rt: HostRuntime) -> Result<(), Fail> 
     are_lawful(&rt, rt.alloc(), HOLD)
 }
 
-/// The root's second fork is exclusive: a thread that counts, forks and counts, beside 20 threads that hold a lock.
+/// The root's second fork is exclusive. Its child counts, forks and counts, beside 20 threads that hold a lock.
 const EXCLUSIVE: Row = Row {
     shows: "a thread that has its core alone, and the others, keep the rules",
     source: Source {
@@ -372,7 +375,7 @@ fn a_thread_alone_keeps_the_rules(rt: HostRuntime) -> Result<(), Fail> {
     are_lawful(&rt, rt.alloc(), HAVE_A_CORE)
 }
 
-/// No place is kept on its core, since an exclusive fork stands there, which is never made.
+/// No place is kept on the core, since the program has an exclusive fork, which is never made.
 const WAITING: Row = Row {
     shows: "no child waits while a place is free",
     source: Source {
@@ -410,7 +413,7 @@ const TALLYING: Row = Row {
     ..COUNTING
 };
 
-/// A node of 1,004 steps on one core of two.
+/// A thread of 1,004 steps on one core of two.
 const LONE: Row = Row {
     shows: "each step is charged to a slice",
     source: LONG,
@@ -420,7 +423,8 @@ const LONE: Row = Row {
     ..COUNTING
 };
 
-/// A thread in its parent's place, taken back or begun there at once.
+/// A thread that runs in its parent's place, after it was taken back from the queue. That of `BEGUN` begins there at
+/// once.
 const IN_PLACE: Row = Row {
     shows: "the steps of a thread in place are charged to the slices",
     source: TAKEN_BACK,
@@ -482,7 +486,7 @@ fn each_step_is_charged(rt: HostRuntime) -> Result<(), Fail> {
     are_lawful(&rt, rt.alloc(), CHARGE)
 }
 
-/// Core 1 is closed at first, and its kernel thread parks. Once it is granted it has a thread, and is closed again.
+/// Core 1 is closed at first, and its kernel thread parks. Once it is granted it gets a thread, and is closed again.
 const PARKING: Row = Row {
     shows: "a core that is closed parks, and one that is granted goes on",
     source: Source {

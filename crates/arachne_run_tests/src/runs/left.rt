@@ -1,4 +1,4 @@
-//! A thread that is left in the table when the root has ended.
+//! A thread that is left in the table after the root has ended.
 use super::Form;
 use super::cores::FORK;
 use super::facts::Telling;
@@ -8,7 +8,7 @@ use crate::gates::Watching;
 use arachne_core::SLOTS;
 use std::test::Fail;
 
-/// The root ends before its child has begun, which the table hands back then.
+/// The root ends before its child has begun. The table hands the child back when it is closed.
 const LEFT: &[Row] = &[Row {
     shows: "a thread that is left stops the report",
     source: FORK,

@@ -1,4 +1,4 @@
-//! Many threads, over and over.
+//! Runs of many threads, repeated with other choosers.
 use super::facts::{Fact, Telling};
 use super::rows::{Row, rows_hold};
 use super::{Form, Source};
@@ -7,7 +7,7 @@ use crate::gates::Watching;
 use arachne_core::SLOTS;
 use std::test::Fail;
 
-/// Choosers that begin with other words: three and five times the first word of the others.
+/// Choosers that begin with other words than `SPREAD`: three and five times its first word.
 const THREEFOLD: Draws = Draws {
     word: 0xDAA6_6D2C_7DDF_743F,
     ..SPREAD
@@ -18,7 +18,7 @@ const FIVEFOLD: Draws = Draws {
     ..SPREAD
 };
 
-/// Each of 20,000 threads holds the lock once and tallies.
+/// Each of 20,000 threads holds the lock once, and adds to a ledger while it does.
 const SUMS: Row = Row {
     shows: "many threads end",
     source: Source {

@@ -1,4 +1,4 @@
-//! Who had a lock, and in which order.
+//! Which threads held a lock, and in which order.
 use super::facts::{Fact, Telling};
 use super::rows::{MACHINES, Row, rows_hold};
 use super::{FORMS, Machine, Source};
@@ -10,7 +10,7 @@ use arachne_sleep::{History, LockEvent, Who};
 use std::alloc::Global;
 use std::test::Fail;
 
-/// How many events the program's first lock had.
+/// Returns the number of events of the program's first lock.
 pub(super) fn events(report: &Report) -> u64 {
     match report.histories.first() {
         Some(history) => history.len() as u64,
@@ -18,7 +18,7 @@ pub(super) fn events(report: &Report) -> u64 {
     }
 }
 
-/// How often the program's first lock was granted, to the thread of this tag or, without one, to any.
+/// Returns the number of grants of the program's first lock. With `tag`, counts only those to the thread of that tag.
 pub(super) fn grants(report: &Report, tag: Option<u64>) -> u64 {
     let mut count = 0u64;
     let Some(history) = report.histories.first() else {
@@ -36,7 +36,7 @@ pub(super) fn grants(report: &Report, tag: Option<u64>) -> u64 {
     count
 }
 
-/// Whether those that were granted the first lock are those that have held it once.
+/// Returns whether the first lock was granted once to each thread that has held it once, and to no other.
 pub(super) fn grants_are_holds(report: &Report) -> bool {
     let mut counted = 0u64;
     for line in report.threads.iter() {
@@ -50,7 +50,7 @@ pub(super) fn grants_are_holds(report: &Report) -> bool {
     counted == grants(report, None)
 }
 
-/// What happens, and to whom.
+/// Returns the word for an event, and its thread.
 fn parts_of(event: LockEvent) -> (&'static str, Who) {
     match event {
         LockEvent::Ask(who) => ("ask", who),
@@ -59,7 +59,7 @@ fn parts_of(event: LockEvent) -> (&'static str, Who) {
     }
 }
 
-/// What happened to a lock: a line for each event, with the thread's tag, its context and that one's generation.
+/// Appends a line for each event of a lock, with the thread's tag, its context and the context's generation.
 fn push_events(alloc: Global, text: &mut String, history: &History) -> Result<(), Fail> {
     for event in history.iter() {
         let (word, who) = parts_of(event);
@@ -69,7 +69,7 @@ fn push_events(alloc: Global, text: &mut String, history: &History) -> Result<()
     Ok(())
 }
 
-/// What happened to each lock, with an empty line behind each but the last.
+/// Returns the events of each lock, with an empty line after each lock but the last.
 pub(super) fn events_of(alloc: Global, report: &Report) -> Result<String, Fail> {
     let mut text = String::new(alloc);
     for (lock, history) in report.histories.iter().enumerate() {
@@ -81,7 +81,7 @@ pub(super) fn events_of(alloc: Global, report: &Report) -> Result<String, Fail> 
     Ok(text)
 }
 
-/// One core to 16, by each quantum but the longest.
+/// 1 to 16 cores, by quanta of 1, 7 and 100.
 const SHORT: &[Machine] = &[
     (1, 1, 1),
     (1, 7, 1),
@@ -93,7 +93,7 @@ const SHORT: &[Machine] = &[
     (16, 100, 16),
 ];
 
-/// One core and two, by each quantum.
+/// One core and two, by quanta of 1 to 10,000.
 const QUANTA: &[Machine] = &[
     (1, 1, 1),
     (1, 7, 1),
@@ -129,7 +129,7 @@ const ROWS: &[Row] = &[
         telling: Telling::Nothing,
         told: "",
     },
-    // The innermost of 61 threads runs in place, and holds the lock under its own tag.
+    // The innermost of 61 threads runs in its parent's place, and holds the lock under its own tag.
     Row {
         shows: "a thread in place holds by its own tag",
         source: Source {
@@ -152,8 +152,8 @@ const ROWS: &[Row] = &[
         telling: Telling::Nothing,
         told: "",
     },
-    // The root holds the lock for 10,000 rounds, and its child asks for it after 100. Both are on core 0.
-    // A thread that asks for a lock that another has gets it once that is freed.
+    // The root holds the lock for 10,000 iterations, and its child on the same core asks for it after 100. A thread
+    // that waits for a lock gets it once it is freed.
     Row {
         shows: "a thread that waits is next",
         source: Source {
@@ -190,7 +190,7 @@ const ROWS: &[Row] = &[
         telling: Telling::Events,
         told: "ask 0 0 0\ngrant 0 0 0\nask 1 1 0\nfree 0 0 0\ngrant 1 1 0\nfree 1 1 0\n",
     },
-    // Both threads hold both locks once: the child lock 0 first, and the root lock 1.
+    // Both threads hold both locks once. The child begins with lock 0, and the root with lock 1.
     Row {
         shows: "each lock has its own history",
         source: Source {
@@ -238,7 +238,7 @@ const NO_LOCK: Row = Row {
     told: "",
 };
 
-/// All numbers of locks that a program may have.
+/// Every number of locks that a program may have.
 const ANY_NUMBER: &[Row] = &[
     NO_LOCK,
     Row {

@@ -1,4 +1,4 @@
-//! Cores that orders close and open.
+//! Runs in which orders close and open cores.
 use super::cores::{ALONE, FORK};
 use super::facts::{Fact, Telling};
 use super::programs::{SWEEP, SWEPT};
@@ -12,7 +12,7 @@ use arachne_policy::{CoreOrder, OrderKind};
 use std::alloc::{AllocError, Global};
 use std::test::Fail;
 
-/// The root forks once it has counted to 3,000.
+/// The root forks after it has counted to 3,000.
 const LATE: Source = Source {
     ledgers: 0,
     locks: 0,
@@ -28,8 +28,8 @@ const COUNTING: Source = Source {
     expr: "(fork n (fold (num 0) (num 3000) (num 0) (var 0)) (fork n (fold (num 0) (num 3000) (num 0) (var 0)) (fold (num 0) (num 1000) (num 0) (var 0)) (add (var 0) (var 1))) (add (var 0) (var 1)))",
 };
 
-/// 300 threads, of which the root forks nine and then counts to 3,000. Behind that it forks one that is to be alone,
-/// and one more meanwhile.
+/// 300 threads. The root forks nine of them and then counts to 3,000. After that it forks an exclusive one, and one
+/// more while that one lives.
 const WAITING: Source = Source {
     ledgers: 0,
     locks: 0,
@@ -37,7 +37,7 @@ const WAITING: Source = Source {
     expr: "(sweep add 1 (num 0) (num 300) (if (eq (var 0) (num 299)) (let (fold (num 0) (num 3000) (num 0) (num 0)) (fork x (num 1) (fork n (num 2) (num 3) (add (var 2) (var 3))) (add (var 2) (var 3)))) (num 0)))",
 };
 
-/// So many orders, each due a slice after the one before: releases and grants of cores 1 to 3 in turn.
+/// Returns `count` orders, each due a slice after the previous one: releases and grants of cores 1 to 3 in turn.
 fn orders(alloc: Global, count: u64) -> Result<Vec<CoreOrder>, AllocError> {
     let mut orders = Vec::new(alloc);
     for after in 0..count {
@@ -79,7 +79,7 @@ fn cores_come_and_go(rt: HostRuntime) -> Result<(), Fail> {
     row_holds(&rt, alloc, &COMING_AND_GOING, orders.as_slice())
 }
 
-/// A thread that is to be alone, while only core 0, where the root is, and the cores from 41 on are open.
+/// An exclusive thread is forked while only core 0, which has the root, and the cores from 41 on are open.
 const FAR: Row = Row {
     shows: "a thread alone gets the first open core that is empty, however many cores there are",
     source: ALONE,
@@ -99,7 +99,7 @@ const FAR: Row = Row {
     told: "",
 };
 
-/// Releases of the cores from 1 on, so many, each due at once.
+/// Returns releases of the cores from 1 to `count`, each due at once.
 fn releases(alloc: Global, count: u64) -> Result<Vec<CoreOrder>, AllocError> {
     let mut orders = Vec::new(alloc);
     for before in 0..count {
@@ -119,8 +119,8 @@ fn a_thread_alone_gets_a_core_among_the_last(rt: HostRuntime) -> Result<(), Fail
     row_holds(&rt, alloc, &FAR, orders.as_slice())
 }
 
-/// Core 1 is closed at first, and its kernel thread parks. Then it is granted again, and has a thread. Were
-/// that not run there, it would be moved away once core 1 is closed again.
+/// Core 1 is closed at first, and its kernel thread parks. Then it is granted again, and gets a thread. If core 1 did
+/// not run that thread, it would be moved away when core 1 is closed again.
 const GRANTED: Row = Row {
     shows: "a grant has a kernel thread that is parked go on",
     source: Source {
@@ -222,8 +222,8 @@ const GRANTS: &[Row] = &[
     },
 ];
 
-/// The root awaits its child on core 1 while core 0's kernel thread sleeps, so that it goes on there, and core 0 is
-/// empty. A slice of core 1 is held up until the order is applied, which is due by then.
+/// The root awaits its child on core 1 while core 0's kernel thread sleeps, so that the root continues on core 1 and
+/// core 0 is empty. A slice of core 1 is held until the order, which is due by then, is applied.
 const IDLE: Row = Row {
     shows: "orders are applied while core 0 has nothing to run",
     source: Source {
@@ -251,8 +251,8 @@ fn grants_have_cores_go_on(rt: HostRuntime) -> Result<(), Fail> {
 }
 
 const ROWS: &[Row] = &[
-    // The root forks while core 0 is full and the others are closed, so that children wait in its place. Once those are
-    // open it forks one that is to be alone, which gets a core at once, and then another.
+    // The root forks while core 0 is full and the other cores are closed, so that its children wait. Once the other
+    // cores are open it forks an exclusive child, which gets a core at once, and then another child.
     Row {
         shows: "an exclusive child among those that wait is joined in turn",
         source: WAITING,
@@ -287,8 +287,7 @@ const ROWS: &[Row] = &[
         telling: Telling::Nothing,
         told: "",
     },
-    // Three orders, and with the last one, which is never due.
-    // A report tells how many orders were applied: one that is never due was not.
+    // Three orders, and then the same with a fourth that is never due. The report counts only those that were applied.
     Row {
         shows: "orders are counted",
         source: SWEEP,
@@ -352,7 +351,7 @@ const ROWS: &[Row] = &[
         telling: Telling::Threads,
         told: SWEPT,
     },
-    // Both choices of the fork are core 3, which is closed: of the cores that are left both are core 0.
+    // Both choices of the fork are core 3, which is closed. Among the open cores both are core 0.
     Row {
         shows: "a closed core gets no thread",
         source: FORK,
@@ -395,8 +394,8 @@ const ROWS: &[Row] = &[
         telling: Telling::Nothing,
         told: "",
     },
-    // Both of the root's children are on core 1, whose first slice is held up until core 0 has entered more slices than
-    // the root alone has: the other one comes there once core 1 was closed.
+    // Both of the root's children are on core 1. Its first slice is held until core 0 has entered more slices than the
+    // root needs. So core 0 must have run the other child, which was moved there when core 1 was closed.
     Row {
         shows: "a closed core is drained",
         source: COUNTING,
@@ -431,7 +430,7 @@ const ROWS: &[Row] = &[
         telling: Telling::Nothing,
         told: "",
     },
-    // A thread that has its core alone stays there when that is closed, and runs beside its parent.
+    // A thread that has a core to itself stays there when the core is closed, and runs beside its parent.
     Row {
         shows: "a thread that has a core alone stays",
         source: ALONE,

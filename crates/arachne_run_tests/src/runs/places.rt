@@ -1,4 +1,4 @@
-//! Which threads get a place, which wait for one, and which run in their parents'.
+//! Which threads get a place, which wait for one, and which run in their parents' places.
 use super::cores::{ALONE, EXCLUSIVE};
 use super::facts::{Fact, Telling};
 use super::reports::{CHAIN, MANY};
@@ -10,7 +10,7 @@ use arachne_core::SLOTS;
 use arachne_policy::{CoreOrder, OrderKind};
 use std::test::Fail;
 
-/// One core, at each quantum.
+/// One core, by quanta of 1 to 10,000.
 const ONE_CORE: &[Machine] = &[(1, 1, 1), (1, 7, 1), (1, 100, 1), (1, 10_000, 1)];
 
 /// 1,000 threads that the root forks and joins one after another.
@@ -21,7 +21,7 @@ const IN_TURN: Source = Source {
     expr: "(fold (num 0) (num 1000) (num 0) (fork n (num 1) (num 1) (add (var 1) (var 2))))",
 };
 
-/// 100 threads, and once they have ended 1,000 that the root forks and joins one after another.
+/// 100 threads and, after these have ended, 1,000 that the root forks and joins one after another.
 const AFTER_MANY: Source = Source {
     ledgers: 0,
     locks: 0,
@@ -29,7 +29,7 @@ const AFTER_MANY: Source = Source {
     expr: "(let (sweep add 1 (num 0) (num 100) (fold (num 0) (num 30) (num 0) (num 0))) (fold (num 0) (num 1000) (num 0) (fork n (num 1) (num 1) (add (var 2) (var 3)))))",
 };
 
-/// 31 threads that wait for one another, of which the innermost has 9 that end soon, and then 24 that live at once.
+/// A chain of 31 threads. The innermost has 9 children that end soon, and then 24 that live at the same time.
 const NEVER_FULL: Source = Source {
     ledgers: 0,
     locks: 0,
@@ -37,7 +37,7 @@ const NEVER_FULL: Source = Source {
     expr: "(let (sweep add 1 (num 0) (num 10) (var 0)) (sweep add 1 (num 0) (num 25) (fold (num 0) (num 300) (num 0) (num 0))))",
 };
 
-/// Of a core's 56 places 55 are taken at most.
+/// At most 55 of a core's 56 places are taken.
 const ALL_PLACED: Row = Row {
     shows: "no place is kept on a core that was never full",
     source: NEVER_FULL,
@@ -52,7 +52,7 @@ const ALL_PLACED: Row = Row {
     told: "",
 };
 
-/// A normal thread, and once that has ended one that is to be alone.
+/// A normal thread and, after it has ended, an exclusive one.
 const THEN_ALONE: Source = Source {
     ledgers: 0,
     locks: 0,
@@ -113,7 +113,7 @@ const ROWS: &[Row] = &[
         telling: Telling::Nothing,
         told: "",
     },
-    // The queue of those that wait is full for most.
+    // For most threads the queue of those that wait is full.
     Row {
         shows: "where all places are taken, threads run in their parents'",
         source: MANY,
@@ -145,7 +145,7 @@ const ROWS: &[Row] = &[
         telling: Telling::Ran,
         told: "slot in place ",
     },
-    // The second child finds no place, and gets the first one's once that has ended. The root counts meanwhile.
+    // The second child finds no place, and gets that of the first child once it has ended. Meanwhile the root counts.
     Row {
         shows: "a thread that waits gets a place that is left",
         source: Source {
@@ -188,7 +188,7 @@ const THREE_WAIT: Row = Row {
     told: "",
 };
 
-/// Of 1,000 threads of a sweep 134 get a place as they are forked. Where places were kept it would be 56.
+/// Of the 1,000 threads of a sweep 134 get a place when they are forked. If places were kept, 56 would.
 const NONE_KEPT: Row = Row {
     shows: "no place is kept where an order may close the core",
     source: Source {
@@ -231,7 +231,7 @@ const KEPT: &[Row] = &[
         telling: Telling::Nothing,
         told: "",
     },
-    // 44 of the first threads find no place, and all of the others one.
+    // 44 of the first threads find no place, and all later ones find one.
     Row {
         shows: "places that were kept are given back",
         source: AFTER_MANY,
@@ -266,7 +266,7 @@ fn places_are_kept_on_full_cores_alone(rt: HostRuntime) -> Result<(), Fail> {
 }
 
 const AT_ONCE: &[Row] = &[
-    // Each of the two waits for the other.
+    // Each of the two is held until the other has entered a slice.
     Row {
         shows: "two long threads run side by side",
         source: BESIDE,
@@ -317,15 +317,15 @@ const AT_ONCE: &[Row] = &[
     },
 ];
 
-/// Core 0 draws core 1, and that core 0.
+/// Core 0 draws core 1, and core 1 draws core 0.
 const CROSSWISE: Draws = Draws {
     word: CORE_ONE.word,
     step: 0,
     apart: 0xFFFF_FFFE_FFFF_FFFF,
 };
 
-/// Four threads that each await the next one, of which the innermost counts. Beside them the root counts, forks
-/// another, counts again, and forks one more.
+/// A chain of four threads, of which the innermost counts. Meanwhile the root counts, forks a thread, counts again, and
+/// forks one more.
 const SLEEPING: Source = Source {
     ledgers: 0,
     locks: 0,
@@ -334,8 +334,8 @@ const SLEEPING: Source = Source {
 };
 
 /// Core 0 is full of the root and two of the four, and the two others wait on core 1. The thread that is forked beside
-/// them ends there, so that its place is kept, and core 1's kernel thread has nothing to run. The table lets
-/// whoever finds that core full go on once it has a place, and moves no thread.
+/// them ends there, so that its place is kept and core 1's kernel thread has nothing to run. A call that finds core 1
+/// full waits in this table until a place is free, and no thread is moved.
 const GIVEN_BACK: Row = Row {
     shows: "a kernel thread that sleeps keeps no place",
     source: SLEEPING,
@@ -355,7 +355,7 @@ fn threads_run_side_by_side(rt: HostRuntime) -> Result<(), Fail> {
     rows_hold(&rt, rt.alloc(), AT_ONCE)
 }
 
-/// A normal thread ends, and one that is to be alone begins.
+/// A normal thread ends, and an exclusive one begins.
 const ALONE_AFTER_ANOTHER: Row = Row {
     shows: "a thread that is to be alone gets a core that is empty",
     source: THEN_ALONE,
@@ -370,7 +370,7 @@ const ALONE_AFTER_ANOTHER: Row = Row {
     told: "",
 };
 
-/// The same on cores of one place, where each thread's core is full.
+/// Like `ALONE_AFTER_ANOTHER`, but on cores of one place, so that a single thread makes a core full.
 const ALONE_AFTER_FULL: Row = Row {
     slots: 1,
     ..ALONE_AFTER_ANOTHER

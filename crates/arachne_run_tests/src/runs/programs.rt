@@ -1,4 +1,4 @@
-//! Programs, and what every run of them reports.
+//! Programs, and the report that every run of them must give.
 use super::facts::Telling;
 use super::rows::{MACHINES, Row, rows_hold};
 use super::{FORMS, Source};
@@ -18,10 +18,10 @@ pub(super) const SWEEP: Source = Source {
     expr: "(sweep add 2 (num 0) (num 8) (var 0))",
 };
 
-/// What is told of it.
+/// The text of the report of `SWEEP`.
 pub(super) const SWEPT: &str = "28 [] [][] [1][] [0][] [0, 0][]";
 
-/// The numbers of a name.
+/// Returns the numbers of a name.
 fn numbers(alloc: Global, name: &Name) -> Result<Vec<u64>, Fail> {
     let mut numbers = Vec::new(alloc);
     for k in 0..name.len() {
@@ -30,7 +30,7 @@ fn numbers(alloc: Global, name: &Name) -> Result<Vec<u64>, Fail> {
     Ok(numbers)
 }
 
-/// The value and the totals of a report, and the name and the holds of each thread.
+/// Returns the value and the totals of a report, and the name and the holds of each thread.
 pub(super) fn threads_of(alloc: Global, report: &Report) -> Result<String, Fail> {
     let mut text = format!(in alloc; "{} {:?}", report.value, report.totals.as_slice())?;
     for line in report.threads.iter() {
@@ -41,8 +41,6 @@ pub(super) fn threads_of(alloc: Global, report: &Report) -> Result<String, Fail>
 }
 
 const ROWS: &[Row] = &[
-    // What is told of each program's threads.
-    // Whatever the table, the cores and the quantum, a program means the same.
     Row {
         shows: "every machine tells the same",
         source: Source {
@@ -184,7 +182,7 @@ const ROWS: &[Row] = &[
     },
 ];
 
-/// Whatever the table, the cores and the quantum, a program means the same.
+/// A program means the same on every form of table, for every number of cores and every quantum.
 #[test]
 fn every_machine_tells_the_same(rt: HostRuntime) -> Result<(), Fail> {
     rows_hold(&rt, rt.alloc(), ROWS)

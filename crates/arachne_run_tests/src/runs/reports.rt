@@ -1,4 +1,4 @@
-//! More threads than places.
+//! Programs with more threads than places.
 use super::facts::{Fact, Telling};
 use super::rows::{MACHINES, Row, rows_hold};
 use super::{FORMS, Source};
@@ -7,7 +7,7 @@ use crate::gates::Watching;
 use arachne_core::SLOTS;
 use std::test::Fail;
 
-/// 61 threads that wait for one another.
+/// A chain of 61 threads, each of which awaits the next.
 pub(super) const CHAIN: Source = Source {
     ledgers: 0,
     locks: 0,
@@ -23,8 +23,8 @@ pub(super) const MANY: Source = Source {
     expr: "(sweep add 1 (num 0) (num 901) (var 0))",
 };
 
-/// The chain on cores of fewer places. On one core of three places three threads have one, and the others run in place;
-/// on 64 cores of two places all have one.
+/// The chain on cores with fewer places. On one core of three places, three threads have a place, and the others run in
+/// their parents'; on 64 cores of two places all have one.
 const FEW: Row = Row {
     shows: "a core has as many places as its setup says",
     source: CHAIN,
@@ -40,7 +40,7 @@ const FEW: Row = Row {
 };
 
 const ROWS: &[Row] = &[
-    // Of the threads one core has places for 56, and more cores have places for all.
+    // One core has places for 56 of the threads, and several cores have places for all.
     Row {
         shows: "threads that find no place run in their parents",
         source: CHAIN,

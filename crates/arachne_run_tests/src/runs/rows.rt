@@ -1,4 +1,4 @@
-//! Rows of runs: what is run, on which machines, and what each run has to show.
+//! Rows of runs: a program, its machines, and the result that each run must have.
 ghost use Rattle.arachne_lang.specs.Checked.{IsChecked};
 ghost use Rattle.arachne_lang.specs.Program.{source_of};
 
@@ -15,7 +15,7 @@ use std::test::Fail;
 use std::thread::Threads;
 use std::time::Clock;
 
-/// All machines on which a program has to mean the same.
+/// The machines on which a program must mean the same.
 pub(super) const MACHINES: &[Machine] = &[
     (1, 1, 1),
     (2, 1, 2),
@@ -31,24 +31,25 @@ pub(super) const MACHINES: &[Machine] = &[
 /// A program that is run over each of the forms on each of the machines.
 #[derive(Clone, Copy)]
 pub(super) struct Row {
-    /// What it shows.
+    /// The rule that the row shows, for messages.
     pub(super) shows: &'static str,
     pub(super) source: Source,
     pub(super) forms: &'static [Form],
-    /// How many places each core has.
+    /// The number of places per core.
     pub(super) slots: u8,
     pub(super) machines: &'static [Machine],
     pub(super) draws: Draws,
     pub(super) orders: &'static [CoreOrder],
     pub(super) watching: Watching,
-    /// What a report has to say.
+    /// The facts that a report must show.
     pub(super) facts: &'static [(Fact, u64)],
-    /// What is told of each run, and how. Of a run that gives no report its fault is told.
+    /// Selects the text of a report, which must equal the next field. If there is no report, the text is that of the
+    /// fault.
     pub(super) telling: Telling,
     pub(super) told: &'static str,
 }
 
-/// Runs a row's program once, on cores of so many places. All tests run their programs here.
+/// Runs a row's program once, with `slots` places per core. All tests run their programs here.
 pub(super) fn run_row<R: Threads + Wait + Clock + Sync>(
     rt: &R,
     alloc: Global,
@@ -70,7 +71,7 @@ pub(super) fn run_row<R: Threads + Wait + Clock + Sync>(
     }
 }
 
-/// The first of a row's facts that is wrong, by its number from 0, and what it is.
+/// Returns the first of a row's facts that is wrong, by its number from 0, and its value.
 fn wrong_fact(row: &Row, report: &Report, watch: &Watch) -> Option<(usize, u64)> {
     for (nth, &(fact, expected)) in row.facts.iter().enumerate() {
         let found = number(report, watch, fact);
@@ -81,7 +82,7 @@ fn wrong_fact(row: &Row, report: &Report, watch: &Watch) -> Option<(usize, u64)>
     None
 }
 
-/// Runs a row's program once: why it has no report, or whether all facts hold. No text is made of it.
+/// Runs a row's program once. Returns whether all facts hold, or the fault, and makes no text.
 pub(super) fn tried<R: Threads + Wait + Clock + Sync>(
     rt: &R,
     alloc: Global,
@@ -100,8 +101,10 @@ pub(super) fn tried<R: Threads + Wait + Clock + Sync>(
     Ok(wrong_fact(row, &report, &watch).is_none())
 }
 
-/// A run is told as its row says, and all facts hold. Without a report all came that a core was held up for, and no
-/// slice begins any more.
+/// Checks the text of a run against its row, and all facts.
+///
+/// If there is no report, checks that all events that a core was held for have happened, and that no slice begins any
+/// more.
 pub(super) fn judge(
     alloc: Global,
     row: &Row,
@@ -142,7 +145,7 @@ fn run_holds<R: Threads + Wait + Clock + Sync>(
     judge(alloc, row, machine, &answer, &watch)
 }
 
-/// Runs a row, by these orders, over each of its forms on each of its machines.
+/// Runs a row, with these orders, over each of its forms on each of its machines.
 pub(super) fn row_holds<R: Threads + Wait + Clock + Sync>(
     rt: &R,
     alloc: Global,
@@ -158,7 +161,7 @@ pub(super) fn row_holds<R: Threads + Wait + Clock + Sync>(
     Ok(())
 }
 
-/// Runs each row over each of its forms on each of its machines.
+/// Runs each row, with its own orders, over each of its forms on each of its machines.
 pub(super) fn rows_hold<R: Threads + Wait + Clock + Sync>(
     rt: &R,
     alloc: Global,

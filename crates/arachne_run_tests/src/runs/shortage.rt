@@ -1,5 +1,5 @@
-//! Runs in a process whose memory is used up, with a little more for each: all end by a fault that says so, until one
-//! has a report.
+//! Runs in a process whose memory is used up, each with a little more memory than the previous one: every run ends with
+//! a fault that says so, until one has a report.
 ghost use Rattle.arachne_lang.specs.Checked.{IsChecked};
 ghost use Rattle.arachne_lang.specs.Program.{source_of};
 
@@ -21,18 +21,18 @@ use std::test::Fail;
 use std::thread::Threads;
 use std::time::Clock;
 
-/// The most runs of a row on one core, which has a report at last.
+/// The maximum number of runs of a row on one core. One of them has a report.
 const RUNS: u64 = 2_000;
 
-/// The runs of one on several cores. Once all memory was used up the C library gives none to a kernel thread that has
-/// just begun, whatever was given back, so that none need have a report.
+/// The maximum number of runs of a row on several cores. None need have a report: once all memory was used up, the C
+/// library gives none to a kernel thread that has just begun, whatever was given back.
 const RUNS_ON_CORES: u64 = 200;
 
-/// How many bytes more there are for each run than for the one before.
+/// The number of bytes that each run has more than the previous one.
 const BYTES: usize = 400;
 
-/// How often a run on one core is repeated with the memory of the first that had a report, and how many bytes more: the
-/// C library keeps some of what is given back for blocks of the same size, of each a few.
+/// The number of times that a run on one core is repeated, with the memory of the first that had a report and `SLACK`
+/// bytes more. The C library keeps a few freed blocks of each size for requests of the same size.
 const REPEATED: usize = 2_000;
 
 const SLACK: usize = 200_000;
@@ -56,7 +56,7 @@ const ORDERS: &[CoreOrder] = &[
     },
 ];
 
-/// A fork.
+/// One fork.
 const FORK: Source = Source {
     ledgers: 0,
     locks: 0,
@@ -72,7 +72,7 @@ const HOLDS: Source = Source {
     expr: "(sweep add 1 (num 0) (num 8) (hold 0 (tally 0 (num 5) (num 1))))",
 };
 
-/// By slices of one step 50 threads wait for one another's lock, whose history grows by more than a run gets.
+/// In slices of one step, 50 threads wait for one lock, whose history grows by more than `BYTES` bytes at once.
 const WANTED: Source = Source {
     ledgers: 0,
     locks: 1,
@@ -80,7 +80,7 @@ const WANTED: Source = Source {
     expr: "(sweep add 1 (num 0) (num 50) (hold 0 (num 1)))",
 };
 
-/// More threads than places, of which some wait for one.
+/// More threads than places. Some of them wait for a place.
 const WAITING: Source = Source {
     ledgers: 0,
     locks: 0,
@@ -115,7 +115,7 @@ const CHAINED: Row = Row {
     ..FORKS
 };
 
-/// What is run on four cores.
+/// The rows that run on four cores.
 const ON_FOUR: &[Row] = &[
     FORKS,
     HOLD,
@@ -131,7 +131,7 @@ const ON_FOUR: &[Row] = &[
 
 const ONE: &[Machine] = &[(1, 100, 1)];
 
-/// What is run on one.
+/// The rows that run on one core.
 const ON_ONE: &[Row] = &[
     Row {
         machines: ONE,
@@ -159,13 +159,13 @@ const ON_ONE: &[Row] = &[
     },
 ];
 
-/// What comes of a run: why it has no report, or whether that says what the row does.
+/// The outcome of a run: its fault, or whether its report shows the row's facts.
 type Tried = Result<bool, RunFault>;
 
-/// A report that says what the row does.
+/// The run has a report that shows the row's facts.
 const WELL: Tried = Ok(true);
 
-/// Whether memory was refused. On several cores that can be a kernel thread's.
+/// Returns whether memory was refused. On several cores it may have been refused to a new kernel thread.
 fn is_want(tried: Tried, cores: u64) -> bool {
     match tried {
         Err(RunFault::Worker(WorkerFault::Memory)) => true,
@@ -174,8 +174,10 @@ fn is_want(tried: Tried, cores: u64) -> bool {
     }
 }
 
-/// Runs a row's program with no memory, and then with a little more each time, until that comes of it, or something
-/// else than want of memory. It counts the runs before, and tells what came of the last one.
+/// Runs a row's program with no memory, and then with `BYTES` bytes more each time.
+///
+/// Stops if the outcome is `last`, or anything but a lack of memory. Returns the number of runs before, and the last
+/// outcome.
 fn refused<R: Threads + Wait + Clock + Sync>(
     rt: &R,
     alloc: Global,
@@ -201,8 +203,8 @@ fn refused<R: Threads + Wait + Clock + Sync>(
     (most, came)
 }
 
-/// Whether a row's program has a report that says what the row does, so often. If each run left something behind, there
-/// would be none for the last ones.
+/// Returns whether a row's program has its report `times` times. If each run left memory behind, the last ones would
+/// have none.
 fn goes_well<R: Threads + Wait + Clock + Sync>(
     rt: &R,
     alloc: Global,
@@ -222,8 +224,9 @@ fn goes_well<R: Threads + Wait + Clock + Sync>(
     true
 }
 
-/// A row's program over a form of table, as memory is used up: how many runs were refused it, and what came of the last
-/// one. On one core it has to have a report again and again then; else want of memory is told.
+/// Runs a row's program while memory is used up. Returns the number of runs that were refused it, and the last outcome.
+///
+/// On one core the program must then have its report again and again. If it has not, the outcome is a lack of memory.
 fn without_memory<R: Threads + Wait + Clock + Sync>(
     rt: &R,
     alloc: Global,
@@ -247,8 +250,9 @@ fn without_memory<R: Threads + Wait + Clock + Sync>(
     (runs, came)
 }
 
-/// A row's program over a form of table: with all memory, as it is used up until that comes of a run, and with all
-/// again. Where that is a fault, the process has its first run without memory.
+/// Runs a row's program with all memory, with memory used up until the outcome is `last`, and with all memory again.
+///
+/// If `last` is a fault, the first part is left out, so that the first run of the process has no memory.
 fn row_ends<R: Threads + Wait + Clock + Sync>(
     rt: &R,
     alloc: Global,
@@ -266,7 +270,7 @@ fn row_ends<R: Threads + Wait + Clock + Sync>(
     Ok(())
 }
 
-/// Whether a row's runs went well before and behind those without memory, and these came to what they were to.
+/// Checks that a row's runs before and after the shortage went well, and that those in the shortage ended as they must.
 fn judge(
     machine: Machine,
     last: Tried,
@@ -283,7 +287,7 @@ fn judge(
     Err(Fail::new(format_args!("{machine:?}: {before} {runs} {came:?} {behind}")))
 }
 
-/// Each row's program over a form of table.
+/// Runs each row's program over a form of table, with and without memory.
 fn rows_end<R: Threads + Wait + Clock + Sync>(
     rt: &R,
     alloc: Global,
@@ -312,7 +316,7 @@ fn each_growth_is_refused_behind_a_lock(rt: HostRuntime) -> Result<(), Fail> {
     rows_end(&rt, rt.alloc(), ON_ONE, Form::Locked, WELL)
 }
 
-/// The first run of the process has no stack for a kernel thread, and the next one has.
+/// The first run of the process has no memory for the stack of a kernel thread, and the next one has.
 #[test]
 fn kernel_threads_are_refused(rt: HostRuntime) -> Result<(), Fail> {
     let last = Err(RunFault::Worker(WorkerFault::KernelThread));

@@ -1,4 +1,4 @@
-//! What a slice is: which steps are charged to it, when it counts, and that none begins once the run is stopped.
+//! Slices: which steps are charged to one, when one counts, and that none begins once the run is stopped.
 use super::cores::FORK;
 use super::facts::{Fact, Telling};
 use super::places::{BESIDE, BESIDE_LONG};
@@ -10,7 +10,7 @@ use arachne_core::SLOTS;
 use arachne_policy::{CoreOrder, OrderKind};
 use std::test::Fail;
 
-/// A child that counts to 5,000, for which there is no place: it waits until its parent awaits it.
+/// A child that counts to 5,000. If it finds no place, it waits for one until its parent awaits it.
 pub(super) const TAKEN_BACK: Source = Source {
     ledgers: 0,
     locks: 0,
@@ -18,7 +18,7 @@ pub(super) const TAKEN_BACK: Source = Source {
     expr: "(fork n (fold (num 0) (num 5000) (num 0) (var 1)) (num 2) (add (var 0) (var 1)))",
 };
 
-/// The same behind 299 others, so that there is no room to wait either.
+/// Like `TAKEN_BACK`, but after 299 other children, so that the queue of children that wait has no room for it.
 pub(super) const AT_ONCE: Source = Source {
     ledgers: 0,
     locks: 0,
@@ -26,13 +26,13 @@ pub(super) const AT_ONCE: Source = Source {
     expr: "(let (sweep add 1 (num 0) (num 300) (var 0)) (fork n (fold (num 0) (num 5000) (num 0) (var 2)) (num 2) (add (var 1) (var 2))))",
 };
 
-/// The root makes 777 steps, 95 of them before each of its forks but the first, and each child has a slice of its own.
+/// The root makes 777 steps, 95 of them before each of its forks but the first. Each child has a slice of its own.
 pub(super) const POSTED: Source = Source {
     expr: "(fork n (num 1) (let (fold (num 0) (num 90) (num 0) (num 0)) (fork n (num 1) (let (fold (num 0) (num 90) (num 0) (num 0)) (fork n (num 1) (let (fold (num 0) (num 90) (num 0) (num 0)) (fork n (num 1) (let (fold (num 0) (num 90) (num 0) (num 0)) (fork n (num 1) (let (fold (num 0) (num 90) (num 0) (num 0)) (fork n (num 1) (let (fold (num 0) (num 90) (num 0) (num 0)) (fork n (num 1) (let (fold (num 0) (num 90) (num 0) (num 0)) (fork n (num 1) (let (fold (num 0) (num 90) (num 0) (num 0)) (num 1)) (num 1))) (num 1))) (num 1))) (num 1))) (num 1))) (num 1))) (num 1))) (num 1))",
     ..TAKEN_BACK
 };
 
-/// Core 1's first slice doesn't end before core 0 has entered its slice 400. By then 400 have ended.
+/// Core 1's first slice does not end before core 0 has entered its slice 400. By then 400 slices have ended.
 const HELD_BACK: Row = Row {
     shows: "a slice counts once it has ended",
     source: BESIDE,
@@ -51,7 +51,8 @@ const HELD_BACK: Row = Row {
     told: "",
 };
 
-/// The root's first step forks a child to core 1, which would enter a slice before the root's.
+/// The root's first step forks a child to core 1. If the gate were called only after that step, core 1 could enter a
+/// slice before it.
 const TOLD_FIRST: Row = Row {
     shows: "the gate is told of a slice before its steps",
     source: FORK,
@@ -66,7 +67,7 @@ const TOLD_FIRST: Row = Row {
     told: "",
 };
 
-/// All threads are on core 0. The root makes 504 steps, and each of its 100 children one, each in a slice of its own.
+/// All threads are on core 0. The root makes 504 steps and each of its 100 children one, each in a slice of its own.
 const ENDS_COUNT: Row = Row {
     shows: "a slice that ends its thread counts",
     source: Source {
@@ -124,7 +125,7 @@ fn a_slice_counts_once_it_has_ended(rt: HostRuntime) -> Result<(), Fail> {
     rows_hold(&rt, rt.alloc(), COUNTS)
 }
 
-/// One thread, which makes some 29,000 steps.
+/// One thread of about 29,000 steps.
 const WHOLE: Row = Row {
     shows: "a slice of a thread that goes on has its whole quantum",
     source: Source {
@@ -166,8 +167,8 @@ fn a_slice_has_its_whole_quantum(rt: HostRuntime) -> Result<(), Fail> {
     rows_hold(&rt, rt.alloc(), WHOLES)
 }
 
-/// Core 3 is closed, so that its kernel thread parks. Two threads are on core 1, and one that is to be alone on core 2.
-/// That one's end stops the run, as the table hands it back, during core 1's first slice.
+/// Core 3 is closed, so that its kernel thread parks. Two threads are on core 1, and an exclusive one is on core 2. The
+/// table hands that one back when it ends, which stops the run during core 1's first slice.
 const STOPPED: Row = Row {
     shows: "no slice begins once the run is stopped",
     source: Source {
@@ -193,7 +194,7 @@ const STOPPED: Row = Row {
 
 const STOPS: &[Row] = &[
     STOPPED,
-    // One thread on core 1, which would go on at once.
+    // One thread on core 1, which would continue at once.
     Row {
         source: Source {
             ledgers: 0,
@@ -203,8 +204,8 @@ const STOPS: &[Row] = &[
         },
         ..STOPPED
     },
-    // The first thread on core 1 holds the lock for which the other one waits, and frees it in core 1's fifth slice. It
-    // counts on then.
+    // The first thread on core 1 holds the lock for which the second waits. It frees the lock in core 1's fifth slice,
+    // and goes on counting.
     Row {
         source: Source {
             ledgers: 0,

@@ -1,4 +1,4 @@
-//! That a run goes through its table.
+//! Tests that a run uses its table.
 use super::cores::FORK;
 use super::facts::{Fact, Telling};
 use super::rows::{Row, rows_hold};
@@ -8,7 +8,7 @@ use crate::gates::Watching;
 use arachne_core::SLOTS;
 use std::test::Fail;
 
-/// A thread that forks none.
+/// A thread that forks no other.
 const SEVEN: Source = Source {
     ledgers: 0,
     locks: 0,
@@ -16,7 +16,7 @@ const SEVEN: Source = Source {
     expr: "(num 7)",
 };
 
-/// The child of the root's child.
+/// The root forks a child, which forks another.
 const GRANDCHILD: Source = Source {
     ledgers: 0,
     locks: 0,
@@ -25,7 +25,7 @@ const GRANDCHILD: Source = Source {
 };
 
 const ROWS: &[Row] = &[
-    // A table that hands each thread back when it is to be finished gives the run no report.
+    // The table hands back each thread that is to be finished, so that the run has no report.
     Row {
         shows: "threads that come back stop the run",
         source: SEVEN,
@@ -39,7 +39,7 @@ const ROWS: &[Row] = &[
         telling: Telling::Nothing,
         told: "Worker(Token)",
     },
-    // That something is out with a seat in the end is none of memory's faults.
+    // Something that is still out with a seat at the end is a `Token` fault, and not one of memory.
     Row {
         shows: "what is out in the end gives no report",
         source: SEVEN,
@@ -53,7 +53,7 @@ const ROWS: &[Row] = &[
         telling: Telling::Nothing,
         told: "Worker(Token)",
     },
-    // Where all other cores answer that they are full, core 0 runs every thread.
+    // If all other cores say that they are full, core 0 runs every thread.
     Row {
         shows: "full cores run nothing",
         source: FORK,
@@ -68,7 +68,7 @@ const ROWS: &[Row] = &[
         told: "",
     },
     // The first claim that is refused memory is the root's for its child on core 0, or that child's for its own on core
-    // 1. The fault of any core's kernel thread is the run's, not that its tokens are missing then.
+    // 1. The run's fault is this refusal, and not that tokens are missing afterwards.
     Row {
         shows: "the first fault is told",
         source: GRANDCHILD,

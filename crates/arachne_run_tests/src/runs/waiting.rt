@@ -1,4 +1,4 @@
-//! How workers wait on a machine whose yields give a turn away to other work, by counts and no time.
+//! Workers that wait, on a machine whose yields give a turn to other work. Counts are checked, not times.
 use super::facts::{Fact, Telling};
 use super::rows::{Row, rows_hold};
 use super::{FORMS, Source};
@@ -9,7 +9,7 @@ use arachne_core::SLOTS;
 use arachne_policy::{CoreOrder, OrderKind};
 use std::test::Fail;
 
-/// A thousand threads hold a lock.
+/// A thousand threads hold a lock, once each.
 const HOLDS: Row = Row {
     shows: "who yields in vain yields no more",
     source: Source {
@@ -31,9 +31,11 @@ const HOLDS: Row = Row {
 
 const HELD: &[Row] = &[HOLDS];
 
-/// A worker that has yielded once doesn't do so in the next 4,096 rounds that find something, and a run of a thousand
-/// holds has fewer. So each of the four workers may yield once in each of the two runs, and looks twice at the clock:
-/// one that can be read at each look, at none, or at every other one.
+/// Checks that a worker stops yielding once it has yielded in vain.
+///
+/// After a yield a worker does not yield again in its next 4,096 rounds that find something, and a run of a thousand
+/// holds has fewer. So each of the four workers may yield once in each of the two runs, and looks twice at the clock.
+/// The clock can be read at each look, at none, or at every other one.
 #[test]
 fn who_yields_in_vain_yields_no_more(rt: HostRuntime) -> Result<(), Fail> {
     for fails in 0..3 {
@@ -47,9 +49,9 @@ fn who_yields_in_vain_yields_no_more(rt: HostRuntime) -> Result<(), Fail> {
     Ok(())
 }
 
-/// The root forks 30 children to core 1, and counts to 5,000 behind each, so that core 1's worker has run that one and
-/// sleeps when the next one comes. No thread is moved, since an exclusive fork stands there, which is never made. Where
-/// nobody told it of them, each sleep would end by its time.
+/// The root forks 30 children to core 1, and counts to 5,000 after each, so that core 1's worker has run the child and
+/// sleeps when the next one comes. The program has an exclusive fork, which is never made, so that no thread is moved.
+/// If nobody woke the worker, each of its sleeps would time out.
 const TOLD: Row = Row {
     shows: "who sleeps is told of what it may run",
     source: Source {
@@ -73,8 +75,8 @@ const TOLD: Row = Row {
     told: "",
 };
 
-/// Core 1's worker has run a child, has nothing to run any more, and sleeps when its core is taken back. By the slice
-/// in which it gets time for that, five slices have ended at most.
+/// Core 1's worker has run a child, has nothing more to run, and sleeps when its core is taken back. At most five
+/// slices have ended before the pause in which it falls asleep.
 const TAKEN_BACK: Row = Row {
     shows: "who sleeps is told that its core is taken back",
     source: Source {

@@ -1,13 +1,26 @@
 //! The proved core: each call of a handle is one of `libarachne_exec_c.a`, as `arachne_exec.h` declares it.
 //!
-//! The rules of the header, and who keeps them here. *A handle is null at first, its pointer is written by the library
-//! alone, and it is never copied*: `Handle` is made by `Handle::empty`, moved and never cloned. *One thread at a time
-//! with each handle*: no call of the library calls back, and a type that has one is `Send` and not `Sync`, but for
-//! `Crew`. *Two handles where two are asked for, of one origin*: `Root` splits and joins its own alone. *Pointers that
-//! are not null*: all are from references. *No call from a signal handler or behind a fork*: this crate makes none.
+//! The rules on which the proofs reach a program, and what keeps each:
 //!
-//! A handle has at most one job in hand, so a thread has several. With a job goes the seat that has it: who takes a job
-//! out of another's hand has that one's seat until the job is laid down.
+//! - *A handle is null at first, only the library writes its pointer, and it is never copied*: `Handle` is made by
+//!   `Handle::empty`, moved and never cloned.
+//! - *One thread at a time uses a handle*: no call of the library calls back, and a type that has one is `Send` and not
+//!   `Sync`, except `Crew`. A job in a hand goes with its handle to the one worker that takes it (`hand.rs`).
+//! - *Two handles in one call have one origin*: `Root` splits and joins only its own.
+//! - *Pointers are not null*: all are from references.
+//! - *The declarations agree with the archive*: `tests/header.rs` compares each code, field and signature.
+//! - *A task's pointer is made, used and freed once*: `task.rs`.
+//! - *Tables outlive wakers*: a runtime's table is never freed. A later runtime of its shape uses it again, and
+//!   generations go on.
+//! - *An unpark is obeyed*: a worker sleeps in the epoll, whose event stays raised until a waiter has seen it, or on
+//!   its bell, which stays rung. The worker to wake is looked up after the call.
+//! - *No panic crosses a call of the library*: panics of tasks are caught, and a panic of a worker's loop aborts.
+//! - *No call from a signal handler or after a fork*: this crate makes none; a program must use no waker there.
+//! - *`malloc`, `realloc` and `free` are of one allocator*: the C library's; a program that replaces one must replace
+//!   all three.
+//!
+//! A handle, called a seat here, has at most one job in hand, so a thread has several. The seat goes with its job: a
+//! thread that steals a job uses its seat until it lays the job down.
 
 use super::{Asked, Freed, Job, Line, Rested, Spawned, Woken, BLOCK, MOST_SHARDS, NUMBERS};
 use crate::cores::{Advice, Sample};
@@ -24,7 +37,7 @@ use declarations::*;
 
 #[repr(transparent)]
 struct Handle(UnsafeCell<arachne_exec>);
-// SAFETY: the header: a handle may go from thread to thread, over a thread's start or join, or a lock.
+// SAFETY: by the header a handle may move to another thread, ordered by a thread's start or join, or by a lock.
 unsafe impl Send for Handle {}
 
 impl Handle {
@@ -37,10 +50,10 @@ impl Handle {
         self.0.get()
     }
 
-    /// Another seat of the same executor.
+    /// Returns another handle on the same executor.
     fn split(&self) -> Option<Handle> {
         let other = Handle::empty();
-        // SAFETY: two handles, the second of which holds nothing.
+        // SAFETY: two handles; the second is null.
         (unsafe { arachne_exec_split(self.at(), other.at()) } == ARACHNE_DONE).then_some(other)
     }
 }
@@ -55,37 +68,35 @@ impl Drop for Handle {
 /// A runtime's executor, from which threads get their seats.
 pub(crate) struct Root(Handle);
 
-/// Seats of a thread that others may have at a time, each with its job, so that it has some left.
+/// The most seats of a thread that other threads may use at a time, so that it keeps some.
 const AWAY: u64 = 24;
 
-/// The seats of kernel threads that take jobs out of each other's hands: so many of each.
+/// The seats of threads that steal jobs from each other, `each` per thread.
 struct Crew {
     seats: Box<[Handle]>,
     each: usize,
     members: Box<[Line<Member>]>,
 }
 
-/// Of the seats of one thread, those that others have laid down jobs by, as bits, and how many others have.
+/// Of one thread's seats, those that other threads have given back, as bits, and the number that others use.
 #[derive(Default)]
 struct Member {
     laid: AtomicU64,
     away: AtomicU64,
 }
 
-// SAFETY: a seat's handle is used by one thread at a time. The first of each thread is its own for ever. Any other is
-// used by the thread that has the seat: at first the one of whose seats it is; then whoever takes the job that the seat
-// has, which orders the accesses, until that lays the job down and sets the seat's bit, by which its thread gets it
-// back.
+// SAFETY: a seat's handle is used by one thread at a time. The first of each thread is always its own. Any other is
+// used by its owner, until another thread steals the seat's job, which orders the accesses. That thread uses the seat
+// until it lays the job down and sets the seat's bit in `laid`, by which the owner gets it back.
 unsafe impl Sync for Crew {}
 
-/// What a kernel thread has of an executor, to take and lay down jobs: a seat for each job that it may have in hand,
-/// and the first for calls that leave its hand as it was.
+/// A thread's seats: one for each job that it may have in hand, and the first for calls that leave the hand unchanged.
 pub(crate) struct Hands {
     crew: Arc<Crew>,
     me: usize,
     /// Its seats with nothing in hand, as bits.
     free: Cell<u64>,
-    /// By seat, the index in a block from which on its next take looks. The library goes round a block by seat.
+    /// By seat, the index in a block at which its next take starts: the library goes round a block by seat.
     from: Vec<Cell<u32>>,
     /// The seat by which blocks are swept.
     sweeps: Cell<usize>,
@@ -95,15 +106,15 @@ pub(crate) struct Hands {
 pub(crate) struct Parking(Handle);
 
 impl Root {
-    /// An executor of so many shards, at most 256. None where memory is refused.
+    /// Makes an executor of `shards` shards, at most 256. Returns None if memory is refused.
     pub(crate) fn new(shards: usize) -> Option<Root> {
         let handle = Handle::empty();
-        // SAFETY: a handle that holds nothing.
+        // SAFETY: a null handle.
         let made = shards <= MOST_SHARDS && unsafe { arachne_exec_new(handle.at(), shards) } == ARACHNE_DONE;
         made.then(|| Root(handle))
     }
 
-    /// Seats for so many threads, of which each has at most so many jobs in hand, less than 64.
+    /// Makes the seats of `threads` threads, each with at most `most` jobs in hand; `most` is less than 64.
     pub(crate) fn crew(&mut self, threads: usize, most: usize) -> Option<Vec<Hands>> {
         let each = 1 + most;
         let seats = (0..threads * each).map(|_| self.0.split()).collect::<Option<Box<[_]>>>()?;
@@ -118,7 +129,7 @@ impl Root {
         Some((0..threads).map(hands).collect())
     }
 
-    /// Gets a thread's seats back, with nothing in hand: those of a crew as the last of it comes.
+    /// Takes a thread's seats back, with nothing in hand. The last thread of a crew joins all its handles.
     pub(crate) fn join(&mut self, hands: Hands) {
         for seat in Arc::try_unwrap(hands.crew).map_or(Box::default(), |crew| crew.seats).iter() {
             // SAFETY: two handles of one origin.
@@ -127,6 +138,7 @@ impl Root {
         }
     }
 
+    /// Makes the right to park this number. Returns None if memory is refused.
     pub(crate) fn parking(&mut self, number: usize) -> Option<Parking> {
         let seat = self.0.split()?;
         // SAFETY: a handle.
@@ -136,9 +148,10 @@ impl Root {
 }
 
 impl Parking {
-    /// The core's leave to sleep: its idle bit is set, and each ready word was found empty since.
+    /// Asks the core for leave to sleep. If it returns true, the idle bit is set, and every summary word was found
+    /// empty after that.
     ///
-    /// It is asked by `next`, which also hides blocks that were found empty; a job that this finds is ready again.
+    /// It calls `next`, which also hides empty blocks. If that takes a job, the job is made ready again.
     pub(crate) fn park(&self) -> bool {
         // SAFETY: a handle.
         let told = unsafe { arachne_exec_next(self.0.at()) };
@@ -157,14 +170,14 @@ impl Parking {
         }
     }
 
-    /// Whoever looks after the number sleeps no more.
+    /// Clears the number's idle bit: the worker that looks after it is awake.
     pub(crate) fn wake_up(&self) {
         // SAFETY: a handle.
         unsafe { arachne_exec_wake_up(self.0.at()) };
     }
 }
 
-/// The indices of a block from one to another, round it, as bits.
+/// Returns the indices of a block from `from` to `to`, wrapping round, as bits.
 #[inline]
 fn round(from: u32, to: u32) -> u64 {
     let (ahead, until) = (u64::MAX << from, u64::MAX >> (BLOCK as u32 - 1 - to));
@@ -175,7 +188,7 @@ fn round(from: u32, to: u32) -> u64 {
     }
 }
 
-/// The thread of whose seats this is one, and which.
+/// Returns the thread that owns a seat, and the seat's index there.
 #[inline]
 fn owner(seat: u16) -> (usize, usize) {
     (seat as usize >> 6, seat as usize & 63)
@@ -193,14 +206,15 @@ impl Hands {
         self.crew.seats[owner * self.crew.each + which].at()
     }
 
-    /// The seat for a call that leaves its hand as it was.
+    /// Returns the seat for calls that leave the hand unchanged.
     #[inline]
     fn any(&self) -> *mut arachne_exec {
         self.crew.seats[self.me * self.crew.each].at()
     }
 
-    /// This thread has taken a job out of another's hand. False where it is to be made ready at once, so that the
-    /// thread of whose seats one has it keeps some.
+    /// Records that this thread has taken a job out of another's hand, and its seat with it.
+    ///
+    /// Returns false if the job must be made ready at once, so that the owner of the seat keeps enough seats.
     pub(crate) fn gets(&self, job: &Job, of: usize) -> bool {
         let owner = owner(job.seat).0;
         let away = &self.crew.members[owner].0.away;
@@ -210,7 +224,7 @@ impl Hands {
         owner != of || away.fetch_add(1, Relaxed) < AWAY
     }
 
-    /// Puts a job into a place of the block; with `keep` it stays in this thread's hand.
+    /// Puts a job into a place of the block. With `keep` it stays in this thread's hand.
     #[inline]
     pub(crate) fn spawn(&self, block: usize, job: u64, keep: bool) -> Spawned {
         let own = if keep { self.last_free() } else { None };
@@ -238,21 +252,21 @@ impl Hands {
         }
     }
 
-    /// A job that was kept is about to run.
+    /// Begins a job that was kept in hand. Does nothing in this form.
     #[inline]
     pub(crate) fn begin(&self, _job: &Job) {}
 
-    /// One ready job of a block. Where no other thread takes, None means that there is none.
+    /// Takes one ready job of a block. If no other thread takes at the time, None means that there is none.
     #[inline]
     pub(crate) fn take_any(&self, block: usize) -> Option<Job> {
         self.take(self.last_free()?, block)
     }
 
-    /// The next job of a sweep over those `wanted` of a block, as bits; one that has become ready since may come before
-    /// them. Each is wanted until it was passed, so that a job which is ready again and again keeps no other waiting.
+    /// Takes the next job of a sweep over the places `wanted` of a block, as bits.
     ///
-    /// It takes by one seat for as long as that is free: seats by turns would each go round the block by itself, and
-    /// follow one another over the same jobs.
+    /// A job that has become ready since may come before them. A place is wanted until the sweep has passed it, so that
+    /// a job which is ready again and again keeps no other waiting. The sweep uses one seat as long as that is free:
+    /// the library goes round a block by seat, so several seats would follow one another over the same jobs.
     #[inline]
     pub(crate) fn take_next(&self, block: usize, wanted: &mut u64) -> Option<Job> {
         let seat = self.sweeping()?;
@@ -278,26 +292,27 @@ impl Hands {
         None
     }
 
-    /// Which places of a block have a ready job, as bits.
+    /// Returns the places of a block that have a ready job, as bits.
     #[inline]
     pub(crate) fn ready(&self, block: usize) -> u64 {
         // SAFETY: a handle.
         unsafe { arachne_exec_ready(self.any(), block) }
     }
 
-    /// The blocks of a shard that may have ready jobs, as bits.
+    /// Returns the blocks of a shard that may have ready jobs, as bits.
     #[inline]
     pub(crate) fn shown(&self, shard: usize) -> u64 {
         // SAFETY: a handle.
         unsafe { arachne_exec_shown(self.any(), shard) }
     }
 
-    /// The block was found empty. Whether it is shown on: `Parking::park` hides it.
+    /// Hides an empty block. Returns true, as it is still shown in this form: only `Parking::park` hides blocks.
     #[inline]
     pub(crate) fn hide(&self, _block: usize) -> bool {
         true
     }
 
+    /// Gives a seat back to its owner, with nothing in hand.
     #[inline]
     fn is_free(&self, seat: u16) {
         let (owner, which) = owner(seat);
@@ -309,7 +324,7 @@ impl Hands {
         member.away.fetch_sub(1, Relaxed);
     }
 
-    /// Its seats with nothing in hand.
+    /// Returns its seats with nothing in hand; if there are none, collects those that other threads have given back.
     #[inline]
     fn free(&self) -> u64 {
         match self.free.get() {
@@ -318,7 +333,7 @@ impl Hands {
         }
     }
 
-    /// The seat that swept last, or where it has a job in hand, the first that has none.
+    /// Takes the seat that swept last or, if that has a job in hand, the first free one.
     #[inline]
     fn sweeping(&self) -> Option<u16> {
         let free = self.free();
@@ -332,7 +347,7 @@ impl Hands {
         Some(self.own(self.sweeps.get()))
     }
 
-    /// A seat for what isn't swept, from the last on.
+    /// Takes the last free seat, for all but sweeps.
     #[inline]
     fn last_free(&self) -> Option<u16> {
         let free = self.free();
@@ -346,7 +361,7 @@ impl Hands {
         (self.me << 6 | which) as u16
     }
 
-    /// Makes a job in hand ready; whether the shard's thread has to be woken.
+    /// Makes a job in hand ready. Returns true if the caller must wake the worker of its shard.
     #[inline]
     pub(crate) fn rest_ready(&self, job: &Job) -> bool {
         // SAFETY: a handle.
@@ -358,7 +373,7 @@ impl Hands {
         told.unpark != ARACHNE_NOBODY
     }
 
-    /// A job in hand waits for a wake, unless a wake has come that no take or start has used up.
+    /// Blocks a job in hand until a wake, unless there was one since it was taken.
     #[inline]
     pub(crate) fn rest_blocked(&self, job: &Job) -> Rested {
         // SAFETY: a handle.
@@ -371,7 +386,7 @@ impl Hands {
         }
     }
 
-    /// A job in hand has ended; its place is free, and its name means nobody.
+    /// Ends a job in hand. Its place is free, and its name is never used again.
     #[inline]
     pub(crate) fn finish(&self, job: &Job) {
         // SAFETY: a handle.
@@ -382,7 +397,7 @@ impl Hands {
         self.is_free(job.seat);
     }
 
-    /// Wakes the job of this name; with `keep` it comes into this thread's hand where it waited.
+    /// Wakes the job of this name. If it waited, `keep` takes it into this thread's hand.
     #[inline]
     pub(crate) fn wake(&self, name: u64, keep: bool) -> Woken {
         let own = if keep { self.last_free() } else { None };
@@ -414,11 +429,11 @@ impl Hands {
 
 // ---------------------------------------------------------------------------------------------- locks
 
-/// Locks of a set. Sets are made as they are needed, and kept.
+/// The number of locks of a set. Sets are made as they are needed, and never freed.
 const LOCKS: usize = 1024;
 
 struct LockHandle(UnsafeCell<arachne_locks>);
-// SAFETY: as of `Handle`.
+// SAFETY: as for `Handle`.
 unsafe impl Send for LockHandle {}
 
 impl LockHandle {
@@ -437,7 +452,7 @@ impl Drop for LockHandle {
 #[derive(Default)]
 struct Sets {
     roots: Vec<LockHandle>,
-    /// Locks that nobody has: set and number.
+    /// The unused locks: set and number.
     free: Vec<(usize, usize)>,
 }
 
@@ -467,13 +482,13 @@ fn split_locks(set: usize) -> LockHandle {
     let sets = SETS.lock().unwrap_or_else(|e| e.into_inner());
     let other = LockHandle::empty();
     let root = &sets.as_ref().expect("a set").roots[set];
-    // SAFETY: two handles, the second of which holds nothing.
+    // SAFETY: two handles; the second is null.
     let code = unsafe { arachne_locks_split(root.0.get(), other.0.get()) };
     assert_eq!(code, ARACHNE_DONE, "no memory for a lock's seat");
     other
 }
 
-/// A number that no other thread asks with, and odd: numbers of threads that have ended go to later ones.
+/// Returns an odd number that no other call returns, as a name to ask for a lock in.
 fn odd_number() -> u64 {
     static NEXT: AtomicU64 = AtomicU64::new(0);
     ASKED.with(|asked| {
@@ -485,11 +500,11 @@ fn odd_number() -> u64 {
     })
 }
 
-/// Who holds a lock and who is next.
+/// The core's part of a lock: its holder, and the line of those who wait.
 pub(crate) struct LockCore {
     set: usize,
     lock: usize,
-    /// It was held when somebody last asked: then it isn't tried without a place in the line.
+    /// The lock is probably held: then `try_ask` fails without a call of the core.
     held: AtomicBool,
 }
 
@@ -499,7 +514,7 @@ impl Default for LockCore {
         let sets = sets.get_or_insert_with(Sets::default);
         if sets.free.is_empty() {
             let root = LockHandle::empty();
-            // SAFETY: a handle that holds nothing.
+            // SAFETY: a null handle.
             let code = unsafe { arachne_locks_new(root.0.get(), LOCKS) };
             assert_eq!(code, ARACHNE_DONE, "no memory for a set of locks");
             let set = sets.roots.len();
@@ -513,7 +528,7 @@ impl Default for LockCore {
 
 impl Drop for LockCore {
     fn drop(&mut self) {
-        // One whose guard was forgotten is held for ever, and is not used again.
+        // If its guard was leaked, the lock is held for ever and is not used again.
         self.held.store(false, Relaxed);
         if let Some(who) = self.try_ask() {
             self.free(who);
@@ -538,7 +553,7 @@ impl LockCore {
         called.unwrap_or_else(|_| call(split_locks(self.set).0.get()))
     }
 
-    /// Asks again while another thread was at it.
+    /// Repeats a call while another thread's call is in progress.
     #[inline]
     fn insist(&self, call: impl Fn(*mut arachne_locks) -> arachne_lock_told) -> arachne_lock_told {
         loop {
@@ -550,7 +565,7 @@ impl LockCore {
         }
     }
 
-    /// Takes the lock where it is free; the name in which it is held.
+    /// Takes the lock if it is free. Returns the name in which it is held.
     #[inline]
     pub(crate) fn try_ask(&self) -> Option<u64> {
         if self.held.load(Relaxed) {
@@ -563,7 +578,7 @@ impl LockCore {
         }
     }
 
-    /// Asks in a name that nobody else has in this lock.
+    /// Asks for the lock, in a name that no other waiter or holder has.
     #[inline]
     pub(crate) fn ask(&self, who: u64) -> Asked {
         // SAFETY: a handle.
@@ -577,6 +592,7 @@ impl LockCore {
         }
     }
 
+    /// Frees the lock, held in this name.
     #[inline]
     pub(crate) fn free(&self, who: u64) -> Freed {
         // SAFETY: a handle.
@@ -591,7 +607,7 @@ impl LockCore {
         }
     }
 
-    /// One that waits leaves the line. False where it holds the lock by now.
+    /// Removes a waiter from the line. Returns false if it holds the lock by now.
     pub(crate) fn withdraw(&self, who: u64) -> bool {
         // SAFETY: a handle.
         let told = self.insist(|seat| unsafe { arachne_lock_withdraw(seat, self.lock, who) });
@@ -605,7 +621,7 @@ impl LockCore {
 
 // ---------------------------------------------------------------------------------------------- the policy
 
-/// When to ask for a core and when to give one back.
+/// Decides when to ask for a core, and when to give one back.
 pub(crate) struct Estimator(arachne_estimator);
 
 impl Estimator {

@@ -1,12 +1,12 @@
-//! The executor's core: who has which task in hand, what is ready, and who sleeps, behind one interface in two forms.
+//! The executor's core, behind one interface in two forms: which handle has a task in hand, which tasks are ready, and
+//! which workers may sleep.
 //!
 //! By default each call is one of the proved library `libarachne_exec_c.a` (`library.rs`). With the feature `model` the
-//! same steps are made by Rust's atomics (`model.rs`); that form needs no archive, and it is **not** the proved code.
+//! same steps are made by Rust's atomics (`model.rs`); that form needs no archive, and is **not** the proved code.
 //!
-//! A task is a *job*: a number of 64 bits at a *place*. Places come in blocks of 64, and blocks in *shards* of 64. Each
-//! shard has a number, its own modulo 64, and the kernel thread that looks after that number has a parking seat for it.
-//! A place and a generation are a job's *name*. Between any two calls a place is free, ready, blocked, or in the hand of
-//! one seat.
+//! A task is a *job*: a number of 64 bits at a *place*. A block has 64 places, and a *shard* has 64 blocks. Each shard
+//! has a number, its index modulo 64; the thread that looks after that number has a `Parking` for it. A place and a
+//! generation make a job's *name*. Between any two calls a place is free, ready, blocked, or in the hand of one seat.
 
 #[cfg(feature = "model")]
 mod model;
@@ -23,14 +23,14 @@ pub(crate) use library::{Estimator, Hands, LockCore, Parking, Root};
 #[derive(Default)]
 pub(crate) struct Line<T>(pub(crate) T);
 
-/// Places of a block, and blocks of a shard: few where each step is one of the explorer's.
+/// Places of a block, and blocks of a shard; few for the explorer, whose schedules count each step.
 pub(crate) const BLOCK: usize = if cfg!(feature = "explore") { 2 } else { 64 };
 pub(crate) const SHARD: usize = if cfg!(feature = "explore") { 2 } else { 64 };
-/// Numbers of shards that are looked after together, and workers at most.
+/// The number of different shard numbers, and the most workers.
 pub(crate) const NUMBERS: usize = 64;
-/// Bits of a name that are its place; the others are its generation.
+/// The bits of a name that are its place; the others are its generation.
 pub(crate) const PLACE_BITS: u32 = 20;
-/// Shards at most, as a name has 20 bits for a place.
+/// The most shards, as a name has 20 bits for a place.
 pub(crate) const MOST_SHARDS: usize = (1 << PLACE_BITS) / (BLOCK * SHARD);
 
 /// A job in a seat's hand.
@@ -38,7 +38,7 @@ pub(crate) const MOST_SHARDS: usize = (1 << PLACE_BITS) / (BLOCK * SHARD);
 pub(crate) struct Job {
     pub(crate) name: u64,
     pub(crate) job: u64,
-    /// Which of the seats of its crew has it.
+    /// The seat that has it: see `library.rs`.
     pub(crate) seat: u16,
 }
 
@@ -54,18 +54,18 @@ pub(crate) fn place_of(name: u64) -> usize {
     name as usize & ((1 << PLACE_BITS) - 1)
 }
 
-/// What became of a job that was handed over.
+/// The result of spawning a job.
 #[derive(Clone, Copy, PartialEq, Eq, Debug)]
 pub(crate) enum Spawned {
-    /// It is ready in its block; whether the shard's thread has to be woken.
+    /// It is ready in its block. If `unpark`, the caller must wake the worker of its shard.
     Ready { name: u64, unpark: bool },
     /// It is in a seat's hand.
     Kept(Job),
-    /// No place of the block is free. The caller has the job as before.
+    /// No place of the block is free. The caller keeps the job.
     Full,
 }
 
-/// What became of a job whose poll has ended without its end.
+/// The result of laying down a job that has not ended.
 #[derive(Clone, Copy, PartialEq, Eq, Debug)]
 pub(crate) enum Rested {
     /// It waits for a wake.
@@ -73,35 +73,35 @@ pub(crate) enum Rested {
     /// It was woken while it ran, and stays in the seat's hand.
     #[cfg_attr(not(feature = "model"), allow(dead_code))]
     InHand,
-    /// It was woken while it ran, and is ready; whether the shard's thread has to be woken.
+    /// It was woken while it ran, and is ready. If `unpark`, the caller must wake the worker of its shard.
     #[cfg_attr(feature = "model", allow(dead_code))]
     Ready { unpark: bool },
 }
 
-/// What a wake did.
+/// The result of a wake.
 #[derive(Clone, Copy, PartialEq, Eq, Debug)]
 pub(crate) enum Woken {
     /// The job waited, and is now in a seat's hand.
     Kept(Job),
-    /// The job waited, and is now ready in its block; whether the shard's thread has to be woken.
+    /// The job waited, and is now ready in its block. If `unpark`, the caller must wake the worker of its shard.
     Ready { unpark: bool },
-    /// The job runs or is ready, and knows that it was woken.
+    /// The job runs or is ready, and is marked as woken.
     Marked,
-    /// The name's job has ended.
+    /// The job of this name has ended.
     Gone,
 }
 
-/// What the lock said to one that asks.
+/// The result of asking for a lock.
 #[derive(Clone, Copy, PartialEq, Eq, Debug)]
 pub(crate) enum Asked {
     Granted,
     Queued,
 }
 
-/// What the lock said to its holder that frees it.
+/// The result of freeing a lock.
 #[derive(Clone, Copy, PartialEq, Eq, Debug)]
 pub(crate) enum Freed {
     Free,
-    /// The next in line holds it now, and has to be told.
+    /// The waiter of this name holds it now; the caller must wake it.
     HandedOn(u64),
 }

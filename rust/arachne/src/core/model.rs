@@ -1,8 +1,8 @@
 //! The core's steps on Rust's atomics: a stand-in for the proved library, for tests, ThreadSanitizer and comparison.
 //!
-//! The ready word is the mark: a job is ready by its bit in the ready word of its block, and by nothing else. Whoever
-//! clears the bit has the job. A place's mark is four times its generation, plus 1 where its job was woken since it was
-//! taken, plus 2 where it is blocked. Each shard has a summary word, with a bit for a block that may have ready jobs.
+//! A job is ready if its bit in the ready word of its block is set; the thread that clears the bit has the job. A
+//! place's mark is four times its generation, plus 1 if its job was woken since it was taken, plus 2 if it is blocked.
+//! Each shard has a summary word, with a bit for each block that may have ready jobs.
 
 use super::{
     place_of, Asked, Freed, Job, Line, Rested, Spawned, Woken, BLOCK, MOST_SHARDS, NUMBERS, PLACE_BITS, SHARD,
@@ -28,8 +28,8 @@ struct Table {
     summary: Box<[Line<AtomicU64>]>,
     idle: Line<AtomicU64>,
 }
-// SAFETY: a slot is read and written by the seat that has its place in hand alone: the one that cleared its bit in the
-// free or the ready word, or took its mark from blocked. Those steps order the accesses.
+// SAFETY: only the seat that has a place in hand accesses its slot: the one that cleared its bit in the free or the
+// ready word, or took its mark from blocked. Those steps order the accesses.
 unsafe impl Sync for Table {}
 // SAFETY: as above; the numbers in the slots belong to no thread.
 unsafe impl Send for Table {}
@@ -45,14 +45,19 @@ impl Table {
         &self.blocks[place / BLOCK].marks[place % BLOCK]
     }
 
+    /// Returns the slot of a place.
+    ///
     /// # Safety
-    /// The caller's seat has the place in hand.
+    /// It may only be accessed while the caller's seat has the place in hand.
     #[inline]
     unsafe fn slot(&self, place: usize) -> *mut u64 {
         self.blocks[place / BLOCK].slots[place % BLOCK].get()
     }
 
-    /// The last steps of what makes ready. Where the word had a bit already, whoever set its first one looks.
+    /// Makes the job of a place ready. Returns true if the caller must wake the worker of its shard.
+    ///
+    /// If the ready word had a bit already, the thread that set its first one does the rest. The order closes the race
+    /// with `park`: the ready bit, then the summary bit, then a look at the idle bit.
     #[inline]
     fn publish(&self, place: usize) -> bool {
         let block = place / BLOCK;
@@ -68,7 +73,10 @@ impl Table {
         self.idle.0.load(SeqCst) & idle != 0 && self.idle.0.fetch_and(!idle, SeqCst) & idle != 0
     }
 
-    /// Clears the summary bit of a block that was found empty, and looks again.
+    /// Clears the summary bit of an empty block. Returns false, with the bit set again, if a job has become ready.
+    ///
+    /// The ready word must be read after the bit is cleared: `publish` sets the summary bit only for the word's first
+    /// job.
     fn hide(&self, block: usize) -> bool {
         let (summary, bit) = (&self.summary[block / SHARD].0, 1 << (block % SHARD));
         summary.fetch_and(!bit, SeqCst);
@@ -89,15 +97,14 @@ impl Table {
 /// A runtime's table, from which threads get their seats.
 pub(crate) struct Root(Arc<Table>);
 
-/// What a kernel thread has of a table, to take and lay down jobs. It may go to another thread, and is used by one at
-/// a time.
+/// A thread's access to a table. It may move to another thread, and is used by one at a time.
 pub(crate) struct Hands {
     table: Arc<Table>,
-    /// Keeps it from being shared between threads.
+    /// Makes it not `Sync`.
     _one_thread: Cell<()>,
 }
 
-/// The right to sleep in the name of the shards of one number.
+/// The right to park the shards of one number.
 pub(crate) struct Parking {
     table: Arc<Table>,
     number: usize,
@@ -105,7 +112,7 @@ pub(crate) struct Parking {
 }
 
 impl Root {
-    /// A table of so many shards, at most 256. None where memory is refused.
+    /// Makes a table of `shards` shards, at most 256. Returns None if that is out of range.
     pub(crate) fn new(shards: usize) -> Option<Root> {
         if shards == 0 || shards > MOST_SHARDS {
             return None;
@@ -123,12 +130,12 @@ impl Root {
         })))
     }
 
-    /// Seats for so many threads, of which each has at most so many jobs in hand.
+    /// Makes the access of `threads` threads.
     pub(crate) fn crew(&mut self, threads: usize, _most: usize) -> Option<Vec<Hands>> {
         Some((0..threads).map(|_| Hands { table: self.0.clone(), _one_thread: Cell::new(()) }).collect())
     }
 
-    /// Gets a thread's seats back, with nothing in hand.
+    /// Takes a thread's access back, with nothing in hand.
     pub(crate) fn join(&mut self, hands: Hands) {
         debug_assert!(Arc::ptr_eq(&self.0, &hands.table));
     }
@@ -139,7 +146,9 @@ impl Root {
 }
 
 impl Parking {
-    /// Sets the number's idle bit and then looks at all its ready words: true where each was empty.
+    /// Sets the number's idle bit, and then looks at all its ready words. Returns true if they were empty.
+    ///
+    /// In this order: a thread that publishes sets its ready bit before it looks at the idle bit.
     pub(crate) fn park(&self) -> bool {
         let table = &*self.table;
         table.idle.0.fetch_or(1 << self.number, SeqCst);
@@ -157,14 +166,14 @@ impl Parking {
         true
     }
 
-    /// Whoever looks after the number sleeps no more.
+    /// Clears the number's idle bit: the worker that looks after it is awake.
     pub(crate) fn wake_up(&self) {
         self.table.wake_up(self.number);
     }
 }
 
 impl Hands {
-    /// Puts a job into a place of the block; with `keep` it stays in this thread's hand.
+    /// Puts a job into a place of the block. With `keep` it stays in this thread's hand.
     #[inline]
     pub(crate) fn spawn(&self, block: usize, job: u64, keep: bool) -> Spawned {
         let free = &self.table.blocks[block].free.0;
@@ -190,13 +199,13 @@ impl Hands {
         }
     }
 
-    /// This thread has taken a job out of another's hand. False where it is to be made ready at once.
+    /// Records that this thread has taken a job out of another's hand. Always returns true in this form.
     #[inline]
     pub(crate) fn gets(&self, _job: &Job, _of: usize) -> bool {
         true
     }
 
-    /// A job that was kept is about to run: wakes that came since are answered by that run.
+    /// Begins a job that was kept in hand, and clears its mark: the poll that follows answers earlier wakes.
     #[inline]
     pub(crate) fn begin(&self, job: &Job) {
         let mark = self.table.mark(job.place());
@@ -206,13 +215,13 @@ impl Hands {
         }
     }
 
-    /// One ready job of a block. Where no other thread takes, None means that there is none.
+    /// Takes one ready job of a block. If no other thread takes at the time, None means that there is none.
     pub(crate) fn take_any(&self, block: usize) -> Option<Job> {
         let mut any = self.ready(block);
         self.take_next(block, &mut any)
     }
 
-    /// The next job of a sweep over those `wanted` of a block, as bits.
+    /// Takes the next job of a sweep over the places `wanted` of a block, as bits.
     #[inline]
     pub(crate) fn take_next(&self, block: usize, wanted: &mut u64) -> Option<Job> {
         let ready = &self.table.blocks[block].ready.0;
@@ -235,25 +244,25 @@ impl Hands {
         None
     }
 
-    /// Which places of a block have a ready job, as bits.
+    /// Returns the places of a block that have a ready job, as bits.
     #[inline]
     pub(crate) fn ready(&self, block: usize) -> u64 {
         self.table.blocks[block].ready.0.load(Relaxed)
     }
 
-    /// The blocks of a shard that may have ready jobs, as bits.
+    /// Returns the blocks of a shard that may have ready jobs, as bits.
     #[inline]
     pub(crate) fn shown(&self, shard: usize) -> u64 {
         self.table.summary[shard].0.load(SeqCst)
     }
 
-    /// The block was found empty: it isn't shown any more, unless it has jobs by now. False: nothing is left to hide.
+    /// Hides an empty block, unless it has jobs by now. Returns false, as nothing is left to hide.
     pub(crate) fn hide(&self, block: usize) -> bool {
         self.table.hide(block);
         false
     }
 
-    /// Makes a job in hand ready; whether the shard's thread has to be woken.
+    /// Makes a job in hand ready. Returns true if the caller must wake the worker of its shard.
     #[inline]
     pub(crate) fn rest_ready(&self, job: &Job) -> bool {
         // SAFETY: the job is in this thread's hand.
@@ -261,7 +270,7 @@ impl Hands {
         self.table.publish(job.place())
     }
 
-    /// A job in hand waits for a wake, unless a wake has come that no take or start has used up.
+    /// Blocks a job in hand until a wake, unless there was one since it was taken or begun.
     #[inline]
     pub(crate) fn rest_blocked(&self, job: &Job) -> Rested {
         let mark = self.table.mark(job.place());
@@ -276,7 +285,7 @@ impl Hands {
         Rested::InHand
     }
 
-    /// A job in hand has ended; its place is free, and its name means nobody.
+    /// Ends a job in hand. Its place is free, and its name is never used again.
     #[inline]
     pub(crate) fn finish(&self, job: &Job) {
         let next = (job.name >> PLACE_BITS) + 1;
@@ -286,7 +295,7 @@ impl Hands {
         }
     }
 
-    /// Wakes the job of this name; with `keep` it comes into this thread's hand where it waited.
+    /// Wakes the job of this name. If it waited, `keep` takes it into this thread's hand.
     #[inline]
     pub(crate) fn wake(&self, name: u64, keep: bool) -> Woken {
         let (place, generation) = (place_of(name), name >> PLACE_BITS);
@@ -320,22 +329,22 @@ const FREE: u8 = 0;
 const HELD: u8 = 1;
 const QUEUED: u8 = 2;
 
-/// Who holds a lock and who is next: whoever waits longest.
+/// The core's part of a lock: its holder, and the line of those who wait.
 #[derive(Default)]
 pub(crate) struct LockCore {
-    /// Free, held with nobody in line, or held with somebody.
+    /// `FREE`, `HELD` with an empty line, or `QUEUED`: held with waiters.
     state: AtomicU8,
     line: Mutex<VecDeque<u64>>,
 }
 
 impl LockCore {
-    /// Takes the lock where it is free; the name in which it is held.
+    /// Takes the lock if it is free. Returns the name in which it is held.
     #[inline]
     pub(crate) fn try_ask(&self) -> Option<u64> {
         self.state.compare_exchange(FREE, HELD, SeqCst, SeqCst).is_ok().then_some(1)
     }
 
-    /// Asks in a name that nobody else has in this lock: an even number.
+    /// Asks for the lock, in a name that no other waiter or holder has: an even number.
     #[inline]
     pub(crate) fn ask(&self, who: u64) -> Asked {
         let mut line = self.line.lock().unwrap();
@@ -352,6 +361,7 @@ impl LockCore {
         Asked::Queued
     }
 
+    /// Frees the lock.
     #[inline]
     pub(crate) fn free(&self, _who: u64) -> Freed {
         if self.state.compare_exchange(HELD, FREE, SeqCst, SeqCst).is_ok() {
@@ -363,7 +373,7 @@ impl LockCore {
         next.map_or(Freed::Free, Freed::HandedOn)
     }
 
-    /// One that waits leaves the line. False where it holds the lock by now.
+    /// Removes a waiter from the line. Returns false if it holds the lock by now.
     pub(crate) fn withdraw(&self, who: u64) -> bool {
         let mut line = self.line.lock().unwrap();
         let found = line.iter().position(|&w| w == who);
@@ -386,12 +396,12 @@ impl LockCore {
     }
 }
 
-/// A stand-in of the proved estimator: it keeps the use at which the last core was added, as that one does, and no more.
+/// A stand-in for the proved estimator. Like that one it keeps the use at which each core was added, but nothing else.
 pub(crate) struct Estimator {
     load: u64,
     hysteresis: u64,
     most: u64,
-    /// By number of cores, the use (thousandths of a core) when that many were first held.
+    /// By number of cores, the use (thousandths of a core) when that many were last asked for.
     used: Vec<u64>,
 }
 

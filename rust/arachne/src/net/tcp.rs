@@ -1,14 +1,12 @@
 //! TCP.
 
 use super::{accept, Source, BACKLOG};
-use crate::block_on::poll_fn;
 use crate::sys;
 use std::io::{self, ErrorKind::WouldBlock};
 use std::net::{SocketAddr, ToSocketAddrs};
 use std::os::unix::io::{AsRawFd, FromRawFd};
-use std::task::Context;
 
-/// A socket that listens.
+/// A socket that listens for connections.
 ///
 /// ```
 /// use arachne::net::{TcpListener, TcpStream};
@@ -28,27 +26,36 @@ use std::task::Context;
 pub struct TcpListener(pub(super) Source<std::net::TcpListener>);
 
 impl TcpListener {
-    /// Listens at the first of these addresses that is free. Up to 4,096 connections may wait to be accepted, if the
-    /// system's `somaxconn` allows so many; at one of `from_std`, as many as its caller chose.
+    /// Listens at the first of these addresses that is free. Unlike tokio's it isn't `async`.
+    ///
+    /// Its backlog is 4,096, or the system's `somaxconn` if that is less; that of `from_std` is unchanged.
+    ///
+    /// ```
+    /// let listener = arachne::net::TcpListener::bind("127.0.0.1:0").unwrap();
+    /// assert!(listener.local_addr().unwrap().port() != 0);
+    /// ```
     pub fn bind(at: impl ToSocketAddrs) -> io::Result<TcpListener> {
         let listener = std::net::TcpListener::bind(at)?;
         sys::listen(listener.as_raw_fd(), BACKLOG)?;
         TcpListener::from_std(listener)
     }
 
-    /// Returns the address at which it listens.
+    /// Returns the address at which it listens; see the example at `bind`.
     pub fn local_addr(&self) -> io::Result<SocketAddr> {
         self.0.socket.local_addr()
     }
 
-    /// Waits for a connection. Once the end has begun and nobody waits to be accepted, it returns an error.
+    /// Waits for a connection. Returns it with the other side's address.
+    ///
+    /// Fails once the runtime's end has begun and all who had connected are accepted; `is_stopping` is true then. See
+    /// the example at `TcpListener`.
     pub async fn accept(&self) -> io::Result<(TcpStream, SocketAddr)> {
         let (stream, from) = accept(&self.0, |listener| listener.accept()).await?;
         Ok((TcpStream::from_std(stream)?, from))
     }
 }
 
-/// A connection. Reads and writes take `&self`: one task may read while another writes.
+/// A TCP connection. Reads and writes take `&self`: one task may read while another writes.
 ///
 /// ```no_run
 /// use std::sync::Arc;
@@ -63,7 +70,19 @@ impl TcpListener {
 pub struct TcpStream(pub(super) Source<std::net::TcpStream>);
 
 impl TcpStream {
-    /// Connects to the first address that answers. A name is looked up on this kernel thread, which blocks it.
+    /// Connects to the first of these addresses that accepts.
+    ///
+    /// A host name is looked up on this thread, which blocks it; in a task use `lookup_host` first.
+    ///
+    /// ```
+    /// # fn main() -> std::io::Result<()> {
+    /// let listener = std::net::TcpListener::bind("127.0.0.1:0")?;
+    /// let stream = arachne::Runtime::new(1).block_on(arachne::net::TcpStream::connect(listener.local_addr()?))?;
+    /// assert_eq!(stream.peer_addr()?, listener.local_addr()?);
+    /// assert_eq!(stream.local_addr()?, listener.accept()?.1);
+    /// # Ok(())
+    /// # }
+    /// ```
     pub async fn connect(to: impl ToSocketAddrs) -> io::Result<TcpStream> {
         let mut last = io::Error::new(io::ErrorKind::InvalidInput, "no address");
         for to in to.to_socket_addrs()? {
@@ -86,33 +105,56 @@ impl TcpStream {
                 other => other.map(drop),
             },
         };
-        poll_fn(|cx: &mut Context<'_>| stream.0.poll(cx, false, 0, connected, |_| 0)).await?;
+        stream.0.wait::<false, _>(0, connected, |_| 0).await?;
         Ok(stream)
     }
 
-    /// Returns the other side's address.
+    /// Returns the other side's address; see the example at `connect`.
     pub fn peer_addr(&self) -> io::Result<SocketAddr> {
         self.0.socket.peer_addr()
     }
 
-    /// Returns this side's address.
+    /// Returns this side's address; see the example at `connect`.
     pub fn local_addr(&self) -> io::Result<SocketAddr> {
         self.0.socket.local_addr()
     }
 
-    /// Returns true if small pieces are sent at once (`TCP_NODELAY`).
+    /// Returns true if small writes are sent at once (`TCP_NODELAY`); see the example at `set_nodelay`.
     pub fn nodelay(&self) -> io::Result<bool> {
         self.0.socket.nodelay()
     }
 
-    /// Sends small pieces at once, and not once the last ones were confirmed (`TCP_NODELAY`).
+    /// Sets if small writes are sent at once, without waiting for the last ones to be confirmed (`TCP_NODELAY`).
+    ///
+    /// ```
+    /// # fn main() -> std::io::Result<()> {
+    /// let listener = std::net::TcpListener::bind("127.0.0.1:0")?;
+    /// let stream = arachne::Runtime::new(1).block_on(arachne::net::TcpStream::connect(listener.local_addr()?))?;
+    /// stream.set_nodelay(true)?;
+    /// assert!(stream.nodelay()?);
+    /// # Ok(())
+    /// # }
+    /// ```
     pub fn set_nodelay(&self, nodelay: bool) -> io::Result<()> {
         self.0.socket.set_nodelay(nodelay)
     }
 
-    /// As `read`, and the bytes stay: the next read returns them again.
+    /// Like `read`, but leaves the bytes there: the next read returns them again.
+    ///
+    /// ```
+    /// # fn main() -> std::io::Result<()> {
+    /// let listener = std::net::TcpListener::bind("127.0.0.1:0")?;
+    /// let (runtime, mut buffer) = (arachne::Runtime::new(1), [0; 5]);
+    /// let stream = runtime.block_on(arachne::net::TcpStream::connect(listener.local_addr()?))?;
+    /// std::io::Write::write_all(&mut listener.accept()?.0, b"hello")?;
+    /// let seen = runtime.block_on(stream.peek(&mut [0; 5]))?;
+    /// runtime.block_on(stream.read_exact(&mut buffer[..seen]))?;
+    /// assert_eq!(buffer[0], b'h');
+    /// # Ok(())
+    /// # }
+    /// ```
     pub async fn peek(&self, buffer: &mut [u8]) -> io::Result<usize> {
-        // A look moves nothing, so the socket counts as ready until there is nothing to see.
-        poll_fn(|cx: &mut Context<'_>| self.0.poll(cx, true, 0, |socket| socket.peek(buffer), |_| 0)).await
+        // A peek takes nothing out, so the socket counts as ready until it returns `WouldBlock`.
+        self.0.wait::<true, _>(0, |socket| socket.peek(buffer), |_| 0).await
     }
 }

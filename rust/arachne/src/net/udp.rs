@@ -1,12 +1,12 @@
 //! UDP.
 
 use super::Source;
-use crate::block_on::poll_fn;
 use std::io;
 use std::net::{SocketAddr, ToSocketAddrs};
-use std::task::Context;
 
 /// A socket that sends and receives datagrams. Each call takes `&self`.
+///
+/// It has few of std's options; set the others before `from_std`.
 ///
 /// ```
 /// use arachne::net::UdpSocket;
@@ -24,52 +24,82 @@ use std::task::Context;
 pub struct UdpSocket(pub(super) Source<std::net::UdpSocket>);
 
 impl UdpSocket {
-    /// Takes the first of these addresses that is free.
+    /// Returns a socket bound to the first of these addresses that is free. Unlike tokio's it isn't `async`.
+    ///
+    /// ```
+    /// let socket = arachne::net::UdpSocket::bind("127.0.0.1:0").unwrap();
+    /// assert!(socket.local_addr().unwrap().port() != 0);
+    /// ```
     pub fn bind(at: impl ToSocketAddrs) -> io::Result<UdpSocket> {
         UdpSocket::from_std(std::net::UdpSocket::bind(at)?)
     }
 
-    /// Sets to whom `send` sends and from whom `recv` receives. A name is looked up on this kernel thread.
+    /// Sets the address to which `send` sends, and from which `recv` receives. It isn't `async`.
+    ///
+    /// A host name is looked up on this thread, which blocks it.
+    ///
+    /// ```
+    /// use arachne::net::UdpSocket;
+    /// # fn main() -> std::io::Result<()> {
+    /// let (near, far) = (UdpSocket::bind("127.0.0.1:0")?, UdpSocket::bind("127.0.0.1:0")?);
+    /// near.connect(far.local_addr()?)?;
+    /// far.connect(near.local_addr()?)?;
+    /// assert_eq!(near.peer_addr()?, far.local_addr()?);
+    /// let mut buffer = [0; 16];
+    /// let len = arachne::Runtime::new(1).block_on(async {
+    ///     near.send(b"hello").await?;
+    ///     far.recv(&mut buffer).await
+    /// })?;
+    /// assert_eq!(&buffer[..len], b"hello");
+    /// # Ok(())
+    /// # }
+    /// ```
     pub fn connect(&self, to: impl ToSocketAddrs) -> io::Result<()> {
         self.0.socket.connect(to)
     }
 
-    /// Returns this side's address.
+    /// Returns this side's address; see the example at `bind`.
     pub fn local_addr(&self) -> io::Result<SocketAddr> {
         self.0.socket.local_addr()
     }
 
-    /// Returns the address of `connect`.
+    /// Returns the address of `connect`; see the example there.
     pub fn peer_addr(&self) -> io::Result<SocketAddr> {
         self.0.socket.peer_addr()
     }
 
-    async fn read<T>(&self, mut receive: impl FnMut(&std::net::UdpSocket) -> io::Result<T>) -> io::Result<T> {
-        poll_fn(|cx: &mut Context<'_>| self.0.poll(cx, true, 0, &mut receive, |_| 0)).await
+    async fn read<T>(&self, receive: impl FnMut(&std::net::UdpSocket) -> io::Result<T>) -> io::Result<T> {
+        self.0.wait::<true, _>(0, receive, |_| 0).await
     }
 
-    async fn write<T>(&self, mut send: impl FnMut(&std::net::UdpSocket) -> io::Result<T>) -> io::Result<T> {
-        poll_fn(|cx: &mut Context<'_>| self.0.poll(cx, false, 0, &mut send, |_| 0)).await
+    async fn write<T>(&self, send: impl FnMut(&std::net::UdpSocket) -> io::Result<T>) -> io::Result<T> {
+        self.0.wait::<false, _>(0, send, |_| 0).await
     }
 
-    /// Sends a datagram to the address of `connect`, once there is room; returns its length.
+    /// Sends a datagram to the address of `connect`, once there is room. Returns its length; see the example there.
     pub async fn send(&self, bytes: &[u8]) -> io::Result<usize> {
         self.write(|socket| socket.send(bytes)).await
     }
 
-    /// Waits for a datagram from the address of `connect`; returns its length. What is longer than the buffer is lost.
+    /// Waits for a datagram from the address of `connect`. Returns its length; see the example there.
+    ///
+    /// Bytes beyond the buffer are lost.
     pub async fn recv(&self, buffer: &mut [u8]) -> io::Result<usize> {
         self.read(|socket| socket.recv(buffer)).await
     }
 
-    /// Sends a datagram to the first of these addresses, once there is room; returns its length.
+    /// Sends a datagram to the first of these addresses, once there is room. Returns its length.
+    ///
+    /// See the example at `UdpSocket`.
     pub async fn send_to(&self, bytes: &[u8], to: impl ToSocketAddrs) -> io::Result<usize> {
         let none = || io::Error::new(io::ErrorKind::InvalidInput, "no address");
         let to = to.to_socket_addrs()?.next().ok_or_else(none)?;
         self.write(|socket| socket.send_to(bytes, to)).await
     }
 
-    /// Waits for a datagram; returns its length and who sent it. What is longer than the buffer is lost.
+    /// Waits for a datagram. Returns its length, and the address of the sender.
+    ///
+    /// Bytes beyond the buffer are lost. See the example at `UdpSocket`.
     pub async fn recv_from(&self, buffer: &mut [u8]) -> io::Result<(usize, SocketAddr)> {
         self.read(|socket| socket.recv_from(buffer)).await
     }

@@ -1,4 +1,4 @@
-//! Stream sockets of Unix.
+//! Unix stream sockets.
 
 use super::{accept, Source, BACKLOG};
 use crate::sys;
@@ -9,7 +9,7 @@ use std::os::unix::net::{self, SocketAddr};
 use std::path::Path;
 use std::time::Duration;
 
-/// A socket that listens at a path.
+/// A Unix socket that listens at a path.
 ///
 /// ```
 /// use arachne::net::{UnixListener, UnixStream};
@@ -29,27 +29,40 @@ use std::time::Duration;
 pub struct UnixListener(pub(super) Source<net::UnixListener>);
 
 impl UnixListener {
-    /// Listens at that path, which must not exist, and stays when this is dropped. Up to 4,096 connections may wait to
-    /// be accepted, if the system's `somaxconn` allows so many.
+    /// Listens at `path`, which must not exist; it stays when the listener is dropped. Unlike tokio's it isn't `async`.
+    ///
+    /// Its backlog is 4,096, or the system's `somaxconn` if that is less.
+    ///
+    /// ```
+    /// # fn main() -> std::io::Result<()> {
+    /// let path = std::env::temp_dir().join(format!("arachne-bind-{}", std::process::id()));
+    /// let listener = arachne::net::UnixListener::bind(&path)?;
+    /// assert_eq!(listener.local_addr()?.as_pathname(), Some(&*path));
+    /// std::fs::remove_file(path)
+    /// # }
+    /// ```
     pub fn bind(path: impl AsRef<Path>) -> io::Result<UnixListener> {
         let listener = net::UnixListener::bind(path)?;
         sys::listen(listener.as_raw_fd(), BACKLOG)?;
         UnixListener::from_std(listener)
     }
 
-    /// Returns the address at which it listens.
+    /// Returns the address at which it listens; see the example at `bind`.
     pub fn local_addr(&self) -> io::Result<SocketAddr> {
         self.0.socket.local_addr()
     }
 
-    /// Waits for a connection. Once the end has begun and nobody waits to be accepted, it returns an error.
+    /// Waits for a connection. Returns it with the other side's address.
+    ///
+    /// Fails once the runtime's end has begun and all who had connected are accepted; `is_stopping` is true then. See
+    /// the example at `UnixListener`.
     pub async fn accept(&self) -> io::Result<(UnixStream, SocketAddr)> {
         let (stream, from) = accept(&self.0, |listener| listener.accept()).await?;
         Ok((UnixStream::from_std(stream)?, from))
     }
 }
 
-/// A connection between processes of one machine. Reads and writes take `&self`, as of `TcpStream`.
+/// A Unix stream connection, between processes of one machine. Reads and writes take `&self`.
 ///
 /// ```
 /// # fn main() -> std::io::Result<()> {
@@ -66,8 +79,19 @@ impl UnixListener {
 pub struct UnixStream(pub(super) Source<net::UnixStream>);
 
 impl UnixStream {
-    /// Connects to who listens at that path. While as many wait there to be accepted as may, it tries again each
-    /// millisecond.
+    /// Connects to the listener at `path`. While its backlog is full, tries again each millisecond.
+    ///
+    /// ```
+    /// # fn main() -> std::io::Result<()> {
+    /// let path = std::env::temp_dir().join(format!("arachne-connect-{}", std::process::id()));
+    /// let listener = arachne::net::UnixListener::bind(&path)?;
+    /// let stream = arachne::Runtime::new(1).block_on(arachne::net::UnixStream::connect(&path))?;
+    /// assert_eq!(stream.peer_addr()?.as_pathname(), Some(&*path));
+    /// assert!(stream.local_addr()?.is_unnamed());
+    /// # drop(listener);
+    /// std::fs::remove_file(path)
+    /// # }
+    /// ```
     pub async fn connect(path: impl AsRef<Path>) -> io::Result<UnixStream> {
         loop {
             match sys::connect_unix(path.as_ref()) {
@@ -79,18 +103,18 @@ impl UnixStream {
         }
     }
 
-    /// Returns two that are connected to each other.
+    /// Returns two streams that are connected to each other; see the example at `UnixStream`.
     pub fn pair() -> io::Result<(UnixStream, UnixStream)> {
         let (near, far) = net::UnixStream::pair()?;
         Ok((UnixStream::from_std(near)?, UnixStream::from_std(far)?))
     }
 
-    /// Returns the other side's address.
+    /// Returns the other side's address; see the example at `connect`.
     pub fn peer_addr(&self) -> io::Result<SocketAddr> {
         self.0.socket.peer_addr()
     }
 
-    /// Returns this side's address.
+    /// Returns this side's address; see the example at `connect`.
     pub fn local_addr(&self) -> io::Result<SocketAddr> {
         self.0.socket.local_addr()
     }

@@ -1,20 +1,20 @@
-//! For the explorer: a run leaves nothing behind for the next one, and cores come and go as an arbiter has it.
+//! For the explorer: cleaning up between runs, and changing the number of active workers as an arbiter does.
 
 use super::*;
 use crate::runtime::Runtime;
 
-/// From now on this many workers are active.
+/// Sets the number of active workers.
 pub fn set_active(runtime: &Runtime, active: usize) {
     runtime.shared().set_active(active);
 }
 
-/// Frees what this thread keeps for its next calls.
+/// Frees this thread's cached seats and parker.
 pub fn forget_thread() {
     SEATS.with(|visitor| visitor.borrow_mut().seats = Vec::new());
     crate::block_on::forget_parker();
 }
 
-/// Frees what ended runtimes leave for ever. No thread uses any, and no waker is left.
+/// Frees the state of all runtimes. Each must have ended, and no waker may be left.
 pub fn forget_runtimes() {
     let mut pool = POOL.lock().unwrap();
     let (made, ended) = std::mem::take(&mut *pool);

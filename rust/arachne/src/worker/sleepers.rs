@@ -1,5 +1,18 @@
-//! Who sleeps: one worker waits in the epoll, a deputy looks at it now and then while that one runs tasks, and the
-//! others sleep until they are woken.
+//! How workers sleep: one waits in the epoll, a deputy polls it now and then, and the others wait for their bells.
+//!
+//! The deputy stands in while the worker of the epoll runs tasks or has no processor. It wakes after 1, 2, 4 .. ms,
+//! each millisecond while tasks run, and takes the other's place if that one is stuck in a poll. So the events of
+//! sockets are seen as long as one worker is in no long poll.
+//!
+//! **Beside a long poll.** While any worker is awake, the one in the epoll and the deputy look at the others, at most
+//! `LONG_REST` apart. If a worker is in the same poll at two looks, they take all jobs in its hand, the next one too,
+//! fire its timers, and take the ready jobs of its blocks. A worker that is woken again and again does the same once a
+//! millisecond, before it goes back to sleep (`looks_before_sleep`), and a busy worker does it as it looks out
+//! (`look_out`). So, as long as one worker is in no long poll, a ready job behind one begins within about 4 ms plus the
+//! delays of the machine. Once all sleep, nobody looks; the first worker that runs a job after a sleep wakes one that
+//! does (`goes_on`).
+//!
+//! With the watcher, ready jobs also run if all workers are in long polls.
 
 use super::{Turn, LONG_POLL};
 use crate::cores::Judge;
@@ -9,22 +22,25 @@ use crate::shared::{add, Context, Shared, NO_ONE};
 use crate::sync::atomic::{AtomicI32, Ordering::*};
 use crate::timer;
 
-/// How often an idle worker looks around before it sleeps.
+/// Rounds in which an idle worker searches for work before it sleeps.
 const SPINS: usize = 4;
-/// Milliseconds between two looks at the others while one of them is awake, at most. Who looks after them and sleeps
-/// for longer is woken once tasks run again.
+/// The most milliseconds between two looks at the other workers while one of them is awake. A worker that looks after
+/// the others and sleeps for longer is woken once tasks run again.
 const LONG_REST: i32 = 2;
-/// The same while all sleep.
+/// The same while all workers sleep.
 const FOR_EVER: i32 = 1 << 20;
 
 impl Shared {
-    /// With nothing of its own to do: takes from others, or sleeps until it is woken.
+    /// Searches for work at the other workers, and sleeps if there is none.
+    ///
+    /// The sleeper bit must be set, and the search ended, before the last check for work: whoever publishes later wakes
+    /// this worker, and the check finds what was published before.
     pub(super) fn look_around(&'static self, context: &Context, turn: &mut Turn, judge: &Option<Judge>) {
         self.searching.0.fetch_add(1, SeqCst);
         if self.finds_work(context, turn) {
             return self.stop_looking(&context.hands);
         }
-        // A post is kept for as long as others may see this worker as asleep.
+        // Taken before the sleeper bit is set and given up after it is cleared: `ring` looks here while the bit is set.
         let waits = self.waits.0.compare_exchange(NO_ONE, context.me, SeqCst, SeqCst).is_ok();
         self.sleepers.0.fetch_or(1 << context.me, SeqCst);
         self.searching.0.fetch_sub(1, SeqCst);
@@ -39,7 +55,7 @@ impl Shared {
             || context.me >= self.active.0.load(SeqCst);
         let sleeps = !busy && self.may_park(context);
         let (found, called) = if sleeps { self.sleep(context, turn, judge, waits) } else { (Found::NOTHING, false) };
-        // Before anybody is woken: a wake of what is at this worker's own places would have it woken once more.
+        // Before the events wake tasks: with the idle bit set, a wake in its own blocks would unpark it once more.
         self.wake_up(context);
         let roused = self.awake(context);
         if waits {
@@ -52,7 +68,7 @@ impl Shared {
         }
     }
 
-    /// Looks for something to run for a short while.
+    /// Searches for something to run, for a short while. Returns true if there is something in hand or ready.
     fn finds_work(&'static self, context: &Context, turn: &mut Turn) -> bool {
         turn.seen.iter_mut().zip(self.workers.iter()).for_each(|(seen, w)| *seen = w.0.polls.load(Relaxed));
         for spin in 0..SPINS {
@@ -68,13 +84,13 @@ impl Shared {
         false
     }
 
-    /// Whether this worker's own words, or those of one after whom it looks, show something.
+    /// Returns true if a job seems ready in this worker's blocks, or in those of the workers it looks after.
     pub(super) fn mine(&self, context: &Context) -> bool {
         let me = context.me;
         self.ready(&context.hands, me) != 0 || self.lodgers(me).any(|other| self.ready(&context.hands, other) != 0)
     }
 
-    /// The core's leave to sleep: for this worker's numbers, and for those of each after whom it looks.
+    /// Asks the core if this worker may sleep: for its own numbers, and for those of the workers it looks after.
     fn may_park(&self, context: &Context) -> bool {
         std::iter::once(context.me).chain(self.lodgers(context.me)).all(|owner| {
             let parking = self.workers[owner].0.parking.lock().unwrap();
@@ -82,7 +98,7 @@ impl Shared {
         })
     }
 
-    /// Hides this worker's blocks that are shown and have nothing.
+    /// Hides this worker's empty blocks that the summary still shows.
     pub(super) fn tidy(&self, me: usize) {
         for seat in self.workers[me].0.parking.lock().unwrap().iter() {
             if seat.park() {
@@ -91,18 +107,19 @@ impl Shared {
         }
     }
 
+    /// Ends the parking of this worker's numbers, and of those of the workers it looks after.
     fn wake_up(&self, context: &Context) {
         for owner in std::iter::once(context.me).chain(self.lodgers(context.me)) {
             let parking = self.workers[owner].0.parking.lock().unwrap();
-            // Looked at with the lock: whoever looks after those numbers by now may have parked in their name.
+            // Checked under the lock: another worker may look after those numbers by now, and may have parked them.
             if self.keeper(owner) == context.me {
                 parking.iter().for_each(|seat| seat.wake_up());
             }
         }
     }
 
-    /// Sleeps in the epoll, where it `waits` there, or else until it is woken; what the epoll told, and whether
-    /// another's tasks may wait for it.
+    /// Sleeps: in the epoll if `waits`, otherwise as the deputy or by the bell. Returns the events found, and true if
+    /// tasks of another worker may need this one.
     fn sleep(&self, context: &Context, turn: &mut Turn, judge: &Option<Judge>, waits: bool) -> (Found, bool) {
         if self.looks_before_sleep(context, turn) {
             return (Found::NOTHING, true);
@@ -128,7 +145,7 @@ impl Shared {
         found
     }
 
-    /// Sleeps in the epoll until something is told, so much time is over, or tasks of another wait for it.
+    /// Sleeps in the epoll until there is an event, `timeout` is over, or tasks of a stuck worker need this one.
     fn wait_in_epoll(&self, context: &Context, turn: &mut Turn, timeout: i32) -> (Found, bool) {
         let most = self.asks(self.room(context, turn));
         if self.workers.len() == 1 {
@@ -148,9 +165,10 @@ impl Shared {
         }
     }
 
-    /// Sleeps as the deputy until it is woken, so much time is over, or it has something to do: where tasks of another
-    /// wait for it, one who waits in the epoll is told of something and has no processor, or nobody waits there and one
-    /// who is awake doesn't get on.
+    /// Sleeps as the deputy until it is woken, `timeout` is over, or there is something to do.
+    ///
+    /// It has something to do if tasks of a stuck worker need it, if the epoll has events that its waiter doesn't take
+    /// for want of a processor, or if nobody waits in the epoll and a worker that is awake makes no progress.
     fn stand_in(&self, context: &Context, turn: &mut Turn, timeout: i32) -> (Found, bool) {
         let bell = &context.worker.bell;
         let mut left = timeout;
@@ -179,8 +197,10 @@ impl Shared {
         }
     }
 
-    /// Looks after the others if this worker has not for `LONG_POLL`: one that is woken again and again sleeps for too
-    /// short a time to do so. Returns true if tasks of one of them wait.
+    /// Looks after the others before a sleep, if that was last done `LONG_POLL` ago. Returns true if tasks of a stuck
+    /// worker need this one.
+    ///
+    /// A worker that is woken again and again never sleeps for long enough to do it from within a sleep.
     fn looks_before_sleep(&self, context: &Context, turn: &mut Turn) -> bool {
         let now = context.looked.get();
         if self.workers.len() == 1 || now.saturating_sub(turn.looked) < LONG_POLL {
@@ -193,9 +213,10 @@ impl Shared {
         waits
     }
 
-    /// Looks after workers that are awake and have not got on since the last look: takes what they have in hand, and
-    /// fires their timers; and after those that are yet to give their cores back. Whether there are any of the former,
-    /// and whether tasks wait for any.
+    /// Takes the jobs in hand of workers that made no progress since the last look, and fires their timers.
+    ///
+    /// A worker that has not yet given its core back only loses its jobs: its timers already have another keeper.
+    /// Returns true if there is a stuck worker, and true if there are jobs or timers of one to run.
     fn look_after(&self, context: &Context, turn: &mut Turn) -> (bool, bool) {
         let (active, sleepers) = (self.active.0.load(SeqCst), self.sleepers.0.load(SeqCst));
         let (mut stands, mut waits) = (false, false);
@@ -208,7 +229,7 @@ impl Shared {
             }
             waits |= self.take_out(context, turn, other, FIRST, true);
             if other >= active {
-                // Its core was asked back: another has its timers and places already.
+                // Its core was asked back: another worker already looks after its timers and blocks.
                 continue;
             }
             stands = true;
@@ -219,15 +240,17 @@ impl Shared {
         (stands, waits)
     }
 
-    /// For how many milliseconds one sleeps that looks after others: the least while tasks run, and so many times as
-    /// long each time that none has; while anybody is awake, `LONG_REST` at most.
+    /// Returns for how many milliseconds a worker that looks after the others sleeps, and publishes them.
+    ///
+    /// That is `least` while tasks run, and `times` as long after each look at which none has run; at most `LONG_REST`
+    /// while any worker is awake.
     fn rests_of(&self, me: usize, turn: &mut Turn, least: i32, times: i32, told: &AtomicI32) -> i32 {
         let polls = self.workers.iter().map(|worker| worker.0.polls.load(Relaxed)).sum();
         let longer = turn.rests.saturating_mul(times).clamp(least, FOR_EVER);
         turn.rests = if polls != turn.watched { least } else { longer };
         turn.watched = polls;
         told.store(turn.rests, SeqCst);
-        // Whoever wakes is no sleeper any more, and then looks at what is told here.
+        // Written before the check: a worker that wakes clears its sleeper bit first and then reads this (`goes_on`).
         if turn.rests > LONG_REST && self.is_anybody_awake(me) {
             turn.rests = LONG_REST;
             told.store(turn.rests, SeqCst);
@@ -240,9 +263,10 @@ impl Shared {
         self.workers.iter().enumerate().any(|(other, line)| sleepers >> other & 1 == 0 && !line.0.away.load(SeqCst))
     }
 
-    /// A worker that slept has something to do, which may take long. If nobody waits in the epoll or stands in, another
-    /// is woken to wait there; and of those that look after others one that sleeps for long is woken to look more often
-    /// again.
+    /// Wakes a worker that looks after this one, which has woken and has something to do that may take long.
+    ///
+    /// If nobody waits in the epoll and there is no deputy, any sleeper is woken to wait there. If those that look
+    /// after the others sleep for longer than `LONG_REST`, one of them is woken, to look more often again.
     pub(crate) fn goes_on(&self) {
         if self.sleepers.0.load(SeqCst) == 0 {
             return;
@@ -261,7 +285,7 @@ impl Shared {
     }
 }
 
-/// The sooner of two times to sleep, in milliseconds; -1 is for ever.
+/// Returns the shorter of two timeouts in milliseconds; a negative `timeout` is infinite.
 fn sooner(timeout: i32, other: i32) -> i32 {
     if timeout < 0 {
         other

@@ -137,7 +137,12 @@ pub fn thread_on(socket: &Socket, cpu: u32) -> u32 {
 
 /// The processors that a thread of this process may run on, as the kernel prints them.
 pub fn processors_of(thread: &str) -> String {
-    let text = fs::read_to_string(format!("/proc/self/task/{thread}/status")).unwrap();
+    processors_of_process(&format!("self/task/{thread}"))
+}
+
+/// The processors that the first thread of a process may run on.
+pub fn processors_of_process(process: &str) -> String {
+    let text = fs::read_to_string(format!("/proc/{process}/status")).unwrap();
     text.lines().find_map(|line| line.strip_prefix("Cpus_allowed_list:")).unwrap().trim().into()
 }
 

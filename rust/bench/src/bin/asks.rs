@@ -1,7 +1,7 @@
-//! A client of a server of Redis's protocol that says who waits: asks PORT CLIENTS IN-FLIGHT MILLISECONDS
-//! Two kernel threads share the connections; each sends so many SETs at once, and again once all are answered. It
-//! prints how long such a round takes at 50, 99 and 99.9 per cent, by how many rounds that were sent later it was
-//! overtaken, in which stretches of time the slowest waited, and each connection's rounds and their times.
+//! A client of a Redis server that reports which connections wait: asks PORT CLIENTS IN-FLIGHT MILLISECONDS
+//! Two threads share the connections; each sends IN-FLIGHT SETs at once, and again once all are answered. It prints the
+//! time of such a round at 50, 99 and 99.9 per cent, the number of later rounds that overtook it, the stretches of time
+//! in which the slowest waited, and each connection's rounds and their times.
 use std::thread;
 use std::time::{Duration, Instant};
 use tokio::io::{AsyncReadExt, AsyncWriteExt};
@@ -40,7 +40,7 @@ async fn ask(port: u16, client: usize, flight: usize, start: Instant, time: Dura
     Ok(rounds)
 }
 
-/// By how many rounds that were sent later each round was overtaken.
+/// Returns for each round the number of rounds that were sent later and answered earlier.
 fn overtaken(rounds: &[Round]) -> Vec<u64> {
     let mut by_sent: Vec<usize> = (0..rounds.len()).collect();
     by_sent.sort_by_key(|&i| rounds[i].sent);

@@ -13,7 +13,7 @@ use std::time::Instant;
 
 type Boxed<T> = Pin<Box<dyn Future<Output = T> + Send>>;
 
-/// What the loads need of an executor. No box: each is generic.
+/// The operations that the loads need of an executor. They are generic, so nothing is boxed.
 trait Exec: Send + Sync + Clone + 'static {
     type Join<T: Send + 'static>: Future<Output = T> + Send;
     fn spawn<F: Future + Send + 'static>(&self, f: F) -> Self::Join<F::Output>
@@ -73,7 +73,7 @@ impl Exec for Smol {
     }
 }
 
-/// A cell for one value and one that waits for it, the same for each executor.
+/// A cell for a value and one task that waits for it, the same for each executor.
 struct Mail(Mutex<(Option<u64>, Option<Waker>)>);
 impl Mail {
     fn new() -> Arc<Mail> {

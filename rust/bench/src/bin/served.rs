@@ -1,8 +1,9 @@
-//! A server whose requests say how long they take, and its client: served EXECUTOR CORES [policy [SOCKET PRIORITY]] on
-//! arachne (SOCKET and PRIORITY are of an arbiter) or tokio prints its port, and with `policy` a line at each change of
-//! the cores held; it ends with its standard input.
-//! served client PORT CONNECTIONS IN-FLIGHT MICROS MILLISECONDS asks with so many in flight on each connection;
-//! served offer PORT RATE MICROS MILLISECONDS sends each of RATE requests a second when it is due, on 32 connections.
+//! A server whose requests have a given length, and its client.
+//!
+//! `served EXECUTOR CORES [policy [SOCKET PRIORITY]]`, on arachne (SOCKET and PRIORITY are for an arbiter) or tokio,
+//! prints its port, and with `policy` a line at each change of the active cores; it ends with its standard input.
+//! `served client PORT CONNECTIONS IN-FLIGHT MICROS MILLISECONDS` keeps IN-FLIGHT requests in flight per connection;
+//! `served offer PORT RATE MICROS MILLISECONDS` sends each of RATE requests a second when it is due, on 32 connections.
 use std::io::{ErrorKind, Read, Write};
 use std::net::TcpStream;
 use std::sync::atomic::{AtomicU64, Ordering::Relaxed};
@@ -19,12 +20,12 @@ fn spin(time: Duration) {
     }
 }
 
-/// Milliseconds, to compare what two processes say.
+/// Returns the milliseconds of a clock that two processes share.
 fn clock() -> f64 {
     SystemTime::now().duration_since(SystemTime::UNIX_EPOCH).unwrap().as_micros() as f64 / 1e3
 }
 
-/// Does what each whole request asks for; how many bytes of `buffer` those are.
+/// Serves each complete request of `buffer`. Returns their length in bytes.
 fn serve(buffer: &[u8]) -> usize {
     for request in buffer.chunks_exact(SIZE) {
         spin(Duration::from_micros(u64::from_le_bytes(request[8..].try_into().unwrap())));
@@ -134,7 +135,7 @@ fn client(port: u16, connections: u64, flight: usize, micros: u64, time: Duratio
     println!("{:.0} answers a second", ANSWERED.load(Relaxed) as f64 / start.elapsed().as_secs_f64());
 }
 
-/// What has come: the times from when each was due, in nanoseconds.
+/// The latencies of the answers, from when each request was due, in nanoseconds.
 fn receive(stream: &mut TcpStream, back: &mut Vec<u8>, start: Instant, times: &mut Vec<u64>) {
     let mut bytes = [0; 4096];
     match stream.read(&mut bytes) {

@@ -1,6 +1,6 @@
-//! An echo beside tasks that yield for ever: yields EXECUTOR CORES [TASKS], on arachne or tokio. TASKS of them (as many as
-//! cores where it is not said), while 8 connections each send a byte and wait for it, for two seconds. Prints times of
-//! the round trips.
+//! An echo beside tasks that yield for ever: `yields EXECUTOR CORES [TASKS]`, on arachne or tokio. TASKS (by default
+//! one per core) yield while 8 connections each send a byte and wait for it, for two seconds. Prints the round-trip
+//! times.
 use std::io::{Read, Write};
 use std::net::SocketAddr;
 use std::sync::atomic::{AtomicBool, Ordering::Relaxed};

@@ -1,5 +1,6 @@
-//! "Five minutes" of docs/rust.md as a program: what a connection sends comes back. echo [CORES PORT], on 127.0.0.1.
-//! It ends at SIGTERM: a connection with nothing in flight ends then, and any once five seconds are over.
+//! An echo server, "Five minutes" of docs/rust.md: `echo [CORES PORT]`, on 127.0.0.1.
+//!
+//! It ends at SIGTERM: idle connections end at once, and the others within five seconds.
 use arachne::net::{TcpListener, TcpStream};
 use std::io;
 use std::time::Duration;
@@ -25,8 +26,8 @@ fn main() -> io::Result<()> {
         loop {
             match listener.accept().await {
                 Ok((stream, _)) => drop(arachne::spawn_balanced(serve(stream))),
-                Err(_) if arachne::is_stopping() => break, // all who had connected before were accepted
-                Err(_) => arachne::sleep(Duration::from_millis(10)).await, // no descriptor is free, say
+                Err(_) if arachne::is_stopping() => break, // all who had connected are accepted
+                Err(_) => arachne::sleep(Duration::from_millis(10)).await, // out of descriptors, say
             }
         }
     });

@@ -10,10 +10,10 @@ use std::sync::mpsc::{channel, Receiver};
 use std::sync::Arc;
 use std::time::{Duration, Instant};
 
-/// Commands that were accepted, and those that were answered, of connections that have ended.
+/// The commands that were accepted, and those that were answered, of connections that have ended.
 static COMMANDS: [AtomicU64; 2] = [AtomicU64::new(0), AtomicU64::new(0)];
 
-/// Answers what comes until the other side, or this runtime, is about to end.
+/// Answers commands until the other side closes, or the runtime's end begins.
 async fn answer(stream: &TcpStream, store: &Store, counts: &mut [u64; 2]) -> io::Result<()> {
     let (mut buffer, mut out, mut end) = (Buffer::new(), Vec::new(), arachne::stopping());
     while !arachne::is_stopping() {
@@ -67,7 +67,7 @@ async fn accept(listener: TcpListener, store: Arc<Store>) {
     }
 }
 
-/// Something is received at SIGTERM, or once the standard input ends.
+/// Returns a channel that receives a value at SIGTERM, or once the standard input ends.
 fn end() -> io::Result<Receiver<()>> {
     let (sender, ended) = channel();
     let (other, term) = (sender.clone(), arachne::Signal::heard(15)?);

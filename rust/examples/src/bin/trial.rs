@@ -1,9 +1,9 @@
-//! Trials of a server on arachne, bounded in count and time: trial NAME [CORES]; each prints its figures and ends.
-//! soak: tasks of eight kinds for so many seconds (a third word; 300), with their count and the resident memory.
-//! overload: requests of 100 us at 0.8, 1, 1.2 and 2 times what the cores can do, behind a limit of what is accepted at
-//! a time (a third word; one more than there are cores).
+//! Trials of a server on arachne, bounded in count and time: `trial NAME [CORES]`; each prints its figures and ends.
+//! soak: tasks of eight kinds for SECONDS (a third word; 300), with their count and the resident memory.
+//! overload: requests of 100 us at 0.8, 1, 1.2 and 2 times the rate that the cores can serve, behind a limit of
+//! concurrent requests (a third word; one more than there are cores).
 //! blocking: 10,000 requests of 5 us a second, while a task on each of four workers blocks for 100 ms.
-//! waiting: a million tasks that wait, with bytes a task, and ping-pong among them and without.
+//! waiting: a million tasks that wait: bytes per task, and ping-pong with them and without.
 //! drain: SIGTERM to the server `redis` beside this program, under load and after a million answers.
 use arachne::net::{TcpListener, TcpStream};
 use arachne::{Builder, Limit, Lock, Runtime};
@@ -77,7 +77,7 @@ fn serve(runtime: &Runtime, most: usize) -> std::net::SocketAddr {
     at
 }
 
-/// What was sent and how it was answered, with the times of the accepted ones from when they were due.
+/// The requests sent, the answers, and the latencies of the accepted ones from when they were due.
 #[derive(Default)]
 struct Answers {
     sent: u64,
@@ -139,7 +139,7 @@ impl Client {
     }
 }
 
-/// So many requests a second for that time, each when it is due, whatever became of those before.
+/// Sends `rate` requests a second, each when it is due, whether or not earlier ones were answered.
 fn offer(at: std::net::SocketAddr, rate: f64, micros: u64, time: Duration) -> Answers {
     let mut clients: Vec<_> = (0..32).map(|_| Client::new(at)).collect();
     let (start, mut answers, mut back) = (Instant::now(), Answers::default(), 0);
@@ -227,7 +227,7 @@ fn blocking() {
     println!("slow polls {}, tasks that the watcher ran {}", stats.slow_polls, stats.rescued);
 }
 
-/// A cell for one number and one that waits for it.
+/// A cell for a number and one task that waits for it.
 #[derive(Default)]
 struct Mail(Mutex<(Option<u64>, Option<Waker>)>);
 impl Mail {
@@ -256,7 +256,7 @@ impl Mail {
     }
 }
 
-/// Nanoseconds a round of two tasks that hand a number over.
+/// Returns the nanoseconds per round of two tasks that hand a number to each other.
 fn ping_pong(runtime: &Runtime) -> f64 {
     let rounds = 200_000;
     let mut all: Vec<f64> = (0..5)
@@ -321,7 +321,7 @@ fn waiting(cores: usize) {
     println!("all were woken and have ended after {:?}", start.elapsed());
 }
 
-/// Commands with 64 in flight until the server ends the connection; how many were answered, here and in all.
+/// Sends commands with 64 in flight until the server closes. Returns the number answered, here and in all.
 fn ask(port: u16, all: &AtomicU64) -> u64 {
     let mut stream = std::net::TcpStream::connect(("127.0.0.1", port)).unwrap();
     stream.set_nodelay(true).unwrap();
@@ -378,7 +378,7 @@ fn drain(cores: usize) {
     assert_eq!(line.trim(), format!("accepted {answered} answered {answered} aborted 0"));
 }
 
-/// What one task of `soak` does.
+/// The work of one task of `soak`.
 async fn soaked(what: u64, lock: Arc<Lock<u64>>, done: Arc<AtomicU64>) {
     match what {
         0 => arachne::yield_now().await,
@@ -392,7 +392,7 @@ async fn soaked(what: u64, lock: Arc<Lock<u64>>, done: Arc<AtomicU64>) {
     done.fetch_add(1, Relaxed);
 }
 
-/// Tasks of eight kinds, 10,000 at once, for so many seconds; each 30 s their count and the resident memory.
+/// Runs tasks of eight kinds, 10,000 at once, for `seconds`. Prints their count and the resident memory each 30 s.
 fn soak(cores: usize, seconds: u64) {
     let runtime = Runtime::new(cores);
     let (lock, done) = (Arc::new(Lock::new(0)), Arc::new(AtomicU64::new(0)));

@@ -1,8 +1,7 @@
-use Rattle.std.proofs.Common.{◌≡◌, ℕ, ◌+◌, ◌*◌, ◌/◌, ◌%◌, ◌∙◌, inl, inr, ◌∷◌, ap, refl, arith}
+use Rattle.std.proofs.Common.{◌≡◌, ℕ, ◌+◌, ◌*◌, ◌/◌, ◌%◌, ◌∙◌, inl, inr, [], ◌∷◌, ap, refl, arith}
 use Rattle.arachne_exec.specs.declared.view.Notes.{Notes}
-use Rattle.arachne_exec.specs.declared.view.Deed.TheVariants.{Looked}
 use Rattle.arachne_exec.specs.Layout.{mark_at}
-use Rattle.arachne_exec.specs.Changes.{noted, ending, aging, hearing}
+use Rattle.arachne_exec.specs.Changes.{laying_down, noted, blocking, ending, hearing}
 use Rattle.arachne_exec.proofs.Chains.{ended}
 use Rattle.arachne_exec.proofs.executor.Executor.finish.Goals.{After-lay-generation}
 use Rattle.arachne_exec.proofs.executor.Executor.finish.Goals as goal
@@ -24,14 +23,14 @@ pub returns-then-generation-ge-LAST_GENERATION-clause-ended : goal.returns-then-
 returns-then-generation-ge-LAST_GENERATION-clause-ended c =
     let place : ℕ = c.args.place in let mark : ℕ = c.look-mark.result in let k : Notes = c.args.seat.now.known in
     let found = saw (goal.at.returns-then-generation-ge-LAST_GENERATION-clause-ended c).After-lay-generation in let gone = c.retire.ensures.seat in
-    let is = ended place (gone.0 % 2) (Looked (mark_at place) mark ∷ k.deeds) k c.retire.new.seat.known
-    (ap (λ v. v.known) gone.1 ∙ ap (λ z. ending (aging place (hearing (gone.0 % 2) place z))) found) in
-    record { mark = mark; heard = gone.0; known = is.0; generation = inr (omega (arith, c.if-generation-ge-LAST_GENERATION.true), is.1) }
+    ended place mark gone.0 [] (place ∷ k.blocked) k c.retire.new.seat.known
+    (ap (λ v. v.known) gone.1 ∙ ap (λ z. blocking (ending place (hearing (gone.0 % 2) place z))) found)
+    (inr (omega (arith, c.if-generation-ge-LAST_GENERATION.true), refl))
 
 pub returns-clause-ended : goal.returns-clause-ended
 returns-clause-ended c =
     let place : ℕ = c.args.place in let mark : ℕ = c.look-mark.result in let k : Notes = c.args.seat.now.known in
     let found = saw (goal.at.returns-clause-ended c).After-lay-generation in let new = c.renew.ensures.seat in
-    let is = ended place (new.0 % 2) (Looked (mark_at place) (4 * (mark / 4 + 1)) ∷ Looked (mark_at place) mark ∷ k.deeds) k c.put_free.new.seat.known
-    (ap (λ v. v.known) c.put_free.ensures.seat ∙ ap (λ v. ending v.known) new.1 ∙ ap (λ z. ending (noted (mark_at place) (4 * (mark / 4 + 1)) (aging place (hearing (new.0 % 2) place z)))) found) in
-    record { mark = mark; heard = new.0; known = is.0; generation = inl (omega (arith, c.if-generation-ge-LAST_GENERATION.false), is.1) }
+    ended place mark new.0 ((mark_at place, 4 * (mark / 4 + 1)) ∷ []) k.blocked k c.put_free.new.seat.known
+    (ap (λ v. v.known) c.put_free.ensures.seat ∙ ap (λ v. laying_down v.known) new.1 ∙ ap (λ z. laying_down (noted (mark_at place) (4 * (mark / 4 + 1)) (ending place (hearing (new.0 % 2) place z)))) found)
+    (inl (omega (arith, c.if-generation-ge-LAST_GENERATION.false), refl))

@@ -1,9 +1,7 @@
 use Rattle.std.proofs.Common.{◌≡◌, ◌∙◌, ℕ, ◌+◌, ◌*◌, ◌<◌, refl, ap, sym, subst, arith, rules}
 use Rattle.arachne_exec.specs.declared.view.Notes.{Notes}
-use Rattle.arachne_exec.specs.declared.answers.HeldJob.{HeldJob}
-use Rattle.arachne_exec.specs.declared.answers.Next.TheVariants as next
 use Rattle.arachne_exec.specs.Layout.{worker_of}
-use Rattle.arachne_exec.specs.Calls.{HasLooked, HasAnswered}
+use Rattle.arachne_exec.specs.Calls.{HasLooked}
 use Rattle.arachne_exec.proofs.executor.Executor.next.Goals.{After-of-round}
 use Rattle.arachne_exec.proofs.Rousing.{looked-none, looked-on, answered-on, took-on}
 use Rattle.arachne_exec.proofs.executor.Executor.next.Goals as goal
@@ -55,8 +53,7 @@ pub returns-in-Some-take_in_shard-clause-answer : goal.returns-in-Some-take_in_s
 returns-in-Some-take_in_shard-clause-answer c =
     let k : Notes = c.args.seat.now.known in let after : Notes = c.take_in_shard.new.seat.known in
     let is : worker_of c.in-Some.shard.shard ≡ c.args.worker = omega (arith, c.in-Some.ensures.inside.3, c.loop-shard.invariant.worker, c.requires.worker.1) in
-    subst (λ (job : HeldJob). HasAnswered (next.Run job) c.args.self.now.shards c.args.worker k after) (sym c.found.ensures)
-    (took-on c.args.worker k c.loop-shard.seat.known c.loop-shard.invariant.looked c.args.self.now.shards c.in-Some.shard.shard after c.in-Some-take_in_shard.job is c.in-Some-take_in_shard.ensures.took)
+    took-on c.args.worker k c.loop-shard.seat.known c.loop-shard.invariant.looked c.args.self.now.shards c.in-Some.shard.shard after c.in-Some-take_in_shard.job is c.in-Some-take_in_shard.ensures.took
 
 pub returns-clause-answer : goal.returns-clause-answer
 returns-clause-answer c =

@@ -1,6 +1,6 @@
-use Rattle.std.proofs.Common.{◌∙◌, refl, ap}
-use Rattle.arachne_exec.specs.Layout.{free_at}
-use Rattle.arachne_exec.specs.Changes.{noted}
+use Rattle.std.proofs.Common.{◌≡◌, ℕ, ◌+◌, ◌*◌, ◌/◌, ◌∙◌, refl, ap, arith}
+use Rattle.arachne_exec.specs.Layout.{free_at, worker_of}
+use Rattle.arachne_exec.specs.Changes.{gained, noted, rousing, spawning}
 use Rattle.arachne_exec.proofs.Chains.{missed}
 use Rattle.arachne_exec.proofs.executor.Executor.spawn.Goals as goal
 
@@ -9,3 +9,21 @@ returns-then-not-claim_bit-clause-answer c =
     let then = c.if-not-claim_bit.ensures.missed refl in
     let saw = ap (λ v. v.known) c.look-free.ensures.seat ∙ (λ i. noted (c.free_word.ensures i) c.look-free.result (ap (λ v. v.known) c.seat.view_is i)) in
     missed free_at c.args.block c.lowest_index.result c.look-free.result then.0 _ _ _ c.lowest_index.ensures.low c.lowest_index.ensures.there saw then.1 (ap (λ v. v.known) then.2)
+
+pub returns-clause-answer : goal.returns-clause-answer
+returns-clause-answer c =
+    let block : ℕ = c.args.block in let job : ℕ = c.args.job in let place : ℕ = 64 * block + c.lowest_index.result in let mark : ℕ = c.look-mark.result in let unpark = c.publish_new-unpark.result in
+    let got = c.if-not-claim_bit.ensures.took refl in let row : place / 64 ≡ block = omega (arith, c.lowest_index.ensures.low) in
+    let saw = ap (λ v. v.known) c.look-free.ensures.seat ∙ (λ i. noted (c.free_word.ensures i) c.look-free.result (ap (λ v. v.known) c.seat.view_is i)) in
+    let claimed = ap (λ v. v.known) got.2 ∙ (λ i. gained place 0 (noted (free_at (row i)) got.0 (saw i))) in record {
+      there = row;
+      free = c.look-free.result;
+      found = got.0;
+      claimed = got.1;
+      mark = mark;
+      named = c.name_at.ensures;
+      known = ap (λ v. v.known) c.publish_new-unpark.ensures
+          ∙ ap (λ v. rousing unpark (worker_of (place / 4096)) (spawning job v.known)) c.lay.ensures.seat
+          ∙ ap (λ v. rousing unpark (worker_of (place / 4096)) (spawning job v.known)) c.look-mark.ensures.seat
+          ∙ (λ i. rousing unpark (worker_of (place / 4096)) (spawning job (noted (c.mark_word.ensures i) mark (claimed i))));
+    }

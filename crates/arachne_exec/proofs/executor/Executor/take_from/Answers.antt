@@ -1,4 +1,4 @@
-use Rattle.std.proofs.Common.{◌≡◌, ℕ, ◌+◌, ◌*◌, ◌%◌, ◌^◌, ◌≤◌, ◌∙◌, Bool, List, ◌∷◌, IsTrue, ◌↔◌, inr, refl, ap, sym, subst, arith}
+use Rattle.std.proofs.Common.{◌≡◌, ℕ, ◌+◌, ◌*◌, ◌/◌, ◌%◌, ◌^◌, ◌≤◌, ◌∙◌, Bool, List, ◌∷◌, IsTrue, ◌↔◌, inr, refl, ap, sym, subst, arith}
 use Rattle.atomic_table.specs.Table.{rest}
 use Rattle.arachne_exec.specs.declared.answers.HeldJob.{HeldJob}
 use Rattle.arachne_exec.specs.declared.turns.TakenJob.{TakenJob}
@@ -16,8 +16,8 @@ saw : (c : goal.After-first_from-index) → c.look-ready.new.seat.known ≡ note
 saw c = ap (λ v. v.known) c.look-ready.ensures.seat ∙ (λ i. noted (c.ready_word.ensures i) c.look-ready.result (ap (λ v. v.known) c.seat.view_is i))
 
 -- the slot of the place that was found is the newest
-came : (c : goal.After-refresh-mark) → c.refresh-mark.new.seat.slots ≡ (64 * c.args.block + c.first_from-index.result, (c.if-not-take_bit.ensures.took refl).0) ∷ c.look-ready.new.seat.slots
-came c = ap (λ v. v.slots) c.refresh-mark.ensures.1 ∙ ap (λ v. v.slots) (c.if-not-take_bit.ensures.took refl).1
+came : (c : goal.After-refresh-mark) → c.refresh-mark.new.seat.slots ≡ (64 * c.args.block + c.first_from-index.result, (c.if-not-take_bit.ensures.took refl).1) ∷ c.look-ready.new.seat.slots
+came c = ap (λ v. v.slots) c.refresh-mark.ensures.1 ∙ ap (λ v. v.slots) (c.if-not-take_bit.ensures.took refl).3
 
 pub returns-then-not-take_bit-clause-none : goal.returns-then-not-take_bit-clause-none
 returns-then-not-take_bit-clause-none c =
@@ -30,11 +30,11 @@ pub refresh-mark-requires-clause-newest : goal.refresh-mark-requires-clause-newe
 refresh-mark-requires-clause-newest c =
     let got = c.if-not-take_bit.ensures.took refl in
     let place : ℕ = 64 * c.args.block + c.first_from-index.result in
-    (got.0, got.0, subst (λ (v : CallView). HasNewest place got.0 got.0 v) (sym got.1) (record { hand = refl; slot = refl }))
+    (got.1, got.1, subst (λ (v : CallView). HasNewest place got.1 got.1 v) (sym got.3) (record { hand = refl; slot = refl }))
 
 pub lay-job-requires-clause-out : goal.lay-job-requires-clause-out
 lay-job-requires-clause-out c =
-    let job = (c.if-not-take_bit.ensures.took refl).0 in
+    let job = (c.if-not-take_bit.ensures.took refl).1 in
     let slots = came (goal.at.lay-job-requires-clause-out c).After-refresh-mark in
     (job, slots ∙ ap (λ (l : List (ℕ × ℕ)). (64 * c.args.block + c.first_from-index.result, job) ∷ l) (sym (ap rest slots)))
 
@@ -49,15 +49,18 @@ returns-clause-took c =
     let got = c.if-not-take_bit.ensures.took refl in
     let mark = c.refresh-mark.ensures in
     let at = goal.at.returns-clause-took c in
-    let same : got.0 ≡ c.lay-job.result = sym (ap newest_job (came at.After-refresh-mark)) ∙ ap newest_job c.lay-job.ensures.found in
-    let held = ap (λ v. v.known) got.1 ∙ (λ i. gained place (same i) (saw at.After-first_from-index i)) in
+    let same : got.1 ≡ c.lay-job.result = sym (ap newest_job (came at.After-refresh-mark)) ∙ ap newest_job c.lay-job.ensures.found in
+    let row : place / 64 ≡ c.args.block = omega (arith, low) in
+    let held = ap (λ v. v.known) got.3 ∙ (λ i. gained place (same i) (noted (ready_at (row i)) got.0 (saw at.After-first_from-index i))) in
     let back : index ≡ place % 64 = omega (arith, low) in
     subst (λ (taken : TakenJob). HasTakenFrom c.args.from.index taken c.args.block c.args.seat.now.known c.lay.new.seat.known)
     (sym (c.new.ensures ∙ ap (taken_with c.has_more.result) c.job_at.ensures))
     (record {
       took = record {
-        there = omega (arith, low);
+        there = row;
         ready = c.look-ready.result;
+        found = got.0;
+        taken = got.2;
         mark = c.refresh-mark.result;
         named = refl;
         then = mark.0;

@@ -1,6 +1,6 @@
 use Rattle.std.proofs.Common.{◌∙◌, ap, sym, subst, arith}
 use Rattle.atomic_table.specs.Table.{Joins}
-use Rattle.arachne_lock.specs.Rule.{IsKept, joined_view, blank}
+use Rattle.arachne_lock.specs.Rule.{IsKept, joined_view, spent}
 use Rattle.arachne_lock.specs.Steps.{Mine}
 use Rattle.arachne_lock.proofs.Keeps.{joins-allowed}
 use Rattle.arachne_lock.proofs.locks.Locks.join.Goals as goal
@@ -14,6 +14,6 @@ join_seat-requires c =
       ap (λ v. v.table) c.other.view_is ∙ c.requires.other ∙ sym (ap (λ v. v.table) c.self.view_is),
       ap (λ (m : Mine). m.1) c.other.invariant,
       omega (arith, c.self.invariant.words),
-      subst (λ (m : Mine × Mine). Joins (IsKept t.key) it.id m.0.0 other.id m.1.0 (joined_view m.0.0 m.1.0) blank) (λ i. (sym c.seat.invariant i, sym c.other.invariant i))
+      subst (λ (m : Mine × Mine). Joins (IsKept t.key) it.id m.0.0 other.id m.1.0 (joined_view m.0.0 m.1.0) spent) (λ i. (sym c.seat.invariant i, sym c.other.invariant i))
           (joins-allowed t.key it.id it.me.0.log other.id other.me.0.log),
     )

@@ -1,0 +1,31 @@
+//! Which processors are hyperthreads of one core, by the kernel's account.
+
+use std::fs;
+use std::path::PathBuf;
+
+/// Returns these processors by core, in the order of the first of each: without an account, each by itself.
+/// ARBITER_TOPOLOGY names another folder than the kernel's, for tests.
+pub fn by_core(cpus: &[usize]) -> Vec<Vec<usize>> {
+    let folder = std::env::var_os("ARBITER_TOPOLOGY").unwrap_or_else(|| "/sys/devices/system/cpu".into());
+    let mut cores: Vec<Vec<usize>> = Vec::new();
+    for &cpu in cpus {
+        let file = PathBuf::from(&folder).join(format!("cpu{cpu}/topology/thread_siblings_list"));
+        let siblings = read_list(fs::read_to_string(file).unwrap_or_default().trim()).unwrap_or_default();
+        match cores.iter_mut().find(|core| core.iter().any(|it| siblings.contains(it))) {
+            Some(core) => core.push(cpu),
+            None => cores.push(vec![cpu]),
+        }
+    }
+    cores
+}
+
+/// Returns the processors of a list as 0,2-5.
+pub fn read_list(text: &str) -> Option<Vec<usize>> {
+    let mut cpus = Vec::new();
+    for part in text.split(',') {
+        let mut ends = part.splitn(2, '-').map(|end| end.parse::<usize>().ok());
+        let first = ends.next()??;
+        cpus.extend(first..=ends.next().unwrap_or(Some(first))?);
+    }
+    Some(cpus)
+}
