@@ -1,16 +1,20 @@
 /* Arachne for hosts, proved, as a static library: crates/arachne_exec_c.
  * Made by scripts/declarations: don't edit it.
  *
- * A caller owes:
- *   - a handle that is null at first, whose pointer only the library writes, and that is never copied;
- *   - one thread at a time with each handle. It may go from thread to thread, over a thread's start or join, or a
- *     lock;
- *   - two handles where two are asked for, and, where they are joined, of one origin;
- *   - pointers that are not null;
- *   - `malloc`, `realloc` and `free` of one allocator, and liblibc_c.a of the kit in the link.
- * Calls on different handles, in as many threads as there are, are fine. None may be made from a signal handler. */
+ * The caller must:
+ *   - start each handle as null, leave its pointer to the library, and never copy it;
+ *   - use each handle from one thread at a time. It may go to another thread if the two synchronize, such as by the
+ *     start or join of a thread, or by a lock;
+ *   - pass two different handles to a call that takes two;
+ *   - pass pointers that are not null, to memory that no other thread uses meanwhile, or only reads if it is const;
+ *   - link `malloc`, `realloc` and `free` of one allocator, and liblibc_c.a of the kit.
+ * No call may be made from a signal handler. */
 #ifndef ARACHNE_EXEC_H
 #define ARACHNE_EXEC_H
+
+/* Raised if a code, a type or a call changes. */
+#define ARACHNE_EXEC_API_VERSION 1
+
 #include <stdbool.h>
 #include <stddef.h>
 #include <stdint.h>
@@ -19,261 +23,395 @@
 extern "C" {
 #endif
 
-/* What a call tells: one set of codes for all calls. */
+/* The codes that calls return: one set for all of them. */
 enum {
-    /* It is done. */
+    /* The call succeeded. */
     ARACHNE_DONE = 0,
-    /* The handle holds nothing, or holds something where it may not, or there is no such block, lock or ledger.
-     * Nothing has changed. */
+    /* The handle holds nothing, or something although it must be empty; or its seat may not make this call now;
+     * or there is no such block, lock or ledger. Nothing has changed. */
     ARACHNE_REFUSED = 1,
-    /* There is no memory. Nothing has changed. */
+    /* Memory was refused. Nothing has changed. */
     ARACHNE_NO_MEMORY = 2,
-    /* Another thread was at the lock. Nothing has changed: ask again. */
+    /* Another thread was at the lock. Nothing has changed: try again. */
     ARACHNE_CONTENDED = 3,
-    /* Another thread won the step. Nothing has changed: ask again, for a worker's number with another one. */
+    /* Another thread was first. Nothing has changed: try again, for a worker's number with another number. */
     ARACHNE_LOST = 4,
-    /* It holds the lock. */
+    /* `who` holds the lock. */
     ARACHNE_GRANTED = 5,
-    /* It waits for the lock, and holds it once a free hands it on to it. */
+    /* `who` waits for the lock, and holds it once a free hands it on to `who`. */
     ARACHNE_QUEUED = 6,
-    /* It holds the lock or waits for it already. */
+    /* `who` holds the lock or waits for it already. */
     ARACHNE_ALREADY_IN = 7,
     /* The lock is free. */
     ARACHNE_FREED = 8,
-    /* The lock was handed on to the one that had waited longest, who has to be woken. */
+    /* The lock was handed on to the one that had waited longest: wake it. */
     ARACHNE_HANDED_ON = 9,
-    /* It doesn't hold the lock; to a withdrawal also that it doesn't wait for it. */
+    /* `who` doesn't hold the lock. To a withdrawal: `who` neither holds it nor waits for it. */
     ARACHNE_NOT_HOLDER = 10,
-    /* It waited for the lock and waits no longer: it is not granted it any more. */
+    /* `who` waited for the lock, and waits no longer: the lock is not handed on to it any more. */
     ARACHNE_LEFT = 11,
     /* No place of the block is free. */
     ARACHNE_FULL = 12,
     /* The job is in the handle's hand: run it. */
     ARACHNE_RUN = 13,
-    /* The worker has set its idle bit, and then found none of its blocks shown: sleep until somebody unparks it. */
+    /* The worker has set its idle bit, and then found none of its blocks shown: sleep until you are unparked. */
     ARACHNE_PARK = 14,
-    /* No job was found, or a block is shown that may have one: ask again. */
+    /* No job was taken, or a block is shown that may have one: try again. */
     ARACHNE_AGAIN = 15,
     /* The job is ready. */
     ARACHNE_READY = 16,
     /* The job waits for a wake. */
     ARACHNE_BLOCKED = 17,
-    /* The job is ready, or runs: a take or a start uses the wake up, and else it is ready again where it would block
-     * next. So it is with the name that the next job at a free place will have. */
+    /* The job is ready, or runs. A take or a start uses the wake up; if none does, the job is ready again when
+     * it would block next. The name that the next job at a free place will have is marked in the same way. */
     ARACHNE_MARKED = 18,
-    /* It was marked already. */
+    /* The job was marked already. */
     ARACHNE_ALREADY_MARKED = 19,
-    /* No job has that name now. */
+    /* No job has this name now. */
     ARACHNE_GONE = 20,
-    /* Keep the cores that there are. */
+    /* Keep the number of cores. */
     ARACHNE_STAY = 21,
     /* Ask for a core. */
     ARACHNE_ADD = 22,
     /* Give a core back. */
     ARACHNE_REMOVE = 23,
-    /* No worker: an `unpark` of an answer that has nobody to unpark. */
+    /* The `unpark` of an answer that has no worker to unpark. */
     ARACHNE_NOBODY = 64,
 };
 
 /* ---- The executor */
 
-/* A seat at an executor, or nothing, as C lays it out: one pointer, which is null where nothing is held. Begin
- * with ARACHNE_EXEC_NULL. */
+/* A seat at an executor, or nothing, in C's layout: one pointer, which is null if nothing is held. Begin with
+ * ARACHNE_EXEC_NULL. */
 typedef struct {
     void *opaque;
 } arachne_exec;
 #define ARACHNE_EXEC_NULL {0}
 
-/* What is told of the end of an executor. How many jobs are left, which were written to the caller's array. */
+/* The answer of the end of an executor. */
 typedef struct {
+    /* The number of jobs that are left, which were written to the caller's array. */
     uint64_t count;
     uint32_t code;
 } arachne_exec_left;
 
-/* The answer of an executor. The name of the job, where one was spawned or is in hand: 20 bits of its place, and
- * 44 of the place's generation. The number of the job that is in hand, as it was spawned. The worker whose
- * thread is to be unparked, or NOBODY. */
+/* The answer of an executor. */
 typedef struct {
+    /* The name of the job that was spawned or is in hand: 20 bits of its place, and 44 of the place's
+     * generation. */
     uint64_t name;
+    /* The number of the job in hand, as it was spawned. */
     uint64_t job;
     uint32_t code;
+    /* The worker whose thread the caller must unpark, or NOBODY. */
     uint32_t unpark;
 } arachne_exec_told;
 
-/* Makes an executor of so many shards, and gives a handle that holds nothing its whole seat. Shard s has the
- * blocks 64 s to 64 s + 63, each of 64 places, and is looked after by worker s % 64. DONE; REFUSED, where the
- * handle holds something, or more than 256 shards are asked for; NO_MEMORY. */
+/* Makes an executor of `shards` shards, and puts its whole seat into a handle that holds nothing.
+ *
+ * Shard s has the blocks 64 s to 64 s + 63, each of 64 places; worker s % 64 looks after it. Returns DONE;
+ * REFUSED if the handle holds something, or if `shards` is greater than 256; NO_MEMORY.
+ *
+ * Threads: safe beside calls with other handles; two at once with `exec` are undefined behaviour. */
 uint32_t arachne_exec_new(arachne_exec *exec, size_t shards);
 
-/* Cuts the seat in two, as for another thread, and gives the second handle the second part. DONE; REFUSED, where
- * the first holds nothing or the second something; NO_MEMORY. A seat can be cut 127 times in a row. */
+/* Splits a seat in two, for another thread: `other` gets the second part, with no job in hand and no worker
+ * number.
+ *
+ * Returns DONE; REFUSED if `exec` holds nothing or `other` holds something; NO_MEMORY. A seat may be split 127
+ * times in a row. A further split succeeds too, but then the executor can't be ended any more.
+ *
+ * Threads: safe beside calls with other handles; two at once with `exec` or `other` are undefined behaviour. */
 uint32_t arachne_exec_split(arachne_exec *exec, arachne_exec *other);
 
-/* Joins the second handle's seat into the first's, so that the second holds nothing then. DONE; REFUSED, where
- * one of them holds nothing, or the second has a job in hand or is a worker. Both have to be of the same
- * executor, which is not tested: else the second's can't be ended any more, and what the end of the first hands
- * back may lack jobs. */
+/* Joins the seat of `other` into that of `exec`, so that `other` holds nothing.
+ *
+ * Returns DONE, or REFUSED if one of them holds nothing, or if `other` has a job in hand or is a worker. Both
+ * must be of one executor, which is not checked: otherwise the executor of `other` can't be ended any more, and
+ * the end of that of `exec` may return too few jobs.
+ *
+ * Threads: safe beside calls with other handles; two at once with `exec` or `other` are undefined behaviour. */
 uint32_t arachne_exec_join(arachne_exec *exec, arachne_exec *other);
 
-/* Ends the executor, and writes the jobs that were spawned and haven't ended, but for jobs 0, over the begin of
- * the array, each as often as it is left; the handle holds nothing then. DONE, with how many there are; REFUSED,
- * where the handle holds nothing, has a job in hand, or isn't whole, since another handle wasn't joined, or
- * where the array has no room for a job of each of the 4,096 places of each shard; NO_MEMORY. */
+/* Ends the executor, writes the jobs that are left to the beginning of `left`, and empties the handle.
+ *
+ * These are the jobs that were spawned and have not ended, each as often as it is left, without jobs of number
+ * 0. Returns DONE with their number; REFUSED if the handle holds nothing or has a job in hand, if not all other
+ * handles were joined into it, or if `left` has no room for a job of each of the 4,096 places of each shard;
+ * NO_MEMORY. Unless it returns DONE, the count is 0, and the executor and `left` are unchanged.
+ *
+ * Threads: safe beside calls with other handles; two at once with `exec` are undefined behaviour. */
 arachne_exec_left arachne_exec_end(arachne_exec *exec, uint64_t *left, size_t left_room);
 
-/* Frees what a handle holds. The executor is freed with the last of its handles; a job in hand is lost. */
+/* Frees the seat that a handle holds, if it holds one, and the executor with the last of its handles.
+ *
+ * A job in hand stays at its place for ever, and the other handles can't end the executor any more.
+ *
+ * Threads: safe beside calls with other handles; two at once with `exec` are undefined behaviour. */
 void arachne_exec_close(arachne_exec *exec);
 
-/* From now on the seat is this worker, of 0 to 63. DONE; LOST, where another seat has that number; REFUSED,
- * where it is one already. */
+/* Makes the seat the worker with a number from 0 to 63.
+ *
+ * Returns DONE; LOST if another seat has that number; REFUSED if the handle holds nothing, if its seat is a
+ * worker already, or if `worker` is greater than 63.
+ *
+ * Threads: safe beside calls with other handles; two at once with `exec` are undefined behaviour. */
 uint32_t arachne_exec_register(arachne_exec *exec, uint32_t worker);
 
-/* The seat's worker number is free again. DONE; REFUSED, where it has none. */
+/* Frees the seat's worker number. Returns DONE, or REFUSED if the handle holds nothing or its seat is no worker.
+ *
+ * Threads: safe beside calls with other handles; two at once with `exec` are undefined behaviour. */
 uint32_t arachne_exec_leave(arachne_exec *exec);
 
-/* Puts a job at a free place of a block: one try. A job 0 isn't handed back at the end. READY, with its name;
- * FULL; LOST; REFUSED, where there is no such block. */
+/* Puts a job at a free place of a block, where it is ready: one try.
+ *
+ * Returns READY with its name, and the worker to unpark; FULL; LOST; REFUSED if the handle holds nothing or
+ * there is no such block. A job with the number 0 is not returned by the end.
+ *
+ * Threads: safe beside calls with other handles; two at once with `exec` are undefined behaviour. */
 arachne_exec_told arachne_exec_spawn(arachne_exec *exec, size_t block, uint64_t job);
 
-/* Puts a job at a free place of a block and into the hand, where nobody else can take it: one try. RUN, with its
- * name and number; FULL; LOST; REFUSED, where a job is in hand or there is no such block. */
+/* Puts a job at a free place of a block and into the hand, so that nobody else can take it: one try.
+ *
+ * Returns RUN with its name and number; FULL; LOST; REFUSED if the handle holds nothing or has a job in hand, or
+ * if there is no such block.
+ *
+ * Threads: safe beside calls with other handles; two at once with `exec` are undefined behaviour. */
 arachne_exec_told arachne_exec_spawn_here(arachne_exec *exec, size_t block, uint64_t job);
 
-/* Looks which blocks of a shard may have ready jobs: a bit for each of its 64 blocks, by one load. A block
- * without its bit has none, or somebody is about to set the bit. 0 also where the handle holds nothing or there
- * is no such shard. */
+/* Returns the blocks of a shard that may have ready jobs, a bit for each of its 64 blocks, by one load.
+ *
+ * A block whose bit is clear has none, or somebody is about to set the bit. Returns 0 also if the handle holds
+ * nothing or there is no such shard.
+ *
+ * Threads: safe beside calls with other handles; two at once with `exec` are undefined behaviour. */
 uint64_t arachne_exec_shown(arachne_exec *exec, size_t shard);
 
-/* Looks which places of a block have a ready job: a bit for each of its 64 places, by one load. 0 also where the
- * handle holds nothing or there is no such block. */
+/* Returns the places of a block that have a ready job, a bit for each of its 64 places, by one load.
+ *
+ * Returns 0 also if the handle holds nothing or there is no such block.
+ *
+ * Threads: safe beside calls with other handles; two at once with `exec` are undefined behaviour. */
 uint64_t arachne_exec_ready(arachne_exec *exec, size_t block);
 
-/* Takes a job that is ready from any block: one try. RUN, with its name and number; AGAIN; REFUSED, where a job
- * is in hand or there is no such block. */
+/* Takes a ready job of a block into the hand, whichever worker looks after the block: one try.
+ *
+ * Returns RUN with its name and number; AGAIN; REFUSED if the handle holds nothing or has a job in hand, or if
+ * there is no such block.
+ *
+ * Threads: safe beside calls with other handles; two at once with `exec` are undefined behaviour. */
 arachne_exec_told arachne_exec_take(arachne_exec *exec, size_t block);
 
-/* Takes up to so many of a block's ready jobs at once, by one step: the places that came into the hand, a bit
- * for each of the block's 64. The lowest is the newest: the calls on the job in hand speak of it, and once it
- * rests or has ended of the next one. `arachne_exec_start` tells its name and number. 0, where none was got, a
- * job is in hand, the handle holds nothing, or there is no such block. */
+/* Takes up to `most` ready jobs of a block into the hand, by one step; a `most` of 0 counts as 1.
+ *
+ * Returns their places, a bit for each of the block's 64. The lowest is the newest: calls on the job in hand
+ * concern it, and the next one once it rests or has ended. `arachne_exec_start` returns its name and number.
+ * Returns 0 if it took none, if the handle holds nothing or has a job in hand, or if there is no such block.
+ *
+ * Threads: safe beside calls with other handles; two at once with `exec` are undefined behaviour. */
 uint64_t arachne_exec_take_many(arachne_exec *exec, size_t block, uint32_t most);
 
-/* The newest job in hand, of those that were taken at once, is about to run: a wake that has come until now is
- * used up. RUN, with its name and number; REFUSED, where none is in hand. */
+/* Begins to run the newest job in hand, of several that were taken at once: uses up a wake that has come by now.
+ *
+ * Returns RUN with its name and number, or REFUSED if the handle has no job in hand.
+ *
+ * Threads: safe beside calls with other handles; two at once with `exec` are undefined behaviour. */
 arachne_exec_told arachne_exec_start(arachne_exec *exec);
 
-/* The next job of the seat's worker. RUN, with its name and number; PARK; AGAIN; REFUSED, where the seat is no
- * worker or a job is in hand. */
+/* Takes the next job of the worker's blocks into the hand.
+ *
+ * Returns RUN with its name and number; PARK; AGAIN; REFUSED if the handle holds nothing, if its seat is no
+ * worker, or if a job is in hand.
+ *
+ * Threads: safe beside calls with other handles; two at once with `exec` are undefined behaviour. */
 arachne_exec_told arachne_exec_next(arachne_exec *exec);
 
-/* The last part of `next` alone: sets the idle bit and looks. PARK; AGAIN; REFUSED, where the seat is no worker. */
+/* Sets the worker's idle bit, and looks if its blocks are shown: the last part of `arachne_exec_next`.
+ *
+ * Returns PARK; AGAIN, with the bit cleared again; REFUSED if the handle holds nothing or its seat is no worker.
+ *
+ * Threads: safe beside calls with other handles; two at once with `exec` are undefined behaviour. */
 uint32_t arachne_exec_may_park(arachne_exec *exec);
 
-/* The worker has come back from its sleep by itself: its idle bit is cleared. DONE; REFUSED, where the seat is
- * no worker. */
+/* Clears the worker's idle bit, after a sleep that ended by itself.
+ *
+ * Returns DONE, or REFUSED if the handle holds nothing or its seat is no worker.
+ *
+ * Threads: safe beside calls with other handles; two at once with `exec` are undefined behaviour. */
 uint32_t arachne_exec_wake_up(arachne_exec *exec);
 
-/* The job in hand is ready again. READY; REFUSED, where none is in hand. */
+/* Makes the job in hand ready. Returns READY with the worker to unpark, or REFUSED if the handle has no job in
+ * hand.
+ *
+ * Threads: safe beside calls with other handles; two at once with `exec` are undefined behaviour. */
 arachne_exec_told arachne_exec_rest_ready(arachne_exec *exec);
 
-/* The job in hand waits for a wake. BLOCKED; READY, where a wake has come that no take or start has used up;
- * REFUSED, where none is in hand. */
+/* Lets the job in hand wait for a wake.
+ *
+ * Returns BLOCKED; READY with the worker to unpark, if a wake has come that no take or start has used up;
+ * REFUSED if the handle has no job in hand.
+ *
+ * Threads: safe beside calls with other handles; two at once with `exec` are undefined behaviour. */
 arachne_exec_told arachne_exec_rest_blocked(arachne_exec *exec);
 
-/* The job in hand has ended, and its place is free. DONE; REFUSED, where none is in hand. */
+/* Ends the job in hand, and frees its place. Returns DONE, or REFUSED if the handle has no job in hand.
+ *
+ * A place is used for at most 2^44 - 1 jobs.
+ *
+ * Threads: safe beside calls with other handles; two at once with `exec` are undefined behaviour. */
 uint32_t arachne_exec_finish(arachne_exec *exec);
 
-/* Wakes a job by its name. READY, where it was blocked; MARKED; ALREADY_MARKED; GONE; LOST; REFUSED. */
+/* Wakes the job of a name: one try.
+ *
+ * Returns READY with the worker to unpark, if the job was blocked; MARKED; ALREADY_MARKED; GONE; LOST; REFUSED
+ * if the handle holds nothing.
+ *
+ * Threads: safe beside calls with other handles; two at once with `exec` are undefined behaviour. */
 arachne_exec_told arachne_exec_wake(arachne_exec *exec, uint64_t name);
 
-/* The same, but a job that was blocked comes into the hand. RUN, with its name and number; MARKED;
- * ALREADY_MARKED; GONE; LOST; REFUSED, where a job is in hand. */
+/* Wakes the job of a name, and takes it into the hand if it was blocked: one try.
+ *
+ * Returns RUN with its name and number; MARKED; ALREADY_MARKED; GONE; LOST; REFUSED if the handle holds nothing
+ * or has a job in hand.
+ *
+ * Threads: safe beside calls with other handles; two at once with `exec` are undefined behaviour. */
 arachne_exec_told arachne_exec_wake_here(arachne_exec *exec, uint64_t name);
 
 /* ---- Locks */
 
-/* A seat at a set of locks, or nothing, as C lays it out: one pointer, which is null where nothing is held.
- * Begin with ARACHNE_LOCKS_NULL. */
+/* A seat at a set of locks, or nothing, in C's layout: one pointer, which is null if nothing is held. Begin with
+ * ARACHNE_LOCKS_NULL. */
 typedef struct {
     void *opaque;
 } arachne_locks;
 #define ARACHNE_LOCKS_NULL {0}
 
-/* The answer of a lock. Numbers of events count from 0 for each lock by itself, modulo 2^64. The number of the
- * event: of the grant, the ask, the free or the leave. To a free that hands the lock on: who holds it now, by
- * the grant with the next number. */
+/* The answer of a lock. The events of each lock are numbered from 0, modulo 2^64. */
 typedef struct {
+    /* The number of the event: of the grant, the ask, the free or the leave. */
     uint64_t at;
+    /* The one that holds the lock now, if a free handed it on; the number of that grant is `at` + 1. */
     uint64_t next;
     uint32_t code;
 } arachne_lock_told;
 
-/* Makes so many locks, and gives a handle that holds nothing the first seat. DONE; REFUSED, where it holds
- * something; NO_MEMORY. */
+/* Makes `count` locks, and puts the first seat into a handle that holds nothing.
+ *
+ * Returns DONE; REFUSED if the handle holds something; NO_MEMORY.
+ *
+ * Threads: safe beside calls with other handles; two at once with `locks` are undefined behaviour. */
 uint32_t arachne_locks_new(arachne_locks *locks, size_t count);
 
-/* A seat more, as for another thread, for a handle that holds nothing. DONE; REFUSED, where the first holds
- * nothing or the second something; NO_MEMORY. */
+/* Splits off another seat, for another thread, and puts it into `other`.
+ *
+ * Returns DONE; REFUSED if `locks` holds nothing or `other` holds something; NO_MEMORY.
+ *
+ * Threads: safe beside calls with other handles; two at once with `locks` or `other` are undefined behaviour. */
 uint32_t arachne_locks_split(arachne_locks *locks, arachne_locks *other);
 
-/* Joins the second handle's seat into the first's, so that the second holds nothing then. DONE; REFUSED, where
- * one of them holds nothing. Both have to be of the same locks, which is not tested: else the second's are only
- * let go. */
+/* Joins the seat of `other` into that of `locks`, so that `other` holds nothing.
+ *
+ * Returns DONE, or REFUSED if one of them holds nothing. Both must be of one set of locks, which is not checked:
+ * otherwise the seat of `other` is only freed, as by `arachne_locks_close`.
+ *
+ * Threads: safe beside calls with other handles; two at once with `locks` or `other` are undefined behaviour. */
 uint32_t arachne_locks_join(arachne_locks *locks, arachne_locks *other);
 
-/* Frees what a handle holds. The locks are freed with the last of their handles. */
+/* Frees the seat that a handle holds, if it holds one, and the locks with the last of their handles.
+ *
+ * Threads: safe beside calls with other handles; two at once with `locks` are undefined behaviour. */
 void arachne_locks_close(arachne_locks *locks);
 
-/* Asks for a lock: one try. GRANTED; QUEUED; ALREADY_IN; NO_MEMORY, only where it would have to wait; CONTENDED;
- * REFUSED. */
+/* Asks for a lock for `who`: one try.
+ *
+ * Returns GRANTED; QUEUED; ALREADY_IN; NO_MEMORY, only if `who` would have to wait; CONTENDED; REFUSED if the
+ * handle holds nothing or there is no such lock.
+ *
+ * Threads: safe beside calls with other handles; two at once with `locks` are undefined behaviour. */
 arachne_lock_told arachne_lock_ask(arachne_locks *locks, size_t lock, uint64_t who);
 
-/* Frees a lock: one try. FREED; HANDED_ON, to `next`; NOT_HOLDER; CONTENDED; REFUSED. */
+/* Frees a lock that `who` holds: one try.
+ *
+ * Returns FREED; HANDED_ON, to `next`; NOT_HOLDER; CONTENDED; REFUSED if the handle holds nothing or there is no
+ * such lock.
+ *
+ * Threads: safe beside calls with other handles; two at once with `locks` are undefined behaviour. */
 arachne_lock_told arachne_lock_free(arachne_locks *locks, size_t lock, uint64_t who);
 
-/* Leaves the queue of a lock, as where a future is dropped: one try. LEFT; GRANTED, where it holds the lock
- * meanwhile, and has to free it; NOT_HOLDER, where it neither holds it nor waits; CONTENDED; REFUSED. */
+/* Takes `who` out of the queue of a lock, such as when its future is dropped: one try.
+ *
+ * Returns LEFT; GRANTED if it holds the lock by now, and must free it; NOT_HOLDER; CONTENDED; REFUSED if the
+ * handle holds nothing or there is no such lock.
+ *
+ * Threads: safe beside calls with other handles; two at once with `locks` are undefined behaviour. */
 arachne_lock_told arachne_lock_withdraw(arachne_locks *locks, size_t lock, uint64_t who);
 
-/* Whether it holds a lock: one try. GRANTED, with the number of the grant; NOT_HOLDER; CONTENDED; REFUSED. */
+/* Looks if `who` holds a lock: one try.
+ *
+ * Returns GRANTED with the number of its grant; NOT_HOLDER; CONTENDED; REFUSED if the handle holds nothing or
+ * there is no such lock.
+ *
+ * Threads: safe beside calls with other handles; two at once with `locks` are undefined behaviour. */
 arachne_lock_told arachne_lock_check(arachne_locks *locks, size_t lock, uint64_t who);
 
 /* ---- Ledgers */
 
-/* A share of somebody's ledgers, or nothing, as C lays it out: one pointer, which is null where nothing is held.
- * Begin with ARACHNE_ADDER_NULL. */
+/* A share of a set of ledgers, or nothing, in C's layout: one pointer, which is null if nothing is held. Begin
+ * with ARACHNE_ADDER_NULL. */
 typedef struct {
     void *opaque;
 } arachne_adder;
 #define ARACHNE_ADDER_NULL {0}
 
-/* Makes so many ledgers, each 0, and gives a handle that holds nothing their whole share. DONE; REFUSED, where
- * it holds something; NO_MEMORY. */
+/* Makes `count` ledgers, each of total 0, and puts their whole share into a handle that holds nothing.
+ *
+ * Returns DONE; REFUSED if the handle holds something; NO_MEMORY.
+ *
+ * Threads: safe beside calls with other handles; two at once with `adder` are undefined behaviour. */
 uint32_t arachne_ledgers_new(arachne_adder *adder, size_t count);
 
-/* Adds to a ledger. False, with nothing changed, where the handle holds nothing or there is no such ledger. */
+/* Adds an amount to a ledger.
+ *
+ * Returns false, with nothing changed, if the handle holds nothing or there is no such ledger.
+ *
+ * Threads: safe beside calls with other handles; two at once with `adder` are undefined behaviour. */
 bool arachne_ledger_add(arachne_adder *adder, size_t ledger, uint64_t amount);
 
-/* The total of a ledger, modulo 2^64, where all other handles are back. False, with nothing changed, where one
- * is not, where the handle holds nothing, or there is no such ledger. */
+/* Reads the total of a ledger, modulo 2^64, once all other handles were joined into this one.
+ *
+ * Returns false, with nothing changed, if one was not, if the handle holds nothing, or if there is no such
+ * ledger.
+ *
+ * Threads: safe beside calls with other handles; two at once with `adder` are undefined behaviour. */
 bool arachne_ledger_total(arachne_adder *adder, size_t ledger, uint64_t *total);
 
-/* Cuts the share in two, as for another thread, and gives the second handle the second part. DONE; REFUSED,
- * where the first holds nothing or the second something; NO_MEMORY. A share can be cut 127 times in a row. */
+/* Splits a share in two, for another thread: `other` gets the second part, to which nothing was added.
+ *
+ * Returns DONE; REFUSED if `adder` holds nothing or `other` holds something; NO_MEMORY. A share may be split 127
+ * times in a row. A further split succeeds too, but then no total can be read any more.
+ *
+ * Threads: safe beside calls with other handles; two at once with `adder` or `other` are undefined behaviour. */
 uint32_t arachne_ledger_split(arachne_adder *adder, arachne_adder *other);
 
-/* Joins the second handle's share into the first's, so that the second holds nothing then. False, with nothing
- * changed, where one of them holds nothing. Both have to be of the same ledgers, which is not tested: else the
- * first's sums may be returned before all of its handles are back, and the second's never are. */
+/* Joins the share of `other` into that of `adder`, so that `other` holds nothing.
+ *
+ * Returns false, with nothing changed, if one of them holds nothing. Both must be of one set of ledgers, which
+ * is not checked: otherwise totals of the ledgers of `adder` may be read before all of their handles were
+ * joined, and those of `other` can't be read any more.
+ *
+ * Threads: safe beside calls with other handles; two at once with `adder` or `other` are undefined behaviour. */
 bool arachne_ledger_join(arachne_adder *adder, arachne_adder *other);
 
-/* Frees what a handle holds. The weight of its share is lost, so that no total can be told any more; the ledgers
- * are freed with the last of their handles. */
+/* Frees the share that a handle holds, if it holds one, and the ledgers with the last of their handles.
+ *
+ * The other handles can't read a total any more.
+ *
+ * Threads: safe beside calls with other handles; two at once with `adder` are undefined behaviour. */
 void arachne_ledger_close(arachne_adder *adder);
 
 /* ---- The core policy */
 
-/* An estimator as C lays it out: its settings, and the threshold of each number of cores from 1. */
+/* An estimator in C's layout: its settings, and the threshold of each number of cores from 1. */
 typedef struct {
     uint64_t up;
     uint64_t hysteresis;
@@ -281,7 +419,7 @@ typedef struct {
     uint64_t thresholds[64];
 } arachne_estimator;
 
-/* A sample as C lays it out. */
+/* A sample in C's layout. */
 typedef struct {
     uint64_t cores;
     uint64_t runnable;
@@ -290,12 +428,17 @@ typedef struct {
     uint64_t elapsed;
 } arachne_sample;
 
-/* Makes an estimator that has seen no sample. False, with nothing changed, where more than 64 cores are asked
- * for. */
+/* Makes an estimator that has seen no sample. Returns false, with nothing changed, if `max` is greater than 64.
+ *
+ * Threads: safe beside calls with other memory; two at once with `estimator` are undefined behaviour. */
 bool arachne_estimator_new(uint64_t up, uint64_t hysteresis, uint64_t max, arachne_estimator *estimator);
 
-/* Judges a sample: STAY, ADD or REMOVE. REFUSED, with nothing changed, where the sample can't have been
- * measured, or the estimator has more than 64 cores. */
+/* Judges a sample, and returns STAY, ADD or REMOVE.
+ *
+ * Returns REFUSED, with nothing changed, if the sample can't have been measured, or if the estimator's `max` is
+ * greater than 64.
+ *
+ * Threads: safe beside calls with other memory; two at once with `estimator` are undefined behaviour. */
 uint32_t arachne_estimator_judge(arachne_estimator *estimator, const arachne_sample *sample);
 
 #ifdef __cplusplus

@@ -1,15 +1,19 @@
 /* The state of a daemon that grants cores, proved, as a static library: crates/arachne_grants_c.
  * Made by scripts/declarations: don't edit it.
  *
- * A caller owes:
- *   - a handle that is null at first, whose pointer only the library writes, and that is never copied;
- *   - one thread at a time with each handle. It may go from thread to thread, over a thread's start or join, or a
- *     lock;
- *   - pointers that are not null;
- *   - `malloc`, `realloc` and `free` of one allocator, and liblibc_c.a of the kit in the link.
- * Calls on different handles, in as many threads as there are, are fine. None may be made from a signal handler. */
+ * The caller must:
+ *   - start each handle as null, leave its pointer to the library, and never copy it;
+ *   - use each handle from one thread at a time. It may go to another thread if the two synchronize, such as by the
+ *     start or join of a thread, or by a lock;
+ *   - pass pointers that are not null, to memory that no other thread uses meanwhile, or only reads if it is const;
+ *   - link `malloc`, `realloc` and `free` of one allocator, and liblibc_c.a of the kit.
+ * No call may be made from a signal handler. */
 #ifndef ARACHNE_GRANTS_H
 #define ARACHNE_GRANTS_H
+
+/* Raised if a code, a type or a call changes. */
+#define ARACHNE_GRANTS_API_VERSION 1
+
 #include <stdbool.h>
 #include <stddef.h>
 #include <stdint.h>
@@ -18,12 +22,12 @@
 extern "C" {
 #endif
 
-/* What a call tells: one set of codes for all calls. */
+/* The codes that calls return: one set for all of them. */
 enum {
     /* The call succeeded. */
     ARACHNE_GRANTS_DONE = 0,
-    /* The handle holds nothing, or is in use although it must be empty, or the event is not allowed now. Nothing has
-     * changed. */
+    /* The handle holds nothing, or is in use although it must be empty, or the event is not allowed now. Nothing
+     * has changed. */
     ARACHNE_GRANTS_REFUSED = 1,
     /* Memory was refused. Nothing has changed. */
     ARACHNE_GRANTS_NO_MEMORY = 2,
@@ -59,9 +63,9 @@ enum {
 
 /* ---- Messages */
 
-/* A message of a client. Fields that it does not use are 0. HELLO, JOIN, WAIT or ASK; otherwise the reason that
- * the bytes do not begin with a message. */
+/* A message of a client. Fields that it does not use are 0. */
 typedef struct {
+    /* HELLO, JOIN, WAIT or ASK; otherwise the reason that the bytes do not begin with a message. */
     uint32_t code;
     uint32_t priority;
     uint32_t reserved;
@@ -73,9 +77,12 @@ typedef struct {
     bool floats;
 } arachne_message;
 
-/* Reads the message at the beginning of the bytes. Returns HELLO, JOIN, WAIT or ASK; SHORT if there are fewer
- * than 16 bytes; otherwise KIND, VERSION, PRIORITY, PLACE or UNUSED, by the first of its four numbers that is
- * not valid. */
+/* Reads the message at the beginning of the bytes.
+ *
+ * Returns HELLO, JOIN, WAIT or ASK; SHORT if there are fewer than 16 bytes; otherwise KIND, VERSION, PRIORITY,
+ * PLACE or UNUSED, by the first of its four numbers that is not valid.
+ *
+ * Threads: safe beside any call, if nobody writes to `bytes` meanwhile. */
 arachne_message arachne_message_read(const uint8_t *bytes, size_t bytes_count);
 
 /* ---- The arbiter */
@@ -87,63 +94,95 @@ typedef struct {
 } arachne_arbiter;
 #define ARACHNE_ARBITER_NULL {0}
 
-/* The action that the caller must take on a thread. Fields that it does not use are 0. TAKEN, PLACED, GRANTED or
- * NOTHING; REFUSED if the handle holds nothing. */
+/* The action that the caller must take on a thread. Fields that it does not use are 0. */
 typedef struct {
+    /* TAKEN, PLACED, GRANTED or NOTHING; REFUSED if the handle holds nothing. */
     uint32_t code;
     uint32_t core;
     size_t client;
     size_t place;
 } arachne_action;
 
-/* A client's share of the cores. The number of cores that it may have. The number of cores that its threads
- * have. */
+/* A client's share of the cores. */
 typedef struct {
+    /* The number of cores that it may have. */
     uint32_t allowed;
+    /* The number of cores that its threads have. */
     uint32_t held;
 } arachne_share;
 
-/* Makes an arbiter of the cores 0 to `cores` - 1, without clients, in a handle that holds nothing. Returns DONE;
- * REFUSED if the handle holds something, or if there are more than 1,024 cores; NO_MEMORY if memory is refused. */
+/* Makes an arbiter of the cores 0 to `cores` - 1, without clients, in a handle that holds nothing.
+ *
+ * Returns DONE; REFUSED if the handle holds something, or if `cores` is greater than 1,024; NO_MEMORY.
+ *
+ * Threads: safe beside calls with other handles; two at once with `arbiter` are undefined behaviour. */
 uint32_t arachne_arbiter_new(arachne_arbiter *arbiter, uint32_t cores);
 
-/* Frees the arbiter that a handle holds, if it holds one. */
+/* Frees the arbiter that a handle holds, if it holds one.
+ *
+ * Threads: safe beside calls with other handles; two at once with `arbiter` are undefined behaviour. */
 void arachne_arbiter_close(arachne_arbiter *arbiter);
 
-/* Adds a client with a number from 0 to 63 that no other client has, with a priority, of which 0 goes first, the
- * cores that it reserves, and the greatest number that it may ask for. Returns DONE or REFUSED. The caller must
- * check that the client is entitled to these. */
+/* Adds a client with its priority, of which 0 goes first, and the cores that it reserves and may ask for at
+ * most.
+ *
+ * Its number is from 0 to 63, and no other client's. Returns DONE or REFUSED. The caller must check that the
+ * client is entitled to these.
+ *
+ * Threads: safe beside calls with other handles; two at once with `arbiter` are undefined behaviour. */
 uint32_t arachne_arbiter_hello(arachne_arbiter *arbiter, size_t client, uint8_t priority, uint32_t reserved, uint32_t most);
 
-/* Sets the number of cores that a client asks for. Returns DONE, or REFUSED if there is no such client. */
+/* Sets the number of cores that a client asks for. Returns DONE, or REFUSED if there is no such client.
+ *
+ * Threads: safe beside calls with other handles; two at once with `arbiter` are undefined behaviour. */
 uint32_t arachne_arbiter_ask(arachne_arbiter *arbiter, size_t client, uint32_t cores);
 
-/* Removes a client, with all of its threads. Returns DONE, or REFUSED if its number is greater than 63. */
+/* Removes a client, with all of its threads. Returns DONE, or REFUSED if its number is greater than 63.
+ *
+ * Threads: safe beside calls with other handles; two at once with `arbiter` are undefined behaviour. */
 uint32_t arachne_arbiter_leave(arachne_arbiter *arbiter, size_t client);
 
 /* Adds a thread to a client, at a free place from 0 to 63. A thread that floats never waits. Returns DONE or
- * REFUSED. */
+ * REFUSED.
+ *
+ * Threads: safe beside calls with other handles; two at once with `arbiter` are undefined behaviour. */
 uint32_t arachne_arbiter_join(arachne_arbiter *arbiter, size_t client, size_t place, bool floats);
 
-/* Takes the core from a thread, if it has one, and lets the thread wait until it is granted one. Returns DONE,
- * or REFUSED if the thread floats or waits already, or does not exist. */
+/* Takes the core from a thread, if it has one, and lets the thread wait until it is granted one.
+ *
+ * Returns DONE, or REFUSED if the thread floats or waits already, or does not exist.
+ *
+ * Threads: safe beside calls with other handles; two at once with `arbiter` are undefined behaviour. */
 uint32_t arachne_arbiter_wait(arachne_arbiter *arbiter, size_t client, size_t place);
 
-/* Removes a thread. Returns DONE, or REFUSED if its client's number or its place is greater than 63. */
+/* Removes a thread. Returns DONE, or REFUSED if its client's number or its place is greater than 63.
+ *
+ * Threads: safe beside calls with other handles; two at once with `arbiter` are undefined behaviour. */
 uint32_t arachne_arbiter_end(arachne_arbiter *arbiter, size_t client, size_t place);
 
-/* Decides anew how many cores each client may have. Returns DONE or REFUSED. */
+/* Decides anew how many cores each client may have. Returns DONE or REFUSED.
+ *
+ * Threads: safe beside calls with other handles; two at once with `arbiter` are undefined behaviour. */
 uint32_t arachne_arbiter_decide(arachne_arbiter *arbiter);
 
-/* Takes a core from a client that has more than it may have: from its last thread that has one. If that thread
- * floats, the core is taken at once, otherwise only if `late` is set. Returns TAKEN or NOTHING. */
+/* Takes a core from a client that has more than it may have: from its last thread that has one.
+ *
+ * If that thread floats, the core is taken at once, otherwise only if `late` is set. Returns TAKEN or NOTHING.
+ *
+ * Threads: safe beside calls with other handles; two at once with `arbiter` are undefined behaviour. */
 arachne_action arachne_arbiter_take_back(arachne_arbiter *arbiter, size_t client, bool late);
 
-/* Gives a free core to a thread that can take one, of a client that has fewer than it may have. The higher
- * priority goes first. Returns GRANTED if the thread waited, PLACED if it floats, or NOTHING. */
+/* Gives a free core to a thread that can take one, of a client that has fewer than it may have.
+ *
+ * The higher priority goes first. Returns GRANTED if the thread waited, PLACED if it floats, or NOTHING.
+ *
+ * Threads: safe beside calls with other handles; two at once with `arbiter` are undefined behaviour. */
 arachne_action arachne_arbiter_give(arachne_arbiter *arbiter);
 
-/* Returns the number of cores that a client may have, and the number that it has. */
+/* Returns the number of cores that a client may have, and the number that it has; 0 and 0 if the handle holds
+ * nothing.
+ *
+ * Threads: safe beside calls with other handles; two at once with `arbiter` are undefined behaviour. */
 arachne_share arachne_arbiter_share(arachne_arbiter *arbiter, size_t client);
 
 #ifdef __cplusplus

@@ -1,4 +1,4 @@
--- What a handle on ledgers holds, and what a call makes of it.
+-- The value that a handle on ledgers holds, and its change by each call.
 use Rattle.std.specs.Prelude.{◌≡◌, ℕ, Bool, true, false, ◌%◌, ◌^◌, ◌<◌, replicate, length, slice_index}
 use Rattle.std.specs.Option.{option_map, IsSomeAnd}
 use Rattle.std.specs.declared.option.Option.{Option}
@@ -12,7 +12,7 @@ pub record Adder : Type 0 where
   pub ledgers : LedgersView
   pub share : ShareView
 
--- so many ledgers, and their whole share, to which nothing was added
+-- `count` ledgers, and their whole share, to which nothing was added
 pub record IsNew (count : ℕ) (adder : Adder) : Type 0 where
   pub counted : adder.ledgers.count ≡ count
   pub begun : adder.share ≡ record { table = adder.ledgers.table; weight = whole; sums = replicate count 0; last_read = None }
@@ -28,11 +28,11 @@ HasLedger ledger adder = ledger < adder.ledgers.count
 abbrev pub MayRead : ℕ → Adder → Type 0
 MayRead ledger adder = HasLedger ledger adder × IsWhole adder.share
 
--- what was added through the share to the ledger, modulo 2^64
+-- the sum of the amounts that were added to the ledger through the share, modulo 2^64
 abbrev pub total_of : ℕ → Adder → ℕ
 total_of ledger adder = slice_index adder.share.sums ledger % 2 ^ 64
 
--- the share keeps the number that it found last
+-- the share keeps the number that it has read last
 abbrev pub with_reading : ℕ → Adder → Adder
 with_reading ledger adder = record adder { share = record adder.share { last_read = Some (record { ledger = ledger; number = total_of ledger adder }) } }
 
@@ -40,7 +40,7 @@ with_reading ledger adder = record adder { share = record adder.share { last_rea
 abbrev pub HasRead : (ledger total : ℕ) → Option Adder → Option Adder → Type 0
 HasRead ledger total old new = IsSomeAnd old (λ adder. total ≡ total_of ledger adder) × (new ≡ option_map (with_reading ledger) old)
 
--- the parts of a share that is cut in two: the first keeps its sums, and the second begins with nothing
+-- the parts of a share that is split: the first keeps its sums, and those of the second are 0
 abbrev pub first_of : Adder → Adder
 first_of adder = record adder { share = record adder.share { weight = first_part adder.share.weight } }
 
@@ -54,7 +54,7 @@ second_of adder = record adder {
   };
 }
 
--- a share that another was joined into
+-- a share into which another was joined
 abbrev pub joined_with : Adder → Adder → Adder
 joined_with adder other = record adder {
   share = record adder.share {
@@ -63,7 +63,7 @@ joined_with adder other = record adder {
   };
 }
 
--- how C is told of a call that takes memory
+-- the codes of a call that allocates
 abbrev pub done : ℕ
 done = 0
 
@@ -73,21 +73,21 @@ refused = 1
 abbrev pub no_memory : ℕ
 no_memory = 2
 
--- A handle that holds nothing gets new ledgers. One that is in use is refused, and want of memory changes nothing.
+-- A handle that holds nothing gets new ledgers. One that is in use is refused. If memory is refused, nothing changes.
 abbrev pub IsMade : ℕ → Option Adder → Option Adder → ℕ → Type 0
 IsMade count (Some old) new answer = (answer ≡ refused) × (new ≡ Some old)
 IsMade count None None answer = answer ≡ no_memory
 IsMade count None (Some new) answer = (answer ≡ done) × IsNew count new
 
--- The first handle's share is cut in two, of which the second handle gets the second, where the first holds a share and
--- the second nothing. Want of memory changes nothing.
+-- If the first handle holds a share and the second nothing, the share is split, and the second handle gets the second
+-- part. If memory is refused, nothing changes.
 abbrev pub IsSplit : Option Adder → Option Adder → Option Adder → Option Adder → ℕ → Type 0
 IsSplit None other new other_new answer = (answer ≡ refused) × (new ≡ None) × (other_new ≡ other)
 IsSplit (Some old) (Some other) new other_new answer = (answer ≡ refused) × (new ≡ Some old) × (other_new ≡ Some other)
 IsSplit (Some old) None new None answer = (answer ≡ no_memory) × (new ≡ Some old)
 IsSplit (Some old) None new (Some other) answer = (answer ≡ done) × (new ≡ Some (first_of old)) × (other ≡ second_of old)
 
--- The second handle's share is joined into the first's, where both hold one.
+-- The second handle's share is joined into the first's, if both hold one.
 abbrev pub IsJoined : Option Adder → Option Adder → Option Adder → Option Adder → Bool → Type 0
 IsJoined (Some old) (Some other) new other_new answer = (answer ≡ true) × (new ≡ Some (joined_with old other)) × (other_new ≡ None)
 IsJoined (Some old) None new other_new answer = (answer ≡ false) × (new ≡ Some old) × (other_new ≡ None)

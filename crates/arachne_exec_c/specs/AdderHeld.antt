@@ -1,4 +1,4 @@
--- What a handle holds.
+-- The share that a handle holds.
 use Rattle.std.specs.Prelude.{◌≡◌}
 use Rattle.std.specs.Option.{option_flatten}
 use Rattle.std.specs.declared.option.Option.{Option}
@@ -6,10 +6,10 @@ use Rattle.std.specs.declared.option.Option.TheVariants.{Some}
 use Rattle.arachne_exec_c.specs.Adder.{Adder}
 use Rattle.arachne_exec_c.specs.declared.adder.ArachneAdder.{ArachneAdder}
 
--- what a handle holds, of the memory behind it, if there is any
+-- the share behind a handle, if there is one
 abbrev pub held : ArachneAdder → Option Adder
 held adder = option_flatten adder.value
 
--- what both hold came from the same ledgers
+-- the shares that both hold are of one set of ledgers
 abbrev pub IsOfOne : ArachneAdder → ArachneAdder → Type 0
 IsOfOne adder other = (a b : Adder) → held adder ≡ Some a → held other ≡ Some b → b.ledgers.table ≡ a.ledgers.table

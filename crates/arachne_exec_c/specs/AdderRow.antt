@@ -1,4 +1,4 @@
--- The type of what lies behind a handle. Private to the crate.
+-- The type of the value behind a handle. Private to the crate.
 use denote.RattleType.{RattleType}
 use Rattle.std.specs.contracts.option.Option as option
 use Rattle.arachne_exec_c.specs.contracts.adding.Adding as adding

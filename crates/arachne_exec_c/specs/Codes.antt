@@ -1,4 +1,4 @@
--- The codes by which C is told of a call.
+-- The codes that calls return to C.
 use Rattle.std.specs.Prelude.{ℕ}
 
 abbrev pub done : ℕ

@@ -1,4 +1,4 @@
--- What an estimator and a sample in a caller's memory stand for.
+-- The state and the sample that the caller's memory stands for.
 use Rattle.std.specs.Prelude.{◌≡◌, ℕ, ◌≤◌, List, ◌∷◌, true}
 use Rattle.arachne_policy.specs.declared.samples.Advice.{Advice}
 use Rattle.arachne_policy.specs.declared.samples.Advice.TheVariants.{Add, Stay, Remove}
@@ -15,13 +15,13 @@ state_of e = record { settings = record { up = e.up; hysteresis = e.hysteresis; 
 abbrev pub sample_of : ArachneSample → Sample
 sample_of s = record { cores = s.cores; runnable = s.runnable; scans = s.scans; busy = s.busy; elapsed = s.elapsed }
 
--- an advice as C is told of it
+-- the code of an advice
 abbrev pub number_of : Advice → ℕ
 number_of Stay = 21
 number_of Add = 22
 number_of Remove = 23
 
--- what C is told where a sample can't be judged
+-- the code if a sample can't be judged
 abbrev pub refused : ℕ
 refused = 1
 
@@ -29,7 +29,7 @@ refused = 1
 abbrev pub MayJudge : ArachneEstimator → ArachneSample → Type 0
 MayJudge e s = (e.max ≤ most_cores) × (is_good e.max (sample_of s) ≡ true)
 
--- the answer is the advice on this sample after those, and the estimator stands for them and this one then
+-- the answer is the advice on this sample after those, and the estimator then stands for those and this one
 abbrev pub HasJudged : List Sample → ArachneEstimator → ArachneSample → ℕ → ArachneEstimator → Type 0
 HasJudged past before s answer after =
     (answer ≡ number_of (advice (state_of before).settings past (sample_of s))) × StandsFor (state_of after) (sample_of s ∷ past)

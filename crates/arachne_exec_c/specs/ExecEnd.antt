@@ -1,4 +1,4 @@
--- How the end of an executor is told in C.
+-- The end of an executor, and the answer that C gets.
 use Rattle.std.specs.Prelude.{◌≡◌, ◌≢◌, ◌⊎◌, ℕ, ◌*◌, ◌<◌, ◌≤◌, List, length, drop, ◌++◌}
 use Rattle.std.specs.declared.option.Option.{Option}
 use Rattle.std.specs.declared.option.Option.TheVariants.{None, Some}
@@ -8,21 +8,21 @@ use Rattle.arachne_exec_c.specs.Codes.{done, refused, no_memory}
 use Rattle.arachne_exec_c.specs.Executing.{Exec, IsEmptyHanded}
 use Rattle.arachne_exec_c.specs.declared.exec_told.ArachneExecLeft.{ArachneExecLeft}
 
--- the executor has ended: these jobs are left of what was spawned, and the rule allows a board where this seat knows what
--- it knows
+-- The executor has ended: of the jobs that were spawned these are left, and the rule allows a board on which this seat
+-- knows what it knows.
 pub record HasEnded (exec : Exec) (jobs : List ℕ) : Type 0 where
   pub empty : IsEmptyHanded exec
   pub whole_seat : exec.seat.weight ≡ whole
   pub settled : IsSettled exec.seat.known jobs
   pub lawful : IsLawfulEnd exec.executor.shards exec.seat.known
 
--- the jobs that are left stand at the begin of the array, and the rest of it is as it was
+-- the jobs that are left stand at the beginning of the array, and the rest of it is unchanged
 pub record IsHandedBack (jobs room written : List ℕ) (told : ArachneExecLeft) : Type 0 where
   pub code : told.code ≡ done
   pub count : told.count ≡ length jobs
   pub written_over : written ≡ jobs ++ drop (length jobs) room
 
--- Done: the handle holds nothing, and the jobs that are left are in the array. Else nothing has changed.
+-- Done: the handle holds nothing, and the jobs that are left are in the array. Otherwise nothing has changed.
 abbrev pub IsEndTold : Option Exec → Option Exec → List ℕ → List ℕ → ArachneExecLeft → Type 0
 IsEndTold old new room written told =
     ((exec : Exec) × (jobs : List ℕ) × (old ≡ Some exec) × (new ≡ None) × HasEnded exec jobs × IsHandedBack jobs room written told)

@@ -1,4 +1,4 @@
--- How an executor's answers are told in C, and what each call does to what a handle holds.
+-- The executor's answers as C gets them, and the change of a handle's seat by each call.
 use Rattle.std.specs.Prelude.{◌≡◌, ◌⊎◌, ℕ, ◌+◌, ◌*◌, ◌/◌, ◌%◌, ◌^◌, ◌<◌, Bool, true, false, if◌then◌else◌}
 use Rattle.std.specs.Int.{bit_at}
 use Rattle.std.specs.Option.{MatchOption}
@@ -24,7 +24,7 @@ use Rattle.arachne_exec_c.specs.Codes as code
 use Rattle.arachne_exec_c.specs.Executing.{Exec, now, holding, HasBlock, IsEmptyHanded, IsWorker, IsNoWorker}
 use Rattle.arachne_exec_c.specs.declared.exec_told.ArachneExecTold.{ArachneExecTold}
 
--- the worker of a place, where it is to be unparked
+-- the worker of a place, if it must be unparked
 abbrev pub whom : Bool → ℕ → ℕ
 whom unpark place = if unpark then worker_at place else code.nobody
 
@@ -74,7 +74,7 @@ told_woken_here here.Already = code_alone code.already_marked
 told_woken_here here.Gone = code_alone code.gone
 told_woken_here here.Lost = code_alone code.lost
 
--- ---- what comes into the hand
+-- ---- the job that comes into the hand
 
 abbrev pub place_of_job : Option HeldJob → Option ℕ
 place_of_job None = None
@@ -97,7 +97,7 @@ job_woken here.Already = None
 job_woken here.Gone = None
 job_woken here.Lost = None
 
--- ---- what each call does, as `arachne_exec` defines it
+-- ---- the change by each call, as `arachne_exec` defines it
 
 pub record Spawns (block job : ℕ) (old new : Exec) (answer : JobSpawned) : Type 0 where
   pub stays : new ≡ now old new.seat.known old.hand
@@ -107,7 +107,7 @@ pub record SpawnsHere (block job : ℕ) (old new : Exec) (answer : SpawnedHere) 
   pub stays : new ≡ now old new.seat.known (place_of_job (job_spawned answer))
   pub did : HasSpawnedHere answer block job old.seat.known new.seat.known
 
--- a word was looked at
+-- the word was read, with this answer
 abbrev pub LooksAt : ℕ → Exec → Exec → ℕ → Type 0
 LooksAt word old new answer = new ≡ now old (noted word answer old.seat.known) old.hand
 
@@ -131,7 +131,7 @@ pub record Rests (place : ℕ) (old new : Exec) (answer : JobRested) : Type 0 wh
   pub stays : new ≡ holding old new.seat.known (place / 64) old.more
   pub did : HasRested answer place old.seat.known new.seat.known
 
--- it is ready again: a rest that says so
+-- the job in hand is ready again
 abbrev pub Yields : ℕ → Exec → Exec → Bool → Type 0
 Yields place old new unpark = new ≡ holding old (rousing unpark (worker_at place) (laying_down old.seat.known)) (place / 64) old.more
 
@@ -147,30 +147,30 @@ pub record WakesHere (name : ℕ) (old new : Exec) (answer : WokenHere) : Type 0
   pub stays : new ≡ now old new.seat.known (place_of_job (job_woken answer))
   pub did : HasWokenHere answer (4096 * old.executor.shards) (name % 2 ^ 20) (name / 2 ^ 20) old.seat.known new.seat.known
 
--- the seat is this worker, and one, or none
+-- the seat is the worker of this number less one, or no worker if it is 0
 abbrev pub as_worker : Exec → ℕ → Exec
 as_worker exec number = record { executor = exec.executor; seat = record exec.seat { known = working number exec.seat.known }; hand = exec.hand; more = exec.more; worker = number }
 
--- ---- a call on what a handle holds, if it holds anything
+-- ---- a call by the seat that a handle holds, if it holds one
 
--- it was made with this answer, and C is told that
+-- the call was made, and C gets its answer
 abbrev pub Tells : {R A : Type 0} → (Exec → Exec → R → Type 0) → (R → A) → Exec → Exec → A → Type 0
 Tells {R} Does tell old new told = (answer : R) × Does old new answer × (told ≡ tell answer)
 
--- a call that may be made is made, and C is told; else nothing changes, and C is told of that
+-- a call that the seat may make is made, and C gets its answer; otherwise nothing changes, and C gets the refusal
 abbrev pub IsTold : {A : Type 0} → (Exec → Type 0) → (Exec → Exec → A → Type 0) → A → Option Exec → Option Exec → A → Type 0
 IsTold May Does refusal None new told = (new ≡ None) × (told ≡ refusal)
 IsTold May Does refusal (Some old) new told = (May old → (after : Exec) × (new ≡ Some after) × Does old after told)
     × ((May old → ⊥) → (new ≡ Some old) × (told ≡ refusal))
 
--- the same of a call on the job in hand
+-- the same for a call on the job in hand
 abbrev pub IsToldOf : {A : Type 0} → (ℕ → Exec → Exec → A → Type 0) → A → Option Exec → Option Exec → A → Type 0
 IsToldOf Does refusal None new told = (new ≡ None) × (told ≡ refusal)
 IsToldOf Does refusal (Some old) new told = MatchOption old.hand ((new ≡ Some old) × (told ≡ refusal))
     (λ place. (after : Exec) × (new ≡ Some after) × Does place old after told)
 
--- Park: the worker has set its idle bit, and then found all of its summary words empty. Again: one wasn't, and the bit
--- was cleared again
+-- Park: the worker has set its idle bit, and then found all of its summary words empty. Again: one was not, and the bit
+-- was cleared again.
 abbrev pub ParksOrNot : Exec → Exec → ℕ → Type 0
 ParksOrNot old new told = (new ≡ now old new.seat.known old.hand)
     × (((told ≡ code.park) × ((worker : ℕ) → old.worker ≡ worker + 1 → HasFoundNone old.executor.shards worker old.seat.known new.seat.known))

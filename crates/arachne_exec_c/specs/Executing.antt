@@ -1,4 +1,4 @@
--- What a handle on an executor holds, and what a call makes of it.
+-- The seat that a handle on an executor holds, and its change by each call.
 use Rattle.std.specs.Prelude.{◌≡◌, ◌⊎◌, ℕ, ◌+◌, ◌*◌, ◌/◌, ◌^◌, ◌<◌, ◌≤◌, ◌==◌, if◌then◌else◌, map, List, [], ◌∷◌}
 use Rattle.std.specs.Int.{w64, trailing_zeros}
 use Rattle.std.specs.Int.RustNames.{bit_and}
@@ -12,8 +12,8 @@ use Rattle.arachne_exec.specs.Changes.{splitting, together}
 use Rattle.arachne_exec.specs.Seats.{Places, SeatView}
 use Rattle.arachne_exec_c.specs.Codes.{done, refused, no_memory}
 
--- A seat, the executor that it came from, the place of the newest job that it has in hand, a bit for each other place of
--- its block that is in hand, and the number of the worker that it is, and one, or 0.
+-- A seat, its executor, the place of the newest job in hand, a bit for each other place of its block that is in hand,
+-- and the seat's worker number plus one, or 0 if it is no worker.
 pub record Exec : Type 0 where
   pub executor : Places
   pub seat : SeatView
@@ -21,11 +21,11 @@ pub record Exec : Type 0 where
   pub more : ℕ
   pub worker : ℕ
 
--- jobs at the places of a block whose bits are set in a word
+-- the jobs are at the places of the block whose bits are set in the word
 abbrev pub AreAt : ℕ → ℕ → List (ℕ × ℕ) → Type 0
 AreAt block word jobs = map (λ (x : ℕ × ℕ). x.0) jobs ≡ places_in_word block word
 
--- what is in hand is a job at this place and then those at the other places of its block, or nothing
+-- the hand has a job at this place and then those at the other places of its block, or nothing
 abbrev pub IsInHand : ℕ → Option ℕ → ℕ → List (ℕ × ℕ) → Type 0
 IsInHand shards None more hand = (hand ≡ []) × (more ≡ 0)
 IsInHand shards (Some place) more hand = (job : ℕ) × (jobs : List (ℕ × ℕ)) × (hand ≡ (place, job) ∷ jobs) × AreAt (place / 64) more jobs × (place < 4096 * shards) × (more < 2 ^ 64)
@@ -40,14 +40,14 @@ pub record IsKept (exec : Exec) : Type 0 where
 abbrev pub now : Exec → Notes → Option ℕ → Exec
 now exec known hand = record { executor = exec.executor; seat = record exec.seat { known = known }; hand = hand; more = exec.more; worker = exec.worker }
 
--- the place of the lowest bit of a block's word, and the other bits
+-- the place of the lowest bit of a block's word, and the word without that bit
 abbrev pub lowest_place : ℕ → ℕ → Option ℕ
 lowest_place block word = if word == 0 then None else Some (64 * block + trailing_zeros w64 word)
 
 abbrev pub without_lowest : ℕ → ℕ
 without_lowest word = if word == 0 then 0 else bit_and word (others (trailing_zeros w64 word))
 
--- the seat knows this, and of a block's places it has those in hand whose bits are set in a word
+-- the seat knows this, and has those places of a block in hand whose bits are set in a word
 abbrev pub holding : Exec → Notes → ℕ → ℕ → Exec
 holding exec known block word = record {
   executor = exec.executor;
@@ -76,13 +76,13 @@ IsNoWorker exec = exec.worker ≡ 0
 abbrev pub IsIdle : Exec → Type 0
 IsIdle exec = IsEmptyHanded exec × IsNoWorker exec
 
--- so many shards, the whole seat, and nothing in hand
+-- an executor of `shards` shards, its whole seat, and nothing in hand
 pub record IsNew (shards : ℕ) (exec : Exec) : Type 0 where
   pub sized : exec.executor.shards ≡ shards
   pub seated : exec.seat ≡ record { table = exec.executor.table; weight = whole; known = blank }
   pub idle : IsIdle exec
 
--- the parts of a seat that is cut in two: the first keeps what it has and counts the split, and the second begins with nothing
+-- the parts of a seat that is split: the first keeps its jobs and counts the split, and the second begins with nothing
 abbrev pub first_of : Exec → Exec
 first_of exec = record exec { seat = record exec.seat { weight = first_part exec.seat.weight; known = splitting exec.seat.known } }
 
@@ -95,26 +95,26 @@ second_of exec = record {
   worker = 0;
 }
 
--- a seat that another was joined into
+-- a seat into which another was joined
 abbrev pub joined_of : Exec → Exec → Exec
 joined_of exec other = record exec { seat = record exec.seat { weight = joined exec.seat.weight other.seat.weight; known = together exec.seat.known other.seat.known } }
 
--- A handle that holds nothing gets a new executor, of at most 256 shards. Else it is refused, and want of memory changes
--- nothing.
+-- A handle that holds nothing gets a new executor of at most 256 shards. One that is in use is refused, and more shards
+-- are. If memory is refused, nothing changes.
 abbrev pub IsMade : ℕ → Option Exec → Option Exec → ℕ → Type 0
 IsMade shards (Some old) new answer = (answer ≡ refused) × (new ≡ Some old)
 IsMade shards None None answer = (answer ≡ no_memory) ⊎ ((answer ≡ refused) × (256 < shards))
 IsMade shards None (Some new) answer = (answer ≡ done) × IsNew shards new
 
--- The first handle's seat is cut in two, of which the second handle gets the second, where the first holds a seat and the
--- second nothing. Want of memory changes nothing.
+-- If the first handle holds a seat and the second nothing, the seat is split, and the second handle gets the second
+-- part. If memory is refused, nothing changes.
 abbrev pub IsSplit : Option Exec → Option Exec → Option Exec → Option Exec → ℕ → Type 0
 IsSplit None other new other_new answer = (answer ≡ refused) × (new ≡ None) × (other_new ≡ other)
 IsSplit (Some old) (Some other) new other_new answer = (answer ≡ refused) × (new ≡ Some old) × (other_new ≡ Some other)
 IsSplit (Some old) None new None answer = (answer ≡ no_memory) × (new ≡ Some old)
 IsSplit (Some old) None new (Some other) answer = (answer ≡ done) × (new ≡ Some (first_of old)) × (other ≡ second_of old)
 
--- The second handle's seat is joined into the first's, where both hold one, and the second has nothing in hand and is no
+-- The second handle's seat is joined into the first's, if both hold one, and the second has nothing in hand and is no
 -- worker.
 abbrev pub IsJoined : Option Exec → Option Exec → Option Exec → Option Exec → ℕ → Type 0
 IsJoined (Some old) (Some other) new other_new answer =

@@ -1,4 +1,4 @@
--- How a lock's answers are told in C.
+-- The answers of a lock, as C gets them.
 use Rattle.std.specs.Prelude.{◌≡◌, ℕ, ◌<◌, ◌≤◌}
 use Rattle.std.specs.declared.option.Option.{Option}
 use Rattle.std.specs.declared.option.Option.TheVariants.{None, Some}
@@ -21,7 +21,7 @@ use Rattle.arachne_exec_c.specs.Codes as code
 use Rattle.arachne_exec_c.specs.Seating.{Seating, HasLock, with_seat}
 use Rattle.arachne_exec_c.specs.declared.told.ArachneLockTold.{ArachneLockTold}
 
--- a code alone, and one with the number of an event
+-- only a code, and a code with the number of an event
 abbrev pub code_alone : ℕ → ArachneLockTold
 code_alone k = record { at = 0; next = 0; code = k }
 
@@ -35,7 +35,7 @@ told_asked (Answered (Ok (Queued at))) = code_at code.queued at
 told_asked (Answered (Err AlreadyIn)) = code_alone code.already_in
 told_asked (Answered (Err Memory)) = code_alone code.no_memory
 
--- a free, and to whom it handed the lock on
+-- a free, and the one to which it handed the lock on
 abbrev pub told_handed : ℕ → Option ℕ → ArachneLockTold
 told_handed at None = code_at code.freed at
 told_handed at (Some next) = record { at = at; next = next; code = code.handed_on }
@@ -56,9 +56,9 @@ told_checked Contended = code_alone code.contended
 told_checked (Answered None) = code_alone code.not_holder
 told_checked (Answered (Some at)) = code_at code.granted at
 
--- The lock gave an answer by the seat, as `arachne_lock` defines it, and C is told that answer; the rule of these locks
--- allows a board where the seat has done and seen what it has. Where the handle holds no seat, or there is no such lock,
--- nothing changes, and C is told so.
+-- The lock gave an answer to the seat, as `arachne_lock` defines it, and C gets that answer; the rule of these locks
+-- allows a board on which the seat has done and seen what it has. If there is no such lock, nothing changes, and C gets
+-- the refusal.
 pub record IsTold {A : Type 0} (answers : SeatView → A → SeatView → Type 0) (tell : A → ArachneLockTold) (lock : ℕ) (old : Seating) (new : Option Seating) (told : ArachneLockTold) : Type 0 where
   pub known : HasLock lock old → (seat : SeatView) × (answer : A) × (new ≡ Some (with_seat old seat)) × answers old.seat answer seat × IsLawfulSeat old.locks.count seat.log × (told ≡ tell answer)
   pub unknown : ¬ HasLock lock old → (new ≡ Some old) × (told ≡ code_alone code.refused)

@@ -1,4 +1,4 @@
--- What a handle on locks holds, and what a call makes of it.
+-- The seat that a handle on locks holds, and its change by each call.
 use Rattle.std.specs.Prelude.{◌≡◌, ℕ, ◌<◌, ◌≤◌, Bool, true, false}
 use Rattle.std.specs.declared.option.Option.{Option}
 use Rattle.std.specs.declared.option.Option.TheVariants.{None, Some}
@@ -10,7 +10,7 @@ pub record Seating : Type 0 where
   pub locks : LocksView
   pub seat : SeatView
 
--- so many locks, and a seat by which nothing was done
+-- `count` locks, and a seat that has done nothing
 pub record IsNew (count : ℕ) (seating : Seating) : Type 0 where
   pub counted : seating.locks.count ≡ count
   pub first : seating.seat ≡ first_seat seating.locks
@@ -32,21 +32,21 @@ second_of seating = with_seat seating (second_half seating.seat)
 abbrev pub joined_of : Seating → Seating → Seating
 joined_of seating other = with_seat seating (joined_with seating.seat other.seat)
 
--- A handle that holds nothing gets new locks. One that is in use is refused, and want of memory changes nothing.
+-- A handle that holds nothing gets new locks. One that is in use is refused. If memory is refused, nothing changes.
 abbrev pub IsMade : ℕ → Option Seating → Option Seating → ℕ → Type 0
 IsMade count (Some old) new answer = (answer ≡ refused) × (new ≡ Some old)
 IsMade count None None answer = answer ≡ no_memory
 IsMade count None (Some new) answer = (answer ≡ done) × IsNew count new
 
--- The first handle's seat is split, and the second handle gets the second part, where the first holds a seat and the
--- second nothing. Want of memory changes nothing.
+-- If the first handle holds a seat and the second nothing, the seat is split, and the second handle gets the second
+-- part. If memory is refused, nothing changes.
 abbrev pub IsSplit : Option Seating → Option Seating → Option Seating → Option Seating → ℕ → Type 0
 IsSplit None other new other_new answer = (answer ≡ refused) × (new ≡ None) × (other_new ≡ other)
 IsSplit (Some old) (Some other) new other_new answer = (answer ≡ refused) × (new ≡ Some old) × (other_new ≡ Some other)
 IsSplit (Some old) None new None answer = (answer ≡ no_memory) × (new ≡ Some old)
 IsSplit (Some old) None new (Some other) answer = (answer ≡ done) × (new ≡ Some (first_of old)) × (other ≡ second_of old)
 
--- The second handle's seat is joined into the first's, where both hold one.
+-- The second handle's seat is joined into the first's, if both hold one.
 abbrev pub IsJoined : Option Seating → Option Seating → Option Seating → Option Seating → ℕ → Type 0
 IsJoined (Some old) (Some other) new other_new answer = (answer ≡ done) × (new ≡ Some (joined_of old other)) × (other_new ≡ None)
 IsJoined (Some old) None new other_new answer = (answer ≡ refused) × (new ≡ Some old) × (other_new ≡ None)

@@ -1,4 +1,4 @@
-//! A share of somebody's ledgers, with the ledgers.
+//! A share of a set of ledgers, with the ledgers.
 ghost use Rattle.std.specs.Prelude.{◌≡◌, ◌↔◌, IfOk, IfErr, IfSome, IfNone, IsSome, MatchBool, IsTrue};
 ghost use Rattle.std.specs.Option.{ForSome};
 ghost use Rattle.std.specs.declared.option.Option.TheVariants.{None, Some};
@@ -9,7 +9,7 @@ use std::alloc::{AllocError, Global};
 use std::marker::Model;
 use std::sync::Arc;
 
-/// What the memory behind a handle holds while the handle is in use.
+/// The value behind a handle on ledgers.
 #[derive(Drop)]
 pub struct Adding {
     ledgers: Arc<Ledgers>,
@@ -29,7 +29,7 @@ impl Model for Adding {
 }
 
 impl Adding {
-    /// So many ledgers, and the whole share.
+    /// Makes `count` ledgers, with their whole share.
     pub(crate) fn new(alloc: Global, count: usize) -> Result<Adding, AllocError>
         ensures { IfOk result (IsNew count) }
     {
@@ -51,7 +51,7 @@ impl Adding {
         self.ledgers.add(&mut self.share, ledger, amount);
     }
 
-    /// The sum of all that was added to a ledger, where all other shares are back.
+    /// Returns the sum of all that was added to a ledger, if all other shares were joined into this one.
     pub(crate) fn total(&mut self, ledger: usize) -> Option<u64>
         ensures read { IsSome result ↔ MayRead ledger self.old }
         ensures some { IfSome result (λ total. (total ≡ total_of ledger self.old) × (self.new ≡ with_reading ledger self.old)) }
@@ -63,7 +63,7 @@ impl Adding {
         Some(self.ledgers.read(&mut self.share, ledger))
     }
 
-    /// Cuts the share in two. The ledgers have an owner more then, for which there may be no room.
+    /// Splits the share in two. Fails, with nothing changed, if the ledgers can have no further owner.
     pub(crate) fn split(self) -> Result<(Adding, Adding), Adding>
         ensures ok { IfOk result (λ parts. (parts.0 ≡ first_of self) × (parts.1 ≡ second_of self)) }
         ensures err { IfErr result (λ same. same ≡ self) }
@@ -102,8 +102,9 @@ impl Adding {
     }
 }
 
-/// Cuts in two what the first holds, and gives the second the second part. False where there is no room for an owner
-/// more.
+/// Splits the share that the first holds, and gives the second part to the other.
+///
+/// Returns false if the ledgers can have no further owner, or if the first holds nothing; nothing has changed then.
 pub(crate) fn cut(mine: &mut Option<Adding>, theirs: &mut Option<Adding>) -> bool
     requires { theirs.old ≡ None }
     ensures cut { ForSome mine.old (λ old. MatchBool result
@@ -127,7 +128,7 @@ pub(crate) fn cut(mine: &mut Option<Adding>, theirs: &mut Option<Adding>) -> boo
     }
 }
 
-/// Joins what the second holds into what the first holds, where both hold something.
+/// Joins the second share into the first, if both are there.
 pub(crate) fn join_held(mine: &mut Option<Adding>, theirs: &mut Option<Adding>) -> bool
     requires { (a b : Adder) → mine.old ≡ Some a → theirs.old ≡ Some b → b.ledgers.table ≡ a.ledgers.table }
     ensures { IsJoined mine.old theirs.old mine.new theirs.new result }

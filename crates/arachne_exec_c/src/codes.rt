@@ -1,40 +1,40 @@
-//! What C is told of a call: one set of codes for all of them.
+//! The codes that calls return to C: one set for all of them.
 
-/// It is done.
+/// The call succeeded.
 pub(crate) const DONE: u32 = 0;
 
-/// The handle holds nothing, or holds something where it may not, or there is no such block, lock or ledger. Nothing
-/// has changed.
+/// The handle holds nothing, or something although it must be empty; or its seat may not make this call now; or there
+/// is no such block, lock or ledger. Nothing has changed.
 pub(crate) const REFUSED: u32 = 1;
 
-/// There is no memory. Nothing has changed.
+/// Memory was refused. Nothing has changed.
 pub(crate) const NO_MEMORY: u32 = 2;
 
-/// Another thread was at the lock. Nothing has changed: ask again.
+/// Another thread was at the lock. Nothing has changed: try again.
 pub(crate) const CONTENDED: u32 = 3;
 
-/// Another thread won the step. Nothing has changed: ask again, for a worker's number with another one.
+/// Another thread was first. Nothing has changed: try again, for a worker's number with another number.
 pub(crate) const LOST: u32 = 4;
 
-/// It holds the lock.
+/// `who` holds the lock.
 pub(crate) const GRANTED: u32 = 5;
 
-/// It waits for the lock, and holds it once a free hands it on to it.
+/// `who` waits for the lock, and holds it once a free hands it on to `who`.
 pub(crate) const QUEUED: u32 = 6;
 
-/// It holds the lock or waits for it already.
+/// `who` holds the lock or waits for it already.
 pub(crate) const ALREADY_IN: u32 = 7;
 
 /// The lock is free.
 pub(crate) const FREED: u32 = 8;
 
-/// The lock was handed on to the one that had waited longest, who has to be woken.
+/// The lock was handed on to the one that had waited longest: wake it.
 pub(crate) const HANDED_ON: u32 = 9;
 
-/// It doesn't hold the lock; to a withdrawal also that it doesn't wait for it.
+/// `who` doesn't hold the lock. To a withdrawal: `who` neither holds it nor waits for it.
 pub(crate) const NOT_HOLDER: u32 = 10;
 
-/// It waited for the lock and waits no longer: it is not granted it any more.
+/// `who` waited for the lock, and waits no longer: the lock is not handed on to it any more.
 pub(crate) const LEFT: u32 = 11;
 
 /// No place of the block is free.
@@ -43,10 +43,10 @@ pub(crate) const FULL: u32 = 12;
 /// The job is in the handle's hand: run it.
 pub(crate) const RUN: u32 = 13;
 
-/// The worker has set its idle bit, and then found none of its blocks shown: sleep until somebody unparks it.
+/// The worker has set its idle bit, and then found none of its blocks shown: sleep until you are unparked.
 pub(crate) const PARK: u32 = 14;
 
-/// No job was found, or a block is shown that may have one: ask again.
+/// No job was taken, or a block is shown that may have one: try again.
 pub(crate) const AGAIN: u32 = 15;
 
 /// The job is ready.
@@ -55,17 +55,17 @@ pub(crate) const READY: u32 = 16;
 /// The job waits for a wake.
 pub(crate) const BLOCKED: u32 = 17;
 
-/// The job is ready, or runs: a take or a start uses the wake up, and else it is ready again where it would block next. So
-/// it is with the name that the next job at a free place will have.
+/// The job is ready, or runs. A take or a start uses the wake up; if none does, the job is ready again when it would
+/// block next. The name that the next job at a free place will have is marked in the same way.
 pub(crate) const MARKED: u32 = 18;
 
-/// It was marked already.
+/// The job was marked already.
 pub(crate) const ALREADY_MARKED: u32 = 19;
 
-/// No job has that name now.
+/// No job has this name now.
 pub(crate) const GONE: u32 = 20;
 
-/// Keep the cores that there are.
+/// Keep the number of cores.
 pub(crate) const STAY: u32 = 21;
 
 /// Ask for a core.
@@ -74,5 +74,5 @@ pub(crate) const ADD: u32 = 22;
 /// Give a core back.
 pub(crate) const REMOVE: u32 = 23;
 
-/// No worker: an `unpark` of an answer that has nobody to unpark.
+/// The `unpark` of an answer that has no worker to unpark.
 pub(crate) const NOBODY: u32 = 64;

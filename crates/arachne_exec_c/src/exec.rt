@@ -20,9 +20,10 @@ use crate::executing::Executing;
 use arachne_exec::MOST_SHARDS;
 use std::alloc::Global;
 
-/// Makes an executor of so many shards, and gives a handle that holds nothing its whole seat. Shard s has the blocks
-/// 64 s to 64 s + 63, each of 64 places, and is looked after by worker s % 64. DONE; REFUSED, where the handle holds
-/// something, or more than 256 shards are asked for; NO_MEMORY.
+/// Makes an executor of `shards` shards, and puts its whole seat into a handle that holds nothing.
+///
+/// Shard s has the blocks 64 s to 64 s + 63, each of 64 places; worker s % 64 looks after it. Returns DONE; REFUSED if
+/// the handle holds something, or if `shards` is greater than 256; NO_MEMORY.
 #[unsafe(no_mangle)]
 pub extern "C" fn arachne_exec_new(alloc: Global, exec: &mut ArachneExec, shards: usize) -> u32
     ensures { IsMade shards (held exec.old) (held exec.new) result }
@@ -40,8 +41,10 @@ pub extern "C" fn arachne_exec_new(alloc: Global, exec: &mut ArachneExec, shards
     DONE
 }
 
-/// Cuts the seat in two, as for another thread, and gives the second handle the second part. DONE; REFUSED, where the
-/// first holds nothing or the second something; NO_MEMORY. A seat can be cut 127 times in a row.
+/// Splits a seat in two, for another thread: `other` gets the second part, with no job in hand and no worker number.
+///
+/// Returns DONE; REFUSED if `exec` holds nothing or `other` holds something; NO_MEMORY. A seat may be split 127 times
+/// in a row. A further split succeeds too, but then the executor can't be ended any more.
 #[unsafe(no_mangle)]
 #[tactic(auto, using(crate::proofs::ExecCut::is_split))]
 pub extern "C" fn arachne_exec_split(
@@ -70,9 +73,11 @@ pub extern "C" fn arachne_exec_split(
     DONE
 }
 
-/// Joins the second handle's seat into the first's, so that the second holds nothing then. DONE; REFUSED, where one of
-/// them holds nothing, or the second has a job in hand or is a worker. Both have to be of the same executor, which is
-/// not tested: else the second's can't be ended any more, and what the end of the first hands back may lack jobs.
+/// Joins the seat of `other` into that of `exec`, so that `other` holds nothing.
+///
+/// Returns DONE, or REFUSED if one of them holds nothing, or if `other` has a job in hand or is a worker. Both must be
+/// of one executor, which is not checked: otherwise the executor of `other` can't be ended any more, and the end of
+/// that of `exec` may return too few jobs.
 #[unsafe(no_mangle)]
 pub extern "C" fn arachne_exec_join(
     alloc: Global,
@@ -97,10 +102,12 @@ pub extern "C" fn arachne_exec_join(
     code
 }
 
-/// Ends the executor, and writes the jobs that were spawned and haven't ended, but for jobs 0, over the begin of the
-/// array, each as often as it is left; the handle holds nothing then. DONE, with how many there are; REFUSED, where the
-/// handle holds nothing, has a job in hand, or isn't whole, since another handle wasn't joined, or where the array has
-/// no room for a job of each of the 4,096 places of each shard; NO_MEMORY.
+/// Ends the executor, writes the jobs that are left to the beginning of `left`, and empties the handle.
+///
+/// These are the jobs that were spawned and have not ended, each as often as it is left, without jobs of number 0.
+/// Returns DONE with their number; REFUSED if the handle holds nothing or has a job in hand, if not all other handles
+/// were joined into it, or if `left` has no room for a job of each of the 4,096 places of each shard; NO_MEMORY. Unless
+/// it returns DONE, the count is 0, and the executor and `left` are unchanged.
 #[unsafe(no_mangle)]
 pub extern "C" fn arachne_exec_end(
     alloc: Global,
@@ -117,7 +124,9 @@ pub extern "C" fn arachne_exec_end(
     told
 }
 
-/// Frees what a handle holds. The executor is freed with the last of its handles; a job in hand is lost.
+/// Frees the seat that a handle holds, if it holds one, and the executor with the last of its handles.
+///
+/// A job in hand stays at its place for ever, and the other handles can't end the executor any more.
 #[unsafe(no_mangle)]
 pub extern "C" fn arachne_exec_close(alloc: Global, exec: &mut ArachneExec)
     ensures { held exec.new ≡ None }
@@ -125,8 +134,10 @@ pub extern "C" fn arachne_exec_close(alloc: Global, exec: &mut ArachneExec)
     drop(exec.take(alloc));
 }
 
-/// From now on the seat is this worker, of 0 to 63. DONE; LOST, where another seat has that number; REFUSED, where it
-/// is one already.
+/// Makes the seat the worker with a number from 0 to 63.
+///
+/// Returns DONE; LOST if another seat has that number; REFUSED if the handle holds nothing, if its seat is a worker
+/// already, or if `worker` is greater than 63.
 #[unsafe(no_mangle)]
 pub extern "C" fn arachne_exec_register(alloc: Global, exec: &mut ArachneExec, worker: u32) -> u32
     ensures { IsTold (MayRegister worker) (Registers worker) refused (held exec.old) (held exec.new) result }
@@ -139,7 +150,7 @@ pub extern "C" fn arachne_exec_register(alloc: Global, exec: &mut ArachneExec, w
     told
 }
 
-/// The seat's worker number is free again. DONE; REFUSED, where it has none.
+/// Frees the seat's worker number. Returns DONE, or REFUSED if the handle holds nothing or its seat is no worker.
 #[unsafe(no_mangle)]
 pub extern "C" fn arachne_exec_leave(alloc: Global, exec: &mut ArachneExec) -> u32
     ensures { IsTold IsWorker Leaves refused (held exec.old) (held exec.new) result }
@@ -152,8 +163,10 @@ pub extern "C" fn arachne_exec_leave(alloc: Global, exec: &mut ArachneExec) -> u
     told
 }
 
-/// Puts a job at a free place of a block: one try. A job 0 isn't handed back at the end. READY, with its name; FULL;
-/// LOST; REFUSED, where there is no such block.
+/// Puts a job at a free place of a block, where it is ready: one try.
+///
+/// Returns READY with its name, and the worker to unpark; FULL; LOST; REFUSED if the handle holds nothing or there is
+/// no such block. A job with the number 0 is not returned by the end.
 #[unsafe(no_mangle)]
 pub extern "C" fn arachne_exec_spawn(
     alloc: Global,
@@ -171,8 +184,10 @@ pub extern "C" fn arachne_exec_spawn(
     told
 }
 
-/// Puts a job at a free place of a block and into the hand, where nobody else can take it: one try. RUN, with its name
-/// and number; FULL; LOST; REFUSED, where a job is in hand or there is no such block.
+/// Puts a job at a free place of a block and into the hand, so that nobody else can take it: one try.
+///
+/// Returns RUN with its name and number; FULL; LOST; REFUSED if the handle holds nothing or has a job in hand, or if
+/// there is no such block.
 #[unsafe(no_mangle)]
 pub extern "C" fn arachne_exec_spawn_here(
     alloc: Global,
@@ -190,8 +205,10 @@ pub extern "C" fn arachne_exec_spawn_here(
     told
 }
 
-/// Looks which blocks of a shard may have ready jobs: a bit for each of its 64 blocks, by one load. A block without its
-/// bit has none, or somebody is about to set the bit. 0 also where the handle holds nothing or there is no such shard.
+/// Returns the blocks of a shard that may have ready jobs, a bit for each of its 64 blocks, by one load.
+///
+/// A block whose bit is clear has none, or somebody is about to set the bit. Returns 0 also if the handle holds nothing
+/// or there is no such shard.
 #[unsafe(no_mangle)]
 pub extern "C" fn arachne_exec_shown(alloc: Global, exec: &mut ArachneExec, shard: usize) -> u64
     ensures { IsTold (HasShard shard) (LooksAt (summary_at shard)) 0 (held exec.old) (held exec.new) result }
@@ -204,8 +221,9 @@ pub extern "C" fn arachne_exec_shown(alloc: Global, exec: &mut ArachneExec, shar
     told
 }
 
-/// Looks which places of a block have a ready job: a bit for each of its 64 places, by one load. 0 also where the
-/// handle holds nothing or there is no such block.
+/// Returns the places of a block that have a ready job, a bit for each of its 64 places, by one load.
+///
+/// Returns 0 also if the handle holds nothing or there is no such block.
 #[unsafe(no_mangle)]
 pub extern "C" fn arachne_exec_ready(alloc: Global, exec: &mut ArachneExec, block: usize) -> u64
     ensures { IsTold (HasBlock block) (LooksAt (ready_at block)) 0 (held exec.old) (held exec.new) result }
@@ -218,8 +236,10 @@ pub extern "C" fn arachne_exec_ready(alloc: Global, exec: &mut ArachneExec, bloc
     told
 }
 
-/// Takes a job that is ready from any block: one try. RUN, with its name and number; AGAIN; REFUSED, where a job is
-/// in hand or there is no such block.
+/// Takes a ready job of a block into the hand, whichever worker looks after the block: one try.
+///
+/// Returns RUN with its name and number; AGAIN; REFUSED if the handle holds nothing or has a job in hand, or if there
+/// is no such block.
 #[unsafe(no_mangle)]
 pub extern "C" fn arachne_exec_take(
     alloc: Global,
@@ -236,10 +256,11 @@ pub extern "C" fn arachne_exec_take(
     told
 }
 
-/// Takes up to so many of a block's ready jobs at once, by one step: the places that came into the hand, a bit for each
-/// of the block's 64. The lowest is the newest: the calls on the job in hand speak of it, and once it rests or has
-/// ended of the next one. `arachne_exec_start` tells its name and number. 0, where none was got, a job is in hand, the
-/// handle holds nothing, or there is no such block.
+/// Takes up to `most` ready jobs of a block into the hand, by one step; a `most` of 0 counts as 1.
+///
+/// Returns their places, a bit for each of the block's 64. The lowest is the newest: calls on the job in hand concern
+/// it, and the next one once it rests or has ended. `arachne_exec_start` returns its name and number. Returns 0 if it
+/// took none, if the handle holds nothing or has a job in hand, or if there is no such block.
 #[unsafe(no_mangle)]
 pub extern "C" fn arachne_exec_take_many(
     alloc: Global,
@@ -257,8 +278,9 @@ pub extern "C" fn arachne_exec_take_many(
     told
 }
 
-/// The newest job in hand, of those that were taken at once, is about to run: a wake that has come until now is used
-/// up. RUN, with its name and number; REFUSED, where none is in hand.
+/// Begins to run the newest job in hand, of several that were taken at once: uses up a wake that has come by now.
+///
+/// Returns RUN with its name and number, or REFUSED if the handle has no job in hand.
 #[unsafe(no_mangle)]
 pub extern "C" fn arachne_exec_start(alloc: Global, exec: &mut ArachneExec) -> ArachneExecTold
     ensures { IsToldOf (λ place. Tells (Starts place) told_job) (code_alone refused) (held exec.old) (held exec.new) result }
@@ -271,8 +293,10 @@ pub extern "C" fn arachne_exec_start(alloc: Global, exec: &mut ArachneExec) -> A
     told
 }
 
-/// The next job of the seat's worker. RUN, with its name and number; PARK; AGAIN; REFUSED, where the seat is no
-/// worker or a job is in hand.
+/// Takes the next job of the worker's blocks into the hand.
+///
+/// Returns RUN with its name and number; PARK; AGAIN; REFUSED if the handle holds nothing, if its seat is no worker, or
+/// if a job is in hand.
 #[unsafe(no_mangle)]
 pub extern "C" fn arachne_exec_next(alloc: Global, exec: &mut ArachneExec) -> ArachneExecTold
     ensures { IsTold MayGoOn (Tells GoesOn told_next) (code_alone refused) (held exec.old) (held exec.new) result }
@@ -285,7 +309,9 @@ pub extern "C" fn arachne_exec_next(alloc: Global, exec: &mut ArachneExec) -> Ar
     told
 }
 
-/// The last part of `next` alone: sets the idle bit and looks. PARK; AGAIN; REFUSED, where the seat is no worker.
+/// Sets the worker's idle bit, and looks if its blocks are shown: the last part of `arachne_exec_next`.
+///
+/// Returns PARK; AGAIN, with the bit cleared again; REFUSED if the handle holds nothing or its seat is no worker.
 #[unsafe(no_mangle)]
 pub extern "C" fn arachne_exec_may_park(alloc: Global, exec: &mut ArachneExec) -> u32
     ensures { IsTold IsWorker ParksOrNot refused (held exec.old) (held exec.new) result }
@@ -298,8 +324,9 @@ pub extern "C" fn arachne_exec_may_park(alloc: Global, exec: &mut ArachneExec) -
     told
 }
 
-/// The worker has come back from its sleep by itself: its idle bit is cleared. DONE; REFUSED, where the seat is no
-/// worker.
+/// Clears the worker's idle bit, after a sleep that ended by itself.
+///
+/// Returns DONE, or REFUSED if the handle holds nothing or its seat is no worker.
 #[unsafe(no_mangle)]
 pub extern "C" fn arachne_exec_wake_up(alloc: Global, exec: &mut ArachneExec) -> u32
     ensures { IsTold IsWorker WakesUp refused (held exec.old) (held exec.new) result }
@@ -312,7 +339,7 @@ pub extern "C" fn arachne_exec_wake_up(alloc: Global, exec: &mut ArachneExec) ->
     told
 }
 
-/// The job in hand is ready again. READY; REFUSED, where none is in hand.
+/// Makes the job in hand ready. Returns READY with the worker to unpark, or REFUSED if the handle has no job in hand.
 #[unsafe(no_mangle)]
 pub extern "C" fn arachne_exec_rest_ready(alloc: Global, exec: &mut ArachneExec) -> ArachneExecTold
     ensures { IsToldOf (λ place. Tells (Yields place) (λ unpark. code_unparking 16 (whom unpark place))) (code_alone refused) (held exec.old) (held exec.new) result }
@@ -325,8 +352,10 @@ pub extern "C" fn arachne_exec_rest_ready(alloc: Global, exec: &mut ArachneExec)
     told
 }
 
-/// The job in hand waits for a wake. BLOCKED; READY, where a wake has come that no take or start has used up; REFUSED,
-/// where none is in hand.
+/// Lets the job in hand wait for a wake.
+///
+/// Returns BLOCKED; READY with the worker to unpark, if a wake has come that no take or start has used up; REFUSED if
+/// the handle has no job in hand.
 #[unsafe(no_mangle)]
 pub extern "C" fn arachne_exec_rest_blocked(
     alloc: Global,
@@ -342,7 +371,9 @@ pub extern "C" fn arachne_exec_rest_blocked(
     told
 }
 
-/// The job in hand has ended, and its place is free. DONE; REFUSED, where none is in hand.
+/// Ends the job in hand, and frees its place. Returns DONE, or REFUSED if the handle has no job in hand.
+///
+/// A place is used for at most 2^44 - 1 jobs.
 #[unsafe(no_mangle)]
 pub extern "C" fn arachne_exec_finish(alloc: Global, exec: &mut ArachneExec) -> u32
     ensures { IsToldOf Finishes refused (held exec.old) (held exec.new) result }
@@ -355,7 +386,10 @@ pub extern "C" fn arachne_exec_finish(alloc: Global, exec: &mut ArachneExec) -> 
     told
 }
 
-/// Wakes a job by its name. READY, where it was blocked; MARKED; ALREADY_MARKED; GONE; LOST; REFUSED.
+/// Wakes the job of a name: one try.
+///
+/// Returns READY with the worker to unpark, if the job was blocked; MARKED; ALREADY_MARKED; GONE; LOST; REFUSED if the
+/// handle holds nothing.
 #[unsafe(no_mangle)]
 pub extern "C" fn arachne_exec_wake(
     alloc: Global,
@@ -372,8 +406,10 @@ pub extern "C" fn arachne_exec_wake(
     told
 }
 
-/// The same, but a job that was blocked comes into the hand. RUN, with its name and number; MARKED; ALREADY_MARKED;
-/// GONE; LOST; REFUSED, where a job is in hand.
+/// Wakes the job of a name, and takes it into the hand if it was blocked: one try.
+///
+/// Returns RUN with its name and number; MARKED; ALREADY_MARKED; GONE; LOST; REFUSED if the handle holds nothing or has
+/// a job in hand.
 #[unsafe(no_mangle)]
 pub extern "C" fn arachne_exec_wake_here(
     alloc: Global,

@@ -14,7 +14,7 @@ use std::alloc::Global;
 use std::marker::Model;
 use std::mem;
 
-/// A seat at an executor, or nothing, as C lays it out: one pointer, which is null where nothing is held.
+/// A seat at an executor, or nothing, in C's layout: one pointer, which is null if nothing is held.
 #[repr(C)]
 pub struct ArachneExec {
     at: *mut u8,
@@ -47,7 +47,7 @@ impl ArachneExec {
         }
     }
 
-    /// Takes out what is held, if anything is.
+    /// Takes the box out of the handle, if it has one.
     pub(crate) fn take(&mut self, alloc: Global) -> Option<Box<Option<Executing>>>
         ensures none { IfNone result (self.old.value ≡ None) }
         ensures some { IfSome result (λ taken. self.old.value ≡ Some taken.value) }
@@ -57,14 +57,14 @@ impl ArachneExec {
         mem::replace(self, empty).into_handle().into_box()
     }
 
-    /// Holds a value. What was held before is freed.
+    /// Puts a box into the handle. Any other that it had is freed.
     pub(crate) fn put(&mut self, value: Box<Option<Executing>>)
         ensures { self.new.value ≡ Some value.value }
     {
         *self = ArachneExec::of_handle(Handle::of(value));
     }
 
-    /// Whether it holds a seat.
+    /// Returns true if the handle holds a seat.
     pub(crate) fn is_in_use(&mut self, alloc: Global) -> bool
         ensures used { IsTrue result ↔ IsSome (option_flatten self.old.value) }
         ensures same { self.new.value ≡ self.old.value }

@@ -1,4 +1,4 @@
-//! The calls of a handle on an executor on what it holds, if it holds anything.
+//! The calls on an executor by the seat that a handle holds, if it holds one.
 ghost use Rattle.std.specs.Prelude.{◌≡◌, ◌↔◌, ◌%◌, ◌^◌, MatchBool, IsTrue};
 ghost use Rattle.std.specs.Option.{ForSome, IsSomeAnd};
 ghost use Rattle.std.specs.declared.option.Option.TheVariants.{None, Some};
@@ -207,8 +207,9 @@ pub(crate) fn leave_held(held: &mut Option<Executing>) -> u32
     }
 }
 
-/// Cuts in two what the first holds, and gives the second the second part. False where there is no room for an owner
-/// more.
+/// Splits the seat that the first holds, and gives the second part to the other.
+///
+/// Returns false if the executor can have no further owner, or if the first holds nothing; nothing has changed then.
 pub(crate) fn cut_held(mine: &mut Option<Executing>, theirs: &mut Option<Executing>) -> bool
     requires { theirs.old ≡ None }
     ensures cut { ForSome mine.old (λ old. MatchBool result
@@ -226,7 +227,7 @@ pub(crate) fn cut_held(mine: &mut Option<Executing>, theirs: &mut Option<Executi
     true
 }
 
-/// Ends the executor that is held, and writes the jobs that are left over the begin of the room.
+/// Ends the executor that is held, and writes the jobs that are left to the beginning of `room`.
 pub(crate) fn end_held(
     alloc: Global,
     held: &mut Option<Executing>,
@@ -253,7 +254,7 @@ pub(crate) fn end_held(
     }
 }
 
-/// Whether there is a seat with nothing in hand that is no worker.
+/// Returns true if a seat is held that has no job in hand and is no worker.
 fn is_idle_held(held: &Option<Executing>) -> bool
     ensures { IsTrue result ↔ IsSomeAnd held.now IsIdle }
 {
@@ -263,8 +264,7 @@ fn is_idle_held(held: &Option<Executing>) -> bool
     }
 }
 
-/// Joins what the second holds into what the first holds, where both hold something, and the second has nothing in hand
-/// and is no worker.
+/// Joins the second seat into the first, if both are there, and the second has no job in hand and is no worker.
 #[tactic(auto, using(crate::proofs::ExecCut::not_joined))]
 pub(crate) fn join_held(mine: &mut Option<Executing>, theirs: &mut Option<Executing>) -> u32
     requires { (a b : Exec) → mine.old ≡ Some a → theirs.old ≡ Some b → b.executor ≡ a.executor }

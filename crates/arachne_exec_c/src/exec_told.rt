@@ -1,4 +1,4 @@
-//! What C is told of an executor's answers.
+//! The answers of an executor, as C gets them.
 ghost use Rattle.std.specs.Prelude.{◌≡◌, ◌%◌, ◌^◌};
 ghost use Rattle.arachne_exec_c.specs.ExecTold.{code_alone, code_unparking, told_job, told_next, told_rested, told_spawned, told_spawned_here, told_taken, told_woken, told_woken_here, whom};
 
@@ -14,21 +14,20 @@ use arachne_exec::{
 #[repr(C)]
 #[derive(Clone, Copy)]
 pub struct ArachneExecTold {
-    /// The name of the job, where one was spawned or is in hand: 20 bits of its place, and 44 of the place's
-    /// generation.
+    /// The name of the job that was spawned or is in hand: 20 bits of its place, and 44 of the place's generation.
     pub name: u64,
-    /// The number of the job that is in hand, as it was spawned.
+    /// The number of the job in hand, as it was spawned.
     pub job: u64,
     pub code: u32,
-    /// The worker whose thread is to be unparked, or NOBODY.
+    /// The worker whose thread the caller must unpark, or NOBODY.
     pub unpark: u32,
 }
 
-/// What is told of the end of an executor.
+/// The answer of the end of an executor.
 #[repr(C)]
 #[derive(Clone, Copy)]
 pub struct ArachneExecLeft {
-    /// How many jobs are left, which were written to the caller's array.
+    /// The number of jobs that are left, which were written to the caller's array.
     pub count: u64,
     pub code: u32,
 }

@@ -1,4 +1,4 @@
-//! A seat at somebody's executor, with the executor, what it has in hand, and which worker it is.
+//! A seat at an executor, with the executor, the jobs in hand, and the number of the worker.
 ghost use Rattle.std.specs.Prelude.{◌≡◌, ◌↔◌, ℕ, ◌+◌, ◌*◌, ◌/◌, ◌^◌, ◌<◌, ◌≤◌, IsTrue, IsFalse, IfOk, IfErr, IfSome};
 ghost use Rattle.std.specs.declared.option.Option.TheVariants.{None, Some};
 ghost use Rattle.std.specs.Prelude.{◌⊎◌, vec_len};
@@ -20,8 +20,9 @@ use std::alloc::{AllocError, Global};
 use std::marker::Model;
 use std::sync::Arc;
 
-/// What the memory behind a handle on an executor holds while the handle is in use. Each call writes to it, so 64 bytes
-/// behind its fields keep those of the next handle in memory on other cache lines.
+/// The value behind a handle on an executor.
+///
+/// Each call writes to it, so 64 bytes behind its fields keep those of the next handle in memory on other cache lines.
 #[derive(Drop)]
 #[repr(C)]
 pub struct Executing {
@@ -47,7 +48,7 @@ impl Model for Executing {
     ghost invariant = { λ e. IsKept (record { executor = arc_value e.executor; seat = e.seat; hand = e.hand; more = e.more; worker = e.worker }) };
 }
 
-/// The place of the lowest bit of a block's word, and the other bits.
+/// Returns the place of the lowest bit that is set in a block's word, and the word without it.
 fn in_hand(block: usize, word: u64) -> (Option<usize>, u64)
     requires { block < 2 ^ 58 }
     ensures { result ≡ (lowest_place block word, without_lowest word) }
@@ -63,7 +64,7 @@ fn in_hand(block: usize, word: u64) -> (Option<usize>, u64)
 }
 
 impl Executing {
-    /// An executor of so many shards, and the whole seat.
+    /// Makes an executor of `shards` shards, with its whole seat.
     pub(crate) fn new(alloc: Global, shards: usize) -> Result<Executing, AllocError>
         requires { shards ≤ 256 }
         ensures { IfOk result (IsNew shards) }
@@ -104,7 +105,7 @@ impl Executing {
         self.worker > 0
     }
 
-    /// The place of the job in hand.
+    /// Returns the place of the newest job in hand.
     pub(crate) fn hand(&self) -> Option<usize>
         ensures { result ≡ self.now.hand }
     {
@@ -129,7 +130,7 @@ impl Executing {
         spawned
     }
 
-    /// The blocks of a shard that may have ready jobs.
+    /// Returns the blocks of a shard that may have ready jobs, a bit for each.
     pub(crate) fn shown(&mut self, shard: usize) -> u64
         requires { HasShard shard self.old }
         ensures { LooksAt (summary_at shard) self.old self.new result }
@@ -137,7 +138,7 @@ impl Executing {
         self.executor.shown(&mut self.seat, shard)
     }
 
-    /// The places of a block that have a ready job.
+    /// Returns the places of a block that have a ready job, a bit for each.
     pub(crate) fn ready(&mut self, block: usize) -> u64
         requires { HasBlock block self.old }
         ensures { LooksAt (ready_at block) self.old self.new result }
@@ -156,7 +157,7 @@ impl Executing {
         taken
     }
 
-    /// Takes up to so many jobs of a block at once. Their places, a bit for each: the lowest is the newest in hand.
+    /// Takes up to `most` jobs of a block by one step. Returns their places, a bit for each; the lowest is the newest.
     pub(crate) fn take_many(&mut self, block: usize, most: u32) -> u64
         requires { MayTake block self.old }
         ensures { TakesMany block most self.old self.new result }
@@ -167,7 +168,7 @@ impl Executing {
         bits
     }
 
-    /// The newest job in hand is about to run.
+    /// Begins to run the newest job in hand.
     pub(crate) fn start(&mut self, place: usize) -> HeldJob
         requires { self.old.hand ≡ Some place }
         ensures { Starts place self.old self.new result }
@@ -267,7 +268,7 @@ impl Executing {
         self.worker = 0;
     }
 
-    /// Cuts the seat in two. The executor has an owner more then, for which there may be no room.
+    /// Splits the seat in two. Fails, with nothing changed, if the executor can have no further owner.
     pub(crate) fn split(&mut self) -> Result<Executing, AllocError>
         ensures ok { IfOk result (λ other. (self.new ≡ first_of self.old) × (other ≡ second_of self.old)) }
         ensures err { IfErr result (λ _. self.new ≡ self.old) }
@@ -284,15 +285,16 @@ impl Executing {
         })
     }
 
-    /// Whether this is the whole seat of the executor, with nothing in hand.
+    /// Returns true if this is the whole seat of the executor, with no job in hand.
     fn may_end(&self) -> bool
         ensures { IsTrue result → IsEmptyHanded self.now × (self.now.seat.weight ≡ whole) }
     {
         self.hand.is_none() && self.executor.is_whole(&self.seat)
     }
 
-    /// Ends the executor, where this is its whole seat, nothing is in hand, and there is room for a job of each place.
-    /// The jobs that are left; else the same, and the code for C.
+    /// Ends the executor, if this is its whole seat with no job in hand, and `room` suffices for a job of each place.
+    ///
+    /// Returns the jobs that are left; or the unchanged value, with the code for C.
     pub(crate) fn end(self, alloc: Global, room: usize) -> Result<Vec<u64>, (Executing, u32)>
         ensures ended { IfOk result (λ jobs. HasEnded self jobs.items × (vec_len jobs ≤ room)) }
         ensures same { IfErr result (λ back. (back.0 ≡ self) × ((back.1 ≡ refused) ⊎ (back.1 ≡ no_memory))) }

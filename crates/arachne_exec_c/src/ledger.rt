@@ -10,8 +10,9 @@ use crate::adding::{Adding, cut, join_held};
 use crate::codes::{DONE, NO_MEMORY, REFUSED};
 use std::alloc::Global;
 
-/// Makes so many ledgers, each 0, and gives a handle that holds nothing their whole share. DONE; REFUSED, where it
-/// holds something; NO_MEMORY.
+/// Makes `count` ledgers, each of total 0, and puts their whole share into a handle that holds nothing.
+///
+/// Returns DONE; REFUSED if the handle holds something; NO_MEMORY.
 #[unsafe(no_mangle)]
 pub extern "C" fn arachne_ledgers_new(alloc: Global, adder: &mut ArachneAdder, count: usize) -> u32
     ensures { IsMade count (held adder.old) (held adder.new) result }
@@ -29,7 +30,9 @@ pub extern "C" fn arachne_ledgers_new(alloc: Global, adder: &mut ArachneAdder, c
     DONE
 }
 
-/// Adds to a ledger. False, with nothing changed, where the handle holds nothing or there is no such ledger.
+/// Adds an amount to a ledger.
+///
+/// Returns false, with nothing changed, if the handle holds nothing or there is no such ledger.
 #[unsafe(no_mangle)]
 pub extern "C" fn arachne_ledger_add(
     alloc: Global,
@@ -54,8 +57,9 @@ pub extern "C" fn arachne_ledger_add(
     known
 }
 
-/// The total of a ledger, modulo 2^64, where all other handles are back. False, with nothing changed, where one is not,
-/// where the handle holds nothing, or there is no such ledger.
+/// Reads the total of a ledger, modulo 2^64, once all other handles were joined into this one.
+///
+/// Returns false, with nothing changed, if one was not, if the handle holds nothing, or if there is no such ledger.
 #[unsafe(no_mangle)]
 pub extern "C" fn arachne_ledger_total(
     alloc: Global,
@@ -85,8 +89,10 @@ pub extern "C" fn arachne_ledger_total(
     }
 }
 
-/// Cuts the share in two, as for another thread, and gives the second handle the second part. DONE; REFUSED, where the
-/// first holds nothing or the second something; NO_MEMORY. A share can be cut 127 times in a row.
+/// Splits a share in two, for another thread: `other` gets the second part, to which nothing was added.
+///
+/// Returns DONE; REFUSED if `adder` holds nothing or `other` holds something; NO_MEMORY. A share may be split 127 times
+/// in a row. A further split succeeds too, but then no total can be read any more.
 #[unsafe(no_mangle)]
 #[tactic(auto, using(crate::proofs::AdderCut::is_split))]
 pub extern "C" fn arachne_ledger_split(
@@ -115,9 +121,11 @@ pub extern "C" fn arachne_ledger_split(
     DONE
 }
 
-/// Joins the second handle's share into the first's, so that the second holds nothing then. False, with nothing
-/// changed, where one of them holds nothing. Both have to be of the same ledgers, which is not tested: else the first's
-/// sums may be returned before all of its handles are back, and the second's never are.
+/// Joins the share of `other` into that of `adder`, so that `other` holds nothing.
+///
+/// Returns false, with nothing changed, if one of them holds nothing. Both must be of one set of ledgers, which is not
+/// checked: otherwise totals of the ledgers of `adder` may be read before all of their handles were joined, and those
+/// of `other` can't be read any more.
 #[unsafe(no_mangle)]
 pub extern "C" fn arachne_ledger_join(
     alloc: Global,
@@ -142,8 +150,9 @@ pub extern "C" fn arachne_ledger_join(
     is_joined
 }
 
-/// Frees what a handle holds. The weight of its share is lost, so that no total can be told any more; the ledgers are
-/// freed with the last of their handles.
+/// Frees the share that a handle holds, if it holds one, and the ledgers with the last of their handles.
+///
+/// The other handles can't read a total any more.
 #[unsafe(no_mangle)]
 pub extern "C" fn arachne_ledger_close(alloc: Global, adder: &mut ArachneAdder)
     ensures { held adder.new ≡ None }

@@ -13,8 +13,9 @@ use crate::seated::{
 use crate::told::{ArachneLockTold, code_alone};
 use std::alloc::Global;
 
-/// Makes so many locks, and gives a handle that holds nothing the first seat. DONE; REFUSED, where it holds something;
-/// NO_MEMORY.
+/// Makes `count` locks, and puts the first seat into a handle that holds nothing.
+///
+/// Returns DONE; REFUSED if the handle holds something; NO_MEMORY.
 #[unsafe(no_mangle)]
 pub extern "C" fn arachne_locks_new(alloc: Global, locks: &mut ArachneLocks, count: usize) -> u32
     ensures { IsMade count (held locks.old) (held locks.new) result }
@@ -32,8 +33,9 @@ pub extern "C" fn arachne_locks_new(alloc: Global, locks: &mut ArachneLocks, cou
     DONE
 }
 
-/// A seat more, as for another thread, for a handle that holds nothing. DONE; REFUSED, where the first holds nothing or
-/// the second something; NO_MEMORY.
+/// Splits off another seat, for another thread, and puts it into `other`.
+///
+/// Returns DONE; REFUSED if `locks` holds nothing or `other` holds something; NO_MEMORY.
 #[unsafe(no_mangle)]
 #[tactic(auto, using(crate::proofs::SeatCut::is_split))]
 pub extern "C" fn arachne_locks_split(
@@ -62,8 +64,10 @@ pub extern "C" fn arachne_locks_split(
     DONE
 }
 
-/// Joins the second handle's seat into the first's, so that the second holds nothing then. DONE; REFUSED, where one of
-/// them holds nothing. Both have to be of the same locks, which is not tested: else the second's are only let go.
+/// Joins the seat of `other` into that of `locks`, so that `other` holds nothing.
+///
+/// Returns DONE, or REFUSED if one of them holds nothing. Both must be of one set of locks, which is not checked:
+/// otherwise the seat of `other` is only freed, as by `arachne_locks_close`.
 #[unsafe(no_mangle)]
 pub extern "C" fn arachne_locks_join(
     alloc: Global,
@@ -88,7 +92,7 @@ pub extern "C" fn arachne_locks_join(
     code
 }
 
-/// Frees what a handle holds. The locks are freed with the last of their handles.
+/// Frees the seat that a handle holds, if it holds one, and the locks with the last of their handles.
 #[unsafe(no_mangle)]
 pub extern "C" fn arachne_locks_close(alloc: Global, locks: &mut ArachneLocks)
     ensures { held locks.new ≡ None }
@@ -96,8 +100,10 @@ pub extern "C" fn arachne_locks_close(alloc: Global, locks: &mut ArachneLocks)
     drop(locks.take(alloc));
 }
 
-/// Asks for a lock: one try. GRANTED; QUEUED; ALREADY_IN; NO_MEMORY, only where it would have to wait; CONTENDED;
-/// REFUSED.
+/// Asks for a lock for `who`: one try.
+///
+/// Returns GRANTED; QUEUED; ALREADY_IN; NO_MEMORY, only if `who` would have to wait; CONTENDED; REFUSED if the handle
+/// holds nothing or there is no such lock.
 #[unsafe(no_mangle)]
 pub extern "C" fn arachne_lock_ask(
     alloc: Global,
@@ -115,7 +121,10 @@ pub extern "C" fn arachne_lock_ask(
     told
 }
 
-/// Frees a lock: one try. FREED; HANDED_ON, to `next`; NOT_HOLDER; CONTENDED; REFUSED.
+/// Frees a lock that `who` holds: one try.
+///
+/// Returns FREED; HANDED_ON, to `next`; NOT_HOLDER; CONTENDED; REFUSED if the handle holds nothing or there is no such
+/// lock.
 #[unsafe(no_mangle)]
 pub extern "C" fn arachne_lock_free(
     alloc: Global,
@@ -133,8 +142,10 @@ pub extern "C" fn arachne_lock_free(
     told
 }
 
-/// Leaves the queue of a lock, as where a future is dropped: one try. LEFT; GRANTED, where it holds the lock meanwhile,
-/// and has to free it; NOT_HOLDER, where it neither holds it nor waits; CONTENDED; REFUSED.
+/// Takes `who` out of the queue of a lock, such as when its future is dropped: one try.
+///
+/// Returns LEFT; GRANTED if it holds the lock by now, and must free it; NOT_HOLDER; CONTENDED; REFUSED if the handle
+/// holds nothing or there is no such lock.
 #[unsafe(no_mangle)]
 pub extern "C" fn arachne_lock_withdraw(
     alloc: Global,
@@ -152,7 +163,10 @@ pub extern "C" fn arachne_lock_withdraw(
     told
 }
 
-/// Whether it holds a lock: one try. GRANTED, with the number of the grant; NOT_HOLDER; CONTENDED; REFUSED.
+/// Looks if `who` holds a lock: one try.
+///
+/// Returns GRANTED with the number of its grant; NOT_HOLDER; CONTENDED; REFUSED if the handle holds nothing or there is
+/// no such lock.
 #[unsafe(no_mangle)]
 pub extern "C" fn arachne_lock_check(
     alloc: Global,

@@ -1,6 +1,6 @@
 //! The exports for the core policy.
 //!
-//! An estimator lies in the caller's memory, and none is taken. Whatever its bytes are, no call can go wrong.
+//! An estimator lies in the caller's memory, and no call allocates. Each call is defined for any bytes there.
 ghost use Rattle.std.specs.Prelude.{◌≡◌, ◌≢◌, ◌≤◌, ◌↔◌, List, [], IsTrue, MatchBool};
 ghost use Rattle.arachne_policy.specs.declared.samples.Sample.{Sample as Past};
 ghost use Rattle.arachne_policy.specs.State.{most_cores, StandsFor};
@@ -9,7 +9,7 @@ ghost use Rattle.arachne_exec_c.specs.Estimating.{state_of, sample_of, number_of
 use crate::codes::{ADD, REFUSED, REMOVE, STAY};
 use arachne_policy::{Advice, Estimator, MAX_CORES, Sample};
 
-/// An estimator as C lays it out: its settings, and the threshold of each number of cores from 1.
+/// An estimator in C's layout: its settings, and the threshold of each number of cores from 1.
 #[repr(C)]
 #[derive(Clone, Copy)]
 pub struct ArachneEstimator {
@@ -19,7 +19,7 @@ pub struct ArachneEstimator {
     pub thresholds: [u64; MAX_CORES],
 }
 
-/// A sample as C lays it out.
+/// A sample in C's layout.
 #[repr(C)]
 #[derive(Clone, Copy)]
 pub struct ArachneSample {
@@ -30,7 +30,7 @@ pub struct ArachneSample {
     pub elapsed: u64,
 }
 
-/// Makes an estimator that has seen no sample. False, with nothing changed, where more than 64 cores are asked for.
+/// Makes an estimator that has seen no sample. Returns false, with nothing changed, if `max` is greater than 64.
 #[unsafe(no_mangle)]
 pub extern "C" fn arachne_estimator_new(
     up: u64,
@@ -55,8 +55,10 @@ pub extern "C" fn arachne_estimator_new(
     true
 }
 
-/// Judges a sample: STAY, ADD or REMOVE. REFUSED, with nothing changed, where the sample can't have been measured, or
-/// the estimator has more than 64 cores.
+/// Judges a sample, and returns STAY, ADD or REMOVE.
+///
+/// Returns REFUSED, with nothing changed, if the sample can't have been measured, or if the estimator's `max` is
+/// greater than 64.
 #[unsafe(no_mangle)]
 pub extern "C" fn arachne_estimator_judge(
     estimator: &mut ArachneEstimator,
@@ -65,7 +67,7 @@ pub extern "C" fn arachne_estimator_judge(
     ensures judged { (result ≢ refused) ↔ MayJudge estimator.old sample.now }
     ensures bad { result ≡ refused → estimator.new ≡ estimator.old }
     ensures settings { (state_of estimator.new).settings ≡ (state_of estimator.old).settings }
-    // The advice is that after the samples so far, and the estimator stands for them and this one then.
+    // The answer is the advice after the samples so far; the estimator then stands for these and this one.
     ensures history { (past : List Past) → StandsFor (state_of estimator.old) past → MayJudge estimator.old sample.now
         → HasJudged past estimator.old sample.now result estimator.new }
 {

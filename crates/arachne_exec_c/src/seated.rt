@@ -1,4 +1,4 @@
-//! A seat at somebody's locks, with the locks.
+//! A seat at a set of locks, with the locks.
 ghost use Rattle.std.specs.Prelude.{◌≡◌, ◌↔◌, IsTrue, IfOk, IfErr, MatchBool};
 ghost use Rattle.std.specs.Option.{ForSome};
 ghost use Rattle.std.specs.declared.option.Option.TheVariants.{None, Some};
@@ -18,7 +18,7 @@ use std::alloc::{AllocError, Global};
 use std::marker::Model;
 use std::sync::Arc;
 
-/// What the memory behind a handle on locks holds while the handle is in use.
+/// The value behind a handle on locks.
 #[derive(Drop)]
 pub struct Seated {
     locks: Arc<Locks>,
@@ -38,7 +38,7 @@ impl Model for Seated {
 }
 
 impl Seated {
-    /// So many locks, and the first seat.
+    /// Makes `count` locks, with the first seat.
     pub(crate) fn new(alloc: Global, count: usize) -> Result<Seated, AllocError>
         ensures { IfOk result (IsNew count) }
     {
@@ -89,7 +89,7 @@ impl Seated {
         self.locks.check(&mut self.seat, lock, who)
     }
 
-    /// A seat more. The locks have an owner more then, for which there may be no room.
+    /// Splits off another seat. Fails, with nothing changed, if the locks can have no further owner.
     fn split(&mut self) -> Result<Seated, AllocError>
         ensures ok { IfOk result (λ other. (self.new ≡ first_of self.old) × (other ≡ second_of self.old)) }
         ensures err { IfErr result (λ _. self.new ≡ self.old) }
@@ -108,7 +108,9 @@ impl Seated {
     }
 }
 
-/// Splits what the first holds, and gives the second a seat more. False where there is no room for an owner more.
+/// Splits the seat that the first holds, and gives the second part to the other.
+///
+/// Returns false if the locks can have no further owner, or if the first holds nothing; nothing has changed then.
 pub(crate) fn split_held(mine: &mut Option<Seated>, theirs: &mut Option<Seated>) -> bool
     requires { theirs.old ≡ None }
     ensures split { ForSome mine.old (λ old. MatchBool result
@@ -126,7 +128,7 @@ pub(crate) fn split_held(mine: &mut Option<Seated>, theirs: &mut Option<Seated>)
     true
 }
 
-/// Joins what the second holds into what the first holds, where both hold something.
+/// Joins the second seat into the first, if both are there.
 pub(crate) fn join_held(mine: &mut Option<Seated>, theirs: &mut Option<Seated>) -> u32
     requires { (a b : Seating) → mine.old ≡ Some a → theirs.old ≡ Some b → b.locks ≡ a.locks }
     ensures { IsJoined mine.old theirs.old mine.new theirs.new result }
@@ -145,7 +147,7 @@ pub(crate) fn join_held(mine: &mut Option<Seated>, theirs: &mut Option<Seated>) 
     }
 }
 
-/// Asks by what a handle holds.
+/// Asks for a lock by the seat that a handle holds.
 pub(crate) fn ask_held(held: &mut Option<Seated>, lock: usize, who: u64) -> ArachneLockTold
     ensures { IsAskTold lock who held.old held.new result }
 {
@@ -155,7 +157,7 @@ pub(crate) fn ask_held(held: &mut Option<Seated>, lock: usize, who: u64) -> Arac
     }
 }
 
-/// Frees by what a handle holds.
+/// Frees a lock by the seat that a handle holds.
 pub(crate) fn free_held(held: &mut Option<Seated>, lock: usize, who: u64) -> ArachneLockTold
     ensures { IsFreeTold lock who held.old held.new result }
 {
@@ -165,7 +167,7 @@ pub(crate) fn free_held(held: &mut Option<Seated>, lock: usize, who: u64) -> Ara
     }
 }
 
-/// Withdraws by what a handle holds.
+/// Leaves the queue of a lock by the seat that a handle holds.
 pub(crate) fn withdraw_held(held: &mut Option<Seated>, lock: usize, who: u64) -> ArachneLockTold
     ensures { IsWithdrawTold lock who held.old held.new result }
 {
@@ -175,7 +177,7 @@ pub(crate) fn withdraw_held(held: &mut Option<Seated>, lock: usize, who: u64) ->
     }
 }
 
-/// Checks by what a handle holds.
+/// Looks who holds a lock by the seat that a handle holds.
 pub(crate) fn check_held(held: &mut Option<Seated>, lock: usize, who: u64) -> ArachneLockTold
     ensures { IsCheckTold lock who held.old held.new result }
 {

@@ -1,4 +1,4 @@
-//! What C is told of a lock's answers.
+//! The answers of a lock, as C gets them.
 ghost use Rattle.std.specs.Prelude.{◌≡◌};
 ghost use Rattle.std.specs.declared.option.Option.{Option};
 ghost use Rattle.arachne_exec_c.specs.LockTold.{code_alone, code_at, told_asked, told_freed, told_withdrawn, told_checked};
@@ -8,13 +8,13 @@ use crate::codes::{
 };
 use arachne_lock::{Admitted, AskRefusal, Attempt, NotOwner, Released, Withdrawn};
 
-/// The answer of a lock. Numbers of events count from 0 for each lock by itself, modulo 2^64.
+/// The answer of a lock. The events of each lock are numbered from 0, modulo 2^64.
 #[repr(C)]
 #[derive(Clone, Copy)]
 pub struct ArachneLockTold {
     /// The number of the event: of the grant, the ask, the free or the leave.
     pub at: u64,
-    /// To a free that hands the lock on: who holds it now, by the grant with the next number.
+    /// The one that holds the lock now, if a free handed it on; the number of that grant is `at` + 1.
     pub next: u64,
     pub code: u32,
 }

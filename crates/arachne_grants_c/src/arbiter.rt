@@ -12,8 +12,9 @@ use crate::{events, turns};
 use arachne_grants::{CoreArbiter, MAX_CORES};
 use std::alloc::Global;
 
-/// Makes an arbiter of the cores 0 to `cores` - 1, without clients, in a handle that holds nothing. Returns DONE;
-/// REFUSED if the handle holds something, or if there are more than 1,024 cores; NO_MEMORY if memory is refused.
+/// Makes an arbiter of the cores 0 to `cores` - 1, without clients, in a handle that holds nothing.
+///
+/// Returns DONE; REFUSED if the handle holds something, or if `cores` is greater than 1,024; NO_MEMORY.
 #[unsafe(no_mangle)]
 pub extern "C" fn arachne_arbiter_new(
     alloc: Global,
@@ -40,9 +41,10 @@ pub extern "C" fn arachne_arbiter_close(alloc: Global, arbiter: &mut ArachneArbi
     drop(arbiter.take(alloc));
 }
 
-/// Adds a client with a number from 0 to 63 that no other client has, with a priority, of which 0 goes first, the cores
-/// that it reserves, and the greatest number that it may ask for. Returns DONE or REFUSED. The caller must check that
-/// the client is entitled to these.
+/// Adds a client with its priority, of which 0 goes first, and the cores that it reserves and may ask for at most.
+///
+/// Its number is from 0 to 63, and no other client's. Returns DONE or REFUSED. The caller must check that the client is
+/// entitled to these.
 #[unsafe(no_mangle)]
 pub extern "C" fn arachne_arbiter_hello(
     alloc: Global,
@@ -116,8 +118,9 @@ pub extern "C" fn arachne_arbiter_join(
     told
 }
 
-/// Takes the core from a thread, if it has one, and lets the thread wait until it is granted one. Returns DONE, or
-/// REFUSED if the thread floats or waits already, or does not exist.
+/// Takes the core from a thread, if it has one, and lets the thread wait until it is granted one.
+///
+/// Returns DONE, or REFUSED if the thread floats or waits already, or does not exist.
 #[unsafe(no_mangle)]
 pub extern "C" fn arachne_arbiter_wait(
     alloc: Global,
@@ -166,8 +169,9 @@ pub extern "C" fn arachne_arbiter_decide(alloc: Global, arbiter: &mut ArachneArb
     told
 }
 
-/// Takes a core from a client that has more than it may have: from its last thread that has one. If that thread floats,
-/// the core is taken at once, otherwise only if `late` is set. Returns TAKEN or NOTHING.
+/// Takes a core from a client that has more than it may have: from its last thread that has one.
+///
+/// If that thread floats, the core is taken at once, otherwise only if `late` is set. Returns TAKEN or NOTHING.
 #[unsafe(no_mangle)]
 pub extern "C" fn arachne_arbiter_take_back(
     alloc: Global,
@@ -185,8 +189,9 @@ pub extern "C" fn arachne_arbiter_take_back(
     told
 }
 
-/// Gives a free core to a thread that can take one, of a client that has fewer than it may have. The higher priority
-/// goes first. Returns GRANTED if the thread waited, PLACED if it floats, or NOTHING.
+/// Gives a free core to a thread that can take one, of a client that has fewer than it may have.
+///
+/// The higher priority goes first. Returns GRANTED if the thread waited, PLACED if it floats, or NOTHING.
 #[unsafe(no_mangle)]
 pub extern "C" fn arachne_arbiter_give(alloc: Global, arbiter: &mut ArachneArbiter) -> ArachneAction
     ensures { IsTold Gives (action_alone refused) (held arbiter.old) (held arbiter.new) result }
@@ -199,7 +204,7 @@ pub extern "C" fn arachne_arbiter_give(alloc: Global, arbiter: &mut ArachneArbit
     told
 }
 
-/// Returns the number of cores that a client may have, and the number that it has.
+/// Returns the number of cores that a client may have, and the number that it has; 0 and 0 if the handle holds nothing.
 #[unsafe(no_mangle)]
 pub extern "C" fn arachne_arbiter_share(
     alloc: Global,

@@ -63,7 +63,7 @@ impl ArachneArbiter {
         *self = ArachneArbiter::of_handle(Handle::of(value));
     }
 
-    /// Returns whether the handle holds an arbiter.
+    /// Returns true if the handle holds an arbiter.
     pub(crate) fn is_in_use(&mut self, alloc: Global) -> bool
         ensures used { IsTrue result ↔ IsSome self.old.value }
         ensures same { self.new.value ≡ self.old.value }

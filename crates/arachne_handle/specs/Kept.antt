@@ -1,4 +1,4 @@
--- What a pointer that C holds owns.
+-- The ownership of a pointer that C holds.
 use base.Fml.{Fml, feq}
 use denote.RattleType.{RattleType}
 use denote.RawPtr.{Ptr, null_ptr}
@@ -9,7 +9,7 @@ use Rattle.std.specs.contracts.impls.GlobalAllocator.TheImpl.{ghosts}
 use Rattle.std_alloc.specs.Box.Ownership.{box_owns}
 
 module _ (R : RattleType) (alloc : Global) (at : Ptr) where
-  -- holding nothing, it is null; else it owns a value of type R, and the right to free its block
+  -- a pointer that holds nothing is null; any other owns a value of type R, and the right to free its block
   abbrev pub kept : Option R.Denot → Fml
   kept None = feq Ptr at null_ptr
   kept (Some x) = box_owns (ghosts.dealloc_token alloc) R at x

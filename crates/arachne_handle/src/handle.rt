@@ -10,8 +10,9 @@ use std::alloc::Global;
 use std::marker::Model;
 use std::ptr::null_mut;
 
-/// The pointer of a box, or null, which holds nothing. A clause reads what it holds as `value`. It can't be dropped,
-/// since what it is made from takes it apart: `into_box` ends it.
+/// The pointer of a box, or null, which holds nothing. A clause reads the box's value as `value`.
+///
+/// A handle can't be dropped: `into_box` ends it.
 pub struct Handle<T> {
     pub at: *mut T,
     pub alloc: Global,
@@ -23,7 +24,7 @@ impl<T> Model for Handle<T> {
 }
 
 impl<T> Handle<T> {
-    /// One that holds nothing.
+    /// Returns a handle that holds nothing.
     pub fn empty(alloc: Global) -> Handle<T>
         ensures { result.value ≡ None }
     {
@@ -54,14 +55,14 @@ impl<T> Handle<T> {
 }
 
 impl<T: Drop> Handle<T> {
-    /// One that holds what the box did.
+    /// Returns a handle that holds the box.
     pub fn of(value: Box<T>) -> Handle<T>
         ensures { result.value ≡ Some value.value }
     {
         Handle::of_loose(Loose::of(value))
     }
 
-    /// The box again, if it holds anything.
+    /// Returns the box, if the handle holds one.
     pub fn into_box(self) -> Option<Box<T>>
         ensures nothing { IfNone result (self.value ≡ None) }
         ensures value { IfSome result (λ value. self.value ≡ Some value.value) }

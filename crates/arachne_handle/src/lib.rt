@@ -1,4 +1,4 @@
-//! A value on the heap as the pointer by which C holds it, and back. A null pointer holds nothing.
+//! A box as the pointer by which C holds it, and back. A null pointer holds nothing.
 #![tactic(auto)]
 
 mod handle;

@@ -1,14 +1,17 @@
 //! The static library arachne_grants_c as Rust declares it.
 //! Made by scripts/declarations: don't edit it.
 //!
-//! A caller owes:
-//!   - a handle that is null at first, whose pointer only the library writes, and that is never copied;
-//!   - one thread at a time with each handle. It may go from thread to thread, over a thread's start or join, or a
-//!     lock;
-//!   - pointers that are not null;
-//!   - `malloc`, `realloc` and `free` of one allocator, and liblibc_c.a of the kit in the link.
-//! Calls on different handles, in as many threads as there are, are fine. None may be made from a signal handler.
+//! The caller must:
+//!   - start each handle as null, leave its pointer to the library, and never copy it;
+//!   - use each handle from one thread at a time. It may go to another thread if the two synchronize, such as by the
+//!     start or join of a thread, or by a lock;
+//!   - pass pointers that are not null, to memory that no other thread uses meanwhile, or only reads if it is const;
+//!   - link `malloc`, `realloc` and `free` of one allocator, and liblibc_c.a of the kit.
+//! No call may be made from a signal handler.
 #![allow(dead_code)]
+
+/// Raised if a code, a type or a call changes.
+pub const API_VERSION: u32 = 1;
 
 /// The call succeeded.
 pub const DONE: u32 = 0;
@@ -62,11 +65,11 @@ pub const PLACED: u32 = 15;
 /// The thread, which waited, was given the core: move the thread there, and notify it.
 pub const GRANTED: u32 = 16;
 
-/// A message of a client. Fields that it does not use are 0. HELLO, JOIN, WAIT or ASK; otherwise the reason that
-/// the bytes do not begin with a message.
+/// A message of a client. Fields that it does not use are 0.
 #[repr(C)]
 #[derive(Clone, Copy, Debug, PartialEq, Eq)]
 pub struct ArachneMessage {
+    /// HELLO, JOIN, WAIT or ASK; otherwise the reason that the bytes do not begin with a message.
     pub code: u32,
     pub priority: u32,
     pub reserved: u32,
@@ -88,72 +91,107 @@ impl ArachneArbiter {
     pub const NULL: ArachneArbiter = ArachneArbiter { opaque: std::ptr::null_mut() };
 }
 
-/// The action that the caller must take on a thread. Fields that it does not use are 0. TAKEN, PLACED, GRANTED or
-/// NOTHING; REFUSED if the handle holds nothing.
+/// The action that the caller must take on a thread. Fields that it does not use are 0.
 #[repr(C)]
 #[derive(Clone, Copy, Debug, PartialEq, Eq)]
 pub struct ArachneAction {
+    /// TAKEN, PLACED, GRANTED or NOTHING; REFUSED if the handle holds nothing.
     pub code: u32,
     pub core: u32,
     pub client: usize,
     pub place: usize,
 }
 
-/// A client's share of the cores. The number of cores that it may have. The number of cores that its threads have.
+/// A client's share of the cores.
 #[repr(C)]
 #[derive(Clone, Copy, Debug, PartialEq, Eq)]
 pub struct ArachneShare {
+    /// The number of cores that it may have.
     pub allowed: u32,
+    /// The number of cores that its threads have.
     pub held: u32,
 }
 
 unsafe extern "C" {
-    /// Reads the message at the beginning of the bytes. Returns HELLO, JOIN, WAIT or ASK; SHORT if there are fewer
-    /// than 16 bytes; otherwise KIND, VERSION, PRIORITY, PLACE or UNUSED, by the first of its four numbers that is
-    /// not valid.
+    /// Reads the message at the beginning of the bytes.
+    ///
+    /// Returns HELLO, JOIN, WAIT or ASK; SHORT if there are fewer than 16 bytes; otherwise KIND, VERSION, PRIORITY,
+    /// PLACE or UNUSED, by the first of its four numbers that is not valid.
+    ///
+    /// Threads: safe beside any call, if nobody writes to `bytes` meanwhile.
     pub fn arachne_message_read(bytes: *const u8, bytes_count: usize) -> ArachneMessage;
 
-    /// Makes an arbiter of the cores 0 to `cores` - 1, without clients, in a handle that holds nothing. Returns
-    /// DONE; REFUSED if the handle holds something, or if there are more than 1,024 cores; NO_MEMORY if memory is
-    /// refused.
+    /// Makes an arbiter of the cores 0 to `cores` - 1, without clients, in a handle that holds nothing.
+    ///
+    /// Returns DONE; REFUSED if the handle holds something, or if `cores` is greater than 1,024; NO_MEMORY.
+    ///
+    /// Threads: safe beside calls with other handles; two at once with `arbiter` are undefined behaviour.
     pub fn arachne_arbiter_new(arbiter: *mut ArachneArbiter, cores: u32) -> u32;
 
     /// Frees the arbiter that a handle holds, if it holds one.
+    ///
+    /// Threads: safe beside calls with other handles; two at once with `arbiter` are undefined behaviour.
     pub fn arachne_arbiter_close(arbiter: *mut ArachneArbiter);
 
-    /// Adds a client with a number from 0 to 63 that no other client has, with a priority, of which 0 goes first,
-    /// the cores that it reserves, and the greatest number that it may ask for. Returns DONE or REFUSED. The caller
-    /// must check that the client is entitled to these.
+    /// Adds a client with its priority, of which 0 goes first, and the cores that it reserves and may ask for at
+    /// most.
+    ///
+    /// Its number is from 0 to 63, and no other client's. Returns DONE or REFUSED. The caller must check that the
+    /// client is entitled to these.
+    ///
+    /// Threads: safe beside calls with other handles; two at once with `arbiter` are undefined behaviour.
     pub fn arachne_arbiter_hello(arbiter: *mut ArachneArbiter, client: usize, priority: u8, reserved: u32, most: u32) -> u32;
 
     /// Sets the number of cores that a client asks for. Returns DONE, or REFUSED if there is no such client.
+    ///
+    /// Threads: safe beside calls with other handles; two at once with `arbiter` are undefined behaviour.
     pub fn arachne_arbiter_ask(arbiter: *mut ArachneArbiter, client: usize, cores: u32) -> u32;
 
     /// Removes a client, with all of its threads. Returns DONE, or REFUSED if its number is greater than 63.
+    ///
+    /// Threads: safe beside calls with other handles; two at once with `arbiter` are undefined behaviour.
     pub fn arachne_arbiter_leave(arbiter: *mut ArachneArbiter, client: usize) -> u32;
 
     /// Adds a thread to a client, at a free place from 0 to 63. A thread that floats never waits. Returns DONE or
     /// REFUSED.
+    ///
+    /// Threads: safe beside calls with other handles; two at once with `arbiter` are undefined behaviour.
     pub fn arachne_arbiter_join(arbiter: *mut ArachneArbiter, client: usize, place: usize, floats: bool) -> u32;
 
-    /// Takes the core from a thread, if it has one, and lets the thread wait until it is granted one. Returns DONE,
-    /// or REFUSED if the thread floats or waits already, or does not exist.
+    /// Takes the core from a thread, if it has one, and lets the thread wait until it is granted one.
+    ///
+    /// Returns DONE, or REFUSED if the thread floats or waits already, or does not exist.
+    ///
+    /// Threads: safe beside calls with other handles; two at once with `arbiter` are undefined behaviour.
     pub fn arachne_arbiter_wait(arbiter: *mut ArachneArbiter, client: usize, place: usize) -> u32;
 
     /// Removes a thread. Returns DONE, or REFUSED if its client's number or its place is greater than 63.
+    ///
+    /// Threads: safe beside calls with other handles; two at once with `arbiter` are undefined behaviour.
     pub fn arachne_arbiter_end(arbiter: *mut ArachneArbiter, client: usize, place: usize) -> u32;
 
     /// Decides anew how many cores each client may have. Returns DONE or REFUSED.
+    ///
+    /// Threads: safe beside calls with other handles; two at once with `arbiter` are undefined behaviour.
     pub fn arachne_arbiter_decide(arbiter: *mut ArachneArbiter) -> u32;
 
-    /// Takes a core from a client that has more than it may have: from its last thread that has one. If that thread
-    /// floats, the core is taken at once, otherwise only if `late` is set. Returns TAKEN or NOTHING.
+    /// Takes a core from a client that has more than it may have: from its last thread that has one.
+    ///
+    /// If that thread floats, the core is taken at once, otherwise only if `late` is set. Returns TAKEN or NOTHING.
+    ///
+    /// Threads: safe beside calls with other handles; two at once with `arbiter` are undefined behaviour.
     pub fn arachne_arbiter_take_back(arbiter: *mut ArachneArbiter, client: usize, late: bool) -> ArachneAction;
 
-    /// Gives a free core to a thread that can take one, of a client that has fewer than it may have. The higher
-    /// priority goes first. Returns GRANTED if the thread waited, PLACED if it floats, or NOTHING.
+    /// Gives a free core to a thread that can take one, of a client that has fewer than it may have.
+    ///
+    /// The higher priority goes first. Returns GRANTED if the thread waited, PLACED if it floats, or NOTHING.
+    ///
+    /// Threads: safe beside calls with other handles; two at once with `arbiter` are undefined behaviour.
     pub fn arachne_arbiter_give(arbiter: *mut ArachneArbiter) -> ArachneAction;
 
-    /// Returns the number of cores that a client may have, and the number that it has.
+    /// Returns the number of cores that a client may have, and the number that it has; 0 and 0 if the handle holds
+    /// nothing.
+    ///
+    /// Threads: safe beside calls with other handles; two at once with `arbiter` are undefined behaviour.
     pub fn arachne_arbiter_share(arbiter: *mut ArachneArbiter, client: usize) -> ArachneShare;
 }
