@@ -23,8 +23,8 @@ pub struct ArachneMessage {
 
 /// Reads the message at the beginning of the bytes.
 ///
-/// Returns HELLO, JOIN, WAIT or ASK; SHORT if there are fewer than 16 bytes; otherwise KIND, VERSION, PRIORITY, PLACE or
-/// UNUSED, by the first of its four numbers that is not valid.
+/// Returns HELLO, JOIN, WAIT or ASK; SHORT if there are fewer than 16 bytes; otherwise KIND, VERSION, PRIORITY, PLACE
+/// or UNUSED, by the first of its four numbers that is not valid.
 #[unsafe(no_mangle)]
 pub extern "C" fn arachne_message_read(bytes: &[u8]) -> ArachneMessage
     ensures { IsRead bytes.now result }
