@@ -11,6 +11,14 @@ use std::time::Duration;
 /// A tick that comes this late counts as missed.
 const LATE: Duration = Duration::from_millis(5);
 
+/// In place of a time beyond the clock's range: thirty years, in which no process waits.
+const NEVER: Duration = Duration::from_secs(30 * 365 * 86_400);
+
+/// Returns the moment a period after another one.
+fn later(moment: Instant, period: Duration) -> Instant {
+    moment.checked_add(period).unwrap_or_else(|| moment + NEVER)
+}
+
 /// When the ticks after a missed one come; see `Interval::set_missed_tick_behavior`.
 ///
 /// ```
@@ -114,15 +122,15 @@ impl Interval {
             return Poll::Pending;
         }
         let (due, now) = (self.due, Instant::now());
-        let next = if now > due + LATE { self.after_missed(now) } else { due + self.period };
+        let next = if now > due + LATE { self.after_missed(now) } else { later(due, self.period) };
         self.set(next);
         Poll::Ready(due)
     }
 
     fn after_missed(&self, now: Instant) -> Instant {
         match self.missed {
-            MissedTickBehavior::Burst => self.due + self.period,
-            MissedTickBehavior::Delay => now + self.period,
+            MissedTickBehavior::Burst => later(self.due, self.period),
+            MissedTickBehavior::Delay => later(now, self.period),
             MissedTickBehavior::Skip => {
                 let (late, period) = (now.saturating_duration_since(self.due), self.period.as_nanos());
                 now + Duration::from_nanos((period - late.as_nanos() % period).min(u64::MAX as u128) as u64)
@@ -148,7 +156,7 @@ impl Interval {
     /// });
     /// ```
     pub fn reset(&mut self) {
-        self.set(Instant::now() + self.period);
+        self.set(later(Instant::now(), self.period));
     }
 
     /// Returns the period; see the example at `Interval`.

@@ -1,4 +1,6 @@
-//! Sockets and other descriptors over the runtime's epoll. A socket belongs to the runtime in which it first waits.
+//! Sockets and other descriptors over the runtime's epoll.
+//!
+//! A socket belongs to the runtime in which it first waits. Once that has ended, to wait for it fails.
 //!
 //! Names are std's. `bind` and `from_std` don't wait, so they aren't `async`. Reads and writes take `&self`, so tasks
 //! may share a socket (by an `Arc`, say). Any number of them may wait for it in its methods; an event wakes all. Of
@@ -257,6 +259,10 @@ impl<S: AsRawFd> Source<S> {
                 register(io, cx.waker());
                 state = io.state.load(SeqCst);
                 if state & (ready | closed) == 0 {
+                    if at.shared.has_ended() {
+                        let ended = io::Error::new(io::ErrorKind::Other, "the runtime of this socket has ended");
+                        return Poll::Ready(Err(ended));
+                    }
                     // Once the end has begun, one attempt reads data whose event has not been delivered yet.
                     if untold || !reads || !at.shared.draining.has_begun() {
                         return Poll::Pending;

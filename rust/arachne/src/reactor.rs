@@ -323,6 +323,15 @@ impl Reactor {
         io.as_ref().filter(|_| *uses as u64 == data >> 32).cloned()
     }
 
+    /// Wakes all who wait for a descriptor, without an event.
+    pub(crate) fn wake_all(&self) {
+        let sources: Vec<_> = self.sources.lock().unwrap().all.iter().filter_map(|(_, io)| io.clone()).collect();
+        for io in sources {
+            [&io.reader, &io.writer].into_iter().for_each(Slot::wake);
+            [&io.readers, &io.writers].into_iter().for_each(Waiters::wake);
+        }
+    }
+
     /// Returns at most `most` events that are there now.
     pub(crate) fn look(&self, most: usize) -> Found {
         Found::of(self.epoll, 0, most)

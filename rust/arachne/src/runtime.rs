@@ -665,6 +665,7 @@ impl Runtime {
         self.threads.drain(..).for_each(|thread| drop(thread.join()));
         self.ended = true;
         entered(shared, || end_all(shared));
+        shared.let_go();
         shared.blocking.close();
         let left = || until.map_or(LOOK, |until| until.saturating_duration_since(Instant::now()));
         while !shared.blocking.wait_for_end(left().min(LOOK)) {

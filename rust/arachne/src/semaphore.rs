@@ -203,9 +203,19 @@ impl Semaphore {
     /// std::thread::spawn(move || adds.add_permits(1));
     /// arachne::block_on(permits.acquire()).unwrap().forget();
     /// ```
+    ///
+    /// # Panics
+    /// If there would be more permits than a `usize` counts.
+    #[track_caller]
     pub fn add_permits(&self, count: usize) {
         let mut state = self.state.lock().unwrap();
-        state.permits += count;
+        match state.permits.checked_add(count) {
+            Some(permits) => state.permits = permits,
+            None => {
+                drop(state);
+                panic!("more permits than can be counted");
+            }
+        }
         self.grant(state);
     }
 

@@ -334,6 +334,22 @@ impl Shared {
         (self.spawned() - background - ended).max(0) as u64
     }
 
+    /// Returns true if the runtime has ended, or is about to, so that nobody looks for its events any more.
+    ///
+    /// Returns false in a poll of one of its own tasks, which is dropped instead.
+    pub(crate) fn has_ended(&self) -> bool {
+        self.stop.load(SeqCst) && !Context::with(|worker| worker.map_or(false, |worker| ptr::eq(worker.shared, self)))
+    }
+
+    /// Wakes those who wait for its sockets and timers in another runtime, or in blocking work, after its end.
+    ///
+    /// From then on to wait for a socket fails, and a sleep goes on in the runtime in which it is polled.
+    pub(crate) fn let_go(&self) {
+        self.reactor.wake_all();
+        let timers = self.workers.iter().map(|worker| &worker.0.timers);
+        timers.chain([&self.visitors]).for_each(|timers| drop(timers.fire(u64::MAX - 1)));
+    }
+
     /// Gives this state back, for a later runtime. No thread of the ended one uses it any more.
     pub(crate) fn give(&'static self) {
         POOL.lock().unwrap().1.push(self);

@@ -517,3 +517,42 @@ fn what_the_watcher_ran_ends_with_the_runtime() {
     drop(runtime);
     waiting.into_iter().for_each(|task| assert!(matches!(block_on(task), Err(JoinError::Cancelled))));
 }
+
+/// Who waits for a socket of a runtime that ends gets an error, in another runtime or in its blocking work.
+#[test]
+fn a_socket_of_an_ended_runtime_keeps_nobody_waiting() {
+    let (ends, runtime) = (Runtime::new(1), Runtime::new(2));
+    let socket = Arc::new(net::UdpSocket::bind("127.0.0.1:0").unwrap());
+    let receive = |socket: &Arc<net::UdpSocket>| {
+        let socket = socket.clone();
+        async move { socket.recv_from(&mut [0; 8]).await.map(drop) }
+    };
+    assert!(ends.block_on(timeout(MS, receive(&socket))).is_err());
+    let (elsewhere, own, blocking) = (receive(&socket), ends.spawn(receive(&socket)), receive(&socket));
+    let elsewhere = runtime.spawn(elsewhere);
+    let blocking = ends.handle().spawn_blocking(move || block_on(blocking));
+    thread::sleep(10 * MS);
+    drop(ends);
+    assert!(matches!(block_on(own), Err(JoinError::Cancelled)));
+    let message = |got: std::io::Result<()>| got.unwrap_err().to_string();
+    assert_eq!(message(block_on(elsewhere).unwrap()), "the runtime of this socket has ended");
+    assert_eq!(message(runtime.block_on(receive(&socket))), "the runtime of this socket has ended");
+    match block_on(blocking) {
+        Ok(got) => assert_eq!(message(got), "the runtime of this socket has ended"),
+        Err(error) => assert!(error.is_cancelled(), "it had not begun"),
+    }
+}
+
+/// A sleep that began in a runtime which has ended goes on in another, whichever it waits in by then.
+#[test]
+fn a_sleep_outlives_its_runtime() {
+    let (ends, runtime) = (Runtime::new(1), Runtime::new(2));
+    let mut sleeps = [sleep(100 * MS), sleep(100 * MS)];
+    ends.enter(|| sleeps.iter_mut().for_each(|sleep| assert!(poll_once(sleep).is_pending())));
+    let [waits, moved] = sleeps;
+    let waits = runtime.spawn(waits);
+    thread::sleep(10 * MS);
+    drop(ends);
+    block_on(waits).unwrap();
+    runtime.block_on(moved);
+}

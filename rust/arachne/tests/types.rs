@@ -260,6 +260,32 @@ fn an_interval_ticks_by_its_period() {
     });
 }
 
+/// The longest period is longer than the clock goes.
+#[test]
+fn an_interval_may_have_any_period() {
+    Runtime::new(1).block_on(async {
+        let mut ticks = interval(Duration::MAX);
+        ticks.tick().await;
+        assert!(timeout(2 * MS, ticks.tick()).await.is_err());
+        ticks.reset();
+        for behavior in [MissedTickBehavior::Burst, MissedTickBehavior::Delay, MissedTickBehavior::Skip] {
+            let mut ticks = interval_at(Instant::now(), Duration::MAX);
+            ticks.set_missed_tick_behavior(behavior);
+            thread::sleep(10 * MS);
+            ticks.tick().await;
+            assert!(timeout(2 * MS, ticks.tick()).await.is_err());
+        }
+    });
+}
+
+#[test]
+fn more_permits_than_can_be_counted_change_nothing() {
+    let permits = Semaphore::new(2);
+    let added = std::panic::catch_unwind(std::panic::AssertUnwindSafe(|| permits.add_permits(usize::MAX)));
+    assert!(added.is_err());
+    assert_eq!(permits.available_permits(), 2);
+}
+
 #[test]
 fn ticks_that_were_missed_are_made_up_for_or_left_out() {
     Runtime::new(1).block_on(async {
