@@ -52,7 +52,7 @@ own_line_of thread = record { name = thread.name; tag = thread.label.tag; holds 
 abbrev pub raised : List ℕ → ℕ → ℕ → List ℕ
 raised numbers place amount = set numbers place (wrapped (get_or numbers place 0 + amount))
 
--- number by number the sum, modulo 2 ^ 64
+-- the sums of both lists, number by number, modulo 2 ^ 64
 abbrev pub added : List ℕ → List ℕ → List ℕ
 added numbers others = tabulated (length numbers) (λ place. get_or numbers place 0 + get_or others place 0)
 

@@ -18,9 +18,9 @@ use std::alloc::{AllocError, Global};
 
 /// Returns the meaning of a program, which runs on the calling kernel thread.
 ///
-/// All threads are in one list. The newest one runs for at most `budget` steps at a time, and at least one. A lock that
-/// it asks for is granted at once, and it runs on until it releases the lock, since no thread of a checked program
-/// forks while it holds one.
+/// All threads are in one list. The newest one runs for at most `budget` steps at a time; a budget of 0 counts as 1. A
+/// lock that it asks for is granted at once, and it runs on until it releases the lock, since no thread of a checked
+/// program forks while it holds one.
 pub fn run_alone(alloc: Global, program: &Program, budget: u32) -> Result<Meaning, AllocError>
     ensures { IfOk result (λ meaning. meaning ≡ meaning_of (source_of program.now)) }
 {

@@ -15,7 +15,7 @@ const MOST_MOVED: usize = 1000;
 /// The maximum number of lines.
 const MOST: usize = usize::MAX / 2;
 
-/// The lines of threads, in order, in few lists. So large numbers of them are moved only once, when they are complete.
+/// The lines of threads, in order, in few lists. So a large number of lines is moved only once, when they are complete.
 #[derive(Debug, Drop)]
 pub struct Lines {
     earlier: Vec<Vec<ThreadLine>>,
@@ -124,7 +124,8 @@ impl Lines {
         Ok(())
     }
 
-    /// Moves the line `own` and the lines `below` here, with only the first of them moved by itself.
+    /// Moves the line `own` and the lines `below` here, like `append`. The lists of `below` are taken as they are, so
+    /// none of their lines is moved.
     #[cold]
     #[inline(never)]
     fn append_many(

@@ -44,7 +44,8 @@ impl<'p> State<'p> {
         ensures err { OnErr result (Went (P.gives_all ≡ true) left.old left.new self.old placed.old.items self.new placed.new.items) }
         ensures err_left { OnErr result (1 ≤ left.new) }
     {
-        // The proof reads it: what is left at first is a number of 32 bits, so what is left later is one.
+        // Only the proof uses it: the steps that are left at first fit into 32 bits, so those that are left later do
+        // too.
         let _had = *left;
         while *left > 0 {
             if let Some(forked) = self.advance(left, spares, places)? {

@@ -256,7 +256,8 @@ impl<'p> State<'p> {
         }
     }
 
-    /// Makes a step, and with it further ones of those that are left, if they need nothing that is not known by then.
+    /// Makes a step, and at once those of the next ones that need only what is known by then, which are subtracted from
+    /// `left`.
     ///
     /// The step begins this expression. If there is none, it begins a part of a sweep, or takes a value that was left
     /// over. A value that is known at once is handed on.

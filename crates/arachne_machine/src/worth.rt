@@ -7,8 +7,9 @@ ghost use Rattle.arachne_machine.specs.Pure.{IsWorth};
 use crate::lookup::{item_in, length_in, variable_in};
 use arachne_lang::{Expr, Program};
 
-/// Returns the value of the body of an iteration, if it needs no more steps than are left. Each of its steps is
-/// subtracted.
+/// Returns the value of the body of an iteration, if it has no effects and needs no more steps than are left.
+///
+/// Each of its steps is subtracted from `left`.
 #[inline(always)]
 pub fn body_at_once(
     program: &Program,
