@@ -89,7 +89,7 @@ impl Ledgers {
 
     /// Reads the ledger's word, which at each moment is the sum of all shares at that moment, modulo 2^64.
     ///
-    /// If the share is the whole one, the result is its own sum.
+    /// If the share is the whole one, the result is its own sum, modulo 2^64.
     pub fn read(&self, share: &mut Share, ledger: usize) -> u64
         requires own { IsShareOf self.now share.old }
         requires ledger { ledger < self.now.count }
@@ -102,7 +102,7 @@ impl Ledgers {
 
     /// Splits a share in two. The first gets half of the weight, rounded up, and the sums.
     ///
-    /// If the weight is 1 or 0, neither share gets any.
+    /// If the weight is 1 or 0, neither share gets any weight.
     pub fn split(&self, share: Share) -> (Share, Share)
         requires { IsShareOf self.now share }
         ensures first { result.0 ≡ record share { weight = first_part share.weight } }
