@@ -13,7 +13,7 @@ use arachne_contexts::{Held, Tagged};
 use arachne_core::{Mark, MarkWord};
 
 impl<T: Tagged + Drop> WordContexts<T> {
-    /// Ends a thread whose context can have another. The seat has it claimed then.
+    /// Ends a thread whose context may have another. The seat then has the context claimed.
     fn retire(&self, seat: &mut CallSeat<T>, hold: &WordHold)
         requires own { seat.old.table ≡ self.now.table }
         requires thread { (tag : ℕ) × HasThread self.now seat.old.known hold.now tag }
@@ -55,7 +55,7 @@ impl<T: Tagged + Drop> WordContexts<T> {
         self.release(seat, hold.place, hold.alone);
     }
 
-    /// Ends a thread. Its place is free then, unless its context has had its last generation.
+    /// Ends a thread. Its place is then free, unless its context has had its last generation.
     pub fn finish(&self, seat: &mut WordSeat<T>, thread: Held<T, WordHold>) -> T
         requires own { seat.old.table ≡ self.now.table }
         requires thread { HasThread self.now seat.old.known thread.hold (T.tag_of thread.value) }
