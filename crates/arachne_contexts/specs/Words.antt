@@ -1,4 +1,4 @@
--- What a word shows of a core, or of a context.
+-- The meaning of a word, for a core or for a context.
 use Rattle.std.specs.Prelude.{◌≡◌, ◌≢◌, ℕ, ◌<◌, ◌⊎◌, true, false, slice_index_or}
 use Rattle.arachne_core.specs.declared.mark.Mark.TheVariants.{Ready, Woken}
 use Rattle.arachne_core.specs.declared.place.Place.{Place}

@@ -1,4 +1,4 @@
--- What each step on a block says of the seat before it, the word that was found, and the seat after it.
+-- For each step on a block, a relation between the seat before it, the word that was found, and the seat after it.
 use Rattle.std.specs.Prelude.{◌≡◌, ◌≢◌, ℕ, ◌+◌, [], ◌∷◌}
 use Rattle.std.specs.declared.snapshot.Snapshot.{Snapshot}
 use Rattle.atomic_table.specs.Table.{Me}

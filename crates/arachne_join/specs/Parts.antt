@@ -76,8 +76,8 @@ module _ {T K : Type 0} where
     HasCome key words homes i passed =
         (slice_index words i ≡ word_after (passed + 1)) × ((value : T) × (get_elem? homes i ≡ some (some (Value value))) × fits key value)
 
-    -- What a seat with this part at index i knows of the words, and of the slots in the table, after `passed` values
-    -- have passed through the cell.
+    -- The knowledge of a seat with this part at index i about the words, and about the slots in the table, after
+    -- `passed` values have passed through the cell.
     abbrev pub Knows : List ℕ → List (maybe.Option (Content T K)) → ℕ → ℕ → Part K → Type 0
     Knows words homes i passed Rest = (j : ℕ) → i ≤ j → j < length homes → IsFresh words homes j
     Knows words homes i passed Fresh = i < length homes → IsFresh words homes i

@@ -1,4 +1,4 @@
--- What each step on a cell says of the seat before it, the word that was found, and the seat after it.
+-- For each step on a cell, a relation between the seat before it, the word that was found, and the seat after it.
 use Rattle.std.specs.Prelude.{◌≡◌, ◌≢◌, ◌≤◌, ℕ, [], ◌∷◌, Option, Some, None}
 use Rattle.atomic_table.specs.Table.{Me}
 use Rattle.arachne_join.specs.declared.view.Role.{Role}

@@ -84,7 +84,7 @@ module _ {T : Type 0} (tag : T → ℕ) where
   woken_kept (Ready t) o c k = absurd c
   woken_kept Spent o c k = absurd c
 
-  -- an event that leaves the values where they are
+  -- an event that leaves the values as they are
   event_home : (w : World) (e : Event) (vs : List (Option T)) → LeavesValues e → IsHome tag w vs → Allowed w e → IsHome tag (after w e) vs
   event_home w (event.Claim h x) vs l home a =
       home_kept w (after w (event.Claim h x)) vs x (Claimed h) home refl refl (λ y. refl) (subst (λ s. IsKeptAt tag s (get_or vs x None)) a.free (home.kept x a.context))

@@ -1,4 +1,4 @@
--- What the words show to the seat that carries a context, or that has ended a thread.
+-- The meaning of the words for the seat that carries a context, or that has ended a thread.
 use Rattle.std.proofs.Common.{◌≡◌, ℕ, zero, suc, ◌<◌, ◌≤◌, Bool, true, false, ◌&&◌, List, [], ◌∷◌, refl, sym, ap, ◌∙◌, subst, arith, inl, inr, count_by}
 use Rattle.std.specs.List.{sum_by}
 use mathlib.Core.Option as opt

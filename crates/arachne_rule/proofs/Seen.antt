@@ -1,4 +1,4 @@
--- What a mark word that was seen shows of the World.
+-- The meaning of a mark word that was seen, in the World.
 use Rattle.std.proofs.Common.{◌≡◌, ℕ, true, false, refl, sym, ap, ◌∙◌, arith}
 use Rattle.arachne_core.specs.declared.place.Place.{Place}
 use Rattle.arachne_core.specs.declared.state.State.{State}

@@ -1,4 +1,4 @@
--- What each kind of step says of its seat: of the step, the seat before it, the number that was found (for a store, the
+-- For each kind of step, a relation between the step, the seat before it, the number that was found (for a store, the
 -- number that was stored), and the seat after it.
 use Rattle.std.specs.Prelude.{◌≡◌, ◌≢◌, ℕ, ◌+◌, ◌-◌, ◌<◌, ◌⊎◌, true, false, if◌then◌else◌, ◌==◌, [], ◌∷◌, count_by, bit_and, bit_or, Option, Some, None}
 use Rattle.atomic_table.specs.Table.{Step, rest}

@@ -177,7 +177,7 @@ WakeAnswer c id k (woken.Lost word) after = (seen : ℕ) × (word ≢ seen)
 
 -- ---- threads that are put back
 
--- What was asked for, the result, and the steps. A thread that was to be blocked is ready if it was woken while it was
+-- The request, the result, and the steps. A thread that was to be blocked is ready if it was woken while it was
 -- held.
 abbrev pub RestAnswer : Contexts → HoldView → ℕ → Known → Rest → Rested → Known → Type 0
 RestAnswer c hold tag k rest.Ready rested.AsAsked after = (before : ℕ)
