@@ -10,8 +10,8 @@ use crate::held::Held;
 pub enum Claimed<C> {
     /// The caller has the place, and posts at it or gives it back.
     Place(C),
-    /// The core has no free index, or is exclusive. A claim of the whole core found something on it. This is the core's
-    /// occupancy word.
+    /// The core has no free index, or is exclusive; or a claim of the whole core found something on it. This is the
+    /// core's occupancy word.
     Full(u64),
     /// The core takes no threads. This is its occupancy word.
     Closed(u64),
@@ -20,7 +20,9 @@ pub enum Claimed<C> {
 }
 
 impl<C> Claimed<C> {
-    /// Returns the place, or no place if the core has none. Returns `None` if the claim was lost and must be repeated.
+    /// Returns the place, or `Some(None)` if the core has no place.
+    ///
+    /// Returns `None` if the claim was lost and must be repeated.
     #[inline(always)]
     pub fn settled(self) -> Option<Option<C>>
         ensures { result ≡ settled_claim self }
@@ -66,7 +68,7 @@ pub enum Woken {
 }
 
 impl Woken {
-    /// Returns whether this wake has woken the thread. Returns `None` if the wake was lost and must be repeated.
+    /// Returns whether this wake has woken the thread, or `None` if the wake was lost and must be repeated.
     #[inline(always)]
     pub fn settled(self) -> Option<bool>
         ensures { result ≡ settled_wake self }

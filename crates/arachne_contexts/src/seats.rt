@@ -59,7 +59,7 @@ pub trait Seats {
         ensures first_weight { Self.weight result.0 ≡ first_part (Self.weight seat) }
         ensures second_weight { Self.weight result.1 ≡ second_part (Self.weight seat) };
 
-    /// Joins two seats into one, with the sum of their weights, at most the whole.
+    /// Joins two seats into one, whose weight is the sum of theirs, but at most the whole.
     ///
     /// All that was claimed or taken through either seat must be spent before.
     fn join_seats<R: Wait>(&self, rt: &R, seat: Self::Seat, other: Self::Seat) -> Self::Seat

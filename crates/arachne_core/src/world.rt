@@ -12,7 +12,8 @@ use std::marker::Model;
 
 /// A context table in which each event happens at once.
 ///
-/// It is owned once at every moment. The cost of an event does not depend on the number of contexts.
+/// It is owned once at every moment: each context, place and thread has exactly one owner. The cost of an event does
+/// not depend on the number of contexts.
 #[derive(Debug, Drop)]
 pub struct World {
     tables: Tables,

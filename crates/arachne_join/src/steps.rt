@@ -71,7 +71,7 @@ impl<K> Join<View<K>> for JoinFetched {
     ghost spent = { blank };
 }
 
-/// No seat has the role that two seats that fetched would have together.
+/// The two seats that were joined had not both fetched.
 pub(crate) struct FetchedAlone;
 
 impl<T, K> Play<Option<T>, View<K>> for FetchedAlone {

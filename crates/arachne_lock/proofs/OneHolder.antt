@@ -27,7 +27,7 @@ freed_before_grant h first (Grant who ∷ events) owned lawful (suc j) second th
 freed_before_grant h first (Free who ∷ events) owned lawful (suc j) second there =
     (zero, omega arith, cc)
 
--- Between two grants the first caller frees.
+-- Between two grants the first task frees.
 freed_between : (h : Holding) (events : List QueueEvent) → IsLawfulFrom h events
     → (i j : ℕ) (first second : ℕ) → i < j → slice_get events i ≡ Some (Grant first) → slice_get events j ≡ Some (Grant second)
     → (k : ℕ) × (i < k) × (k < j) × (slice_get events k ≡ Some (Free first))
@@ -65,7 +65,7 @@ quiet_after : (events : List QueueEvent) (j : ℕ) (other : ℕ) → QuietUpTo e
 quiet_after events j other asks zero event above before there = absurd (omega (arith, above))
 quiet_after events j other asks (suc k) event above before there = asks k event (omega (arith, before)) there
 
--- If a caller owns the lock after an event, the event was its grant, or an ask or a leave of another while it owned the
+-- If a task owns the lock after an event, the event was its grant, or an ask or a leave of another while it owned the
 -- lock.
 owned_or_granted : (h : Holding) (event : QueueEvent) (events : List QueueEvent) (j : ℕ) (who : ℕ) → Allows h event
     → (after h event).owner ≡ Some who → QuietUpTo events j
@@ -77,7 +77,7 @@ owned_or_granted h (Grant other) events j who allowed owned asks =
     inl (zero, omega arith, ap (λ w. Some (Grant w)) (same_Some _ _ owned), quiet_after events j other asks)
 owned_or_granted h (Free other) events j who allowed owned asks = absurd (none-some _ owned)
 
--- If a caller frees, either its grant comes before, or it owned the lock from the start, with only asks and leaves
+-- If a task frees, either its grant comes before, or it owned the lock from the start, with only asks and leaves
 -- since.
 granted_or_owned : (h : Holding) (events : List QueueEvent) → IsLawfulFrom h events
     → (j : ℕ) (who : ℕ) → slice_get events j ≡ Some (Free who)

@@ -29,7 +29,7 @@ asked_events who (Ok (Granted at)) = Ask who ∷ Grant who ∷ []
 asked_events who (Ok (Queued at)) = Ask who ∷ []
 asked_events who (Err fault) = []
 
--- a free, and the grant that follows it, if a caller waits
+-- a free, and the grant that follows it, if a task waits
 abbrev pub handed_events : ℕ → Option ℕ → List QueueEvent
 handed_events who None = Free who ∷ []
 handed_events who (Some next) = Free who ∷ Grant next ∷ []

@@ -5,7 +5,7 @@ use Rattle.std.specs.declared.option.Option.TheVariants.{None, Some}
 use Rattle.arachne_lock.specs.declared.event.QueueEvent.{QueueEvent}
 use Rattle.arachne_lock.specs.declared.event.QueueEvent.TheVariants.{Ask, Grant, Free, Leave}
 
--- the owner of the lock, if there is one, and the callers that wait for it, in the order of their asks
+-- the owner of the lock, if there is one, and the tasks that wait for it, in the order of their asks
 pub record Holding : Type 0 where
   pub owner : Option ℕ
   pub queue : List ℕ
@@ -14,16 +14,16 @@ pub record Holding : Type 0 where
 abbrev pub opening : Holding
 opening = record { owner = None; queue = [] }
 
--- the caller owns the lock or waits for it
+-- the task owns the lock or waits for it
 abbrev pub IsIn : Holding → ℕ → Type 0
 IsIn h who = (h.owner ≡ Some who) ⊎ Contains h.queue who
 
--- the queue without this caller
+-- the queue without this task
 abbrev pub without : ℕ → List ℕ → List ℕ
 without who queue = filter (λ (w : ℕ). not (w == who)) queue
 
--- The event is allowed. An ask must be by a caller that is not in yet. A grant must go to the front of the queue, while
--- nobody owns the lock. A free must be by the owner, and a leave by a caller that waits.
+-- The event is allowed. An ask must be by a task that is not in yet. A grant must go to the front of the queue, while
+-- nobody owns the lock. A free must be by the owner, and a leave by a task that waits.
 abbrev pub Allows : Holding → QueueEvent → Type 0
 Allows h (Ask who) = ¬ IsIn h who
 Allows h (Grant who) = (h.owner ≡ None) × (slice_get h.queue 0 ≡ Some who)
@@ -31,7 +31,7 @@ Allows h (Free who) = h.owner ≡ Some who
 Allows h (Leave who) = Contains h.queue who
 
 -- The holding after an event. An ask joins the end of the queue. A grant makes the front the owner. After a free the
--- lock has no owner. A caller that leaves waits no longer.
+-- lock has no owner. A task that leaves waits no longer.
 abbrev pub after : Holding → QueueEvent → Holding
 after h (Ask who) = record { owner = h.owner; queue = h.queue ++ who ∷ [] }
 after h (Grant who) = record { owner = Some who; queue = drop 1 h.queue }

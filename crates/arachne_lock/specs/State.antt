@@ -17,7 +17,7 @@ use Rattle.arachne_lock.specs.declared.event.QueueEvent.{QueueEvent}
 use Rattle.arachne_lock.specs.Law.{Holding, IsIn, without}
 use Rattle.arachne_lock.specs.History.{replay, HoldsSince}
 
--- the owner of the lock, with the number of its grant; the callers that wait; and the number of events, modulo 2^64
+-- the owner of the lock, with the number of its grant; the tasks that wait; and the number of events, modulo 2^64
 pub record Lock : Type 0 where
   pub owner : Option Holder
   pub queue : List ℕ
@@ -57,12 +57,12 @@ AnswersAsk before after who (Queued at) =
 
 pub record IsAsked (before after : Lock) (who : ℕ) (answer : Result Admitted AskRefusal) : Type 0 where
   pub already : (answer ≡ Err AlreadyIn) ↔ IsIn (holding_of before) who
-  -- memory is needed only if the caller must wait
+  -- memory is needed only if the task must wait
   pub memory : answer ≡ Err Memory → IsSome before.owner
   pub ok : IfOk answer (AnswersAsk before after who)
   pub err : OnErr answer (after ≡ before)
 
--- ---- a free: the lock is granted to the front of the queue, if a caller waits
+-- ---- a free: the lock is granted to the front of the queue, if a task waits
 
 abbrev pub handed : Lock → Option ℕ → Lock
 handed before None = record { owner = None; queue = drop 1 before.queue; count = later before.count 1 }
@@ -82,7 +82,7 @@ pub record IsFreed (before after : Lock) (who : ℕ) (answer : Result Released N
   pub ok : IfOk answer (AnswersFree before after)
   pub err : OnErr answer (after ≡ before)
 
--- ---- a withdrawal: a caller that waits leaves the queue; nothing changes if it holds the lock or isn't in
+-- ---- a withdrawal: a task that waits leaves the queue; nothing changes if it holds the lock or isn't in
 
 abbrev pub IsWithdrawn : Lock → Lock → ℕ → Withdrawn → Type 0
 IsWithdrawn before after who (Left at) =
@@ -92,7 +92,7 @@ IsWithdrawn before after who (Left at) =
 IsWithdrawn before after who (Holds at) = (before.owner ≡ Some (record { who = who; at = at })) × (after ≡ before)
 IsWithdrawn before after who Outside = (¬ IsIn (holding_of before) who) × (after ≡ before)
 
--- ---- a check: the number of the grant by which the caller holds the lock, if it does
+-- ---- a check: the number of the grant by which the task holds the lock, if it does
 
 abbrev pub IsChecked : Lock → Lock → ℕ → Option ℕ → Type 0
 IsChecked before after who None = (¬ (holder_of before.owner ≡ Some who)) × (after ≡ before)

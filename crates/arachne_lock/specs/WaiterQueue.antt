@@ -3,7 +3,7 @@ use Rattle.std.specs.Prelude.{◌≡◌, ℕ, nat_eq, List}
 use Rattle.std.specs.List.{list_any, IsDistinct}
 use Rattle.arachne_lock.specs.declared.waiter_queue.WaiterQueue.TheInside.{Inside}
 
--- no caller is twice in the queue, and the set has exactly the callers of the queue
+-- no task is twice in the queue, and the set has exactly the tasks of the queue
 pub record Indexes (keys order : List ℕ) : Type 0 where
   pub distinct : IsDistinct nat_eq order
   pub members : (who : ℕ) → list_any (nat_eq who) keys ≡ list_any (nat_eq who) order

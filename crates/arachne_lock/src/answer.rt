@@ -7,12 +7,12 @@ use thiserror::Error;
 /// Numbers of events count from 0, modulo 2^64, for each lock by itself.
 #[derive(Clone, Copy, Debug, PartialEq, Eq)]
 pub enum Admitted {
-    /// Nobody owned the lock. The caller holds it now.
+    /// Nobody owned the lock. The task holds it now.
     Granted {
         /// The number of the grant. Later grants of this lock have greater ones.
         at: u64,
     },
-    /// The caller waits at the end of the queue.
+    /// The task waits at the end of the queue.
     Queued {
         /// The number of the ask.
         at: u64,
@@ -51,14 +51,14 @@ impl From<AllocError> for AskRefusal {
 /// The result of a free by the owner.
 #[derive(Clone, Copy, Debug, PartialEq, Eq)]
 pub struct Released {
-    /// The number of the caller that holds the lock now and must be woken: the one that had waited longest, if any
+    /// The number of the task that holds the lock now and must be woken: the one that had waited longest, if any
     /// waited.
     pub next: Option<u64>,
     /// The number of the free. The grant to `next` has the next one.
     pub at: u64,
 }
 
-/// The error of a free by a caller that doesn't own the lock.
+/// The error of a free by a task that doesn't own the lock.
 #[derive(Clone, Copy, Debug, PartialEq, Eq, Error)]
 #[error("it does not hold the lock")]
 pub struct NotOwner;
@@ -66,16 +66,16 @@ pub struct NotOwner;
 /// The result of a withdrawal.
 #[derive(Clone, Copy, Debug, PartialEq, Eq)]
 pub enum Withdrawn {
-    /// The caller waited, and waits no longer. The lock is never granted to it by that ask.
+    /// The task waited, and waits no longer. The lock is never granted to it by that ask.
     Left {
         /// The number of the leave.
         at: u64,
     },
-    /// The caller holds the lock and still does: it must free it.
+    /// The task holds the lock and still does: it must free it.
     Holds {
         /// The number of the grant.
         at: u64,
     },
-    /// The caller neither holds the lock nor waits for it.
+    /// The task neither holds the lock nor waits for it.
     Outside,
 }

@@ -1,16 +1,16 @@
 //! The events of a lock.
 
-/// An event of a lock, with the number of its caller.
+/// An event of a lock, with the number of its task.
 ///
 /// No value of it is made: histories are only for proofs.
 pub enum QueueEvent {
-    /// A caller joins the end of the queue.
+    /// A task joins the end of the queue.
     Ask(u64),
     /// The front of the queue becomes the owner.
     Grant(u64),
     /// The owner leaves the lock.
     Free(u64),
-    /// A caller that waits leaves the queue.
+    /// A task that waits leaves the queue.
     Leave(u64),
 }
 
@@ -18,14 +18,14 @@ pub enum QueueEvent {
 #[derive(Clone, Copy)]
 pub enum LockDeed {
     Nothing,
-    /// The caller asked, and waits.
+    /// The task asked, and waits.
     Queued(u64),
-    /// The caller asked, and was granted the lock at once.
+    /// The task asked, and was granted the lock at once.
     Granted(u64),
-    /// The caller freed the lock, for which nobody waited.
+    /// The task freed the lock, for which nobody waited.
     Freed(u64),
-    /// The first caller freed the lock, which was granted to the second.
+    /// The first task freed the lock, and it was granted to the second.
     Handed(u64, u64),
-    /// The caller waited, and left.
+    /// The task waited, and left.
     Left(u64),
 }

@@ -8,21 +8,20 @@ ghost use Rattle.arachne_lock.specs.Rule.{Board, IsKept};
 
 /// The law that a lawful history has one holder at a time.
 ///
-/// Between any two grants the first caller frees. Each free follows a grant to the same caller, with neither a grant
+/// Between any two grants the first task frees. Each free follows a grant to the same task, with neither a grant
 /// nor a free between them.
 pub fn one_holder_at_a_time()
     ensures { (events : List QueueEvent) → IsLawful events → HasOneHolderAtATime events }
 {}
 
-/// The law that in a lawful history a caller that has left is granted the lock only after it has asked again.
+/// The law that in a lawful history a task that has left is granted the lock only after it has asked again.
 pub fn one_that_left_is_not_granted()
     ensures { (events : List QueueEvent) → IsLawful events → GrantsNoneThatLeft events }
 {}
 
-/// The law that the history of each lock, between any two steps, is held well.
+/// The law that each lock has had one holder at a time, between any two steps.
 ///
-/// The lock has had one holder at a time, and was granted to no caller that had left, by the one history that all seats
-/// have made.
+/// It was also granted to no task that had left. Both are about the one history that all seats have made.
 pub fn locks_have_one_holder()
     ensures { (locks : ℕ) (board : Board) → (rule : IsKept locks board) → (lock : ℕ) → IsHeldWell (rule.histories lock) }
 {}

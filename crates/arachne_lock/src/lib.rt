@@ -2,7 +2,7 @@
 //!
 //! A host runs tasks of its own, such as the futures of a server, and puts a task to rest that must wait for a lock.
 //! [`Locks`] are a set of such locks that kernel threads share, each through one [`LockSetSeat`]. They keep no history:
-//! to hold a free lock takes no memory and leaves none behind. No call waits, and a caller that waits for a lock may
+//! to hold a free lock takes no memory and leaves none behind. No call waits, and a task that waits for a lock may
 //! leave.
 #![tactic(auto)]
 

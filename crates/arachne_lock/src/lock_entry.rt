@@ -1,4 +1,4 @@
-//! A lock's owner, the callers that wait for it, and its number of events.
+//! A lock's owner, the tasks that wait for it, and its number of events.
 ghost use Rattle.std.specs.Prelude.{◌≡◌, ◌↔◌, ◌+◌, ◌%◌, ◌^◌, IsTrue};
 
 use crate::answer::{Admitted, AskRefusal, NotOwner, Released, Withdrawn};
@@ -45,7 +45,7 @@ impl LockEntry {
         }
     }
 
-    /// Asks for the lock. Takes memory only if the caller must wait.
+    /// Asks for the lock. Takes memory only if the task must wait.
     pub(crate) fn ask(&mut self, who: u64) -> Result<Admitted, AskRefusal>
         ensures { IsAsked self.old self.new who result }
     {
@@ -64,7 +64,7 @@ impl LockEntry {
         Ok(Admitted::Queued { at })
     }
 
-    /// Frees the lock, and grants it to the caller that has waited longest, if any waits.
+    /// Frees the lock, and grants it to the task that has waited longest, if any waits.
     pub(crate) fn free(&mut self, who: u64) -> Result<Released, NotOwner>
         ensures { IsFreed self.old self.new who result }
     {
@@ -89,7 +89,7 @@ impl LockEntry {
         Ok(Released { next, at })
     }
 
-    /// Removes a caller that waits from the queue.
+    /// Removes a task that waits from the queue.
     pub(crate) fn withdraw(&mut self, who: u64) -> Withdrawn
         ensures { IsWithdrawn self.old self.new who result }
     {
@@ -105,7 +105,7 @@ impl LockEntry {
         Withdrawn::Left { at }
     }
 
-    /// Returns the number of the grant by which the caller holds the lock, if it does.
+    /// Returns the number of the grant by which the task holds the lock, if it does.
     pub(crate) fn check(&self, who: u64) -> Option<u64>
         ensures { IsChecked self.now self.now who result }
     {

@@ -30,9 +30,10 @@ const TAKEN: u64 = 1;
 /// A set of locks. Each has a word and a slot: the word is 0 while the lock's state is at home in the slot, and 1 while
 /// it is with a seat.
 ///
-/// Each kernel thread uses all of them through one seat of its own. A caller is identified by a number that the host
-/// chooses, such as the name of a task. `ask`, `free`, `withdraw` and `check` try the lock's guard word once. If it is
-/// taken, they return `Contended`, and nothing has changed. Otherwise they return the result of the lock's state.
+/// Each kernel thread uses all of them through one seat of its own. A task is identified by a number that the host
+/// chooses, such as its name or a number for each future. `ask`, `free`, `withdraw` and `check` try the lock's guard
+/// word once. If it is taken, they return `Contended`, and nothing has changed. Otherwise they return the result of the
+/// lock's state.
 #[derive(Drop)]
 pub struct Locks {
     table: Table<GuardedLock, KnownLocks, usize, LockRule, Global>,
@@ -103,9 +104,9 @@ impl Locks {
         self.count
     }
 
-    /// Asks for a lock. The caller holds it at once if nobody owns it, and waits otherwise.
+    /// Asks for a lock. The task holds it at once if nobody owns it, and waits otherwise.
     ///
-    /// Returns `AlreadyIn` if the caller owns the lock or waits for it. Memory is taken only if it must wait; if memory
+    /// Returns `AlreadyIn` if the task owns the lock or waits for it. Memory is taken only if it must wait; if memory
     /// is refused, nothing changes.
     pub fn ask(
         &self,
@@ -126,9 +127,9 @@ impl Locks {
         Attempt::Answered(answer)
     }
 
-    /// Frees a lock, and grants it to the caller that has waited longest, if any waits.
+    /// Frees a lock, and grants it to the task that has waited longest, if any waits.
     ///
-    /// Returns `NotOwner` if the caller doesn't own the lock.
+    /// Returns `NotOwner` if the task doesn't own the lock.
     pub fn free(
         &self,
         seat: &mut LockSetSeat,
@@ -150,7 +151,7 @@ impl Locks {
 
     /// Leaves the queue of a lock, for example if a future that waits is dropped.
     ///
-    /// Returns `Holds` if the caller was granted the lock meanwhile: it must then free it.
+    /// Returns `Holds` if the task was granted the lock meanwhile: it must then free it.
     pub fn withdraw(&self, seat: &mut LockSetSeat, lock: usize, who: u64) -> Attempt<Withdrawn>
         requires { IsLockAt self.now seat.old.table lock }
         ensures own { IsSeatOf self.now seat.new }
@@ -165,7 +166,7 @@ impl Locks {
         Attempt::Answered(answer)
     }
 
-    /// Returns the number of the grant by which the caller holds a lock, or `None` if it doesn't.
+    /// Returns the number of the grant by which the task holds a lock, or `None` if it doesn't.
     pub fn check(&self, seat: &mut LockSetSeat, lock: usize, who: u64) -> Attempt<Option<u64>>
         requires { IsLockAt self.now seat.old.table lock }
         ensures own { IsSeatOf self.now seat.new }

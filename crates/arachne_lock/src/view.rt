@@ -29,7 +29,7 @@ pub struct EventLog {
     pub seen: LinkedList<Sight>,
     /// The tries that it made, the newest first.
     pub tries: LinkedList<Try>,
-    /// The number of times that it was split, and that each seat joined into it was.
+    /// The number of splits of this seat, and of each seat that was joined into it.
     pub splits: u64,
 }
 

@@ -1,4 +1,4 @@
-//! The callers that wait for a lock.
+//! The tasks that wait for a lock.
 ghost use Rattle.std.specs.Prelude.{◌≡◌, ◌↔◌, [], ◌∷◌, ◌++◌, drop, slice_get, Contains, IsTrue, OnOk, OnErr};
 ghost use Rattle.arachne_lock.specs.Law.{without};
 
@@ -6,16 +6,16 @@ use std::alloc::{AllocError, Global};
 use std::collections::{HashSet, VecDeque};
 use std::marker::Model;
 
-/// A queue in which no caller is twice.
+/// A queue that has no task twice.
 ///
-/// Beside it is a set of its members, so the cost of `contains` doesn't grow with the queue.
+/// A set of its members is kept beside it, so the cost of `contains` doesn't grow with the queue.
 #[derive(Debug, Drop)]
 pub(crate) struct WaiterQueue {
     order: VecDeque<u64>,
     members: HashSet<u64>,
 }
 
-// Contracts see the callers that wait, the first one to have asked first.
+// Contracts see the tasks that wait, the first one to have asked first.
 impl Model for WaiterQueue {
     ghost use Rattle.std.specs.Prelude.{List, ℕ};
     ghost use Rattle.arachne_lock.specs.WaiterQueue.{IsIndexed};
@@ -44,7 +44,7 @@ impl WaiterQueue {
         self.members.contains(&who)
     }
 
-    /// Adds a caller at the end.
+    /// Adds a task at the end.
     pub(crate) fn push(&mut self, who: u64) -> Result<(), AllocError>
         requires { ¬ Contains self.old who }
         ensures ok { OnOk result (self.new ≡ self.old ++ who ∷ []) }
@@ -66,7 +66,7 @@ impl WaiterQueue {
         Some(front)
     }
 
-    /// Removes a caller, wherever it is in the queue.
+    /// Removes a task, wherever it is in the queue.
     pub(crate) fn remove(&mut self, who: u64)
         ensures { self.new ≡ without who self.old }
     {

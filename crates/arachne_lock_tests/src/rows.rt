@@ -19,7 +19,7 @@ enum Call {
 /// The result of a call: its name, the number of the event, and the next holder.
 type Answer = (&'static str, u64, Option<u64>);
 
-/// A row: the call, the lock, the number of the caller, and the expected result.
+/// A row: the call, the lock, the number of the task, and the expected result.
 type Row = (Call, usize, u64, Answer);
 
 /// 7 holds lock 0, 8 and 9 wait, and 8 leaves, so 9 is next. Lock 1 has its own count of events.

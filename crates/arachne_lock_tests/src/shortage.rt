@@ -12,7 +12,7 @@ const FEW: usize = 40;
 /// The most asks of the crowd.
 const TRIES: u64 = 100_000;
 
-/// The number of callers that wait for the lock.
+/// The number of tasks that wait for the lock.
 const CROWD: u64 = 900;
 
 /// Holds a lock that is free, and frees it.
@@ -29,7 +29,7 @@ fn is_held_and_freed(locks: &Locks, seat: &mut LockSetSeat, lock: usize) -> bool
     )
 }
 
-/// Has the crowd ask for a lock, each caller until there is memory for it.
+/// Has the crowd ask for a lock, each task until there is memory for it.
 ///
 /// Returns the number of refusals, if the lock was as before each time.
 fn all_ask(locks: &Locks, seat: &mut LockSetSeat, lock: usize, hoard: &mut Hoard) -> Option<u64>

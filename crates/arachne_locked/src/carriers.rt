@@ -18,7 +18,7 @@ impl Model for Carriers {
 }
 
 impl Carriers {
-    /// Creates the carriers. The first, 0, is given.
+    /// Creates the carriers, of which the first one, 0, is already given.
     pub fn new() -> Self
         ensures { result ≡ 0 }
     {
@@ -27,8 +27,8 @@ impl Carriers {
 
     /// Returns a carrier for a seat that is split off the seat of carrier `other`.
     ///
-    /// It is greater than all before. After each number of 32 bits was given, carriers begin at 0 again, and the two
-    /// seats still have different ones.
+    /// It is greater than all before, until the numbers of 32 bits are used up. Then carriers begin at 0 again, and the
+    /// two seats still have different ones.
     pub fn next(&mut self, other: u32) -> u32
         ensures last { self.new ≡ result }
         ensures apart { result ≢ other }

@@ -49,7 +49,7 @@ impl<T: Tagged + Drop> LockedContexts<T> {
 
 /// Returns the word if it shows a full core of `slots` places, and otherwise the word of a full core.
 ///
-/// Outside the lock no proof knows how many places a core has behind it.
+/// It must test the word, since proofs outside the lock don't know how many places the state behind the lock has.
 fn full_word(word: u64, slots: Slots) -> u64
     ensures { ShowsFull slots result }
 {

@@ -142,7 +142,7 @@ pub fn naming_the_target_is_still<T>()
     ensures { EachUnnamed T (λ s p x. Steps s event.Still (after_naming_target s p x)) }
 {}
 
-/// A store of its place to the mark word of a claimed context changes nothing in the World.
+/// A store of a claimed context's place to its mark word changes nothing in the World.
 pub fn replacing_is_still<T>()
     ensures { EachCarried T (λ s c. c.held ≡ false → Steps s event.Still (after_replacing s c)) }
 {}
@@ -220,7 +220,7 @@ pub fn an_ended_thread_is_gone<T>()
     ensures { EachSeat T (λ s. (t : Thread) → HasEnded s.known t → IsContext s.world t.0.context × IsGoneForGood s t.0) }
 {}
 
-/// No word has the bit of an index from the number of places of its core on.
+/// No occupancy word has the bit of an index that is not a place of its core.
 pub fn a_word_shows_no_index_past_the_places<T>()
     ensures { EachCore T (λ tag_in bits w d b core. IsVacantFrom w.slots (occupancy_of (b.occ core))) }
 {}
@@ -230,7 +230,7 @@ pub fn a_drained_word_shows_a_drained_core<T>()
     ensures { EachCore T (λ tag_in bits w d b core. is_closed (b.occ core) ≡ true → HasNoOccupied w.slots (b.occ core) → IsDrained w core) }
 {}
 
-/// If a whole seat carries nothing, each thread that was posted has ended or its value is in a slot, once.
+/// If a whole seat carries nothing, each thread that was posted has either ended or its value is in a slot.
 pub fn what_was_posted_has_ended_or_is_left<T>()
     ensures { EachWhole T (λ t k slots. IsSettled t.tag_in k (left_from t.bits 0 t.table.words slots)) }
 {}

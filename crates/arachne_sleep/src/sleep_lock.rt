@@ -166,8 +166,9 @@ impl SleepLock {
         }
     }
 
-    /// Joins two seats into one, with the sum of their weights, at most the whole, and all that both have done and
-    /// seen.
+    /// Joins two seats into one, which has all that both have done and seen.
+    ///
+    /// Its weight is the sum of theirs, but at most the whole.
     pub fn join_seats(&self, seat: LockSeat, other: LockSeat) -> LockSeat
         requires seat { IsSeatOf self.now seat }
         requires other { IsSeatOf self.now other }

@@ -29,7 +29,9 @@ fn stands_at(seen: MarkWord, place: Place) -> bool
     at.core == place.core && at.index == place.index
 }
 
-/// Returns why the thread of a mark word can't be moved: there is none, its core is exclusive, or it is held.
+/// Returns the reason why the thread of a mark word can't be moved, if there is one.
+///
+/// There is no thread, its core is exclusive, or it is held.
 fn obstacle(seen: MarkWord) -> Option<Moved>
     ensures some { IfSome result (IsObstacle seen) }
     ensures none { IfNone result (IsRestMark seen.mark × (seen.alone ≡ false)) }
@@ -99,7 +101,7 @@ impl<T: Tagged + Drop> WordContexts<T> {
         shared.store::<Replace>(&mut seat.seat, context, free.word());
     }
 
-    /// Names the context that stands now at the place that a move left.
+    /// Stores the context that stands now at the place that a move left in the word of that place.
     fn name_source(&self, seat: &mut CallSeat<T>, source: Place, context: usize)
         requires own { seat.old.table ≡ self.now.table }
         requires place { IsPlaceIn self.now.shape source }

@@ -114,8 +114,9 @@ impl<T: Tagged + Drop> WordContexts<T> {
         )
     }
 
-    /// Joins two seats into one, with the sum of their weights, at most the whole, and all that both have posted and
-    /// ended.
+    /// Joins two seats into one, which has all that both have posted and ended.
+    ///
+    /// Its weight is the sum of theirs, but at most the whole.
     pub fn join_seats(&self, seat: WordSeat<T>, other: WordSeat<T>) -> WordSeat<T>
         requires own { (seat.table ≡ self.now.table) × (other.table ≡ self.now.table) }
         requires nothing_out { HasNothingOut seat.known × HasNothingOut other.known }
