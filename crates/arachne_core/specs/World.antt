@@ -1,5 +1,4 @@
 -- The World of a context table: the place and state of each context, and each event's guard and effect.
---
 -- There are no packed words here, and an event has no steps: sets are tests, maps are functions, and a collection
 -- counts each of its members.
 use Rattle.std.specs.Prelude.{◌≡◌, ◌≢◌, ℕ, ◌+◌, ◌*◌, ◌<◌, Bool, true, false, ◌&&◌, if◌then◌else◌, ◌==◌, nat_lt}
