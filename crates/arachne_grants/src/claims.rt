@@ -68,7 +68,7 @@ impl Client {
 
     /// Returns the number of its first `most` cores that go before a claim.
     ///
-    /// All of these cores, or none, must be below its reserve.
+    /// The number is right if all of these cores, or none, are below its reserve.
     fn before_alike(&self, claim: &Claim, most: u32) -> u32
         ensures { result ≡ before_alike claim.now self.now most }
     {
