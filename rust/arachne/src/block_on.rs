@@ -155,6 +155,22 @@ impl<F> fmt::Debug for PollFn<F> {
 /// });
 /// assert_eq!(arachne::block_on(third), 3);
 /// ```
+///
+/// It can wait for the first of several futures:
+///
+/// ```
+/// use std::{future::Future, pin::Pin, task::Poll, time::Duration};
+/// let (sender, receiver) = arachne::channel(1);
+/// arachne::Runtime::new(1).block_on(async {
+///     arachne::spawn(async move { sender.send(42).await });
+///     let (mut next, mut late) = (receiver.recv(), arachne::sleep(Duration::from_secs(60)));
+///     let first = arachne::poll_fn(|cx| match Pin::new(&mut next).poll(cx) {
+///         Poll::Ready(value) => Poll::Ready(value),
+///         Poll::Pending => Pin::new(&mut late).poll(cx).map(|()| None),
+///     });
+///     assert_eq!(first.await, Some(42));
+/// });
+/// ```
 pub fn poll_fn<T, F: FnMut(&mut Context<'_>) -> Poll<T>>(poll: F) -> PollFn<F> {
     PollFn(poll)
 }

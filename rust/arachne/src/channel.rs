@@ -180,8 +180,8 @@ impl<T> Sender<T> {
     /// drop(receiver);
     /// assert_eq!(arachne::block_on(sender.send(2)), Err(2));
     /// ```
-    pub fn send(&self, value: T) -> Send<'_, T> {
-        Send { channel: &self.0, value: Some(value), node: None }
+    pub fn send(&self, value: T) -> Sending<'_, T> {
+        Sending { channel: &self.0, value: Some(value), node: None }
     }
 
     /// Sends a value if there is room now; see the example at `SendError`.
@@ -243,26 +243,26 @@ impl<T> Receiver<T> {
 ///
 /// ```
 /// let (sender, receiver) = arachne::channel(1);
-/// let sends: arachne::Send<'_, u32> = sender.send(42);
+/// let sends: arachne::Sending<'_, u32> = sender.send(42);
 /// assert_eq!(receiver.try_recv(), None);      // nothing is sent before it is awaited
 /// arachne::block_on(sends).unwrap();
 /// assert_eq!(receiver.try_recv(), Some(42));
 /// ```
 #[must_use = "a value is sent once its future is awaited"]
-pub struct Send<'a, T> {
+pub struct Sending<'a, T> {
     channel: &'a Mutex<State<T>>,
     value: Option<T>,
     node: Option<Arc<Node>>,
 }
-impl<T> Unpin for Send<'_, T> {}
+impl<T> Unpin for Sending<'_, T> {}
 
-impl<T> fmt::Debug for Send<'_, T> {
+impl<T> fmt::Debug for Sending<'_, T> {
     fn fmt(&self, f: &mut fmt::Formatter<'_>) -> fmt::Result {
-        f.write_str("Send")
+        f.write_str("Sending")
     }
 }
 
-impl<T> Future for Send<'_, T> {
+impl<T> Future for Sending<'_, T> {
     type Output = Result<(), T>;
     fn poll(mut self: Pin<&mut Self>, cx: &mut Context<'_>) -> Poll<Result<(), T>> {
         let channel = self.channel;
@@ -297,7 +297,7 @@ impl<T> Future for Send<'_, T> {
     }
 }
 
-impl<T> Drop for Send<'_, T> {
+impl<T> Drop for Sending<'_, T> {
     fn drop(&mut self) {
         if let Some(node) = self.node.take() {
             let next = leave(&mut self.channel.lock().unwrap().sending, &node);

@@ -78,7 +78,7 @@ mod worker;
 
 pub use block_on::{block_on, poll_fn, yield_now, PollFn, Yield};
 pub use blocking::spawn_blocking;
-pub use channel::{channel, Receiver, Recv, Send, SendError, Sender};
+pub use channel::{channel, Receiver, Recv, SendError, Sender, Sending};
 pub use cores::{available_cores, Policy};
 pub use drain::{is_stopping, stopping, Ended, Limit, Signal, Stopping, Ticket};
 pub use handle::Handle;

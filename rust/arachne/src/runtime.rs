@@ -62,7 +62,7 @@ impl fmt::Debug for Builder {
 }
 
 impl Builder {
-    /// Returns the defaults for a runtime of `cores` workers (1 to 64), each a kernel thread.
+    /// Returns the defaults for a runtime of `cores` workers, each a kernel thread: 1 for 0, and 64 for more than 64.
     ///
     /// `available_cores` returns the number of processors.
     ///
@@ -253,7 +253,7 @@ impl Builder {
     /// Starts the workers, and returns the runtime.
     ///
     /// Fails if memory, descriptors or threads are refused, or if the process has 32 runtimes. A runtime that has ended
-    /// counts too, until one of its shape (cores, places, observed) takes its place.
+    /// counts too, until one with the same cores, places and `observed` takes its place.
     ///
     /// ```
     /// # fn main() -> std::io::Result<()> {

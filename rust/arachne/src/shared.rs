@@ -2,7 +2,7 @@
 
 use crate::arbiter::Client;
 use crate::blocking::Pool;
-use crate::core::{Hands, Line, Parking, Root, BLOCK, MOST_SHARDS, NUMBERS, SHARD};
+use crate::core::{Hands, Line, Parking, Root, BLOCK, NUMBERS, SHARD};
 use crate::drain::Draining;
 use crate::hand::Hand;
 use crate::handle::Door;
@@ -224,11 +224,11 @@ impl Shared {
             shared.reset();
             return Ok(shared);
         }
-        let refused = || io::Error::new(io::ErrorKind::Other, "too many runtimes, or no memory for one");
-        if pool.0 == TABLES || shards > MOST_SHARDS {
-            return Err(refused());
+        if pool.0 == TABLES {
+            let message = "this process has 32 runtimes, counting those that have ended and had other sizes";
+            return Err(io::Error::new(io::ErrorKind::Other, message));
         }
-        let shared = Shared::make(pool.0, workers, shards, observed)?.ok_or_else(refused)?;
+        let shared = Shared::make(pool.0, workers, shards, observed)?.ok_or(io::ErrorKind::OutOfMemory)?;
         shared.reset();
         ALL[pool.0].store(shared as *const Shared as *mut Shared, Release);
         pool.0 += 1;

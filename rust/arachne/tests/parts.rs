@@ -1018,7 +1018,7 @@ struct Shown<'a> {
     semaphore: &'a Semaphore,
     permit: arachne::SemaphorePermit<'a>,
     acquire: arachne::Acquire<'a>,
-    send: arachne::Send<'a, u8>,
+    send: arachne::Sending<'a, u8>,
     recv: arachne::Recv<'a, u8>,
     limit: Limit,
     ticket: arachne::Ticket,

@@ -278,6 +278,15 @@ fn an_interval_may_have_any_period() {
     });
 }
 
+/// Futures that have a name may be moved between polls, so that `poll_fn` can poll several without `pin!`.
+#[test]
+fn futures_with_a_name_may_be_moved() {
+    fn moved<T: Unpin>() {}
+    (moved::<arachne::Recv<'_, u8>>(), moved::<arachne::Sending<'_, u8>>(), moved::<arachne::Locking<'_, u8>>());
+    (moved::<arachne::Acquire<'_>>(), moved::<arachne::JoinHandle<u8>>(), moved::<arachne::Sleep>());
+    (moved::<arachne::Stopping>(), moved::<arachne::Yield>(), moved::<arachne::Timeout<arachne::Sleep>>());
+}
+
 #[test]
 fn more_permits_than_can_be_counted_change_nothing() {
     let permits = Semaphore::new(2);

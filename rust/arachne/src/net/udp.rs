@@ -90,7 +90,7 @@ impl UdpSocket {
 
     /// Sends a datagram to the first of these addresses, once there is room. Returns its length.
     ///
-    /// See the example at `UdpSocket`.
+    /// A host name is looked up on this thread, which blocks it. See the example at `UdpSocket`.
     pub async fn send_to(&self, bytes: &[u8], to: impl ToSocketAddrs) -> io::Result<usize> {
         let none = || io::Error::new(io::ErrorKind::InvalidInput, "no address");
         let to = to.to_socket_addrs()?.next().ok_or_else(none)?;
