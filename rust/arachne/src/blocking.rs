@@ -160,7 +160,7 @@ impl Shared {
 /// ```
 ///
 /// # Panics
-/// Outside of a runtime.
+/// Outside of a runtime, or if the pool has no thread and none can be started.
 #[track_caller]
 pub fn spawn_blocking<T: Send + 'static>(work: impl FnOnce() -> T + Send + 'static) -> JoinHandle<T> {
     let about = About { spawned: Location::caller(), name: None };

@@ -125,7 +125,7 @@ pub struct Sender<T>(Arc<Mutex<State<T>>>);
 /// ```
 pub struct Receiver<T>(Arc<Mutex<State<T>>>);
 
-/// Returns the two ends of a channel with room for `room` values, at least one.
+/// Returns the two ends of a channel with room for `room` values, at least one. With `usize::MAX` it is never full.
 ///
 /// ```
 /// let (sender, receiver) = arachne::channel(16);

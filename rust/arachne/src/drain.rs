@@ -267,7 +267,8 @@ impl AsRawFd for Event {
 impl Signal {
     /// Catches the signal of this number from now on; 15 is SIGTERM, 2 is SIGINT.
     ///
-    /// If it was already caught by an earlier `Signal`, only the new one hears it from then on.
+    /// It stays caught once this value is dropped. If an earlier `Signal` caught it already, only the new one hears it
+    /// from then on. Fails for a number that is no signal's, or that can't be caught, such as 9.
     ///
     /// ```
     /// # fn main() -> std::io::Result<()> {

@@ -32,8 +32,9 @@
 //! ```
 //!
 //! The core is proved: no two handles have one task in hand, a waker of a task that has ended wakes no other task, and
-//! a ready task is visible to the workers whenever no call is in progress. This crate decides which thread uses which
-//! handle, and is only tested. `docs/rust.md` lists the rules that it must keep for the proofs to apply to a program.
+//! a ready task that no worker has in hand is visible to the workers whenever no call is in progress. This crate
+//! decides which thread uses which handle, and is only tested. `docs/rust.md` lists the rules that it must keep for the
+//! proofs to apply to a program.
 //!
 //! Most names are tokio's, or std's. Outside of a runtime `spawn` and a sleep panic, and a socket that has to wait
 //! returns an error: use them in a task, or in `Runtime::block_on`. Linux, 64 bits, rustc 1.63 or later.

@@ -526,6 +526,8 @@ impl Runtime {
 
     /// Runs a future on the calling thread, with this runtime for its spawns, sockets and timers.
     ///
+    /// Within a task it blocks the worker; see the function `block_on`.
+    ///
     /// ```
     /// let runtime = arachne::Runtime::new(2);
     /// let sum = runtime.block_on(async { arachne::spawn(async { 1 }).await.unwrap() + 1 });

@@ -347,7 +347,9 @@ impl Shared {
     pub(crate) fn let_go(&self) {
         self.reactor.wake_all();
         let timers = self.workers.iter().map(|worker| &worker.0.timers);
-        timers.chain([&self.visitors]).for_each(|timers| drop(timers.fire(u64::MAX - 1)));
+        for timers in timers.chain([&self.visitors]) {
+            timers.fire(u64::MAX - 1);
+        }
     }
 
     /// Gives this state back, for a later runtime. No thread of the ended one uses it any more.

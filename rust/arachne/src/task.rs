@@ -447,6 +447,8 @@ unsafe fn free<F: Future>(header: *mut Header) {
 
 /// A handle on a task, and the future of its output. Dropping it leaves the task running.
 ///
+/// It must not be polled again once it was ready: that panics.
+///
 /// ```
 /// let runtime = arachne::Runtime::new(2);
 /// let (ends, waits) = (runtime.spawn(async { 42 }), runtime.spawn(std::future::pending::<()>()));
