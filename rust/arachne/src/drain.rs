@@ -3,11 +3,11 @@
 use crate::block_on::poll_fn;
 use crate::net::Async;
 use crate::runtime::Runtime;
-use crate::shared::{here, is_own, Context as Worker, Shared};
+use crate::shared::{here, is_own, Shared};
 use crate::sync::atomic::{AtomicBool, AtomicUsize, Ordering::*};
 use crate::sync::{thread, Arc, Instant, Mutex};
 use crate::sys;
-use crate::waker::is_of_running;
+use crate::waker::in_own_poll;
 use std::collections::BTreeMap;
 use std::fmt;
 use std::future::Future;
@@ -142,9 +142,12 @@ impl Future for Stopping {
             None => return Poll::Pending,
         };
         self.shared = Some(shared);
+        // A read that was put off comes first: there may be data.
+        let reads_later = in_own_poll(cx.waker(), |worker| worker.put_off.get());
         if shared.draining.has_begun() {
-            if self.waits.is_some() && self.blind < BLIND && is_blind(cx.waker()) {
-                self.blind += 1;
+            let is_blind = self.waits.is_some() && in_own_poll(cx.waker(), |worker| worker.reads.get() == 0);
+            if reads_later || is_blind && self.blind < BLIND {
+                self.blind += is_blind as u32;
                 cx.waker().wake_by_ref();
                 return Poll::Pending;
             }
@@ -161,16 +164,15 @@ impl Future for Stopping {
             self.waits = Some((key, cx.waker().clone()));
         }
         // Checked again with the waker in place: `begin` sets the flag before it takes the wakers.
-        if shared.draining.has_begun() {
-            return Poll::Ready(());
+        if !shared.draining.has_begun() {
+            return Poll::Pending;
         }
-        Poll::Pending
+        if reads_later {
+            cx.waker().wake_by_ref();
+            return Poll::Pending;
+        }
+        Poll::Ready(())
     }
-}
-
-/// Returns true in a poll of a task, by its own waker, that has not tried to read a socket yet.
-fn is_blind(waker: &Waker) -> bool {
-    Worker::with(|worker| worker.map_or(false, |worker| is_of_running(waker, worker) && worker.reads.get() == 0))
 }
 
 impl Drop for Stopping {

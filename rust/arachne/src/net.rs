@@ -31,7 +31,7 @@ use crate::shared::{here, Context as Worker, Shared};
 use crate::sync::atomic::Ordering::*;
 use crate::sync::{Arc, Mutex};
 use crate::sys;
-use crate::waker::is_of_running;
+use crate::waker::{in_own_poll, is_of_running};
 use std::fmt;
 use std::future::Future;
 use std::io::{self, ErrorKind::WouldBlock, IoSlice, Read, Write};
@@ -150,12 +150,12 @@ mod once {
 
 /// Returns true if the current poll may read now; if not, the task yields to its worker first.
 ///
-/// A poll may always make one read, and more until its worker's next look is due. No read is put off once the runtime's
-/// end has begun, nor under a waker that isn't the task's own, whose poll doesn't return to the worker (`block_on`).
+/// A poll may always make one read, and more until its worker's next look is due. No read is put off under a waker that
+/// isn't the task's own, whose poll doesn't return to the worker (`block_on`).
 #[inline]
 fn may_read(waker: &Waker) -> bool {
     Worker::with(|worker| match worker {
-        Some(worker) if is_of_running(waker, worker) => worker.may_read() || is_stopping(),
+        Some(worker) if is_of_running(waker, worker) => worker.may_read(),
         _ => true,
     })
 }
@@ -324,11 +324,16 @@ fn poll_accept<S: AsRawFd, T>(
         if polled.is_ready() || !is_stopping() {
             return polled;
         }
+        if in_own_poll(cx.waker(), |worker| worker.put_off.get()) {
+            // The attempt was put off, and comes in the next poll.
+            cx.waker().wake_by_ref();
+            return Poll::Pending;
+        }
         if was_stopping {
             // All who had connected before are accepted.
             return Poll::Ready(Err(io::Error::new(io::ErrorKind::Other, "the runtime is about to end")));
         }
-        // The end began during the attempt, which may have been put off. The next one isn't.
+        // The end began during the attempt.
     }
 }
 

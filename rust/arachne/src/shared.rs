@@ -386,8 +386,10 @@ pub(crate) struct Context {
     /// The name of the task that runs here, and whether it woke itself.
     pub(crate) current: Cell<u64>,
     pub(crate) woken: Cell<bool>,
-    /// The number of reads of sockets in this poll, and the time at which the worker last looked out or was idle.
+    /// The number of reads of sockets in this poll, and true if another was put off. The time at which the worker last
+    /// looked out or was idle.
     pub(crate) reads: Cell<u32>,
+    pub(crate) put_off: Cell<bool>,
     pub(crate) looked: Cell<u64>,
     /// A job that is woken runs next here. If false, the first `room` woken jobs go into this worker's line, in order,
     /// the others become ready in their blocks, and no worker is woken to help.
@@ -414,6 +416,7 @@ impl Context {
             current: Cell::new(NOBODY),
             woken: Cell::new(false),
             reads: Cell::new(0),
+            put_off: Cell::new(false),
             looked: Cell::new(now()),
             keeps: Cell::new(true),
             room: Cell::new(0),
@@ -448,7 +451,11 @@ impl Context {
     #[inline]
     pub(crate) fn may_read(&self) -> bool {
         let reads = self.reads.replace(self.reads.get() + 1);
-        reads == 0 || now().saturating_sub(self.looked.get()) < LOOK_TIME
+        if reads == 0 || now().saturating_sub(self.looked.get()) < LOOK_TIME {
+            return true;
+        }
+        self.put_off.set(true);
+        false
     }
 
     pub(crate) fn random(&self) -> u64 {

@@ -43,6 +43,12 @@ pub(crate) fn is_of_running(waker: &Waker, worker: &Worker) -> bool {
     name != NOBODY && waker.will_wake(&waker_of(worker.shared.table, name))
 }
 
+/// Returns `of` the worker in a poll of one of its tasks, by the task's own waker, and false otherwise.
+#[inline]
+pub(crate) fn in_own_poll(waker: &Waker, of: impl FnOnce(&Worker) -> bool) -> bool {
+    Worker::with(|worker| worker.map_or(false, |worker| is_of_running(waker, worker) && of(worker)))
+}
+
 /// Returns the name of the running task, if this is its waker and it is a task of this runtime.
 #[inline]
 pub(crate) fn name_in(waker: &Waker, table: usize) -> Option<u64> {

@@ -312,6 +312,7 @@ impl Shared {
         context.current.set(name);
         context.woken.set(false);
         context.reads.set(0);
+        context.put_off.set(false);
         // SAFETY: as above.
         let ended = unsafe { task::run(job.job, self.table, name, &mut cx) };
         turn.polls += 1;

@@ -402,14 +402,20 @@ fn what_has_come_when_the_end_begins_is_read() {
     let near = net::TcpStream::from_std(near.accept().unwrap().0).unwrap();
     let (runs, told) = (Arc::new(AtomicBool::new(false)), Arc::new(AtomicBool::new(false)));
     let (begun, may_end) = (runs.clone(), told.clone());
-    let reads = runtime.spawn(arachne::poll_fn(move |cx| {
-        assert!(near.poll_read(cx, &mut [0]).is_pending());
-        begun.store(true, SeqCst);
-        while !arachne::is_stopping() || !may_end.load(SeqCst) {
-            thread::yield_now();
-        }
-        Poll::Ready(near.poll_read(cx, &mut [0]).is_ready())
-    }));
+    let reads = runtime.spawn(async move {
+        let reads = arachne::poll_fn(|cx| {
+            let read = near.poll_read(cx, &mut [0]);
+            if begun.swap(true, SeqCst) {
+                return read;
+            }
+            assert!(read.is_pending());
+            while !arachne::is_stopping() || !may_end.load(SeqCst) {
+                thread::yield_now();
+            }
+            near.poll_read(cx, &mut [0])
+        });
+        matches!(stopping().or(reads).await, Some(Ok(1)))
+    });
     while !runs.load(SeqCst) {
         thread::yield_now();
     }
@@ -755,6 +761,46 @@ fn a_socket_that_always_has_more_holds_nobody_up() {
         block_on(reader).unwrap();
         assert!(!held, "a task waited for one that reads on and on");
     }
+}
+
+/// A connection that always has more is served until the deadline, and not for ever.
+#[test]
+fn what_always_has_more_ends_at_the_deadline() {
+    let runtime = Runtime::new(2);
+    let (near, mut far) = std::os::unix::net::UnixStream::pair().unwrap();
+    let writer = thread::spawn(move || while far.write_all(&[1; 65536]).is_ok() {});
+    let near = net::UnixStream::from_std(near).unwrap();
+    runtime.spawn(async move {
+        let mut end = stopping();
+        while let Some(Ok(1)) = end.or(near.read(&mut [0])).await {}
+    });
+    thread::sleep(5 * MS);
+    let begin = Instant::now();
+    assert_eq!(runtime.shutdown_within(20 * MS).aborted, 1);
+    assert!(begin.elapsed() < LONG / 2);
+    writer.join().unwrap();
+}
+
+/// All that has come before the end begins is read, also what takes longer than a poll may read.
+#[test]
+fn what_was_put_off_is_read_before_the_end() {
+    const LEN: usize = 100_000;
+    let runtime = Runtime::new(1);
+    let (near, mut far) = std::os::unix::net::UnixStream::pair().unwrap();
+    let near = net::UnixStream::from_std(near).unwrap();
+    far.write_all(&[1; LEN]).unwrap();
+    let reads = runtime.spawn(async move {
+        while !arachne::is_stopping() {
+            yield_now().await;
+        }
+        let (mut end, mut got) = (stopping(), 0);
+        while let Some(Ok(len)) = end.or(near.read(&mut [0; 2])).await {
+            got += len;
+        }
+        got
+    });
+    assert_eq!(runtime.shutdown_within(LONG).aborted, 0);
+    assert_eq!(block_on(reads).unwrap(), LEN);
 }
 
 #[test]
