@@ -5,10 +5,10 @@
  *   - start each handle as null, leave its pointer to the library, and never copy it;
  *   - use each handle from one thread at a time. It may go to another thread if the two synchronize, such as by the
  *     start or join of a thread, or by a lock;
- *   - pass two different handles to a call that takes two;
+ *   - pass two different handles to a call that takes two, and two of one origin to one that joins them;
  *   - pass pointers that are not null, to memory that no other thread uses meanwhile, or only reads if it is const;
  *   - link `malloc`, `realloc` and `free` of one allocator, and liblibc_c.a of the kit.
- * No call may be made from a signal handler. */
+ * No call may be made from a signal handler. Nothing is proved of a program that breaks one of these rules. */
 #ifndef ARACHNE_EXEC_H
 #define ARACHNE_EXEC_H
 

@@ -7,7 +7,7 @@
  *     start or join of a thread, or by a lock;
  *   - pass pointers that are not null, to memory that no other thread uses meanwhile, or only reads if it is const;
  *   - link `malloc`, `realloc` and `free` of one allocator, and liblibc_c.a of the kit.
- * No call may be made from a signal handler. */
+ * No call may be made from a signal handler. Nothing is proved of a program that breaks one of these rules. */
 #ifndef ARACHNE_GRANTS_H
 #define ARACHNE_GRANTS_H
 
