@@ -134,6 +134,7 @@ impl Arbiter {
                 self.draining.start(core);
             }
             Effect::Opens(core) => {
+                // Before the unpark: a kernel thread that finds its core still closed parks again.
                 cores.table.open_core(cores.rt, seat, core);
                 self.draining.stop(core);
                 parking.unpark(core);
