@@ -1,6 +1,7 @@
 //! How a core is kept for one kernel thread, and all else kept from it.
 
 use crate::sys;
+use crate::threads::{family, threads_of};
 use std::fs;
 use std::io;
 use std::path::{Path, PathBuf};
@@ -27,27 +28,6 @@ pub fn list(cpus: &[usize]) -> String {
 
 fn numbers(file: PathBuf) -> Vec<u32> {
     fs::read_to_string(file).unwrap_or_default().lines().filter_map(|line| line.parse().ok()).collect()
-}
-
-pub fn threads_of(process: u32) -> Vec<u32> {
-    let entries = fs::read_dir(format!("/proc/{process}/task")).into_iter().flatten().flatten();
-    entries.filter_map(|entry| entry.file_name().to_str()?.parse().ok()).collect()
-}
-
-/// Processes of a family at most that are looked at.
-const FAMILY: usize = 256;
-
-/// A process, and those that it has begun, and they.
-fn family(process: u32) -> Vec<u32> {
-    let (mut all, mut nth) = (vec![process], 0);
-    while let Some(&parent) = all.get(nth).filter(|_| all.len() < FAMILY) {
-        for thread in threads_of(parent) {
-            let begun = fs::read_to_string(format!("/proc/{parent}/task/{thread}/children")).unwrap_or_default();
-            all.extend(begun.split_whitespace().filter_map(|word| word.parse::<u32>().ok()));
-        }
-        nth += 1;
-    }
-    all
 }
 
 impl Means {
