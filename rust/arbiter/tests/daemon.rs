@@ -131,10 +131,15 @@ fn processors() -> Vec<u32> {
     all.split(',').flat_map(|part| ends(part)[0]..=*ends(part).last().unwrap()).collect()
 }
 
+/// Begins a daemon that has one core, which goes round each 40 ms.
+fn with_one_core(name: &str) -> Daemon {
+    let two = format!("{},{}", processors()[0], processors()[1]);
+    Daemon::at(path_of(name), &["--cores", &two, "--turn", "40"])
+}
+
 #[test]
 fn a_core_goes_round_among_those_that_want_it_and_can_take_it() {
-    let two = format!("{},{}", processors()[0], processors()[1]);
-    let daemon = Daemon::at(path_of("turns"), &["--cores", &two, "--turn", "40"]);
+    let daemon = with_one_core("turns");
     // `idle` has no thread, and `low` another priority.
     let ((mut idle, _), (mut low, welcome)) = (daemon.hello(5, 0), daemon.hello(6, 0));
     let never = daemon.waiting(welcome[1], 0);
@@ -158,8 +163,7 @@ fn a_core_goes_round_among_those_that_want_it_and_can_take_it() {
 /// The core goes from the first client to the second one, which then asks for none, while a third one waits.
 #[test]
 fn a_turn_that_is_not_taken_is_no_lower_priority_s() {
-    let two = format!("{},{}", processors()[0], processors()[1]);
-    let daemon = Daemon::at(path_of("not-taken"), &["--cores", &two, "--turn", "40"]);
+    let daemon = with_one_core("not-taken");
     let (mut low, welcome) = daemon.hello(6, 0);
     let never = daemon.waiting(welcome[1], 0);
     let mut clients: Vec<_> = (0..3).map(|_| daemon.hello(5, 0)).collect();
@@ -172,6 +176,17 @@ fn a_turn_that_is_not_taken_is_no_lower_priority_s() {
     send(&mut threads[0], [WAIT, 0, 0, 0]);
     assert!(is_granted(&mut threads[2]));
     assert!(is_silent(&never));
+}
+
+#[test]
+fn a_reserved_core_does_not_go_round() {
+    let daemon = with_one_core("reserved");
+    let it = granted(&daemon, 5, 1);
+    let (mut control, welcome) = daemon.hello(5, 0);
+    let thread = daemon.waiting(welcome[1], 0);
+    send(&mut control, [ASK, 1, 0, 0]);
+    thread::sleep(Duration::from_millis(5 * 40));
+    assert!(is_silent(&it.control) && is_silent(&thread));
 }
 
 /// By a folder in the place of the kernel's, in which each two processors are one core.

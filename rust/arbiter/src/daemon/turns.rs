@@ -32,11 +32,12 @@ impl Turns {
 }
 
 impl Arbiter {
-    /// Reports to the library how many cores a client asks for: in a turn of its priority, no more than it will have.
+    /// Reports to the library how many cores a client asks for: in a turn of its priority, no more than it will have, or
+    /// than its reserve.
     pub(super) fn tell(&mut self, id: u32) {
         if let Some(client) = self.clients.get(&id) {
             let turn = self.turns.current.as_ref().filter(|turn| turn.priority == client.priority);
-            let most = turn.map_or(client.asked, |turn| turn.most.get(&id).copied().unwrap_or(0));
+            let most = turn.map_or(client.asked, |turn| turn.most.get(&id).copied().unwrap_or(0).max(client.least));
             self.state.ask(client.number, most.min(client.asked));
         }
     }
@@ -65,9 +66,7 @@ impl Arbiter {
         }
     }
 
-    /// Among clients of one priority that ask for more than there is, begins the turn of the core that one has more than
-    /// another: from the client that has had one for the longest to the one that has had none for the longest. Returns
-    /// false if it is not time for a turn, or if there is none. Everything must be settled.
+    /// Begins a turn. Returns false if it is not yet time for one, or if no core can go round. All must be settled.
     pub(super) fn begin_turn(&mut self) -> bool {
         if !self.next_turn().map_or(false, |at| at <= Instant::now()) {
             return false;
@@ -89,19 +88,21 @@ impl Arbiter {
         false
     }
 
+    /// Returns the turn of the client that asks for more, while another of its priority has more than it and than its own
+    /// reserve, and has gone without for the longest; from the one that has had its core for the longest.
     fn find_turn(&self) -> Option<Turn> {
         let alike = |priority| self.clients.iter().filter(move |(_, it)| it.priority == priority);
-        let gives = |&(_, to): &(&u32, &Client)| {
-            let has = to.allowed.max(to.least.min(to.asked));
-            alike(to.priority).filter(|(_, it)| it.allowed > has).min_by_key(|(_, it)| it.turned)
+        let giver = |to: &Client| {
+            let givers = alike(to.priority).filter(|(_, it)| it.allowed > to.allowed.max(it.least.min(it.asked)));
+            givers.min_by_key(|(_, it)| it.turned)
         };
-        let wait = self.clients.iter().filter(|(_, it)| it.asked > it.allowed);
-        let (to, from) = wait.filter_map(|it| Some((it, gives(&it)?))).min_by_key(|((_, to), _)| to.turned)?;
-        let ((&to, Client { priority, .. }), (&from, _)) = (to, from);
-        let mut most: BTreeMap<u32, u32> = alike(*priority).map(|(&id, it)| (id, it.allowed)).collect();
-        most.entry(to).and_modify(|most| *most += 1);
+        let waits = self.clients.iter().filter(|(_, it)| it.asked > it.allowed && giver(it).is_some());
+        let (&to, client) = waits.min_by_key(|(_, it)| it.turned)?;
+        let (&from, _) = giver(client)?;
+        let mut most: BTreeMap<u32, u32> = alike(client.priority).map(|(&id, it)| (id, it.allowed)).collect();
+        most.insert(to, client.allowed + 1);
         most.entry(from).and_modify(|most| *most -= 1);
-        Some(Turn { priority: *priority, from, to, most })
+        Some(Turn { priority: client.priority, from, to, most })
     }
 
     /// Ends the turn if the core has changed hands. Returns false if not.
