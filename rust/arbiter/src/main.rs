@@ -63,14 +63,14 @@ fn guard(options: &Options) {
     let itself = std::env::current_exe()
         .and_then(|path| Command::new(path).args(std::env::args_os().skip(1)).env("ARBITER_SERVES", "1").spawn());
     let mut child = itself.unwrap_or_else(fails);
-    let mut told = false;
+    let mut ended = false;
     let status = loop {
         match child.try_wait() {
             Ok(None) => std::thread::sleep(Duration::from_millis(20)),
             Ok(Some(status)) => break status.code().unwrap_or(1),
             Err(error) => fails(error),
         }
-        if sys::ENDS.load(SeqCst) && !std::mem::replace(&mut told, true) {
+        if sys::ENDS.load(SeqCst) && !std::mem::replace(&mut ended, true) {
             sys::terminate(child.id());
         }
     };

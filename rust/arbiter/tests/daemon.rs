@@ -189,7 +189,7 @@ fn a_reserved_core_does_not_go_round() {
     assert!(is_silent(&it.control) && is_silent(&thread));
 }
 
-/// By a folder in the place of the kernel's, in which each two processors are one core.
+/// The kernel's account is a folder by which each two processors are one core.
 #[test]
 fn hyperthreads_of_one_core_are_granted_together() {
     let (cpus, folder) = (processors(), path_of("topology"));
@@ -435,16 +435,16 @@ fn the_status_says_who_has_which_core_and_what_was_moved() {
 /// Begins a thread, and returns its number and what ends it.
 fn begin() -> (u32, impl FnOnce()) {
     let (ends, waits) = mpsc::channel::<()>();
-    let (tell, told) = mpsc::channel();
+    let (sender, numbers) = mpsc::channel();
     let thread = thread::spawn(move || {
-        tell.send(number()).unwrap();
+        sender.send(number()).unwrap();
         let _ = waits.recv();
     });
     let end = move || {
         drop(ends);
         thread.join().unwrap();
     };
-    (told.recv().unwrap(), end)
+    (numbers.recv().unwrap(), end)
 }
 
 #[test]
@@ -476,7 +476,7 @@ fn a_thread_that_has_the_number_of_one_that_ended_is_not_moved() {
 }
 
 #[test]
-fn a_thread_that_changes_its_affinity_leaves_its_core_by_affinity_alone() {
+fn a_thread_that_changes_its_affinity_leaves_its_core_only_by_affinity() {
     let daemon = Daemon::new("leaves");
     let client = granted(&daemon, 5, 0);
     let (id, cpu) = (thread_on(&daemon, client.cpu).to_string(), client.cpu.to_string());
@@ -550,7 +550,7 @@ fn while_the_host_takes_a_processor_its_thread_runs_in_the_rest() {
     fs::remove_file(stat).unwrap();
 }
 
-/// What is written to a group's files, which are plain ones here: the kernel has no part in it.
+/// The group's files are plain ones: this shows only what is written there.
 #[test]
 fn groups_of_version_2_get_the_processors_of_the_rest() {
     let group = path_of("group");
@@ -585,7 +585,7 @@ fn a_stranger() {
     assert_eq!(socket.hello(3, 0).1[0], REFUSED);
     assert_eq!(socket.hello(4, 1).1[0], REFUSED);
     let clients: Vec<_> = (0..20).map(|_| socket.hello(4, 0)).collect();
-    assert_eq!(clients.iter().filter(|(_, told)| told[0] == WELCOME).count(), 16);
+    assert_eq!(clients.iter().filter(|(_, answer)| answer[0] == WELCOME).count(), 16);
 }
 
 #[repr(C)]

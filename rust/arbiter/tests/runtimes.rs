@@ -53,14 +53,15 @@ fn active(runtime: &Runtime) -> usize {
     runtime.stats().active
 }
 
-/// The numbers of the threads of this process that are workers.
+/// Returns the numbers of the threads of this process that are workers.
 fn workers() -> Vec<String> {
     let threads = fs::read_dir("/proc/self/task").unwrap().flatten().map(|it| it.file_name().into_string().unwrap());
     let name = |it: &String| fs::read_to_string(format!("/proc/self/task/{it}/comm")).unwrap_or_default();
     threads.filter(|it| name(it).trim().strip_prefix("arachne-").map_or(false, |n| n.parse::<u32>().is_ok())).collect()
 }
 
-/// Processors that the daemon grants: all but one of those that this thread has before it is a client's.
+/// Returns the number of processors that the daemon grants: all but one of those that this thread has before it is a
+/// client's.
 fn cores() -> usize {
     arachne::available_cores() - 1
 }
@@ -145,7 +146,7 @@ extern "C" {
     fn pause() -> i32;
 }
 
-/// It forks: the child has its connections and its page, and none of its kernel threads.
+/// Forks once it has all cores: the child has its connections and its page, and none of its kernel threads.
 #[test]
 #[ignore = "the test before runs it, and kills it once it has all cores"]
 fn a_runtime_to_kill() {
@@ -191,7 +192,7 @@ fn cores_follow_the_load_between_two_priorities() {
         let left = cores - 1;
         becomes("the batch has what is left", || active(&server) == 1 && active(&batch) == left.max(1));
         of_batch.gets_on("the batch gets on");
-        // So many that it asks for cores also where other work leaves it little time: the policy judges by the average.
+        // The policy judges by the average, so with this many tasks it asks for cores even if it gets little time.
         let load = Load::of(&server, 100 * cores);
         becomes("the server has all", || active(&server) == cores && active(&batch) == 1);
         load.gets_on("the server gets on");
@@ -249,7 +250,7 @@ fn what_a_worker_begins_does_not_stay_on_its_core() {
     arachne::block_on(task).unwrap();
 }
 
-/// This thread may run on the processors of the first one, which is no worker.
+/// Returns true if this thread may run on the processors of the first one, which is no worker.
 fn is_free() -> bool {
     let link = fs::read_link("/proc/thread-self").unwrap();
     let me = link.file_name().unwrap().to_str().unwrap();

@@ -36,14 +36,14 @@ impl Socket {
 
     /// Begins a kernel thread that lives as long as this test, and returns its connection.
     pub fn thread(&self, client: u32, place: u32, floats: bool) -> UnixStream {
-        let (tell, told) = mpsc::channel();
+        let (sender, numbers) = mpsc::channel();
         thread::spawn(move || {
-            tell.send(number()).unwrap();
+            sender.send(number()).unwrap();
             loop {
                 thread::sleep(Duration::from_secs(100));
             }
         });
-        self.join(client, told.recv().unwrap(), place, floats)
+        self.join(client, numbers.recv().unwrap(), place, floats)
     }
 
     /// Joins a thread to a client, and returns its connection.
