@@ -250,6 +250,28 @@ fn what_a_worker_begins_does_not_stay_on_its_core() {
     arachne::block_on(task).unwrap();
 }
 
+/// The second runtime begins while its process has only the processors of the rest, as the first one has all cores.
+#[test]
+fn a_runtime_that_begins_in_the_rest_is_not_kept_there() {
+    let (daemon, cores) = (Daemon::new("rest"), cores());
+    let (first, _load) = busy(&daemon, cores, 0);
+    becomes("the first has all", || first.stats().arbiter && active(&first) == cores);
+    let second = Builder::new(2).arbiter(&daemon.socket.0, 7, 0).build().unwrap();
+    becomes("it has joined", || second.stats().arbiter);
+    let (begun, ended) = (flag(), flag());
+    let (begins, ends) = (begun.clone(), ended.clone());
+    let blocks = move || {
+        begins.store(true, SeqCst);
+        becomes("the first has ended", || ends.load(SeqCst));
+        becomes("work that blocks runs in the whole rest", is_free);
+    };
+    let task = second.spawn(async { arachne::spawn_blocking(blocks).await.unwrap() });
+    becomes("it has begun", || begun.load(SeqCst));
+    first.shutdown();
+    ended.store(true, SeqCst);
+    arachne::block_on(task).unwrap();
+}
+
 /// Returns true if this thread may run on the processors of the first one, which is no worker.
 fn is_free() -> bool {
     let link = fs::read_link("/proc/thread-self").unwrap();
