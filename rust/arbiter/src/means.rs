@@ -150,10 +150,10 @@ pub fn release_groups(groups: &[PathBuf]) {
 
 /// Moves the threads in an arbiter's cpusets below `parent` back into `parent`, and removes the cpusets.
 ///
-/// Linux frees a set some time after its last thread has ended, so this is tried for a second.
+/// Linux frees a set some time after its last thread has ended, so this is tried for five seconds.
 pub fn restore(parent: &Path) {
     let top = parent.join("arbiter");
-    for _ in 0..100 {
+    for _ in 0..500 {
         let below = fs::read_dir(&top).into_iter().flatten().flatten().map(|entry| entry.path());
         let below: Vec<_> = below.filter(|path| path.is_dir()).chain(Some(top.clone())).collect();
         for set in &below {

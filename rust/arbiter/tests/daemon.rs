@@ -117,8 +117,8 @@ fn what_has_come_is_read_before_a_decision() {
     daemon.hello(5, 0);
     daemon.while_it_stands(|| {
         of_high.extend((1..cores).map(|place| daemon.waiting(welcome[1], place)));
-        // Of many requests the last one counts.
-        (0..=cores).for_each(|cores| send(&mut high, [ASK, cores, 0, 0]));
+        // Of several requests the last one counts.
+        [0, 1, cores].into_iter().for_each(|cores| send(&mut high, [ASK, cores, 0, 0]));
     });
     assert!(of_high.iter_mut().all(is_granted));
     assert_eq!(receive(&mut low).unwrap()[..2], [ALLOWED, 0], "in one step");

@@ -125,11 +125,11 @@ impl Drop for Daemon {
     }
 }
 
-/// Returns the command of a daemon that knows nothing of the machine's host, which may take processors while a test
-/// runs: by cpusets, unless `words` say otherwise, if ARBITER_CPUSET names a folder.
+/// Returns the command of a daemon: by cpusets, unless `words` say otherwise, if ARBITER_CPUSET names a folder. It knows
+/// nothing of the machine's host, which may take processors while a test runs, and of hyperthreads.
 pub fn run(path: &Path, words: &[&str]) -> Command {
     let mut command = Command::new(program());
-    command.arg("run").arg(path).args(words).env("ARBITER_STAT", "/dev/null");
+    command.arg("run").arg(path).args(words).env("ARBITER_STAT", "/dev/null").env("ARBITER_TOPOLOGY", "/dev/null");
     if let (Some(folder), false) = (env::var_os("ARBITER_CPUSET"), words.contains(&"--rest")) {
         command.arg("--cpuset").arg(folder);
     }
