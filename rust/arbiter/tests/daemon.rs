@@ -295,7 +295,7 @@ fn open_of(many: &[UnixStream]) -> usize {
 #[ignore = "the test before runs it twice, beside its own connections"]
 fn who_connects_often() {
     // The first client is another process's.
-    assert!(is_refused(&mut given().join(1, number(), 0, false)));
+    assert_eq!(receive(&mut given().join(1, number(), 0, false)).unwrap()[0], REFUSED);
     let many = connect_often(&given());
     println!("{} are open", open_of(&many));
     let _ = std::io::stdin().read(&mut [0]);
