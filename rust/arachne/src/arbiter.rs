@@ -65,8 +65,11 @@ struct State {
     streams: Vec<Arc<UnixStream>>,
     /// By worker, the kernel's number of its thread; 0 until that runs.
     threads: Vec<u32>,
-    /// Processors that this process had before an arbiter moved threads; none if there is to be no arbiter.
+    /// Processors that this process had before an arbiter moved threads.
     cpus: Vec<usize>,
+    /// True if the arbiter keeps threads on their cores by affinity. By cpusets a thread that set its affinity would be
+    /// kept on these processors also once its set has others.
+    pins: bool,
 }
 
 fn send(mut stream: &UnixStream, words: [u32; 4]) -> io::Result<()> {
@@ -123,7 +126,7 @@ impl Client {
     /// A kernel thread that a worker has begun may run on any processor: it was begun on the worker's.
     pub(crate) fn unpin(&self) {
         let state = self.state.lock().unwrap();
-        if !state.cpus.is_empty() {
+        if state.pins {
             sys::set_affinity(0, &state.cpus);
         }
     }
@@ -273,6 +276,7 @@ impl Shared {
             _ => return Err(io::ErrorKind::PermissionDenied.into()),
         };
         client.page.store(sys::map_page(&page, client.page.load(SeqCst))?, SeqCst);
+        client.state.lock().unwrap().pins = words[3] == 0;
         for (worker, &thread) in threads.iter().enumerate() {
             let floats = (worker == 0) as u32;
             send(&*client.connect(wish)?, [JOIN, words[1], thread, (worker as u32) << 1 | floats])?;
@@ -295,7 +299,7 @@ impl Shared {
         state.streams.drain(..).for_each(|stream| drop(stream.shutdown(Shutdown::Both)));
         let refused = std::mem::take(&mut state.refused);
         // Workers end only once this is closed: until then their numbers are no other threads'.
-        if was_up && !state.closed {
+        if was_up && !state.closed && state.pins {
             for &thread in &state.threads {
                 // Where the system refuses it, it stays where it was.
                 let _ = sys::set_affinity(thread, &state.cpus);

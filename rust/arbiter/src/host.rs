@@ -1,13 +1,13 @@
-//! Which processors the machine's host takes for others, by the kernel's account of stolen time.
+//! The processors that the machine's host takes for others, by the kernel's account of stolen time.
 
 use std::fs;
 use std::path::PathBuf;
 use std::time::{Duration, Instant};
 
-/// How often the account is looked at.
+/// The time between two looks at the account.
 pub const WINDOW: Duration = Duration::from_millis(200);
-/// A processor is taken if the host has had this many hundredths of it since the last look, and is no more once it has
-/// had no more than these hundredths for this many looks in a row.
+/// A processor counts as taken once the host has had `MUCH` hundredths of it between two looks, until it has had no more
+/// than `LITTLE` hundredths at each of `CALM` looks in a row.
 const MUCH: u64 = 15;
 const LITTLE: u64 = 5;
 const CALM: u32 = 5;
@@ -27,19 +27,20 @@ pub struct Host {
 }
 
 impl Host {
-    /// Of these processors. ARBITER_STAT names another file than the kernel's, for tests.
+    /// Returns an account of these processors, of which none is taken. ARBITER_STAT names another file than the kernel's,
+    /// for tests.
     pub fn new(cpus: Vec<usize>) -> Host {
         let file = std::env::var_os("ARBITER_STAT").unwrap_or_else(|| "/proc/stat".into()).into();
         let processors = cpus.iter().map(|_| Processor { stolen: 0, all: 0, is_taken: false, calm: CALM }).collect();
         Host { file, looked: Instant::now(), cpus, processors }
     }
 
-    /// Returns true if the processor at this place of the list is taken.
+    /// Returns true if the processor at a place of the list is taken.
     pub fn takes(&self, nth: usize) -> bool {
         self.processors[nth].is_taken
     }
 
-    /// Looks at the account, if it is time to. Returns the places in the list of those that are taken or given back
+    /// Looks at the account once `WINDOW` is over. Returns the places of the processors that are taken or given back
     /// since the last look.
     pub fn look(&mut self) -> Vec<usize> {
         if self.looked.elapsed() < WINDOW {
@@ -60,7 +61,7 @@ impl Host {
 }
 
 impl Processor {
-    /// Returns true if it is taken, and wasn't, or the other way round.
+    /// Returns true if it is taken now and was not before, or the other way round.
     fn looks(&mut self, stolen: u64, all: u64) -> bool {
         let (took, time) = (stolen.saturating_sub(self.stolen), all.saturating_sub(self.all));
         let is_first = self.all == 0;
@@ -74,7 +75,7 @@ impl Processor {
     }
 }
 
-/// What the host has taken of a processor, and all of its time, in hundredths of a second.
+/// Returns the time of a processor that the host has taken, and all of its time, in hundredths of a second.
 fn account(text: &str, cpu: usize) -> Option<(u64, u64)> {
     let name = format!("cpu{cpu}");
     let line = text.lines().map(str::split_whitespace).find(|words| words.clone().next() == Some(&*name))?;

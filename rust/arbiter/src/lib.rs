@@ -1,3 +1,3 @@
-//! The parts of the daemon `arbiter` that can be tried without it: the messages, and the calls of the proved library.
+//! The parts of the daemon that its tests use by themselves: the messages, and the calls of the proved library.
 pub mod library;
 pub mod protocol;

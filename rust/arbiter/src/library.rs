@@ -1,5 +1,5 @@
-//! The calls of the proved library `arachne_grants_c`: what a message's bytes say, and the state of the daemon with its
-//! decisions. The declarations are those of `examples/c/arachne_grants.h`.
+//! The calls of the proved library `arachne_grants_c`, which reads messages, and has the daemon's state and decisions.
+//! The declarations are those of `examples/c/arachne_grants.h`.
 
 #[repr(C)]
 struct Handle {
@@ -27,7 +27,7 @@ struct RawAction {
     place: usize,
 }
 
-/// How many cores a client is allowed, and how many it has.
+/// The number of cores that a client is allowed, and the number that it has.
 #[repr(C)]
 #[derive(Clone, Copy, Debug)]
 pub struct Share {
@@ -40,7 +40,7 @@ const HELLO: u32 = 3;
 const JOIN: u32 = 4;
 const WAIT: u32 = 5;
 const ASK: u32 = 6;
-/// Why bytes are no message, from this code on.
+/// The first of the codes for bytes that are no message.
 const SHORT: u32 = 7;
 const TAKEN: u32 = 14;
 const PLACED: u32 = 15;
@@ -62,7 +62,7 @@ extern "C" {
     fn arachne_arbiter_share(arbiter: *mut Handle, client: usize) -> Share;
 }
 
-/// What a client says.
+/// A message of a client.
 #[derive(Clone, Copy, PartialEq, Eq, Debug)]
 pub enum Message {
     Hello { priority: u32, reserved: u32, most: u32 },
@@ -71,9 +71,9 @@ pub enum Message {
     Ask { cores: u32 },
 }
 
-/// Reads the message that bytes begin with, or says why they begin with none.
+/// Reads the message that bytes begin with. The error says why they begin with none.
 pub fn read(bytes: &[u8]) -> Result<Message, &'static str> {
-    // SAFETY: there are as many bytes as are said.
+    // SAFETY: the length is the slice's, which lives through the call.
     let it = unsafe { arachne_message_read(bytes.as_ptr(), bytes.len()) };
     match it.code {
         HELLO => Ok(Message::Hello { priority: it.priority, reserved: it.reserved, most: it.most }),
@@ -93,7 +93,7 @@ pub struct Move {
     pub client: usize,
     pub place: usize,
     pub core: usize,
-    /// It waited for the core, and is to hear that it has it.
+    /// True if it waits for the core, so that it must be notified.
     pub waited: bool,
 }
 
@@ -109,65 +109,65 @@ impl Move {
 pub struct State(Handle);
 
 impl State {
-    /// Of at most 1,024 cores.
+    /// Returns a state without clients, of at most 1,024 cores. Returns None if there are more, or memory is refused.
     pub fn new(cores: usize) -> Option<State> {
         let mut state = State(Handle { opaque: std::ptr::null_mut() });
         // SAFETY: the handle holds nothing, and lives through the call.
-        let told = unsafe { arachne_arbiter_new(&mut state.0, u32::try_from(cores).ok()?) };
-        (told == DONE).then_some(state)
+        let code = unsafe { arachne_arbiter_new(&mut state.0, u32::try_from(cores).ok()?) };
+        (code == DONE).then_some(state)
     }
 
     /// Each event returns false if it is out of place; then it has changed nothing.
     pub fn hello(&mut self, client: usize, priority: u8, reserved: u32, most: u32) -> bool {
-        // SAFETY: the handle is this one's alone, for which `&mut` vouches.
+        // SAFETY: nobody else uses the handle, as `&mut` says.
         unsafe { arachne_arbiter_hello(&mut self.0, client, priority, reserved, most) == DONE }
     }
 
     pub fn ask(&mut self, client: usize, cores: u32) -> bool {
-        // SAFETY: the handle is this one's alone, for which `&mut` vouches.
+        // SAFETY: nobody else uses the handle, as `&mut` says.
         unsafe { arachne_arbiter_ask(&mut self.0, client, cores) == DONE }
     }
 
     pub fn leave(&mut self, client: usize) -> bool {
-        // SAFETY: the handle is this one's alone, for which `&mut` vouches.
+        // SAFETY: nobody else uses the handle, as `&mut` says.
         unsafe { arachne_arbiter_leave(&mut self.0, client) == DONE }
     }
 
     pub fn join(&mut self, client: usize, place: usize, floats: bool) -> bool {
-        // SAFETY: the handle is this one's alone, for which `&mut` vouches.
+        // SAFETY: nobody else uses the handle, as `&mut` says.
         unsafe { arachne_arbiter_join(&mut self.0, client, place, floats) == DONE }
     }
 
     pub fn wait(&mut self, client: usize, place: usize) -> bool {
-        // SAFETY: the handle is this one's alone, for which `&mut` vouches.
+        // SAFETY: nobody else uses the handle, as `&mut` says.
         unsafe { arachne_arbiter_wait(&mut self.0, client, place) == DONE }
     }
 
     pub fn end(&mut self, client: usize, place: usize) -> bool {
-        // SAFETY: the handle is this one's alone, for which `&mut` vouches.
+        // SAFETY: nobody else uses the handle, as `&mut` says.
         unsafe { arachne_arbiter_end(&mut self.0, client, place) == DONE }
     }
 
     /// Decides how many cores each client is allowed.
     pub fn decide(&mut self) {
-        // SAFETY: the handle is this one's alone, for which `&mut` vouches.
+        // SAFETY: nobody else uses the handle, as `&mut` says.
         let _ = unsafe { arachne_arbiter_decide(&mut self.0) };
     }
 
-    /// Takes a core of a client that has more than it is allowed, if it can be taken yet.
+    /// Takes a core of a client that has more than it is allowed: of a thread that floats, or of any if `late`.
     pub fn take_back(&mut self, client: usize, late: bool) -> Option<Move> {
-        // SAFETY: the handle is this one's alone, for which `&mut` vouches.
+        // SAFETY: nobody else uses the handle, as `&mut` says.
         Move::of(unsafe { arachne_arbiter_take_back(&mut self.0, client, late) })
     }
 
     /// Gives a free core to a client that has less than it is allowed.
     pub fn give(&mut self) -> Option<Move> {
-        // SAFETY: the handle is this one's alone, for which `&mut` vouches.
+        // SAFETY: nobody else uses the handle, as `&mut` says.
         Move::of(unsafe { arachne_arbiter_give(&mut self.0) })
     }
 
     pub fn share(&mut self, client: usize) -> Share {
-        // SAFETY: the handle is this one's alone, for which `&mut` vouches.
+        // SAFETY: nobody else uses the handle, as `&mut` says.
         unsafe { arachne_arbiter_share(&mut self.0, client) }
     }
 }

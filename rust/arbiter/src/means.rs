@@ -1,15 +1,16 @@
-//! How a core is kept for one kernel thread, and all else kept from it.
+//! The means by which a core is kept for one kernel thread, and other threads from it.
 
 use crate::sys;
+use crate::threads::{family, threads_of};
 use std::fs;
 use std::io;
 use std::path::{Path, PathBuf};
 
 pub enum Means {
-    /// Cpusets of version 1, in a folder of their own: `rest`, and `cpuN` for each processor that is to be had.
+    /// Cpusets of version 1, in a folder of their own: `rest`, and a `cpuN` for each processor.
     Cpusets(PathBuf),
-    /// The affinity of clients' threads, and the processors of these groups of version 2, in which other processes are.
-    /// Without a group those run on any processor.
+    /// The affinity of clients' threads, and the processors of groups of version 2, in which other processes are. Without
+    /// a group these run on any processor.
     Affinity(Vec<PathBuf>),
 }
 
@@ -29,36 +30,16 @@ fn numbers(file: PathBuf) -> Vec<u32> {
     fs::read_to_string(file).unwrap_or_default().lines().filter_map(|line| line.parse().ok()).collect()
 }
 
-pub fn threads_of(process: u32) -> Vec<u32> {
-    let entries = fs::read_dir(format!("/proc/{process}/task")).into_iter().flatten().flatten();
-    entries.filter_map(|entry| entry.file_name().to_str()?.parse().ok()).collect()
-}
-
-/// Processes of a family at most that are looked at.
-const FAMILY: usize = 256;
-
-/// A process, and those that it has begun, and they.
-fn family(process: u32) -> Vec<u32> {
-    let (mut all, mut nth) = (vec![process], 0);
-    while let Some(&parent) = all.get(nth).filter(|_| all.len() < FAMILY) {
-        for thread in threads_of(parent) {
-            let begun = fs::read_to_string(format!("/proc/{parent}/task/{thread}/children")).unwrap_or_default();
-            all.extend(begun.split_whitespace().filter_map(|word| word.parse::<u32>().ok()));
-        }
-        nth += 1;
-    }
-    all
-}
-
 impl Means {
-    /// Makes cpusets below `parent`, if one is given; what an arbiter that died has left is put right first. Else keeps
-    /// `groups` on these processors.
+    /// Makes cpusets of these processors below `parent`, if one is given; otherwise keeps `groups` on these processors.
+    ///
+    /// What an arbiter has left there that was killed is put back first.
     pub fn new(parent: Option<&Path>, groups: &[PathBuf], cpus: &[usize]) -> io::Result<Means> {
         let parent = match parent {
             Some(parent) => parent,
             None => {
                 for group in groups {
-                    // Where it is so already, or may not be changed, the next line says whether there are cpusets.
+                    // If it can't be written, the next line fails unless it was written before.
                     let _ = write(group.join("../cgroup.subtree_control"), "+cpuset");
                     write(group.join("cpuset.cpus"), list(cpus))?;
                 }
@@ -81,7 +62,7 @@ impl Means {
         Ok(Means::Cpusets(top))
     }
 
-    /// Moves each process that is in the parent's own set into the rest.
+    /// Moves each process in the parent's own set into the rest, and returns the number of those that were moved.
     pub fn sweep(&self) -> usize {
         match self {
             Means::Cpusets(top) => {
@@ -92,8 +73,10 @@ impl Means {
         }
     }
 
-    /// Moves all threads of a process into the rest, but for these. Each is moved by itself, in microseconds: to move a
-    /// process Linux waits for all processors. Threads that begin meanwhile begin in the set of their parents.
+    /// Moves all threads of a process into the rest, but for those in `placed`.
+    ///
+    /// Each is moved by itself, in microseconds: to move a process Linux waits for all processors. A thread that begins
+    /// meanwhile begins in the set of its parent, so it is done twice.
     pub fn admit(&self, process: u32, placed: &[u32]) {
         if let Means::Cpusets(top) = self {
             for _ in 0..2 {
@@ -104,13 +87,14 @@ impl Means {
         }
     }
 
-    /// A thread is none of a client's any more.
+    /// Lets a thread that is no client's any more run on all processors.
     pub fn release(&self, thread: u32, all: &[usize]) {
         if let Means::Affinity(_) = self {
             let _ = sys::set_affinity(thread, all);
         }
     }
 
+    /// Moves a thread to its core.
     pub fn place(&self, thread: u32, cpu: usize) -> io::Result<()> {
         match self {
             Means::Cpusets(top) => write(top.join(format!("cpu{cpu}/tasks")), thread),
@@ -118,6 +102,7 @@ impl Means {
         }
     }
 
+    /// Moves a thread into the rest.
     pub fn unplace(&self, thread: u32, rest: &[usize]) -> io::Result<()> {
         match self {
             Means::Cpusets(top) => write(top.join("rest/tasks"), thread),
@@ -125,7 +110,7 @@ impl Means {
         }
     }
 
-    /// The rest may use these; `others` are the clients' threads that have no core.
+    /// Sets the processors of the rest. `others` are the clients' threads that have no core.
     pub fn set_rest(&self, rest: &[usize], others: impl Iterator<Item = u32>) {
         match self {
             Means::Cpusets(top) => drop(write(top.join("rest/cpuset.cpus"), list(rest))),
@@ -136,8 +121,8 @@ impl Means {
         }
     }
 
-    /// Takes those threads and processes off the cores that a client's thread has begun there: each begins in its
-    /// parent's set, or with its affinity. `known` are the clients' own, which are where they should be.
+    /// Moves threads and processes off the cores on which a client's thread has begun them: each begins in its parent's
+    /// set, or with its affinity. `known` are the clients' threads, which stay.
     pub fn free_strangers(&self, cpus: &[usize], processes: &[u32], known: &[u32], all: &[usize]) {
         match self {
             Means::Cpusets(top) => {
@@ -158,16 +143,17 @@ impl Means {
     }
 }
 
-/// Processes in these groups of version 2 may run on any processor of the groups above them.
+/// Lets processes in these groups of version 2 run on all processors of the groups above.
 pub fn release_groups(groups: &[PathBuf]) {
     groups.iter().for_each(|group| drop(write(group.join("cpuset.cpus"), "\n")));
 }
 
-/// Puts back what is in an arbiter's cpusets below `parent`, and removes them. Linux lets go of a set some time after
-/// its last thread has ended, so it is tried for a while.
+/// Moves the threads in an arbiter's cpusets below `parent` back into `parent`, and removes the cpusets.
+///
+/// Linux frees a set some time after its last thread has ended, so this is tried for five seconds.
 pub fn restore(parent: &Path) {
     let top = parent.join("arbiter");
-    for _ in 0..100 {
+    for _ in 0..500 {
         let below = fs::read_dir(&top).into_iter().flatten().flatten().map(|entry| entry.path());
         let below: Vec<_> = below.filter(|path| path.is_dir()).chain(Some(top.clone())).collect();
         for set in &below {

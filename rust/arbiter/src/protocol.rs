@@ -8,24 +8,24 @@ pub const PRIORITIES: u32 = 8;
 /// From a client, first on its control connection: version, priority, least and most cores (`least << 16 | most`).
 pub const HELLO: u32 = 1;
 /// First on a connection of a kernel thread: the client's number, the thread's, and its place in the client's order
-/// (`place << 1 | floats`). One that floats never waits: it is moved to a core, and from it, as it runs.
+/// (`place << 1 | floats`). A thread that floats never waits: it is moved to a core and back as it runs.
 pub const JOIN: u32 = 2;
-/// On a thread's connection: the core that it has goes back, and it waits for one.
+/// On a thread's connection: it gives its core back, if it has one, and waits for another.
 pub const WAIT: u32 = 3;
 /// On the control connection: the number of cores that are wanted.
 pub const ASK: u32 = 4;
 
-/// To a client, with the descriptor of its page: the client's number, how many cores there are to be had, and by what
-/// means they are kept.
+/// To a client, with the descriptor of its page: the client's number, the number of cores, and 1 if these are kept by
+/// cpusets.
 pub const WELCOME: u32 = 5;
-/// To a thread that waits: the processor that it has from now on.
+/// To a thread that waits: the processor that it has now.
 pub const GRANT: u32 = 6;
-/// On the control connection: the page's number changed, to that.
+/// On the control connection: the number of cores that the client may have, if that is less than before.
 pub const ALLOWED: u32 = 7;
-/// Before the arbiter closes a connection: why.
+/// Before the arbiter closes a connection of which it refuses a message.
 pub const REFUSED: u32 = 8;
 
-/// The bytes of a message.
+/// Returns the bytes of a message.
 pub fn bytes_of(words: [u32; 4]) -> [u8; SIZE] {
     let mut bytes = [0; SIZE];
     for (chunk, word) in bytes.chunks_exact_mut(4).zip(words) {
@@ -34,7 +34,7 @@ pub fn bytes_of(words: [u32; 4]) -> [u8; SIZE] {
     bytes
 }
 
-/// The four numbers of a message.
+/// Returns the four numbers of a message.
 pub fn words_of(bytes: &[u8; SIZE]) -> [u32; 4] {
     let word = |at: usize| u32::from_le_bytes([bytes[at], bytes[at + 1], bytes[at + 2], bytes[at + 3]]);
     [word(0), word(4), word(8), word(12)]

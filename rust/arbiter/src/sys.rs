@@ -1,11 +1,10 @@
-//! Linux's calls that the daemon needs, declared by hand. The declarations are those of Linux's C library on 64 bits.
-//! The functions around the calls are safe.
+//! Linux's calls that the daemon needs, declared by hand as in Linux's C library on 64 bits, behind safe functions.
 
 use std::fs::File;
 use std::io;
 use std::os::unix::io::{AsRawFd, FromRawFd, RawFd};
 use std::os::unix::net::UnixStream;
-use std::sync::atomic::AtomicU32;
+use std::sync::atomic::{AtomicBool, AtomicU32, Ordering};
 
 #[repr(C)]
 pub struct Polled {
@@ -31,7 +30,7 @@ struct Header {
     flags: i32,
 }
 
-/// A descriptor beside a message: its length, SOL_SOCKET, SCM_RIGHTS, the descriptor.
+/// A descriptor beside a message: the length of this, SOL_SOCKET, SCM_RIGHTS, the descriptor.
 #[repr(C)]
 struct Rights {
     len: usize,
@@ -61,22 +60,23 @@ extern "C" {
 
 const PAGE: usize = 4096;
 
-pub fn wait(fds: &mut [Polled], timeout: i32) -> usize {
-    // SAFETY: the slice has as many as are said, and lives through the call.
-    unsafe { poll(fds.as_mut_ptr(), fds.len() as u64, timeout) }.max(0) as usize
+/// Waits for at most `timeout` milliseconds until one of these descriptors is readable, or a signal comes.
+pub fn wait(fds: &mut [Polled], timeout: i32) {
+    // SAFETY: the length is the slice's, which lives through the call.
+    unsafe { poll(fds.as_mut_ptr(), fds.len() as u64, timeout) };
 }
 
-/// The process and the user at the other end, as they were when it connected.
+/// Returns the process and the user at the other end, as they were when it connected.
 pub fn peer(stream: &UnixStream) -> io::Result<(u32, u32)> {
-    let (mut told, mut len) = ([0u32; 3], 12u32);
-    // SAFETY: there is room for three numbers of 32 bits, as the length says.
-    match unsafe { getsockopt(stream.as_raw_fd(), 1, 17, told.as_mut_ptr(), &mut len) } {
-        0 => Ok((told[0], told[1])),
+    let (mut peer, mut len) = ([0u32; 3], 12u32);
+    // SAFETY: the length is that of three numbers of 32 bits, which live through the call.
+    match unsafe { getsockopt(stream.as_raw_fd(), 1, 17, peer.as_mut_ptr(), &mut len) } {
+        0 => Ok((peer[0], peer[1])),
         _ => Err(io::Error::last_os_error()),
     }
 }
 
-/// Sends these bytes and a descriptor, at once or not at all.
+/// Sends bytes and a descriptor without waiting. Fails if not all bytes were sent.
 pub fn send_with(stream: &UnixStream, bytes: &[u8], fd: RawFd) -> io::Result<()> {
     let piece = Piece { base: bytes.as_ptr(), len: bytes.len() };
     let rights = Rights { len: 20, level: 1, kind: 1, fd, _pad: 0 };
@@ -90,7 +90,7 @@ pub fn send_with(stream: &UnixStream, bytes: &[u8], fd: RawFd) -> io::Result<()>
     }
 }
 
-/// A page that its client reads. Nothing is ever read from it here, so what a client may do to it doesn't matter.
+/// A page that a client reads. It is only written here, so it doesn't matter if a client changes it.
 pub struct Page {
     file: File,
     at: *mut u8,
@@ -111,9 +111,9 @@ impl Page {
         if at as isize == -1 {
             return Err(io::Error::last_os_error());
         }
-        // No one changes its length, or writes by another mapping than the one from above: F_ADD_SEALS with
-        // F_SEAL_SEAL, F_SEAL_SHRINK, F_SEAL_GROW and F_SEAL_FUTURE_WRITE.
-        // SAFETY: a call with numbers alone.
+        // From now on nobody can change its length, or write it but by the mapping above: F_ADD_SEALS with F_SEAL_SEAL,
+        // F_SEAL_SHRINK, F_SEAL_GROW and F_SEAL_FUTURE_WRITE.
+        // SAFETY: all arguments are numbers.
         if unsafe { fcntl(fd, 1033, 1 | 2 | 4 | 16) } != 0 {
             return Err(io::Error::last_os_error());
         }
@@ -121,7 +121,7 @@ impl Page {
     }
 
     pub fn allowed(&self) -> &AtomicU32 {
-        // SAFETY: the page is mapped for as long as this lives, and is read and written as an atomic number alone.
+        // SAFETY: the page is mapped while this lives, and accessed only as an atomic number.
         unsafe { &*(self.at as *const AtomicU32) }
     }
 
@@ -132,65 +132,72 @@ impl Page {
 
 impl Drop for Page {
     fn drop(&mut self) {
-        // SAFETY: the mapping is this one's, and nobody has a reference to it any more.
+        // SAFETY: the mapping belongs to this page, to which there is no reference any more.
         unsafe { munmap(self.at, PAGE) };
     }
 }
 
+/// Keeps a thread on these processors.
 pub fn set_affinity(thread: u32, cpus: &[usize]) -> io::Result<()> {
     let mut mask = [0u64; 16];
     cpus.iter().for_each(|cpu| mask[cpu / 64 % 16] |= 1 << (cpu % 64));
-    // SAFETY: the mask has the 128 bytes that are said.
+    // SAFETY: the mask has 128 bytes, and lives through the call.
     match unsafe { sched_setaffinity(thread as i32, 128, mask.as_ptr()) } {
         0 => Ok(()),
         _ => Err(io::Error::last_os_error()),
     }
 }
 
+/// Returns the processors that the calling thread may run on.
 pub fn affinity() -> Vec<usize> {
     affinity_of(0)
 }
 
-/// The processors that a thread may run on; 0 is this one. None if it has ended.
+/// Returns the processors that a thread may run on: none if it has ended. Thread 0 is the calling one.
 pub fn affinity_of(thread: u32) -> Vec<usize> {
     let mut mask = [0u64; 16];
-    // SAFETY: the mask has the 128 bytes that are said.
+    // SAFETY: the mask has 128 bytes, and lives through the call.
     unsafe { sched_getaffinity(thread as i32, 128, mask.as_mut_ptr()) };
     (0..1024).filter(|cpu| mask[cpu / 64] >> (cpu % 64) & 1 == 1).collect()
 }
 
-/// The least real-time priority for this process: it runs for some microseconds, and others wait for what it decides.
+/// Gives this process the lowest real-time priority: a decision takes microseconds, and others wait for it. Returns
+/// false if the system refuses that.
 pub fn go_first() -> bool {
     // SAFETY: the priority lives through the call.
     unsafe { sched_setscheduler(0, 1 | 0x4000_0000, &1) == 0 }
 }
 
+/// Returns the user of this process.
 pub fn user() -> u32 {
     // SAFETY: a call without arguments.
     unsafe { getuid() }
 }
 
-/// At SIGTERM and SIGINT this process goes on; `ENDS` is set.
-pub static ENDS: std::sync::atomic::AtomicBool = std::sync::atomic::AtomicBool::new(false);
+/// True once this process must end.
+pub static ENDS: AtomicBool = AtomicBool::new(false);
+
 extern "C" fn heard(_: i32) {
-    ENDS.store(true, std::sync::atomic::Ordering::SeqCst);
+    ENDS.store(true, Ordering::SeqCst);
 }
+
+/// Lets SIGINT and SIGTERM set `ENDS` instead of ending this process.
 pub fn hear_ends() {
     for number in [2, 15] {
-        // SAFETY: the handler is a function of C's convention that lives for ever, and makes one store.
+        // SAFETY: the handler has C's convention, and makes only one store.
         unsafe { signal(number, heard as extern "C" fn(i32) as usize) };
     }
 }
 
-/// This process ends when its parent does.
+/// Lets Linux send SIGTERM to this process once its parent has ended.
 pub fn end_with_parent() {
-    // SAFETY: a call with numbers alone.
+    // SAFETY: all arguments are numbers.
     unsafe { prctl(1, 15, 0, 0, 0) };
 }
 
-/// A descriptor that is readable once this process has ended, whoever has its sockets.
+/// Returns a descriptor that is readable once a process has ended, even if another one has its sockets.
 pub fn watch_process(process: u32) -> io::Result<File> {
-    // SAFETY: a call with numbers alone, `pidfd_open`.
+    // SAFETY: all arguments of `pidfd_open` are numbers.
     match unsafe { syscall(434, process as i32, 0u32) } {
         // SAFETY: the descriptor was made by the call above, and nobody else has it.
         fd if fd >= 0 => Ok(unsafe { File::from_raw_fd(fd as i32) }),
@@ -198,7 +205,8 @@ pub fn watch_process(process: u32) -> io::Result<File> {
     }
 }
 
+/// Sends SIGTERM.
 pub fn terminate(process: u32) {
-    // SAFETY: a call with numbers alone.
+    // SAFETY: all arguments are numbers.
     unsafe { kill(process as i32, 15) };
 }

@@ -1,10 +1,10 @@
-//! Which processors are hyperthreads of one core, by the kernel's account.
+//! The hyperthreads of each core, by the kernel's account.
 
 use std::fs;
 use std::path::PathBuf;
 
-/// Returns these processors by core, in the order of the first of each: without an account, each by itself.
-/// ARBITER_TOPOLOGY names another folder than the kernel's, for tests.
+/// Returns the processors of each core, in the order of the first ones. A processor of which the kernel has no account
+/// is a core by itself. ARBITER_TOPOLOGY names another folder than the kernel's, for tests.
 pub fn by_core(cpus: &[usize]) -> Vec<Vec<usize>> {
     let folder = std::env::var_os("ARBITER_TOPOLOGY").unwrap_or_else(|| "/sys/devices/system/cpu".into());
     let mut cores: Vec<Vec<usize>> = Vec::new();

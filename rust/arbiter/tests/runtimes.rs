@@ -14,7 +14,7 @@ use std::sync::Arc;
 use std::thread;
 use std::time::{Duration, Instant};
 
-/// Work for a runtime, as long as it is wanted.
+/// Work for a runtime, while `goes_on` is true.
 struct Load {
     polls: Arc<AtomicU64>,
     goes_on: Arc<AtomicBool>,
@@ -53,14 +53,15 @@ fn active(runtime: &Runtime) -> usize {
     runtime.stats().active
 }
 
-/// The numbers of the threads of this process that are workers.
+/// Returns the numbers of the threads of this process that are workers.
 fn workers() -> Vec<String> {
     let threads = fs::read_dir("/proc/self/task").unwrap().flatten().map(|it| it.file_name().into_string().unwrap());
     let name = |it: &String| fs::read_to_string(format!("/proc/self/task/{it}/comm")).unwrap_or_default();
     threads.filter(|it| name(it).trim().strip_prefix("arachne-").map_or(false, |n| n.parse::<u32>().is_ok())).collect()
 }
 
-/// Processors that the daemon grants: all but one of those that this thread has before it is a client's.
+/// Returns the number of processors that the daemon grants: all but one of those that this thread has before it is a
+/// client's.
 fn cores() -> usize {
     arachne::available_cores() - 1
 }
@@ -130,7 +131,7 @@ fn a_runtime_that_is_killed_has_no_core() {
     let line = lines.find_map(|line| Some(line.unwrap().strip_suffix(" has all")?.to_string())).unwrap();
     let child: u32 = line.rsplit(' ').next().unwrap().parse().unwrap();
     let (low, load) = busy(&daemon, cores, 7);
-    becomes("it has joined", || low.stats().arbiter);
+    becomes("it has joined", || low.stats().arbiter && active(&low) == 1);
     load.gets_on("it gets on in the rest");
     assert_eq!(active(&low), 1);
     client.kill().unwrap();
@@ -145,7 +146,7 @@ extern "C" {
     fn pause() -> i32;
 }
 
-/// It forks: the child has its connections and its page, and none of its kernel threads.
+/// Forks once it has all cores: the child has its connections and its page, and none of its kernel threads.
 #[test]
 #[ignore = "the test before runs it, and kills it once it has all cores"]
 fn a_runtime_to_kill() {
@@ -191,7 +192,7 @@ fn cores_follow_the_load_between_two_priorities() {
         let left = cores - 1;
         becomes("the batch has what is left", || active(&server) == 1 && active(&batch) == left.max(1));
         of_batch.gets_on("the batch gets on");
-        // So many that it asks for cores also where other work leaves it little time: the policy judges by the average.
+        // The policy judges by the average, so with this many tasks it asks for cores even if it gets little time.
         let load = Load::of(&server, 100 * cores);
         becomes("the server has all", || active(&server) == cores && active(&batch) == 1);
         load.gets_on("the server gets on");
@@ -207,7 +208,7 @@ fn a_runtime_that_is_refused_goes_on_by_itself() {
     let load = Load::of(&runtime, 8);
     thread::sleep(Duration::from_millis(50));
     load.gets_on("it gets on");
-    assert_eq!((active(&runtime), runtime.stats().arbiter), (2, false));
+    becomes("it has all, and no arbiter", || active(&runtime) == 2 && !runtime.stats().arbiter);
     if fs::metadata("/proc/self").unwrap().uid() != 0 {
         return println!("skipped: only root can become another user");
     }
@@ -249,7 +250,29 @@ fn what_a_worker_begins_does_not_stay_on_its_core() {
     arachne::block_on(task).unwrap();
 }
 
-/// This thread may run on the processors of the first one, which is no worker.
+/// The second runtime begins while its process has only the processors of the rest, as the first one has all cores.
+#[test]
+fn a_runtime_that_begins_in_the_rest_is_not_kept_there() {
+    let (daemon, cores) = (Daemon::new("rest"), cores());
+    let (first, _load) = busy(&daemon, cores, 0);
+    becomes("the first has all", || first.stats().arbiter && active(&first) == cores);
+    let second = Builder::new(2).arbiter(&daemon.socket.0, 7, 0).build().unwrap();
+    becomes("it has joined", || second.stats().arbiter);
+    let (begun, ended) = (flag(), flag());
+    let (begins, ends) = (begun.clone(), ended.clone());
+    let blocks = move || {
+        begins.store(true, SeqCst);
+        becomes("the first has ended", || ends.load(SeqCst));
+        becomes("work that blocks runs in the whole rest", is_free);
+    };
+    let task = second.spawn(async { arachne::spawn_blocking(blocks).await.unwrap() });
+    becomes("it has begun", || begun.load(SeqCst));
+    first.shutdown();
+    ended.store(true, SeqCst);
+    arachne::block_on(task).unwrap();
+}
+
+/// Returns true if this thread may run on the processors of the first one, which is no worker.
 fn is_free() -> bool {
     let link = fs::read_link("/proc/thread-self").unwrap();
     let me = link.file_name().unwrap().to_str().unwrap();

@@ -4,14 +4,17 @@
 use arbiter::protocol::*;
 use std::env;
 use std::fs;
-use std::io::{Read, Write};
+use std::io::{ErrorKind, Read, Write};
 use std::ops::Deref;
 use std::os::unix::net::UnixStream;
-use std::path::PathBuf;
+use std::path::{Path, PathBuf};
 use std::process::{Child, Command, Stdio};
 use std::sync::mpsc;
 use std::thread;
 use std::time::{Duration, Instant};
+
+/// The time within which all that must happen does, also on a machine that has much else to do.
+const PATIENCE: Duration = Duration::from_secs(60);
 
 /// A daemon's socket, and what a client does there.
 pub struct Socket(pub PathBuf);
@@ -19,31 +22,49 @@ pub struct Socket(pub PathBuf);
 impl Socket {
     pub fn connect(&self) -> UnixStream {
         let stream = UnixStream::connect(&self.0).unwrap();
-        stream.set_read_timeout(Some(Duration::from_secs(5))).unwrap();
+        stream.set_read_timeout(Some(PATIENCE)).unwrap();
         stream
     }
 
+    /// Connects a client, and returns its control connection and the answer.
     pub fn hello(&self, priority: u32, least: u32) -> (UnixStream, [u32; 4]) {
         let mut stream = self.connect();
         send(&mut stream, [HELLO, VERSION, priority, least << 16 | 64]);
-        let told = receive(&mut stream).unwrap();
-        (stream, told)
+        let answer = receive(&mut stream).unwrap();
+        (stream, answer)
     }
 
-    /// A kernel thread that lives as long as this test, and its connection.
+    /// Begins a kernel thread that lives as long as this test, and returns its connection.
     pub fn thread(&self, client: u32, place: u32, floats: bool) -> UnixStream {
-        let (tell, told) = mpsc::channel();
+        let (sender, numbers) = mpsc::channel();
         thread::spawn(move || {
-            let link = fs::read_link("/proc/thread-self").unwrap();
-            tell.send(link.file_name().unwrap().to_str().unwrap().parse().unwrap()).unwrap();
+            sender.send(number()).unwrap();
             loop {
                 thread::sleep(Duration::from_secs(100));
             }
         });
+        self.join(client, numbers.recv().unwrap(), place, floats)
+    }
+
+    /// Joins a thread to a client, and returns its connection.
+    pub fn join(&self, client: u32, thread: u32, place: u32, floats: bool) -> UnixStream {
         let mut stream = self.connect();
-        send(&mut stream, [JOIN, client, told.recv().unwrap(), place << 1 | floats as u32]);
+        send(&mut stream, [JOIN, client, thread, place << 1 | floats as u32]);
         stream
     }
+
+    /// Begins a kernel thread that waits for a core, and returns its connection.
+    pub fn waiting(&self, client: u32, place: u32) -> UnixStream {
+        let mut stream = self.thread(client, place, false);
+        send(&mut stream, [WAIT, 0, 0, 0]);
+        stream
+    }
+}
+
+/// Returns the kernel's number of this thread.
+pub fn number() -> u32 {
+    let link = fs::read_link("/proc/thread-self").unwrap();
+    link.file_name().unwrap().to_str().unwrap().parse().unwrap()
 }
 
 /// The guardian, whose child is the daemon.
@@ -66,15 +87,10 @@ impl Daemon {
     }
 
     pub fn at(path: PathBuf, words: &[&str]) -> Daemon {
-        let mut command = Command::new(program());
-        command.arg("run").arg(&path).args(words);
-        if let (Some(folder), false) = (env::var_os("ARBITER_CPUSET"), words.contains(&"--rest")) {
-            command.arg("--cpuset").arg(folder);
-        }
-        Daemon::begun(command, path)
+        Daemon::begun(run(&path, words), path)
     }
 
-    /// By this command, which has that path.
+    /// Begins a daemon by this command, in which the path of its socket is `path`.
     pub fn begun(mut command: Command, path: PathBuf) -> Daemon {
         let mut guardian = command.stdout(Stdio::piped()).spawn().unwrap();
         let mut line = [0; 6];
@@ -87,20 +103,46 @@ impl Daemon {
         let id = self.guardian.id();
         fs::read_to_string(format!("/proc/{id}/task/{id}/children")).unwrap().trim().parse().unwrap()
     }
+
+    /// Stops the daemon while `f` runs: all that is sent meanwhile has come once the daemon goes on.
+    pub fn while_it_stands(&self, f: impl FnOnce()) {
+        let child = self.child();
+        signal(child, "STOP");
+        let state = || fs::read_to_string(format!("/proc/{child}/stat")).unwrap();
+        becomes("the daemon stands", || state().rsplit_once(") ").unwrap().1.starts_with('T'));
+        f();
+        signal(child, "CONT");
+    }
 }
 
 impl Drop for Daemon {
     fn drop(&mut self) {
         if self.guardian.try_wait().unwrap().is_none() {
-            let _ = Command::new("kill").arg(self.guardian.id().to_string()).status();
+            signal(self.guardian.id(), "TERM");
             let _ = self.guardian.wait();
         }
-        assert!(!self.socket.0.exists(), "the socket is removed");
+        assert!(thread::panicking() || !self.socket.0.exists(), "the socket is removed");
     }
+}
+
+/// Returns the command of a daemon: by cpusets, unless `words` say otherwise, if ARBITER_CPUSET names a folder. It knows
+/// nothing of the machine's host, which may take processors while a test runs, and of hyperthreads.
+pub fn run(path: &Path, words: &[&str]) -> Command {
+    let mut command = Command::new(program());
+    command.arg("run").arg(path).args(words).env("ARBITER_STAT", "/dev/null").env("ARBITER_TOPOLOGY", "/dev/null");
+    if let (Some(folder), false) = (env::var_os("ARBITER_CPUSET"), words.contains(&"--rest")) {
+        command.arg("--cpuset").arg(folder);
+    }
+    command
 }
 
 pub fn path_of(name: &str) -> PathBuf {
     env::temp_dir().join(format!("arbiter-test-{}-{name}", std::process::id()))
+}
+
+pub fn signal(process: u32, name: &str) {
+    let sent = Command::new("kill").args([&format!("-{name}"), &process.to_string()]).status();
+    assert!(sent.unwrap().success() || thread::panicking());
 }
 
 pub fn kill(process: u32) {
@@ -111,9 +153,24 @@ pub fn send(stream: &mut UnixStream, words: [u32; 4]) {
     stream.write_all(&bytes_of(words)).unwrap();
 }
 
+/// Returns the next message, or None if the connection has ended.
 pub fn receive(stream: &mut UnixStream) -> Option<[u32; 4]> {
     let mut bytes = [0; SIZE];
-    stream.read_exact(&mut bytes).ok().map(|()| words_of(&bytes))
+    match stream.read_exact(&mut bytes) {
+        Ok(()) => Some(words_of(&bytes)),
+        Err(error) => {
+            assert!(!matches!(error.kind(), ErrorKind::WouldBlock | ErrorKind::TimedOut), "nothing comes");
+            None
+        }
+    }
+}
+
+/// Returns true if nothing has come that was not read, and the connection has not ended.
+pub fn is_silent(stream: &UnixStream) -> bool {
+    stream.set_nonblocking(true).unwrap();
+    let read = { stream }.read(&mut [0]);
+    stream.set_nonblocking(false).unwrap();
+    matches!(read, Err(error) if error.kind() == ErrorKind::WouldBlock)
 }
 
 /// The daemon's program.
@@ -121,48 +178,48 @@ pub fn program() -> String {
     option_env!("CARGO_BIN_EXE_arachne-arbiter").map_or_else(|| env::var("ARBITER").unwrap(), str::to_string)
 }
 
-/// What `arachne-arbiter status` prints.
+/// Returns what `arachne-arbiter status` prints.
 pub fn status(socket: &Socket) -> String {
     let output = Command::new(program()).arg("status").arg(&socket.0).output().unwrap();
     assert!(output.status.success());
     String::from_utf8(output.stdout).unwrap()
 }
 
-/// The thread of this process to which a processor is granted, by the daemon's account.
+/// Returns the thread of this process to which a processor is granted, by the daemon's account.
 pub fn thread_on(socket: &Socket, cpu: u32) -> u32 {
     let (text, begin) = (status(socket), format!("processor {cpu}: client "));
     let line = text.lines().find_map(|line| line.strip_prefix(&*begin)).unwrap();
     line.split([' ', ',']).nth(3).unwrap().parse().unwrap()
 }
 
-/// The processors that a thread of this process may run on, as the kernel prints them.
+/// Returns the processors that a thread of this process may run on, as the kernel prints them.
 pub fn processors_of(thread: &str) -> String {
     processors_of_process(&format!("self/task/{thread}"))
 }
 
-/// The processors that the first thread of a process may run on.
+/// Returns the processors that the first thread of a process may run on.
 pub fn processors_of_process(process: &str) -> String {
     let text = fs::read_to_string(format!("/proc/{process}/status")).unwrap();
     text.lines().find_map(|line| line.strip_prefix("Cpus_allowed_list:")).unwrap().trim().into()
 }
 
-/// Waits until something is so, for a while.
+/// Waits until something is so, which it is to become within `PATIENCE`.
 pub fn becomes(what: &str, is_so: impl Fn() -> bool) {
-    let end = Instant::now() + Duration::from_secs(60);
+    let end = Instant::now() + PATIENCE;
     while !is_so() {
         assert!(Instant::now() < end, "never: {what}");
         thread::sleep(Duration::from_millis(1));
     }
 }
 
-/// One of this file's tests that are ignored, as a process of its own.
+/// Returns the command of one of this file's tests that are ignored, as a process of its own.
 pub fn other(name: &str, socket: &Socket) -> Command {
     let mut command = Command::new(env::current_exe().unwrap());
     command.args(["--exact", name, "--ignored", "--nocapture"]).env("ARBITER_OF", &socket.0).stdout(Stdio::piped());
     command
 }
 
-/// The socket of the daemon of the test that has begun this process.
+/// Returns the socket of the daemon of the test that has begun this process.
 pub fn given() -> Socket {
     Socket(env::var_os("ARBITER_OF").unwrap().into())
 }

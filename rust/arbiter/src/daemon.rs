@@ -1,0 +1,411 @@
+//! The daemon's loop: it reads what has come, lets the library decide, and moves threads until each decision is
+//! carried out.
+
+mod hearing;
+mod turns;
+
+use crate::host::{Host, WINDOW};
+use crate::means::{self, Means};
+use crate::options::Options;
+use crate::{sys, threads};
+use arbiter::library::{Move, Share, State};
+use arbiter::protocol::*;
+use hearing::{Connection, Role};
+use std::collections::BTreeMap;
+use std::fs;
+use std::io::{self, ErrorKind, Write};
+use std::os::unix::net::UnixListener;
+use std::sync::atomic::Ordering::*;
+use std::time::{Duration, Instant};
+use turns::Turns;
+
+/// The time for which a client may keep a core beyond what it is allowed.
+const PATIENCE: Duration = Duration::from_millis(10);
+/// The time between two looks for threads that have ended, and for strangers on a granted core.
+const LOOKS: Duration = Duration::from_secs(1);
+/// The most readers of the status that are answered in a round.
+const READERS: usize = 8;
+
+struct Thread {
+    id: u32,
+    /// When it began, which tells it from another of its number.
+    began: u64,
+    connection: u64,
+    core: Option<usize>,
+}
+
+struct Core {
+    /// The processors that nobody else has meanwhile. Its thread has the first.
+    cpus: Vec<usize>,
+    /// The client that has it and the place of its thread.
+    owner: Option<(u32, u32)>,
+    /// When the owner changed last.
+    since: Instant,
+}
+
+struct Client {
+    /// Its number in the library's state.
+    number: usize,
+    process: u32,
+    user: u32,
+    ended: fs::File,
+    control: u64,
+    page: sys::Page,
+    priority: u32,
+    least: u32,
+    asked: u32,
+    allowed: u32,
+    /// The cores that were given to it.
+    given: u64,
+    /// The cores that were taken from it by force.
+    forced: u64,
+    /// By when it must have given back what was asked back.
+    until: Option<Instant>,
+    /// The last turn in which it got a core or gave one, or had no thread for one.
+    turned: u64,
+    /// By place.
+    threads: BTreeMap<u32, Thread>,
+}
+
+pub struct Arbiter {
+    clients_socket: UnixListener,
+    readers_socket: UnixListener,
+    means: Means,
+    /// The clients and their threads as the library knows them, and every decision.
+    state: State,
+    start: Instant,
+    log: bool,
+    /// The processors that are never granted.
+    kept: Vec<usize>,
+    cores: Vec<Core>,
+    host: Host,
+    /// The processors on which threads without a core run.
+    rest: Vec<usize>,
+    all: Vec<usize>,
+    /// By number, in the order in which they came.
+    connections: BTreeMap<u64, Connection>,
+    /// The number of connections that have ever been.
+    connected: u64,
+    /// By the number of their control connection.
+    clients: BTreeMap<u32, Client>,
+    forced: u64,
+    turns: Turns,
+}
+
+impl Arbiter {
+    /// Returns an arbiter without clients. Fails if memory is refused, or if there are too many cores.
+    pub fn new(options: &Options, means: Means, clients: UnixListener, readers: UnixListener) -> io::Result<Arbiter> {
+        let mut kept = options.cores();
+        let cores = kept.split_off(options.keep);
+        let state =
+            State::new(cores.len()).ok_or_else(|| io::Error::new(ErrorKind::Other, "no memory, or too many cores"))?;
+        Ok(Arbiter {
+            clients_socket: clients,
+            readers_socket: readers,
+            means,
+            state,
+            start: Instant::now(),
+            log: options.log,
+            kept: kept.concat(),
+            host: Host::new(cores.iter().map(|cpus| cpus[0]).collect()),
+            cores: cores.into_iter().map(|cpus| Core { cpus, owner: None, since: Instant::now() }).collect(),
+            rest: options.cpus.clone(),
+            all: options.cpus.clone(),
+            connections: BTreeMap::new(),
+            connected: 0,
+            clients: BTreeMap::new(),
+            forced: 0,
+            turns: Turns::new(Duration::from_millis(options.turn)),
+        })
+    }
+
+    /// Serves until this process is asked to end, and gives all threads all processors again.
+    pub fn run(&mut self) {
+        let mut looked = Instant::now();
+        while !sys::ENDS.load(SeqCst) {
+            self.hear(self.time_left());
+            if looked.elapsed() > LOOKS {
+                looked = Instant::now();
+                self.look_round();
+            }
+            self.look_at_host();
+            self.settle();
+            if self.begin_turn() {
+                self.settle();
+            }
+            self.answer_readers();
+        }
+        let ids: Vec<u32> = self.clients.keys().copied().collect();
+        ids.into_iter().for_each(|id| self.drop_client(id));
+        println!("by force {}, after {:.0} s", self.forced, self.start.elapsed().as_secs_f64());
+    }
+
+    /// Returns the milliseconds until something must be done, if nothing comes.
+    fn time_left(&self) -> i32 {
+        let ends = self.clients.values().filter_map(|client| client.until);
+        let next = ends.chain(self.next_turn()).min();
+        let next = next.map_or(LOOKS, |at| at.saturating_duration_since(Instant::now()) + Duration::from_millis(1));
+        let most = if self.clients.is_empty() { LOOKS } else { WINDOW };
+        next.min(most).as_millis() as i32
+    }
+
+    fn say(&self, text: impl FnOnce() -> String) {
+        if self.log {
+            println!("{:.6} {}", clock(), text());
+        }
+    }
+
+    // ------------------------------------------------------------------------------------------ decisions
+
+    /// Drops who is gone, decides anew, and takes and gives cores, until that changes nothing more.
+    fn settle(&mut self) {
+        loop {
+            self.bury();
+            self.decide();
+            let ids: Vec<u32> = self.clients.keys().copied().collect();
+            ids.into_iter().for_each(|id| self.take_from(id));
+            let mut all_moved = true;
+            while let Some(given) = self.state.give() {
+                all_moved &= self.place(given);
+            }
+            // Who can't be moved, or doesn't read, is dropped, and a turn ends once: so this ends.
+            if !self.end_turn() && all_moved && self.connections.values().all(|it| !it.gone) {
+                return self.update_rest();
+            }
+        }
+    }
+
+    /// Publishes how many cores a client is allowed, and takes what it has beyond that: at once from a thread that
+    /// floats, else if it is late.
+    fn take_from(&mut self, id: u32) {
+        let share = self.share(id);
+        let client = self.clients.get_mut(&id).unwrap();
+        let number = client.number;
+        if client.allowed != share.allowed {
+            let less = share.allowed < client.allowed;
+            client.allowed = share.allowed;
+            client.page.allowed().store(share.allowed, SeqCst);
+            let control = client.control;
+            if less {
+                self.send(control, [ALLOWED, share.allowed, 0, 0]);
+            }
+        }
+        let client = self.clients.get_mut(&id).unwrap();
+        if share.held <= share.allowed {
+            client.until = None;
+            return;
+        }
+        let late = Instant::now() >= *client.until.get_or_insert_with(|| Instant::now() + PATIENCE);
+        let mut left = share.held;
+        while let Some(taken) = self.state.take_back(number, late) {
+            self.unplace(id, taken.place as u32);
+            self.forced += late as u64;
+            self.clients.get_mut(&id).unwrap().forced += late as u64;
+            left -= 1;
+        }
+        if left <= share.allowed {
+            self.clients.get_mut(&id).unwrap().until = None;
+        }
+    }
+
+    /// Returns how many cores a client is allowed, and how many it has.
+    fn share(&mut self, id: u32) -> Share {
+        self.clients.get(&id).map_or(Share { allowed: 0, held: 0 }, |client| self.state.share(client.number))
+    }
+
+    /// Drops the clients and threads whose connections have ended.
+    fn bury(&mut self) {
+        loop {
+            let gone = self.connections.iter().find(|(_, it)| it.gone).map(|(&name, _)| name);
+            let name = match gone {
+                Some(name) => name,
+                None => return,
+            };
+            match self.connections.remove(&name).map(|it| it.role) {
+                Some(Role::Control(id)) => self.drop_client(id),
+                Some(Role::Thread(id, place)) => self.drop_thread(id, place),
+                _ => {}
+            }
+        }
+    }
+
+    fn drop_client(&mut self, id: u32) {
+        let places: Vec<u32> = self.clients.get(&id).map_or(Vec::new(), |it| it.threads.keys().copied().collect());
+        places.into_iter().for_each(|place| self.drop_thread(id, place));
+        if let Some(client) = self.clients.remove(&id) {
+            self.state.leave(client.number);
+            self.connections.remove(&client.control);
+            self.say(|| format!("client {id} goes"));
+        }
+    }
+
+    fn drop_thread(&mut self, id: u32, place: u32) {
+        self.unplace(id, place);
+        if let Some(client) = self.clients.get(&id) {
+            self.state.end(client.number, place as usize);
+        }
+        let client = self.clients.get_mut(&id);
+        if let Some((process, thread)) = client.and_then(|it| Some((it.process, it.threads.remove(&place)?))) {
+            self.connections.remove(&thread.connection);
+            if thread.is_of(process) {
+                self.means.release(thread.id, &self.all);
+            }
+        }
+    }
+
+    // ------------------------------------------------------------------------------------------ moves
+
+    /// Moves a thread to its core. Returns false if it can't be moved; then it is no thread of its client any more.
+    fn place(&mut self, given: Move) -> bool {
+        let id = match self.clients.iter().find(|(_, client)| client.number == given.client) {
+            Some((&id, _)) => id,
+            None => return true,
+        };
+        let (place, core) = (given.place as u32, given.core);
+        let client = self.clients.get_mut(&id).unwrap();
+        client.given += 1;
+        let thread = client.threads.get_mut(&place).unwrap();
+        let (cpu, name) = (self.cores[core].cpus[0], thread.connection);
+        thread.core = Some(core);
+        (self.cores[core].owner, self.cores[core].since) = (Some((id, place)), Instant::now());
+        self.update_rest();
+        if !self.set_on_core(core) {
+            // It has ended, or may not be moved.
+            self.drop_thread(id, place);
+            return false;
+        }
+        if given.waited {
+            self.send(name, [GRANT, cpu as u32, 0, 0]);
+        }
+        self.say(|| format!("core {cpu} to {id}.{place}"));
+        true
+    }
+
+    /// Moves a thread that has a core into the rest.
+    fn unplace(&mut self, client: u32, place: u32) {
+        let of = self.clients.get_mut(&client).and_then(|it| Some((it.process, it.threads.get_mut(&place)?)));
+        let (process, thread) = match of {
+            Some(of) => of,
+            None => return,
+        };
+        if let Some(core) = thread.core.take() {
+            (self.cores[core].owner, self.cores[core].since) = (None, Instant::now());
+            if thread.is_of(process) {
+                let _ = self.means.unplace(thread.id, &self.rest);
+            }
+            self.say(|| format!("core {} back from {client}.{place}", self.cores[core].cpus[0]));
+        }
+    }
+
+    /// Moves the owner's thread to a core, or into the rest while the host takes the core's processor, which is one of
+    /// the rest then. Returns false if it can't be moved.
+    fn set_on_core(&self, core: usize) -> bool {
+        let owner = self.cores[core].owner.and_then(|(id, place)| {
+            let client = self.clients.get(&id)?;
+            Some((client.process, client.threads.get(&place)?))
+        });
+        let (process, thread) = match owner {
+            Some(owner) => owner,
+            None => return true,
+        };
+        let moves = || match self.host.takes(core) {
+            true => self.means.unplace(thread.id, &self.rest),
+            false => self.means.place(thread.id, self.cores[core].cpus[0]),
+        };
+        thread.is_of(process) && moves().is_ok()
+    }
+
+    fn update_rest(&mut self) {
+        let (cores, host) = (&self.cores, &self.host);
+        let free = (0..cores.len()).filter(|&core| cores[core].owner.is_none() || host.takes(core));
+        let free = free.flat_map(|core| &cores[core].cpus);
+        let rest: Vec<usize> = self.kept.iter().chain(free).copied().collect();
+        if rest != self.rest {
+            let all = self.clients.values().flat_map(|it| it.threads.values().map(move |thread| (it.process, thread)));
+            let others = all.filter(|(process, thread)| {
+                thread.core.map_or(true, |core| host.takes(core)) && thread.is_of(*process)
+            });
+            self.means.set_rest(&rest, others.map(|(_, thread)| thread.id));
+            self.rest = rest;
+        }
+    }
+
+    /// Sends a message. A client that doesn't read, so that its socket is full, is dropped by the next `bury`.
+    fn send(&mut self, name: u64, words: [u32; 4]) {
+        if let Some(connection) = self.connections.get_mut(&name) {
+            let sent = connection.stream.write(&bytes_of(words));
+            connection.gone |= !matches!(sent, Ok(SIZE));
+        }
+    }
+
+    // ------------------------------------------------------------------------------------------ looks
+
+    /// Drops threads that have ended, and frees threads that began on a core that isn't theirs.
+    fn look_round(&mut self) {
+        let all =
+            self.clients.iter().flat_map(|(&id, it)| it.threads.iter().map(move |(&place, t)| (id, it, place, t)));
+        let ended = all.filter(|(_, client, _, thread)| !thread.is_of(client.process));
+        let ended: Vec<_> = ended.map(|(id, _, place, _)| (id, place)).collect();
+        ended.into_iter().for_each(|(id, place)| self.drop_thread(id, place));
+        let threads = self.clients.values().flat_map(|client| client.threads.values());
+        let known: Vec<u32> = threads.map(|thread| thread.id).collect();
+        let processes: Vec<u32> = self.clients.values().map(|client| client.process).collect();
+        let cpus: Vec<usize> = self.cores.iter().map(|core| core.cpus[0]).collect();
+        self.means.free_strangers(&cpus, &processes, &known, &self.all);
+    }
+
+    /// Moves the threads on processors that the host began or ceased to take.
+    fn look_at_host(&mut self) {
+        let changed = self.host.look();
+        if changed.is_empty() {
+            return;
+        }
+        self.update_rest();
+        for core in changed {
+            self.say(|| format!("core {} taken by the host: {}", self.cores[core].cpus[0], self.host.takes(core)));
+            let _ = self.set_on_core(core);
+        }
+    }
+
+    /// Writes the status to those who have connected for that.
+    fn answer_readers(&self) {
+        for (mut stream, _) in (0..READERS).map_while(|_| self.readers_socket.accept().ok()) {
+            let _ = stream.set_nonblocking(true);
+            let _ = stream.write_all(self.status().as_bytes());
+        }
+    }
+
+    fn status(&self) -> String {
+        let mut text = String::new();
+        for (id, client) in &self.clients {
+            let Client { process, user, priority, least, asked, allowed, given, forced, .. } = client;
+            let has = client.threads.values().filter(|thread| thread.core.is_some()).count();
+            text += &format!(
+                "client {id}: process {process}, user {user}, priority {priority}, reserved {least}, asks for {asked}, \
+                 may have {allowed}, has {has}; {given} given, {forced} taken by force\n"
+            );
+        }
+        for (nth, core) in self.cores.iter().enumerate() {
+            let thread = |(id, place)| Some((id, self.clients.get(&id)?.threads.get(&place)?.id));
+            let owner = core.owner.and_then(thread);
+            let owner = owner.map_or("nobody".into(), |(id, thread)| format!("client {id}, thread {thread}"));
+            let host = if self.host.takes(nth) { "; the host takes it" } else { "" };
+            let seconds = core.since.elapsed().as_secs_f64();
+            let (several, cpus) = (if core.cpus.len() > 1 { "s" } else { "" }, means::list(&core.cpus));
+            text += &format!("processor{several} {cpus}: {owner}, for {seconds:.3} s{host}\n");
+        }
+        text
+    }
+}
+
+impl Thread {
+    /// Returns true if it has not ended, so that its number is no other thread's.
+    fn is_of(&self, process: u32) -> bool {
+        threads::began(process, self.id) == Some(self.began)
+    }
+}
+
+/// Returns the seconds since 1970, by which lines of several processes' logs are compared.
+fn clock() -> f64 {
+    std::time::SystemTime::now().duration_since(std::time::SystemTime::UNIX_EPOCH).unwrap().as_secs_f64()
+}

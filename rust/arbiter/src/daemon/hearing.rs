@@ -1,0 +1,237 @@
+//! Connections: what is read of them before a decision, and what each message does.
+
+use super::{Arbiter, Client, Thread};
+use crate::means::Means;
+use crate::{sys, threads};
+use arbiter::library::{read, Message};
+use arbiter::protocol::*;
+use std::collections::BTreeMap;
+use std::io::{ErrorKind, Read};
+use std::os::unix::io::AsRawFd;
+use std::os::unix::net::UnixStream;
+
+/// The most connections: of all processes, so that there are descriptors for each (three for a client's, of the usual
+/// limit of 1,024), and of one process (those of 64 workers and a control connection, twice).
+const CONNECTIONS: usize = 300;
+const OF_A_PROCESS: usize = 130;
+/// The most passes over the sockets before a decision, and what is read in each at most: messages of a connection, and
+/// new connections. So nobody who sends all of the time holds a decision up.
+const PASSES: usize = 4;
+const MESSAGES: usize = 4;
+const ACCEPTED: usize = 64;
+/// The most clients: their numbers in the library's state.
+const CLIENTS: usize = 64;
+/// Users other than root and the daemon's own have the priorities from this one on, no reserved cores, and this many
+/// clients each.
+const FOR_OTHERS: u32 = 4;
+const OF_ANOTHER: usize = 16;
+
+pub(super) enum Role {
+    New,
+    Control(u32),
+    Thread(u32, u32),
+}
+
+pub(super) struct Connection {
+    pub(super) stream: UnixStream,
+    /// The process and the user at the other end.
+    peer: (u32, u32),
+    bytes: [u8; SIZE],
+    len: usize,
+    pub(super) role: Role,
+    /// It has ended, or was refused, and is dropped by the next `bury`.
+    pub(super) gone: bool,
+}
+
+impl Arbiter {
+    /// Reads all that has come. Waits for at most `timeout` milliseconds until something does.
+    ///
+    /// What is sent while it reads is read too, until nothing more has come. If a request were decided on before the
+    /// threads are known that joined or waited before it was sent, cores would go to others, and be taken back at once.
+    pub(super) fn hear(&mut self, timeout: i32) {
+        let mut timeout = timeout;
+        for _ in 0..PASSES {
+            if !self.pass(timeout) {
+                return;
+            }
+            timeout = 0;
+        }
+    }
+
+    /// Reads what has come, a few messages of each connection. Returns false if nothing has within `timeout`
+    /// milliseconds.
+    fn pass(&mut self, timeout: i32) -> bool {
+        self.bury();
+        let names: Vec<u64> = self.connections.keys().copied().collect();
+        let ids: Vec<u32> = self.clients.keys().copied().collect();
+        let streams = self.connections.values().map(|it| it.stream.as_raw_fd());
+        let processes = self.clients.values().map(|it| it.ended.as_raw_fd());
+        let sockets = [self.clients_socket.as_raw_fd(), self.readers_socket.as_raw_fd()];
+        let fds = streams.chain(processes).chain(sockets);
+        let mut fds: Vec<sys::Polled> = fds.map(|fd| sys::Polled { fd, events: 1, seen: 0 }).collect();
+        sys::wait(&mut fds, timeout);
+        // Whoever reads the status is answered after the decision.
+        fds.pop();
+        if fds.iter().all(|it| it.seen == 0) {
+            return false;
+        }
+        for (&id, _) in ids.iter().zip(&fds[names.len()..]).filter(|(_, fd)| fd.seen != 0) {
+            self.drop_client(id);
+        }
+        for (&name, _) in names.iter().zip(&fds).filter(|(_, fd)| fd.seen != 0) {
+            self.read(name);
+        }
+        for _ in 0..ACCEPTED {
+            match self.clients_socket.accept() {
+                Ok((stream, _)) => self.accept(stream),
+                Err(_) => break,
+            }
+        }
+        // What a client's threads have sent before a request that was read above has come by now, also of those that
+        // have connected since.
+        let others = self.connections.iter().filter(|(_, it)| !matches!(it.role, Role::Control(_)));
+        let others: Vec<u64> = others.map(|(&name, _)| name).collect();
+        others.into_iter().for_each(|name| self.read(name));
+        true
+    }
+
+    fn accept(&mut self, stream: UnixStream) {
+        let peer = match sys::peer(&stream) {
+            Ok(peer) => peer,
+            Err(_) => return,
+        };
+        let alike = self.connections.values().filter(|it| it.peer.0 == peer.0).count();
+        if self.connections.len() >= CONNECTIONS || alike >= OF_A_PROCESS || stream.set_nonblocking(true).is_err() {
+            return;
+        }
+        self.connected += 1;
+        let connection = Connection { stream, peer, bytes: [0; SIZE], len: 0, role: Role::New, gone: false };
+        self.connections.insert(self.connected, connection);
+    }
+
+    /// Reads a few messages of a connection, as far as they have come.
+    fn read(&mut self, name: u64) {
+        for _ in 0..MESSAGES {
+            let connection = match self.connections.get_mut(&name) {
+                Some(connection) if !connection.gone => connection,
+                _ => return,
+            };
+            match connection.stream.read(&mut connection.bytes[connection.len..]) {
+                Ok(0) => connection.gone = true,
+                Ok(n) => connection.len += n,
+                Err(error) if error.kind() == ErrorKind::WouldBlock => return,
+                Err(error) if error.kind() == ErrorKind::Interrupted => continue,
+                Err(_) => connection.gone = true,
+            }
+            if connection.len == SIZE {
+                connection.len = 0;
+                let bytes = connection.bytes;
+                if let Err(why) = read(&bytes).and_then(|message| self.obey(name, message)) {
+                    self.say(|| format!("refused: {why}"));
+                    self.send(name, [REFUSED, 0, 0, 0]);
+                    self.connections.get_mut(&name).unwrap().gone = true;
+                }
+            }
+        }
+    }
+
+    fn obey(&mut self, name: u64, message: Message) -> Result<(), &'static str> {
+        let connection = &self.connections[&name];
+        match (&connection.role, message) {
+            (Role::New, Message::Hello { priority, reserved, most }) => self.greet(name, priority, reserved, most),
+            (Role::New, Message::Join { client, thread, place, floats }) => {
+                self.join(name, client, thread, place, floats)
+            }
+            (Role::Control(client), Message::Ask { cores }) => {
+                let id = *client;
+                self.clients.get_mut(&id).ok_or("no client")?.asked = cores;
+                self.tell(id);
+                Ok(())
+            }
+            (&Role::Thread(client, place), Message::Wait) => self.take_back(client, place),
+            _ => Err("a message that is out of place"),
+        }
+    }
+
+    fn greet(&mut self, name: u64, priority: u32, least: u32, most: u32) -> Result<(), &'static str> {
+        let (process, user) = self.connections[&name].peer;
+        let trusted = user == 0 || user == sys::user();
+        let reserved: u32 = self.clients.values().map(|client| client.least).sum();
+        if !trusted && priority < FOR_OTHERS {
+            return Err("a priority that it may not have");
+        }
+        if least > 0 && (!trusted || (reserved + least) as usize > self.cores.len()) {
+            return Err("reserved cores that it may not have");
+        }
+        if !trusted && self.clients.values().filter(|client| client.user == user).count() >= OF_ANOTHER {
+            return Err("too many clients of one user");
+        }
+        let free = |number: &usize| self.clients.values().all(|client| client.number != *number);
+        let number = (0..CLIENTS).find(free).ok_or("too many clients")?;
+        let failed = |_| "the system refused it";
+        let client = Client {
+            number,
+            process,
+            user,
+            ended: sys::watch_process(process).map_err(failed)?,
+            control: name,
+            page: sys::Page::new().map_err(failed)?,
+            priority,
+            least,
+            asked: 0,
+            allowed: 0,
+            given: 0,
+            forced: 0,
+            until: None,
+            // Behind those that wait already.
+            turned: self.turns.count,
+            threads: BTreeMap::new(),
+        };
+        let all = self.clients.values().flat_map(|client| client.threads.values());
+        let placed: Vec<u32> = all.filter(|thread| thread.core.is_some()).map(|thread| thread.id).collect();
+        self.means.admit(process, &placed);
+        let id = name as u32;
+        let welcome = [WELCOME, id, self.cores.len() as u32, matches!(self.means, Means::Cpusets(_)) as u32];
+        if !self.state.hello(number, priority as u8, least, most) {
+            return Err("no such client");
+        }
+        let connection = self.connections.get_mut(&name).unwrap();
+        if let Err(error) = sys::send_with(&connection.stream, &bytes_of(welcome), client.page.fd()) {
+            self.state.leave(number);
+            return Err(failed(error));
+        }
+        connection.role = Role::Control(id);
+        self.say(|| format!("client {id} comes: process {process}, priority {priority}"));
+        self.clients.insert(id, client);
+        Ok(())
+    }
+
+    fn join(&mut self, name: u64, id: u32, thread: u32, place: u32, floats: bool) -> Result<(), &'static str> {
+        let process = self.connections[&name].peer.0;
+        let client = self.clients.get(&id).filter(|client| client.process == process).ok_or("no client of it")?;
+        let number = client.number;
+        let thread = threads::thread_of(process, thread).ok_or("a thread that isn't one of it")?;
+        let began = threads::began(process, thread).ok_or("a thread that has ended")?;
+        if self.clients.values().any(|client| client.threads.values().any(|it| it.id == thread)) {
+            return Err("a thread that is known");
+        }
+        if !self.state.join(number, place as usize, floats) {
+            return Err("two threads of one place");
+        }
+        let client = self.clients.get_mut(&id).unwrap();
+        client.threads.insert(place, Thread { id: thread, began, connection: name, core: None });
+        self.connections.get_mut(&name).unwrap().role = Role::Thread(id, place);
+        let _ = self.means.unplace(thread, &self.rest);
+        Ok(())
+    }
+
+    /// Takes a thread's core, if it has one. The thread waits for another.
+    fn take_back(&mut self, client: u32, place: u32) -> Result<(), &'static str> {
+        let number = self.clients.get(&client).ok_or("no client")?.number;
+        if !self.state.wait(number, place as usize) {
+            return Err("one that floats, or waits, waits");
+        }
+        self.unplace(client, place);
+        Ok(())
+    }
+}

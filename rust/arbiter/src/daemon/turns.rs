@@ -1,0 +1,130 @@
+//! Turns: the core that is left over within a priority goes round.
+
+use super::{Arbiter, Client};
+use std::collections::BTreeMap;
+use std::time::{Duration, Instant};
+
+/// The most clients for which a core is looked for at a time: each that has no thread for one costs a decision.
+const TRIED: usize = 8;
+
+pub(super) struct Turns {
+    /// The time between two turns; zero if there are none.
+    every: Duration,
+    looked: Instant,
+    /// The number of turns, and of clients that had no thread for theirs.
+    pub(super) count: u64,
+    current: Option<Turn>,
+}
+
+/// A core is going from one client to another of its priority.
+struct Turn {
+    priority: u32,
+    from: u32,
+    to: u32,
+    /// By client of that priority, the cores that it will have: until then it asks for no more.
+    most: BTreeMap<u32, u32>,
+}
+
+impl Turns {
+    pub(super) fn new(every: Duration) -> Turns {
+        Turns { every, looked: Instant::now(), count: 0, current: None }
+    }
+}
+
+impl Arbiter {
+    /// Reports to the library how many cores a client asks for: in a turn of its priority, no more than it will have, or
+    /// than its reserve.
+    pub(super) fn tell(&mut self, id: u32) {
+        if let Some(client) = self.clients.get(&id) {
+            let turn = self.turns.current.as_ref().filter(|turn| turn.priority == client.priority);
+            let most = turn.map_or(client.asked, |turn| turn.most.get(&id).copied().unwrap_or(0).max(client.least));
+            self.state.ask(client.number, most.min(client.asked));
+        }
+    }
+
+    fn set_turn(&mut self, turn: Option<Turn>) {
+        self.turns.current = turn;
+        let ids: Vec<u32> = self.clients.keys().copied().collect();
+        ids.into_iter().for_each(|id| self.tell(id));
+    }
+
+    /// Returns when a turn may begin, if one may.
+    pub(super) fn next_turn(&self) -> Option<Instant> {
+        let Turns { every, looked, current, .. } = &self.turns;
+        let may = self.clients.len() > 1 && current.is_none() && !every.is_zero();
+        may.then_some(*looked + *every)
+    }
+
+    /// Decides how many cores each client is allowed. A turn is over if a client of its priority is allowed less than it
+    /// was to have after it: others, which ask for less meanwhile, may want what that leaves.
+    pub(super) fn decide(&mut self) {
+        self.state.decide();
+        let most = self.turns.current.as_ref().map_or(BTreeMap::new(), |turn| turn.most.clone());
+        if most.into_iter().any(|(id, most)| self.share(id).allowed < most) {
+            self.set_turn(None);
+            self.state.decide();
+        }
+    }
+
+    /// Begins a turn. Returns false if it is not yet time for one, or if no core can go round. All must be settled.
+    pub(super) fn begin_turn(&mut self) -> bool {
+        if !self.next_turn().map_or(false, |at| at <= Instant::now()) {
+            return false;
+        }
+        self.turns.looked = Instant::now();
+        for _ in 0..TRIED {
+            let turn = match self.find_turn() {
+                Some(turn) => turn,
+                None => return false,
+            };
+            let to = turn.to;
+            self.set_turn(Some(turn));
+            self.decide();
+            if self.turns.current.is_some() {
+                return true;
+            }
+            self.count_turn(&[to]);
+        }
+        false
+    }
+
+    /// Returns the turn of the client that asks for more, while another of its priority has more than it and than its own
+    /// reserve, and has gone without for the longest; from the one that has had its core for the longest.
+    fn find_turn(&self) -> Option<Turn> {
+        let alike = |priority| self.clients.iter().filter(move |(_, it)| it.priority == priority);
+        let giver = |to: &Client| {
+            let givers = alike(to.priority).filter(|(_, it)| it.allowed > to.allowed.max(it.least.min(it.asked)));
+            givers.min_by_key(|(_, it)| it.turned)
+        };
+        let waits = self.clients.iter().filter(|(_, it)| it.asked > it.allowed && giver(it).is_some());
+        let (&to, client) = waits.min_by_key(|(_, it)| it.turned)?;
+        let (&from, _) = giver(client)?;
+        let mut most: BTreeMap<u32, u32> = alike(client.priority).map(|(&id, it)| (id, it.allowed)).collect();
+        most.insert(to, client.allowed + 1);
+        most.entry(from).and_modify(|most| *most -= 1);
+        Some(Turn { priority: client.priority, from, to, most })
+    }
+
+    /// Ends the turn if the core has changed hands. Returns false if not.
+    pub(super) fn end_turn(&mut self) -> bool {
+        let (from, to, most) = match &self.turns.current {
+            Some(turn) => (turn.from, turn.to, turn.most[&turn.to]),
+            None => return false,
+        };
+        let ends = self.share(to).held >= most;
+        if ends {
+            self.count_turn(&[from, to]);
+            self.set_turn(None);
+        }
+        ends
+    }
+
+    fn count_turn(&mut self, ids: &[u32]) {
+        self.turns.count += 1;
+        for id in ids {
+            if let Some(client) = self.clients.get_mut(id) {
+                client.turned = self.turns.count;
+            }
+        }
+    }
+}
