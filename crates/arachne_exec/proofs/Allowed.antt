@@ -14,8 +14,8 @@ use Rattle.arachne_weights.specs.declared.token.Token.{Token}
 use Rattle.arachne_weights.specs.Tokens.{held, spent}
 use Rattle.arachne_exec.specs.declared.view.Notes.{Notes}
 use Rattle.arachne_exec.specs.Layout.{summary_at, ready_at, free_at, mark_at, last_generation, retired, worker_of, others, words_of}
-use Rattle.arachne_exec.specs.Board.{IsLawful, blank}
-use Rattle.arachne_exec.specs.Changes.{older, first_of, second_of, both_of}
+use Rattle.arachne_exec.specs.Board.{IsLawful}
+use Rattle.arachne_exec.specs.Changes.{blank, older, first_of, second_of, both_of}
 use Rattle.arachne_exec.specs.Steps.{Mine, IsLive, Looks, Takes, TakesMany, Claims, Frees, Readies, Spawns, Begins, Blocks, Renews, Retires, Hears, Wakes, Marks, FindsShown, Shows, Hides, LooksAgain, LooksIdle, Unparks, Rises, Rests, LooksNext, Registers, Leaves}
 use Rattle.arachne_exec.specs.Seats.{Places, IsLaidOut, CallView, HasNewest, HasFoundMark}
 use Rattle.arachne_exec.proofs.Opening.{deals, gathers}

@@ -1,10 +1,10 @@
 -- What a seat knows after several steps of a call.
-use Rattle.std.proofs.Common.{◌≡◌, ◌≢◌, ℕ, zero, suc, ◌+◌, ◌*◌, ◌/◌, ◌%◌, ◌<◌, ◌≤◌, ◌⊎◌, List, ◌∷◌, ◌++◌, refl, sym, subst, ap, ◌∙◌, arith}
+use Rattle.std.proofs.Common.{◌≡◌, ◌≢◌, ℕ, zero, suc, ◌+◌, ◌*◌, ◌/◌, ◌%◌, ◌<◌, ◌≤◌, ◌⊎◌, List, [], ◌∷◌, ◌++◌, refl, sym, subst, ap, ◌∙◌, arith}
 use Rattle.std.specs.Int.{bit_at}
 use Rattle.arachne_exec.specs.declared.view.Notes.{Notes}
 use Rattle.arachne_exec.specs.Layout.{mark_at, last_generation}
 use Rattle.arachne_exec.specs.Changes.{older, newest_job, heard_more, noted, hearing, cleared_heard, cleared_looks, using_up}
-use Rattle.arachne_exec.specs.Calls.{HasMissed, HasFinished}
+use Rattle.arachne_exec.specs.Calls.{HasMissed, HasFreed, HasFinished}
 
 -- a bit of a block's word that was found set, and then clear
 pub missed : (at : ℕ → ℕ) (block index first then : ℕ) (k looked after : Notes) → index < 64 → bit_at first index ≡ 1 → looked ≡ noted (at block) first k → bit_at then ((64 * block + index) % 64) ≡ 0
@@ -31,7 +31,7 @@ finished place mark n then blocked k = record k {
 }
 
 pub ended : (place mark n : ℕ) (then : List (ℕ × ℕ)) (blocked : List ℕ) (k after : Notes) → after ≡ finished place mark n then blocked k
-    → ((mark / 4 + 1 < last_generation) × (blocked ≡ k.blocked)) ⊎ ((last_generation ≤ mark / 4 + 1) × (blocked ≡ place ∷ k.blocked)) → HasFinished place k after
+    → ((mark / 4 + 1 < last_generation) × (blocked ≡ k.blocked) × HasFreed place mark then) ⊎ ((last_generation ≤ mark / 4 + 1) × (blocked ≡ place ∷ k.blocked) × (then ≡ [])) → HasFinished place k after
 ended place mark n then blocked k after e last = subst (HasFinished place k) (sym e) (record { mark = mark; then = then; found = refl; heard = n; known = refl; retired = last })
 
 -- a mark that says of no wake stays, and another is cleared

@@ -12,9 +12,11 @@ use Rattle.arachne_weights.specs.Tokens.{held}
 use Rattle.arachne_weights.specs.Weight.{whole}
 use Rattle.arachne_weights.proofs.Tokens.{whole-total}
 use Rattle.arachne_exec.specs.declared.view.Notes.{Notes}
-use Rattle.arachne_exec.specs.Board.{one, times, places_in, jobs_in, is_number, at_home, Board, IsLawful, blank}
+use Rattle.arachne_exec.specs.Board.{one, times, places_in, jobs_in, is_number, at_home, Board, IsLawful}
+use Rattle.arachne_exec.specs.Changes.{blank}
 use Rattle.arachne_exec.specs.Ending.{IsSettled}
 use Rattle.arachne_exec.proofs.Bits.{one-apart}
+use Rattle.arachne_exec.proofs.Coming.{reached}
 use Rattle.arachne_exec.proofs.Balancing.{more-times}
 
 drop-past : (xs : List ℕ) (x : ℕ) → length xs ≤ x → drop x xs ≡ []
@@ -82,7 +84,7 @@ EndsWith shards k words slots = (id : ℕ) × Final (Seen (IsLawful shards) id (
 pub all-settled : (shards : ℕ) (k : Notes) → k.hand ≡ [] → (left words slots : List ℕ) (n : ℕ) → EndsWith shards k words slots → length slots ≤ n → SoFar left n slots → IsSettled k left
 all-settled shards k none left words slots n ends past so_far =
     let id : ℕ = ends.0 in let s : Board = ends.1.0 in let h : IsLawful shards s = ends.1.1.0 in let mine = ends.1.1.1 in let long = ends.1.3 in let values = ends.1.4 in
-    let alone = λ (f : Notes → ℕ) (e : f blank ≡ 0). whole-total blank (λ (t : Token Notes). f t.known) e h.shared id (held whole k) mine refl in
+    let alone = λ (f : Notes → ℕ) (e : f blank ≡ 0). whole-total blank (λ (t : Token Notes). f t.known) e (reached h.came) id (held whole k) mine refl in
     let nothing = λ (p : ℕ). alone (λ l. places_in p l.hand) refl ∙ ap (places_in p) none in
     let at = λ (p : ℕ) (inside : p < length s.homes). h.keeper.home p (omega (arith, inside, h.keeper.room)) (nothing p) in
     let home = λ (job : ℕ). same-home job s.homes slots long (λ p inside. ((at p inside).0, (at p inside).1, values p (at p inside).0 (at p inside).1)) in record {

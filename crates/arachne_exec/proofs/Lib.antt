@@ -11,7 +11,7 @@ mod Debts
 mod Rousing
 mod KeepsShown
 mod Sleeping
-mod Splits
+mod Coming
 mod Opening
 mod Moves
 mod SleepMoves

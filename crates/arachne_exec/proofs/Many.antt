@@ -9,6 +9,7 @@ use Rattle.std.proofs.lemmas.Nat.Bits.{bit_at-lt, bit_at_and, bit_at_not, same_f
 use Rattle.std.proofs.lemmas.Bool.{eq-eqb, ne_eqb}
 use mathlib.Core.Logic.{dite}
 use mathlib.Core.Option.{some, none, some-ne-none}
+use mathlib.Core.Option as maybe
 use native.Mathlib.Decide.{ℕ_discrete}
 use lib.ListN.{get_elem?}
 use Rattle.atomic_table.specs.Table.{Act, keeps, takes, chain, step, Allows, stepped, homes_after, carried_after, Valid}
@@ -16,11 +17,12 @@ use Rattle.arachne_weights.specs.declared.token.Token.{Token}
 use Rattle.arachne_weights.specs.Tokens.{held}
 use Rattle.arachne_exec.specs.declared.view.Notes.{Notes}
 use Rattle.arachne_exec.specs.Layout.{ready_at, others, places_from, places_in_word}
-use Rattle.arachne_exec.specs.Board.{Board, FoundLast, IsLawful}
+use Rattle.arachne_exec.specs.Board.{Board, HasCome, IsLawful}
 use Rattle.arachne_exec.specs.Changes.{gaining, noted}
 use Rattle.arachne_exec.specs.Steps.{TakesMany}
 use Rattle.arachne_exec.proofs.Bits.{clear_same, clear_other, clear_le, not_one}
 use Rattle.arachne_exec.proofs.Keeping.{ready_apart}
+use Rattle.arachne_exec.proofs.Coming.{ready-bits, told-found, comes}
 use Rattle.arachne_exec.proofs.Moves.{ready-job, taken-law, noting}
 
 -- what two words have in common is within the first
@@ -46,11 +48,10 @@ record Cleared (shards id w block pick : ℕ) (s : Board) (k : Notes) (xs : List
   pub valid : Valid s.homes xs act
   pub lawful : IsLawful shards (stepped s (ready_at block) word id xs (held w (gaining jobs k)) act)
 
-module _ (shards slots id w block pick : ℕ) (inside : block < 64 * shards) (s : Board) (h : IsLawful shards s) (k l : Notes) (xs : List (ℕ × ℕ)) (mine : get_elem? s.views id ≡ some (held w k))
-    (small : get_or s.words (ready_at block) 0 < 2 ^ 64) (start : IsLawful shards (stepped s (ready_at block) (get_or s.words (ready_at block) 0) id xs (held w l) keeps))
-    (latest : (ws : List ℕ) (p : ℕ) → FoundLast ws p l.looks) where
-  n : ℕ
-  n = get_or s.words (ready_at block) 0
+module _ (shards slots id w block pick : ℕ) (inside : block < 64 * shards) (s : Board) (h : IsLawful shards s) (k : Notes) (xs : List (ℕ × ℕ)) (mine : get_elem? s.views id ≡ some (held w k))
+    (small : get_or s.words (ready_at block) 0 < 2 ^ 64) where
+  abbrev l : Notes
+  l = noted (ready_at block) (get_or s.words (ready_at block) 0) k
 
   -- the next lower bit is picked, and set
   one_more : (i more : ℕ) → i < 64 → bit_at (bit_and (get_or s.words (ready_at block) 0) pick) i ≡ 1 → Cleared shards id w block pick s l xs (suc i) more → Cleared shards id w block pick s l xs i (suc more)
@@ -66,10 +67,13 @@ module _ (shards slots id w block pick : ℕ) (inside : block < 64 * shards) (s 
       let bit_there : bit_at (get_or t.words (ready_at (q / 64)) 0) (q % 64) ≡ 1 = (λ j. bit_at (word_at j) (col j)) ∙ c.kept i low (inl (omega arith)) ∙ set_there in
       let come = set_mine s.views id (held w k) seat mine in let within : q < 64 * (64 * shards) = omega (arith, inside, low) in
       let job = ready-job shards slots id w t c.lawful (gaining c.jobs l) come q within bit_there in
-      let law = taken-law shards slots id w t c.lawful (gaining c.jobs l) come q within bit_there l.looks (latest t.words) in
       let now : ℕ = bit_and c.word (others i) in
       let words = (λ j. set t.words (ready_at (row j)) (bit_and (word_at j) (others (col j)))) ∙ set-set s.words (ready_at block) c.word now in
-      let views = set-set s.views id seat (held w (gaining ((q, job.0) ∷ c.jobs) l)) in
+      let next : Notes = gaining ((q, job.0) ∷ c.jobs) l in let views = set-set s.views id seat (held w next) in
+      let homes : List (maybe.Option ℕ) = homes_after s.homes xs (chain c.act (takes q job.0)) in
+      let came = subst (λ (z : List ℕ × List (Token Notes)). HasCome shards (record { words = z.0; homes = homes; views = z.1 })) (λ j. (sym words j, sym views j))
+      (comes shards id w s h k mine (ready_at block) next now homes (told-found refl (ready-bits block (get_or s.words (ready_at block) 0) now) (refl, refl, refl, refl, refl, refl, refl, refl))) in
+      let law = taken-law shards slots id w t c.lawful (gaining c.jobs l) come q within bit_there l.looks came (λ p e. absurd (omega (arith, e))) in
       record {
         jobs = (q, job.0) ∷ c.jobs;
         act = chain c.act (takes q job.0);
@@ -121,7 +125,7 @@ module _ (shards slots id w block pick : ℕ) (inside : block < 64 * shards) (s 
     gone = λ j from inner is. absurd (omega (arith, end, from, inner));
     carried = refl;
     valid = tt;
-    lawful = start;
+    lawful = noting shards slots id w s h k mine xs (ready_at block);
   }
   all (suc more) i end = let c = all more (suc i) (omega (arith, end)) in let low : i < 64 = omega (arith, end) in dite (ℕ_discrete (bit_at (bit_and (get_or s.words (ready_at block) 0) pick) i) 1)
       (λ there. one_more i more low there c)
@@ -139,7 +143,7 @@ pub takes_many : (shards slots id w : ℕ) (k : Notes) (xs : List (ℕ × ℕ)) 
     → Allows (IsLawful shards) slots id (held w k, xs) (ready_at block) (λ n. bit_and n (2 ^ 64 - 1 - pick)) (TakesMany (step slots (ready_at block) (2 ^ 64 - 1 - pick) 0 none) (held w k, xs))
 takes_many shards slots id w k xs block pick inside low s h _ mine small =
     let n : ℕ = get_or s.words (ready_at block) 0 in let l : Notes = noted (ready_at block) n k in
-    let c = all shards slots id w block pick inside s h k l xs mine small (noting shards slots id w s h k mine xs (ready_at block)) (λ ws p e. absurd (omega (arith, e))) 64 0 refl in
+    let c = all shards slots id w block pick inside s h k xs mine small 64 0 refl in
     let is = same_word (get_or s.words (ready_at block) 0) pick c.word small low c.below c.kept c.gone in (
       held w (gaining c.jobs l),
       c.act,

@@ -1,5 +1,5 @@
 -- What a seat may do: each kind of step is allowed, and tells what it says.
-use Rattle.std.proofs.Common.{◌≡◌, ◌≢◌, ℕ, ◌+◌, ◌-◌, ◌*◌, ◌/◌, ◌%◌, ◌^◌, ◌<◌, ◌≤◌, min, List, ◌∷◌, length, get_or, set, sym, refl, ap, ◌∙◌, subst, arith, eqb, get_or-set_other}
+use Rattle.std.proofs.Common.{◌≡◌, ◌≢◌, inl, inr, ℕ, ◌+◌, ◌-◌, ◌*◌, ◌/◌, ◌%◌, ◌^◌, ◌<◌, ◌≤◌, min, List, ◌∷◌, length, get_or, set, sym, refl, ap, ◌∙◌, subst, arith, eqb, get_or-set_other}
 use Rattle.std.specs.Int.{bit_at}
 use Rattle.std.specs.Int.RustNames.{bit_and, bit_or}
 use Rattle.std.proofs.lemmas.List.{set-get_or}
@@ -14,10 +14,10 @@ use lib.ListN.{get_elem?}
 use Rattle.atomic_table.specs.Table.{step, keeps, takes, gives, Act, Allows, stepped, carried_after, Valid}
 use Rattle.atomic_table.proofs.Lists.{exchanged}
 use Rattle.arachne_weights.specs.declared.token.Token.{Token}
-use Rattle.arachne_weights.specs.Tokens.{held, learns}
+use Rattle.arachne_weights.specs.Tokens.{held}
 use Rattle.arachne_exec.specs.declared.view.Notes.{Notes}
 use Rattle.arachne_exec.specs.Layout.{idle_at, numbers_at, summary_at, ready_at, free_at, mark_at, last_generation, retired, others, in_word}
-use Rattle.arachne_exec.specs.Board.{is_blocked, Board, HasOneKeeper, IsBalanced, IsShown, FoundLast, CountsEnds, ends_at, places_in, in_hands, WakesSleepers, IsLawful}
+use Rattle.arachne_exec.specs.Board.{is_blocked, Board, HasOneKeeper, IsBalanced, IsShown, FoundLast, CountsEnds, ends_at, places_in, in_hands, WakesSleepers, HasChanged, IsTold, HasCome, IsLawful}
 use Rattle.arachne_exec.specs.Changes.{older, newest_job, newest_place, gained, unblocking, laying_down, blocking, spawning, beginning, ending, marking, hearing, noted, unshowing}
 use Rattle.arachne_exec.specs.Steps.{Mine, with, knowing, Looks, Takes, Claims, Frees, Readies, Spawns, Begins, Blocks, Renews, Retires, Hears, Wakes, Marks}
 use Rattle.arachne_exec.proofs.Bits.{one-same, same_others, clear_le, unset, not_one}
@@ -26,7 +26,7 @@ use Rattle.arachne_exec.proofs.Balancing.{balanced-same, balanced-taken, balance
 use Rattle.arachne_exec.proofs.Hearing.{KeepsMarks, MarksMore, hears-on, as-marked, hears-mark}
 use Rattle.arachne_exec.proofs.Naming.{Knows, found-word, found-on, knows-less, names-on, found-new, mark-else, names-ended}
 use Rattle.arachne_exec.proofs.KeepsShown.{shows-on, shows-owing}
-use Rattle.arachne_exec.proofs.Splits.{splits-on}
+use Rattle.arachne_exec.proofs.Coming.{adds-heard, clears-none, sets-one, changes-elsewhere, ready-bits, mark-bits, told-found, told-nothing, comes, comes-still}
 use Rattle.arachne_exec.proofs.Sleeping.{Unmoved, sleeps-on}
 
 same_place : (p q : ℕ) → p / 64 ≡ q / 64 → p % 64 ≡ q % 64 → p ≡ q
@@ -48,6 +48,10 @@ was_set n k i e = let both = bit_at_and n (others k) i in let low = bit_at-lt n 
 pub some_number : (n : ℕ) → n ≢ 0 → 0 < n
 some_number n d = let apart : ¬ (n ≡ 0) = d in omega (arith, apart)
 
+-- a mark is no ready and no free word
+mark-silent : (q found put : ℕ) → ¬ HasChanged (mark_at q) found put
+mark-silent q found put = changes-elsewhere (mark_at q) found put (λ block e. omega (arith, e)) (λ block e. omega (arith, e))
+
 one-spawned : (k : Notes) (q x y : ℕ) → k.hand ≡ (q, x) ∷ older k.hand → ◌≡◌ {A = List (ℕ × ℕ)} ((newest_place k.hand, y) ∷ k.spawned) ((q, y) ∷ k.spawned)
 one-spawned k q x y hand = ap (λ (zs : List (ℕ × ℕ)). (newest_place zs, y) ∷ k.spawned) hand
 
@@ -63,27 +67,27 @@ module _ (shards slots id w : ℕ) where
     t = held w k
 
     -- what it has found is noted
-    pub telling : (ds : List (ℕ × ℕ)) → Knows (64 * shards) s.words (record k { looks = ds }) → IsLawful shards (record { words = s.words; homes = s.homes; views = set s.views id (held w (record k { looks = ds })) })
-    telling ds knows = let l : Notes = record k { looks = ds } in record {
-      shared = learns h.shared id w k l mine;
-      seats = splits-on s.views h.seats id w k mine l refl;
+    telling : (ds : List (ℕ × ℕ)) → let l : Notes = record k { looks = ds } in HasCome shards (record { words = s.words; homes = s.homes; views = set s.views id (held w l) }) → Knows (64 * shards) s.words l
+        → IsLawful shards (record { words = s.words; homes = s.homes; views = set s.views id (held w l) })
+    telling ds came knows = let l : Notes = record k { looks = ds } in record {
+      came = came;
       keeper = keeps-view (64 * shards) s h.keeper id (held w k) mine (held w l) refl;
       balance = balanced-same s h.balance id (held w k) (held w l) mine s.words refl refl refl;
       hears = hears-on (64 * shards) s h.hears id (held w k) (held w l) mine s.homes s.words (λ p inside. refl) (refl, refl, refl, refl);
       names = names-on (64 * shards) s h.names id (held w k) (held w l) mine s.homes s.words (λ p inside. refl) refl knows;
       shows = shows-on (64 * shards) s h.shows id (held w k) (held w l) mine s.words s.homes (λ c r. r) (λ c. refl) refl;
-      sleep = sleeps-on s h.sleep id (held w k) (held w l) mine s.words s.homes refl refl (λ c r. r) refl refl refl (refl, refl, refl);
+      sleep = sleeps-on s h.sleep id (held w k) (held w l) mine s.words s.homes refl refl (λ c r. r) refl refl refl refl;
     }
 
     pub noting : (xs : List (ℕ × ℕ)) (i : ℕ) → IsLawful shards (stepped s i (get_or s.words i 0) id xs (held w (noted i (get_or s.words i 0) k)) keeps)
-    noting xs i = unchanged (noted i (get_or s.words i 0) k) xs i s (telling _ (λ p inside has. found-word s.words p i k.looks))
+    noting xs i = let l : Notes = noted i (get_or s.words i 0) k in unchanged l xs i s (telling l.looks (comes-still shards id w s h k mine i l (told-found refl (λ block at. inl refl) (refl, refl, refl, refl, refl, refl, refl, refl))) (λ p inside has. found-word s.words p i k.looks))
 
     -- what it has found last
     pub knowing-still : Knows (64 * shards) s.words k
     knowing-still p inside has = h.names.found id (held w k) mine p inside has
 
     pub stays : (xs : List (ℕ × ℕ)) (i : ℕ) → IsLawful shards (stepped s i (get_or s.words i 0) id xs (held w k) keeps)
-    stays xs i = unchanged k xs i s (telling k.looks knowing-still)
+    stays xs i = unchanged k xs i s (telling k.looks (comes-still shards id w s h k mine i k (told-nothing refl (clears-none i (get_or s.words i 0)) (refl, refl, refl, refl, refl, refl, refl, refl))) knowing-still)
 
     -- ---- what a word that is written leaves as it was
 
@@ -138,14 +142,13 @@ module _ (shards slots id w : ℕ) where
 
     -- a ready bit that is set: the place was in hand
     module _ (q x y : ℕ) (within : q < 64 * (64 * shards)) (l : Notes) where
-      ready-law : (now : ℕ) → now ≡ bit_or (get_or s.words (ready_at (q / 64)) 0) (2 ^ (q % 64)) → l.splits ≡ k.splits → k.hand ≡ (q, x) ∷ l.hand
+      ready-law : (now : ℕ) → now ≡ bit_or (get_or s.words (ready_at (q / 64)) 0) (2 ^ (q % 64)) → IsTold (ready_at (q / 64)) (get_or s.words (ready_at (q / 64)) 0) now k l → k.hand ≡ (q, x) ∷ l.hand
           → IsBalanced (record { words = set s.words (ready_at (q / 64)) now; homes = set s.homes q (some y); views = set s.views id (held w l) }) → KeepsMarks k l
           → IsShown (64 * shards) (record { words = set s.words (ready_at (q / 64)) now; homes = set s.homes q (some y); views = set s.views id (held w l) })
           → l.owes ≡ k.owes → l.worker ≡ k.worker → l.seen ≡ k.seen → Unmoved k l → l.ended ≡ k.ended → Knows (64 * shards) s.words l
           → IsLawful shards (record { words = set s.words (ready_at (q / 64)) now; homes = set s.homes q (some y); views = set s.views id (held w l) })
-      ready-law now is split hand balance marks shows owes worker seen unmoved ended knows = record {
-        shared = learns h.shared id w k l mine;
-        seats = splits-on s.views h.seats id w k mine l split;
+      ready-law now is told hand balance marks shows owes worker seen unmoved ended knows = record {
+        came = comes shards id w s h k mine (ready_at (q / 64)) l now (set s.homes q (some y)) told;
         keeper = subst (λ n. HasOneKeeper (64 * shards) (record { words = set s.words (ready_at (q / 64)) n; homes = set s.homes q (some y); views = set s.views id (held w l) })) (sym is)
             (keeps-ready (64 * shards) s h.keeper id (held w k) mine q within (held w l) x y hand);
         balance = balance;
@@ -180,19 +183,19 @@ module _ (shards slots id w : ℕ) where
     pub ready-job : (job : ℕ) × (get_elem? s.homes q ≡ some (some job))
     ready-job = home-of-ready (64 * shards) s h.keeper id (held w k) mine q within there
 
-    pub taken-law : (ds : List (ℕ × ℕ)) → ((p : ℕ) → FoundLast s.words p ds) → let now : ℕ = bit_and (get_or s.words (ready_at (q / 64)) 0) (others (q % 64)) in
-        IsLawful shards (record { words = set s.words (ready_at (q / 64)) now; homes = set s.homes q none; views = set s.views id (held w (gained q ready-job.0 (record k { looks = ds }))) })
-    taken-law ds knows =
+    pub taken-law : (ds : List (ℕ × ℕ)) → let now : ℕ = bit_and (get_or s.words (ready_at (q / 64)) 0) (others (q % 64)) in let l : Notes = gained q ready-job.0 (record k { looks = ds }) in
+        HasCome shards (record { words = set s.words (ready_at (q / 64)) now; homes = set s.homes q none; views = set s.views id (held w l) }) → ((p : ℕ) → FoundLast s.words p ds)
+        → IsLawful shards (record { words = set s.words (ready_at (q / 64)) now; homes = set s.homes q none; views = set s.views id (held w l) })
+    taken-law ds came knows =
         let i : ℕ = ready_at (q / 64) in let now : ℕ = bit_and (get_or s.words i 0) (others (q % 64)) in let l : Notes = gained q ready-job.0 (record k { looks = ds }) in record {
-          shared = learns h.shared id w k l mine;
-          seats = splits-on s.views h.seats id w k mine l refl;
+          came = came;
           keeper = keeps-take (64 * shards) s h.keeper id (held w k) mine q within (held w l) ready-job.0 there refl;
           balance = balanced-taken s h.balance id (held w k) (held w l) mine _ q ready-job.0 ready-job.1 refl refl refl;
           hears = hears-on (64 * shards) s h.hears id (held w k) (held w l) mine _ _ (unmarked s h k mine i now (λ p e. omega (arith, e))) (refl, refl, refl, refl);
           names = names-on (64 * shards) s h.names id (held w k) (held w l) mine _ _ (ageless s h k mine i now (λ p e. omega (arith, e))) refl (λ p inside has. knows p);
           shows = shows-on (64 * shards) s h.shows id (held w k) (held w l) mine _ _ (fallen s h k mine (q / 64) (omega (arith, within)) now (clear_le (get_or s.words i 0) (q % 64) (omega arith)))
               (same_shown s h k mine i now (λ c e. omega (arith, e))) refl;
-          sleep = quiet-sleep s h k mine i now l (set s.homes q none) (λ e. omega (arith, e)) (λ e. omega (arith, e)) (λ c e. omega (arith, e)) refl refl refl (refl, refl, refl);
+          sleep = quiet-sleep s h k mine i now l (set s.homes q none) (λ e. omega (arith, e)) (λ e. omega (arith, e)) (λ c e. omega (arith, e)) refl refl refl refl;
         }
 
   pub takes_ready : (k : Notes) (xs : List (ℕ × ℕ)) (q : ℕ) → q < 64 * (64 * shards)
@@ -203,7 +206,7 @@ module _ (shards slots id w : ℕ) where
         held w (gained q job.0 (noted i n k)),
         takes q job.0,
         job.1,
-        taken-law s h k mine q within there ((i, n) ∷ k.looks) (λ p. found-word s.words p i k.looks),
+        let l : Notes = gained q job.0 (noted i n k) in taken-law s h k mine q within there l.looks (comes shards id w s h k mine i l now (set s.homes q none) (told-found refl (ready-bits (q / 64) n now) (refl, refl, refl, refl, refl, refl, refl, refl))) (λ p. found-word s.words p i k.looks),
         λ p at first. let same = same_bits p q (ready_apart (q / 64) (p / 64) at) first in (
           λ _. (job.0, ap (λ x. with m (gained x job.0 (noted i n k)) ((x, job.0) ∷ xs)) (sym same)),
           λ none_there. absurd (clash n (q % 64) there (subst (λ x. bit_at n (x % 64) ≡ 0) same none_there)),
@@ -229,14 +232,13 @@ module _ (shards slots id w : ℕ) where
         takes q 0,
         empty,
         record {
-          shared = learns h.shared id w k l mine;
-          seats = splits-on s.views h.seats id w k mine l refl;
+          came = comes shards id w s h k mine i l now (set s.homes q none) (told-found refl (λ block at. inr (q % 64, inl refl)) (refl, refl, refl, refl, refl, refl, refl, refl));
           keeper = keeps-claim (64 * shards) s h.keeper id (held w k) mine q within (held w l) 0 there refl;
           balance = balanced-taken s h.balance id (held w k) (held w l) mine _ q 0 empty refl refl refl;
           hears = hears-on (64 * shards) s h.hears id (held w k) (held w l) mine _ _ (unmarked s h k mine i now (λ p e. omega (arith, e))) (refl, refl, refl, refl);
           names = names-on (64 * shards) s h.names id (held w k) (held w l) mine _ _ (ageless s h k mine i now (λ p e. omega (arith, e))) refl (λ p inside has. found-word s.words p i k.looks);
           shows = quiet-shows s h k mine i now l (set s.homes q none) (λ c e. omega (arith, e)) (λ c e. omega (arith, e)) refl;
-          sleep = quiet-sleep s h k mine i now l (set s.homes q none) (λ e. omega (arith, e)) (λ e. omega (arith, e)) (λ c e. omega (arith, e)) refl refl refl (refl, refl, refl);
+          sleep = quiet-sleep s h k mine i now l (set s.homes q none) (λ e. omega (arith, e)) (λ e. omega (arith, e)) (λ c e. omega (arith, e)) refl refl refl refl;
         },
         λ p at first. let same = same_bits p q (free_apart (q / 64) (p / 64) at) first in (
           λ _. ap (λ x. with m (gained x 0 (noted i n k)) ((x, 0) ∷ xs)) (sym same),
@@ -276,19 +278,18 @@ module _ (shards slots id w : ℕ) where
 
     pub frees : x ≡ 0 → Allows (IsLawful shards) slots id (held w k, (q, 0) ∷ xs) (free_at (q / 64)) (λ n. bit_or n (2 ^ (q % 64))) (Frees (step slots (free_at (q / 64)) (2 ^ (q % 64)) 0 none) (held w k, (q, 0) ∷ xs))
     frees nothing s h _ mine small =
-        let i : ℕ = free_at (q / 64) in let now : ℕ = bit_or (get_or s.words i 0) (2 ^ (q % 64)) in let l : Notes = laying_down k in (
+        let i : ℕ = free_at (q / 64) in let n : ℕ = get_or s.words i 0 in let now : ℕ = bit_or n (2 ^ (q % 64)) in let l : Notes = noted i n (laying_down k) in (
           held w l,
           gives,
           tt,
           record {
-            shared = learns h.shared id w k l mine;
-            seats = splits-on s.views h.seats id w k mine l refl;
+            came = comes shards id w s h k mine i l now (set s.homes q (some 0)) (told-found refl (λ block at. inr (q % 64, inr refl)) (refl, refl, refl, refl, refl, refl, refl, refl));
             keeper = keeps-free (64 * shards) s h.keeper id (held w k) mine q within (held w l) x 0 refl hand;
             balance = balanced-put s h.balance id (held w k) (held w l) mine _ q 0 (out s h mine) refl refl (hand ∙ ap (λ j. (q, j) ∷ older k.hand) nothing);
             hears = hears-on (64 * shards) s h.hears id (held w k) (held w l) mine _ _ (unmarked s h k mine i now (λ p e. omega (arith, e))) (refl, refl, refl, refl);
-            names = names-on (64 * shards) s h.names id (held w k) (held w l) mine _ _ (ageless s h k mine i now (λ p e. omega (arith, e))) refl (knows-less (64 * shards) s h.names id (held w k) (held w l) mine refl older-less);
+            names = names-on (64 * shards) s h.names id (held w k) (held w l) mine _ _ (ageless s h k mine i now (λ p e. omega (arith, e))) refl (λ p inside has. found-word s.words p i k.looks);
             shows = quiet-shows s h k mine i now l (set s.homes q (some 0)) (λ c e. omega (arith, e)) (λ c e. omega (arith, e)) refl;
-            sleep = quiet-sleep s h k mine i now l (set s.homes q (some 0)) (λ e. omega (arith, e)) (λ e. omega (arith, e)) (λ c e. omega (arith, e)) refl refl refl (refl, refl, refl);
+            sleep = quiet-sleep s h k mine i now l (set s.homes q (some 0)) (λ e. omega (arith, e)) (λ e. omega (arith, e)) (λ c e. omega (arith, e)) refl refl refl refl;
           },
           (ap (λ zs. free_at (newest_place zs / 64)) (sym hand), refl),
         )
@@ -300,8 +301,8 @@ module _ (shards slots id w : ℕ) where
           held w l,
           gives,
           tt,
-          ready-law s h k mine q x x within l now refl refl hand (balanced-put s h.balance id (held w k) (held w l) mine _ q x (out s h mine) refl refl hand) (refl, refl, refl, refl)
-              (ready-first s h k mine q x x within l now shown refl) refl refl refl (refl, refl, refl) refl (knows-less (64 * shards) s h.names id (held w k) (held w l) mine refl older-less),
+          ready-law s h k mine q x x within l now refl (told-nothing refl (sets-one d n (q % 64)) (refl, refl, refl, refl, refl, refl, refl, refl)) hand (balanced-put s h.balance id (held w k) (held w l) mine _ q x (out s h mine) refl refl hand) (refl, refl, refl, refl)
+              (ready-first s h k mine q x x within l now shown refl) refl refl refl refl refl (knows-less (64 * shards) s h.names id (held w k) (held w l) mine refl older-less),
           λ p at. let same : d ≡ p / 64 = ready_apart d (p / 64) at in (
             λ _. ap (λ c. with m (unshowing (c + 1) (laying_down k)) xs) same,
             λ full. absurd (full empty),
@@ -311,8 +312,8 @@ module _ (shards slots id w : ℕ) where
           held w l,
           gives,
           tt,
-          ready-law s h k mine q x x within l now refl refl hand (balanced-put s h.balance id (held w k) (held w l) mine _ q x (out s h mine) refl refl hand) (refl, refl, refl, refl)
-              (ready-more s h k mine q x x within l now full refl) refl refl refl (refl, refl, refl) refl (knows-less (64 * shards) s h.names id (held w k) (held w l) mine refl older-less),
+          ready-law s h k mine q x x within l now refl (told-nothing refl (sets-one d n (q % 64)) (refl, refl, refl, refl, refl, refl, refl, refl)) hand (balanced-put s h.balance id (held w k) (held w l) mine _ q x (out s h mine) refl refl hand) (refl, refl, refl, refl)
+              (ready-more s h k mine q x x within l now full refl) refl refl refl refl refl (knows-less (64 * shards) s h.names id (held w k) (held w l) mine refl older-less),
           λ p at. ((λ empty. absurd (full empty)), λ _. refl),
         ))
 
@@ -326,8 +327,7 @@ module _ (shards slots id w : ℕ) where
           gives,
           tt,
           record {
-            shared = learns h.shared id w k l mine;
-            seats = splits-on s.views h.seats id w k mine l refl;
+            came = comes shards id w s h k mine i l new (set s.homes q (some x)) (record { looks = inr (inr (refl, mark-silent q n new)); one_bit = mark-bits q n new; spawned = inl refl; ended = inl refl; woken = inl refl; heard = inl refl; blocked = inr (newest_place k.hand, refl); unblocked = inl refl; sleeps = inl refl; splits = refl });
             keeper = keeps-block (64 * shards) s h.keeper id (held w k) mine q within (held w l) x x new hand (omega (arith, unwoken, is));
             balance = balanced-put s h.balance id (held w k) (held w l) mine _ q x (out s h mine) refl refl hand;
             hears = hears-mark (64 * shards) s h.hears id (held w k) (held w l) mine (set s.homes q (some x)) q (mark-room s h mine) new 0 0 1 0 (omega arith, omega arith, omega arith, omega arith)
@@ -335,7 +335,7 @@ module _ (shards slots id w : ℕ) where
                 (omega (arith, hit, unwoken, is)) (omega (arith, hit, unwoken, is)) (omega (arith, unwoken, is));
             names = names-on (64 * shards) s h.names id (held w k) (held w l) mine _ _ (λ p inside. as-marked (64 * shards) s h.hears id (held w k) (held w l) mine s.homes q (mark-room s h mine) new (λ z. z / 4) (omega (arith, hit, unwoken, is)) p) refl (knows-less (64 * shards) s h.names id (held w k) (held w l) mine refl older-less);
             shows = mark-shows s h k mine q new l (set s.homes q (some x)) refl;
-            sleep = mark-sleep s h k mine q new l (set s.homes q (some x)) refl refl refl (refl, refl, refl);
+            sleep = mark-sleep s h k mine q new l (set s.homes q (some x)) refl refl refl refl;
           },
           ((λ _. refl), λ miss. absurd (miss hit)),
         ))
@@ -343,13 +343,12 @@ module _ (shards slots id w : ℕ) where
 
     -- a new mark, by who has the place
     module _ (new : ℕ) (clear : new % 2 ≡ 0) (s : Board) (h : IsLawful shards s) (mine : get_elem? s.views id ≡ some (held w k)) (l : Notes) where
-      renewed : new / 2 % 2 ≡ 0 → l.splits ≡ k.splits → ((p : ℕ) → in_hands p (set s.views id (held w l)) ≡ in_hands p s.views) → IsBalanced (record { words = set s.words (mark_at q) new; homes = s.homes; views = set s.views id (held w l) })
+      renewed : new / 2 % 2 ≡ 0 → IsTold (mark_at q) (get_or s.words (mark_at q) 0) new k l → ((p : ℕ) → in_hands p (set s.views id (held w l)) ≡ in_hands p s.views) → IsBalanced (record { words = set s.words (mark_at q) new; homes = s.homes; views = set s.views id (held w l) })
           → MarksMore q 0 (get_or s.words (mark_at q) 0 % 2) 0 0 k l → l.unshown ≡ k.unshown
           → l.owes ≡ k.owes → l.worker ≡ k.worker → l.seen ≡ k.seen → Unmoved k l → CountsEnds (64 * shards) (record { words = set s.words (mark_at q) new; homes = s.homes; views = set s.views id (held w l) })
           → IsLawful shards (record { words = set s.words (mark_at q) new; homes = s.homes; views = set s.views id (held w l) })
-      renewed is_awake split hands balance marks unshown owes worker seen unmoved names = record {
-        shared = learns h.shared id w k l mine;
-        seats = splits-on s.views h.seats id w k mine l split;
+      renewed is_awake told hands balance marks unshown owes worker seen unmoved names = record {
+        came = comes shards id w s h k mine (mark_at q) l new s.homes told;
         keeper = keeps-mark (64 * shards) s h.keeper id (held w k) mine q within (held w l) new (is_awake ∙ sym (unblocked-here s h mine)) hands;
         balance = balance;
         hears = let asleep = unblocked-here s h mine in hears-mark (64 * shards) s h.hears id (held w k) (held w l) mine s.homes q (mark-room s h mine) new 0 (get_or s.words (mark_at q) 0 % 2) 0 0
@@ -379,9 +378,9 @@ module _ (shards slots id w : ℕ) where
             held w l,
             keeps,
             tt,
-            renewed new (omega (arith, is)) s h mine l (omega (arith, is)) refl (hands-renumbered (64 * shards) s h.keeper id (held w k) mine (held w l) q x 0 (older k.hand) hand refl)
+            renewed new (omega (arith, is)) s h mine l (omega (arith, is)) (record { looks = inr (inl refl); one_bit = mark-bits q n new; spawned = inl refl; ended = inr ((q, newest_job k.hand), refl); woken = inl refl; heard = adds-heard (n % 2) q k.heard; blocked = inl refl; unblocked = inl refl; sleeps = inl refl; splits = refl }) (hands-renumbered (64 * shards) s h.keeper id (held w k) mine (held w l) q x 0 (older k.hand) hand refl)
                 (balanced-ended s h.balance id (held w k) (held w l) mine _ q x (older k.hand) refl one-ended hand refl)
-                (record { woken = refl; heard = refl; blocked = refl; unblocked = refl }) refl refl refl refl (refl, refl, refl)
+                (record { woken = refl; heard = refl; blocked = refl; unblocked = refl }) refl refl refl refl refl
                 (ended-once m before found s h mine new l s.homes one-ended (omega (arith, is, named)) (λ p inside has. found-new (64 * shards) s h.names id (held w k) (held w l) mine s.homes q (mark-room s h mine) new p k.looks)),
             λ p at. ap (λ z. knowing (held w k, (q, y) ∷ xs) (noted (mark_at q) new (ending z (hearing (n % 2) z k)))) (mark_apart q p at),
           )
@@ -393,8 +392,7 @@ module _ (shards slots id w : ℕ) where
             gives,
             tt,
             record {
-              shared = learns h.shared id w k l mine;
-              seats = splits-on s.views h.seats id w k mine l refl;
+              came = comes shards id w s h k mine (mark_at q) l new (set s.homes q (some 0)) (record { looks = inr (inr (refl, mark-silent q n new)); one_bit = mark-bits q n new; spawned = inl refl; ended = inr ((q, newest_job k.hand), refl); woken = inl refl; heard = adds-heard (n % 2) q k.heard; blocked = inr (q, refl); unblocked = inl refl; sleeps = inl refl; splits = refl });
               keeper = keeps-block (64 * shards) s h.keeper id (held w k) mine q within (held w l) x 0 new hand (omega (arith, is));
               balance = balanced-retired s h.balance id (held w k) (held w l) mine _ q x (out s h mine) refl one-ended hand;
               hears = let asleep = unblocked-here s h mine in hears-mark (64 * shards) s h.hears id (held w k) (held w l) mine (set s.homes q (some 0)) q (mark-room s h mine) new 0 (n % 2) 1 0
@@ -406,7 +404,7 @@ module _ (shards slots id w : ℕ) where
                   (λ ne. found-on s.words (set s.words (mark_at q) new) p (ap (λ z. z / 4) (mark-else (64 * shards) s h.names id (held w k) (held w l) mine s.homes q (mark-room s h mine) new p ne)) k.looks
                   (knowing-still s h k mine p inside (let less = older-less p in omega (arith, has, less)))));
               shows = mark-shows s h k mine q new l (set s.homes q (some 0)) refl;
-              sleep = mark-sleep s h k mine q new l (set s.homes q (some 0)) refl refl refl (refl, refl, refl);
+              sleep = mark-sleep s h k mine q new l (set s.homes q (some 0)) refl refl refl refl;
             },
             λ p at. ap (λ z. with (held w k, (q, 0) ∷ xs) (blocking (ending z (hearing (n % 2) z k))) xs) (mark_apart q p at),
           )
@@ -415,12 +413,12 @@ module _ (shards slots id w : ℕ) where
     pub hears_wake : (y : ℕ) → Allows (IsLawful shards) slots id (held w k, (q, y) ∷ xs) (mark_at q) (λ n. bit_and n (2 ^ 64 - 1 - 3)) (Hears (step slots (mark_at q) (2 ^ 64 - 1 - 3) 0 none) (held w k, (q, y) ∷ xs))
     hears_wake y s h _ mine small =
         let n : ℕ = get_or s.words (mark_at q) 0 in let now : ℕ = bit_and n (2 ^ 64 - 1 - 3) in let l : Notes = noted (mark_at q) (4 * (n / 4)) (hearing (n % 2) q k) in
-        let low : 4 * (n / 4) / 4 ≡ n / 4 = omega arith in let is : now ≡ n / 4 * 4 = and_high_mask 64 2 (omega arith) n small in (
+        let low : 4 * (n / 4) / 4 ≡ n / 4 = omega arith in let is : now ≡ n / 4 * 4 = and_high_mask 64 2 (omega arith) n small in let put : 4 * (n / 4) ≡ now = omega (arith, is) in (
           held w l,
           keeps,
           tt,
-          renewed now (omega (arith, is)) s h mine l (omega (arith, is)) refl (hands-same (64 * shards) s h.keeper id (held w k) mine (held w l) refl) (balanced-same s h.balance id (held w k) (held w l) mine _ refl refl refl)
-              (record { woken = refl; heard = refl; blocked = refl; unblocked = refl }) refl refl refl refl (refl, refl, refl)
+          renewed now (omega (arith, is)) s h mine l (omega (arith, is)) (record { looks = inr (inl (ap (λ z. (mark_at q, z) ∷ k.looks) put)); one_bit = mark-bits q n now; spawned = inl refl; ended = inl refl; woken = inl refl; heard = adds-heard (n % 2) q k.heard; blocked = inl refl; unblocked = inl refl; sleeps = inl refl; splits = refl }) (hands-same (64 * shards) s h.keeper id (held w k) mine (held w l) refl) (balanced-same s h.balance id (held w k) (held w l) mine _ refl refl refl)
+              (record { woken = refl; heard = refl; blocked = refl; unblocked = refl }) refl refl refl refl refl
               (names-on (64 * shards) s h.names id (held w k) (held w l) mine s.homes _ (λ p inside. as-marked (64 * shards) s h.hears id (held w k) (held w l) mine s.homes q (mark-room s h mine) now (λ z. z / 4) (omega (arith, is)) p) refl
               (λ p inside has e. low ∙ ap (λ z. get_or s.words z 0 / 4) e)),
           λ p at. ap (λ z. knowing (held w k, (q, y) ∷ xs) (noted (mark_at q) (4 * (n / 4)) (hearing (n % 2) z k))) (mark_apart q p at),
@@ -436,8 +434,8 @@ module _ (shards slots id w : ℕ) where
         held w l,
         gives,
         tt,
-        ready-law s h k mine q 0 y within l now refl refl hand (balanced-spawned s h.balance id (held w k) (held w l) mine _ q y away (one-spawned k q 0 y hand) refl hand) (refl, refl, refl, refl)
-            (ready-first s h k mine q 0 y within l now shown refl) refl refl refl (refl, refl, refl) refl (knows-less (64 * shards) s h.names id (held w k) (held w l) mine refl (older-less k q 0 xs hand within)),
+        ready-law s h k mine q 0 y within l now refl (record { looks = inr (inr (refl, sets-one d n (q % 64))); one_bit = ready-bits d n now; spawned = inr ((newest_place k.hand, y), refl); ended = inl refl; woken = inl refl; heard = inl refl; blocked = inl refl; unblocked = inl refl; sleeps = inl refl; splits = refl }) hand (balanced-spawned s h.balance id (held w k) (held w l) mine _ q y away (one-spawned k q 0 y hand) refl hand) (refl, refl, refl, refl)
+            (ready-first s h k mine q 0 y within l now shown refl) refl refl refl refl refl (knows-less (64 * shards) s h.names id (held w k) (held w l) mine refl (older-less k q 0 xs hand within)),
         λ p at. let same : d ≡ p / 64 = ready_apart d (p / 64) at in (
           λ _. ap (λ c. with m (unshowing (c + 1) (spawning y k)) xs) same,
           λ full. absurd (full empty),
@@ -447,8 +445,8 @@ module _ (shards slots id w : ℕ) where
         held w l,
         gives,
         tt,
-        ready-law s h k mine q 0 y within l now refl refl hand (balanced-spawned s h.balance id (held w k) (held w l) mine _ q y away (one-spawned k q 0 y hand) refl hand) (refl, refl, refl, refl)
-            (ready-more s h k mine q 0 y within l now full refl) refl refl refl (refl, refl, refl) refl (knows-less (64 * shards) s h.names id (held w k) (held w l) mine refl (older-less k q 0 xs hand within)),
+        ready-law s h k mine q 0 y within l now refl (record { looks = inr (inr (refl, sets-one d n (q % 64))); one_bit = ready-bits d n now; spawned = inr ((newest_place k.hand, y), refl); ended = inl refl; woken = inl refl; heard = inl refl; blocked = inl refl; unblocked = inl refl; sleeps = inl refl; splits = refl }) hand (balanced-spawned s h.balance id (held w k) (held w l) mine _ q y away (one-spawned k q 0 y hand) refl hand) (refl, refl, refl, refl)
+            (ready-more s h k mine q 0 y within l now full refl) refl refl refl refl refl (knows-less (64 * shards) s h.names id (held w k) (held w l) mine refl (older-less k q 0 xs hand within)),
         λ p at. ((λ empty. absurd (full empty)), λ _. refl),
       ))
 
@@ -462,14 +460,13 @@ module _ (shards slots id w : ℕ) where
         keeps,
         tt,
         unchanged l ((q, y) ∷ xs) i s (record {
-          shared = learns h.shared id w k l mine;
-          seats = splits-on s.views h.seats id w k mine l refl;
+          came = comes-still shards id w s h k mine i l (record { looks = inl refl; one_bit = λ block at. inl refl; spawned = inr ((newest_place k.hand, y), refl); ended = inl refl; woken = inl refl; heard = inl refl; blocked = inl refl; unblocked = inl refl; sleeps = inl refl; splits = refl });
           keeper = keeps-places (64 * shards) s h.keeper id (held w k) mine (held w l) (hands-renumbered (64 * shards) s h.keeper id (held w k) mine (held w l) q 0 y (older k.hand) hand now);
           balance = balanced-begun s h.balance id (held w k) (held w l) mine s.words q y (older k.hand) (one-spawned k q 0 y hand) refl hand now;
           hears = hears-on (64 * shards) s h.hears id (held w k) (held w l) mine s.homes s.words (λ p inside. refl) (refl, refl, refl, refl);
           names = names-on (64 * shards) s h.names id (held w k) (held w l) mine s.homes s.words (λ p inside. refl) refl (λ p inside has. found-word s.words p i k.looks);
           shows = shows-on (64 * shards) s h.shows id (held w k) (held w l) mine s.words s.homes (λ c r. r) (λ c. refl) refl;
-          sleep = sleeps-on s h.sleep id (held w k) (held w l) mine s.words s.homes refl refl (λ c r. r) refl refl refl (refl, refl, refl);
+          sleep = sleeps-on s h.sleep id (held w k) (held w l) mine s.words s.homes refl refl (λ c r. r) refl refl refl refl;
         }),
         refl,
       )
@@ -487,8 +484,7 @@ module _ (shards slots id w : ℕ) where
           takes q job.0,
           job.1,
           record {
-            shared = learns h.shared id w k l mine;
-            seats = splits-on s.views h.seats id w k mine l refl;
+            came = comes shards id w s h k mine i l new (set s.homes q none) (record { looks = inl refl; one_bit = mark-bits q n new; spawned = inl refl; ended = inl refl; woken = inl refl; heard = inl refl; blocked = inl refl; unblocked = inr (q, refl); sleeps = inl refl; splits = refl });
             keeper = keeps-wake (64 * shards) s h.keeper id (held w k) mine q within (held w l) job.0 new is_there (omega (arith, was, now)) refl;
             balance = balanced-taken s h.balance id (held w k) (held w l) mine _ q job.0 job.1 refl refl refl;
             hears = hears-mark (64 * shards) s h.hears id (held w k) (held w l) mine (set s.homes q none) q (omega (arith, h.keeper.sized, within)) new 0 0 0 1 (omega arith, omega arith, omega arith, omega arith)
@@ -496,7 +492,7 @@ module _ (shards slots id w : ℕ) where
             names = names-on (64 * shards) s h.names id (held w k) (held w l) mine _ _
                 (λ p inside. as-marked (64 * shards) s h.hears id (held w k) (held w l) mine s.homes q (omega (arith, h.keeper.sized, within)) new (λ z. z / 4) (omega (arith, hit, was, now)) p) refl (λ p inside has. found-word s.words p i k.looks);
             shows = mark-shows s h k mine q new l (set s.homes q none) refl;
-            sleep = mark-sleep s h k mine q new l (set s.homes q none) refl refl refl (refl, refl, refl);
+            sleep = mark-sleep s h k mine q new l (set s.homes q none) refl refl refl refl;
           },
           λ p at. ((λ _. (job.0, ap (λ z. with m (unblocking z job.0 (noted i n k)) ((z, job.0) ∷ xs)) (mark_apart q p at))), λ miss. absurd (miss hit)),
         ))
@@ -512,8 +508,7 @@ module _ (shards slots id w : ℕ) where
           keeps,
           tt,
           record {
-            shared = learns h.shared id w k l mine;
-            seats = splits-on s.views h.seats id w k mine l refl;
+            came = comes shards id w s h k mine i l new s.homes (record { looks = inl refl; one_bit = mark-bits q n new; spawned = inl refl; ended = inl refl; woken = inr (q, refl); heard = inl refl; blocked = inl refl; unblocked = inl refl; sleeps = inl refl; splits = refl });
             keeper = keeps-mark (64 * shards) s h.keeper id (held w k) mine q within (held w l) new (omega (arith, was, now) ∙ ap (λ z. z / 2 % 2) (sym hit)) (hands-same (64 * shards) s h.keeper id (held w k) mine (held w l) refl);
             balance = balanced-same s h.balance id (held w k) (held w l) mine _ refl refl refl;
             hears = hears-mark (64 * shards) s h.hears id (held w k) (held w l) mine s.homes q (omega (arith, h.keeper.sized, within)) new 1 0 0 0 (omega arith, omega arith, omega arith, omega arith)
@@ -522,7 +517,7 @@ module _ (shards slots id w : ℕ) where
                 (λ p inside. as-marked (64 * shards) s h.hears id (held w k) (held w l) mine s.homes q (omega (arith, h.keeper.sized, within)) new (λ z. z / 4) (omega (arith, hit, was, now)) p) refl
                 (λ p inside has. found-word s.words p i k.looks);
             shows = mark-shows s h k mine q new l s.homes refl;
-            sleep = mark-sleep s h k mine q new l s.homes refl refl refl (refl, refl, refl);
+            sleep = mark-sleep s h k mine q new l s.homes refl refl refl refl;
           },
           λ p at. ((λ _. ap (λ z. knowing m (marking z (noted i n k))) (mark_apart q p at)), λ miss. absurd (miss hit)),
         ))

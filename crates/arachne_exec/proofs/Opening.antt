@@ -1,5 +1,5 @@
 -- The rule at first, and where seats are split and joined.
-use Rattle.std.proofs.Common.{◌≡◌, ◌≢◌, inl, inr, ⊎_elim, ℕ, zero, suc, ◌+◌, ◌-◌, ◌*◌, ◌/◌, ◌%◌, ◌^◌, ◌≤◌, ◌==◌, min, if◌then◌else◌, List, [], ◌∷◌, ◌++◌, length, length-set, get_or, set, sym, refl, ap, ◌∙◌, subst, arith, ◌<◌, map}
+use Rattle.std.proofs.Common.{◌≡◌, ◌≢◌, inl, inr, ⊎_elim, ℕ, zero, suc, ◌+◌, ◌-◌, ◌*◌, ◌/◌, ◌%◌, ◌^◌, ◌≤◌, ◌==◌, min, if◌then◌else◌, List, [], ◌∷◌, ◌++◌, length, get_or, set, sym, refl, ap, ◌∙◌, subst, arith, ◌<◌, map}
 use Rattle.std.proofs.lemmas.List.{length-map}
 use Rattle.std.proofs.lemmas.List.Sums.{sum_by-cons, sum_by-append}
 use Rattle.std.specs.Int.{bit_at}
@@ -11,16 +11,16 @@ use lib.ListN.{get_elem?}
 use Rattle.atomic_table.specs.Table.{opening, Splits, Joins}
 use Rattle.atomic_table.proofs.Lists.{set_else, at_set, at_snoc, some_there}
 use Rattle.arachne_weights.specs.declared.token.Token.{Token}
-use Rattle.arachne_weights.specs.Tokens.{held, spent, begins, splits, joins}
+use Rattle.arachne_weights.specs.Tokens.{held, spent}
 use Rattle.arachne_weights.proofs.Totals.{total-set, total-snoc}
 use Rattle.arachne_exec.specs.declared.view.Notes.{Notes}
+use Rattle.arachne_exec.specs.declared.view.SleepDeed.{SleepDeed}
 use Rattle.arachne_exec.specs.Layout.{idle_at, ready_at, free_at, mark_at, last_generation}
-use Rattle.arachne_exec.specs.Board.{is_free, is_ready, is_blocked, one, times, one_at, places_in, jobs_in, times_at, is_at_home, by_all, in_hands, seats_of, is_idle, lies, rises, rouses, ends_at, FoundLast, Board, IsLawful, blank, first_view, is_number, at_home}
-use Rattle.arachne_exec.specs.Changes.{splitting, first_of, second_of, together, both_of}
+use Rattle.arachne_exec.specs.Board.{is_free, is_ready, is_blocked, one, times, one_at, places_in, jobs_in, times_at, is_at_home, by_all, in_hands, seats_of, is_idle, lies, rises, rouses, ends_at, FoundLast, Board, IsLawful, is_number, at_home, lies_by, rises_by, rouses_by, lies_in, rises_in, rouses_in, begins, splits, joins}
+use Rattle.arachne_exec.specs.Changes.{blank, first_view, splitting, first_of, second_of, together, both_of}
 use Rattle.arachne_exec.specs.First.{first_word, AreFirstWords}
 use Rattle.arachne_exec.proofs.Bits.{one-apart}
 use Rattle.arachne_exec.proofs.Naming.{found-longer}
-use Rattle.arachne_exec.proofs.Splits.{splits-more}
 
 full : first_word 8 ≡ 2 ^ 64 - 1
 full = refl
@@ -58,8 +58,7 @@ zero_there (x ∷ xs) (suc i) inside clear = zero_there xs i (omega (arith, insi
 
 pub opens : (shards : ℕ) (ws xs : List ℕ) → AreFirstWords (64 * shards) ws → length xs ≡ 4096 * shards → ((i : ℕ) → get_or xs i 0 ≡ 0) → IsLawful shards (opening ws xs first_view)
 opens shards ws xs a slots clear = record {
-  shared = begins blank;
-  seats = refl;
+  came = begins (opening ws xs first_view) a refl;
   keeper = record {
     sized = a.0;
     room = length-map xs some ∙ slots ∙ omega arith;
@@ -134,8 +133,7 @@ module _ (f : Notes → ℕ) (none_blank : f blank ≡ 0) where
 deals-law : (shards id w : ℕ) (k : Notes) (s : Board) → IsLawful shards s → get_elem? s.views id ≡ some (held w k)
     → IsLawful shards (record { words = s.words; homes = s.homes; views = set s.views id (first_of (held w k)) ++ second_of (held w k) ∷ [] })
 deals-law shards id w k s h mine = record {
-  shared = splits h.shared id w k (splitting k) blank mine;
-  seats = splits-more s.views h.seats id w k mine;
+  came = splits h.came id w k mine;
   keeper = record {
     sized = h.keeper.sized;
     room = h.keeper.room;
@@ -188,8 +186,8 @@ deals-law shards id w k s h mine = record {
         (λ new. let none_seen : x.known.seen ≡ 0 = ap (λ (y : Token Notes). y.known.seen) (sym new) in absurd (omega (arith, below, none_seen)))
         (at_snoc (set s.views id (first_of (held w k))) (second_of (held w k)) x j there);
     ended = λ j low.
-        let a = split-total (λ l. times j l.lain) refl (λ l. refl) s.views id w k mine in let b = split-total (λ l. times j l.risen) refl (λ l. refl) s.views id w k mine in
-        let c = split-total (λ l. times j l.roused) refl (λ l. refl) s.views id w k mine in let old = h.sleep.ended j low in omega (arith, a, b, c, old);
+        let a = split-total (λ l. lies_in j l.sleeps) refl (λ l. refl) s.views id w k mine in let b = split-total (λ l. rises_in j l.sleeps) refl (λ l. refl) s.views id w k mine in
+        let c = split-total (λ l. rouses_in j l.sleeps) refl (λ l. refl) s.views id w k mine in let old = h.sleep.ended j low in omega (arith, a, b, c, old);
   };
 }
 
@@ -203,11 +201,7 @@ module _ (shards id w other x : ℕ) (k l : Notes) (nothing : (l.hand ≡ []) ×
   gathers-law s h mine apart from =
       let hand_of = λ (p : ℕ). join-total (λ m. places_in p m.hand) refl s.views id w other x k l mine apart from (let e = ap (places_in p) nothing.0 in omega (arith, e)) in
       let owes_of = λ (c : ℕ). join-total (λ m. one m.owes (c + 1)) (one_zero c) s.views id w other x k l mine apart from (let e = ap (λ n. one n (c + 1)) nothing.3 ∙ one_zero c in omega (arith, e)) in record {
-        shared = joins h.shared id other w x k l (together k l) mine apart from;
-        seats =
-            let same = join-total (λ m. m.splits) refl s.views id w other x k l mine apart from refl in let old = h.seats in
-            let first = length-set s.views id (both_of (held w k) (held x l)) in
-            let second = length-set (set s.views id (both_of (held w k) (held x l))) other (spent blank) in omega (arith, same, old, first, second);
+        came = joins h.came id other w x k l mine apart from;
         keeper = record {
           sized = h.keeper.sized;
           room = h.keeper.room;
@@ -273,9 +267,9 @@ module _ (shards id w other x : ℕ) (k l : Notes) (nothing : (l.hand ≡ []) ×
               (at_set s.views id j (both_of (held w k) (held x l)) y t.1))
               (at_set (set s.views id (both_of (held w k) (held x l))) other j (spent blank) y there);
           ended = λ j low.
-              let a = join-total (λ m. times j m.lain) refl s.views id w other x k l mine apart from (sum_by-append (λ (y : ℕ). one y j) k.lain l.lain) in
-              let b = join-total (λ m. times j m.risen) refl s.views id w other x k l mine apart from (sum_by-append (λ (y : ℕ). one y j) k.risen l.risen) in
-              let c = join-total (λ m. times j m.roused) refl s.views id w other x k l mine apart from (sum_by-append (λ (y : ℕ). one y j) k.roused l.roused) in
+              let a = join-total (λ m. lies_in j m.sleeps) refl s.views id w other x k l mine apart from (sum_by-append (λ (y : SleepDeed). lies_by j y) k.sleeps l.sleeps) in
+              let b = join-total (λ m. rises_in j m.sleeps) refl s.views id w other x k l mine apart from (sum_by-append (λ (y : SleepDeed). rises_by j y) k.sleeps l.sleeps) in
+              let c = join-total (λ m. rouses_in j m.sleeps) refl s.views id w other x k l mine apart from (sum_by-append (λ (y : SleepDeed). rouses_by j y) k.sleeps l.sleeps) in
               let old = h.sleep.ended j low in omega (arith, a, b, c, old);
         };
       }

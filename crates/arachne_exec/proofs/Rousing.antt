@@ -1,41 +1,49 @@
 -- A worker that looks for a job, and clears no idle bit but its own.
-use Rattle.std.proofs.Common.{◌≡◌, ⊎_elim, ℕ, zero, suc, Bool, true, false, List, [], ◌∷◌, ◌++◌, append_assoc, refl, sym, ap, ◌∙◌, subst}
+use Rattle.std.proofs.Common.{◌≡◌, ⊎_elim, ℕ, zero, suc, Bool, true, false, List, [], ◌∷◌, ◌++◌, append_assoc, refl, sym, ap, ◌∙◌, subst, arith}
 use Rattle.arachne_exec.specs.declared.view.Notes.{Notes}
+use Rattle.arachne_exec.specs.declared.view.SleepDeed.{SleepDeed}
+use Rattle.arachne_exec.specs.declared.view.SleepDeed.TheVariants.{Roused}
 use Rattle.arachne_exec.specs.declared.answers.HeldJob.{HeldJob}
 use Rattle.arachne_exec.specs.declared.answers.Next.{Next}
 use Rattle.arachne_exec.specs.declared.answers.Next.TheVariants as next
 use Rattle.arachne_exec.specs.Layout.{ready_at, worker_of}
 use Rattle.arachne_exec.specs.Changes.{noted, rousing, often}
-use Rattle.arachne_exec.specs.Calls.{HasMissed, HasTakenNone, HasLooked, HasTakenInShard, HasAnswered}
+use Rattle.arachne_exec.specs.Calls.{HasMissed, HasTakenNone, AreNoneFree, HasLooked, HasTakenInShard, HasAnswered}
 
-often-more : (n more worker : ℕ) (xs : List ℕ) → (all : ℕ) × (often n worker (often more worker xs) ≡ often all worker xs)
+often-more : (n more worker : ℕ) (xs : List SleepDeed) → (all : ℕ) × (often n worker (often more worker xs) ≡ often all worker xs)
 often-more zero more worker xs = (more, refl)
-often-more (suc n) more worker xs = let rest = often-more n more worker xs in (suc rest.0, ap (λ (zs : List ℕ). worker ∷ zs) rest.1)
+often-more (suc n) more worker xs = let rest = often-more n more worker xs in (suc rest.0, ap (λ (zs : List SleepDeed). Roused worker ∷ zs) rest.1)
+
+none-free : (xs ys : List (ℕ × ℕ)) → AreNoneFree xs → AreNoneFree ys → AreNoneFree (xs ++ ys)
+none-free [] ys a b = b
+none-free (x ∷ xs) ys a b = (a.0, none-free xs ys a.1 b)
 
 pub looked-none : (worker : ℕ) (k : Notes) → HasLooked worker k k
-looked-none worker k = (0, [], refl)
+looked-none worker k = (0, [], tt, refl)
 
 module _ (worker : ℕ) (k : Notes) where
-  looked-noted : (l : Notes) → HasLooked worker k l → (word number : ℕ) → HasLooked worker k (noted word number l)
-  looked-noted l looked word number = (looked.0, (word, number) ∷ looked.1, ap (λ (z : Notes). record z { looks = (word, number) ∷ z.looks }) looked.2)
+  looked-noted : (l : Notes) → HasLooked worker k l → (block number : ℕ) → HasLooked worker k (noted (ready_at block) number l)
+  looked-noted l looked block number =
+      (looked.0, (ready_at block, number) ∷ looked.1, (λ other e. omega (arith, e), looked.2), ap (λ (z : Notes). record z { looks = (ready_at block, number) ∷ z.looks }) looked.3)
 
   module _ (l : Notes) (looked : HasLooked worker k l) where
     pub looked-missed : (block : ℕ) (m : Notes) → HasTakenNone block l m → HasLooked worker k m
     looked-missed block m = ⊎_elim
-        (λ (e : m ≡ noted (ready_at block) 0 l). subst (λ (z : Notes). HasLooked worker k z) (sym e) (looked-noted l looked (ready_at block) 0))
+        (λ (e : m ≡ noted (ready_at block) 0 l). subst (λ (z : Notes). HasLooked worker k z) (sym e) (looked-noted l looked block 0))
         (λ (missed : HasMissed (ready_at block) l m). subst (λ (z : Notes). HasLooked worker k z) (sym missed.known)
-        (looked-noted (noted (ready_at block) missed.first l) (looked-noted l looked (ready_at block) missed.first) (ready_at block) missed.then))
+        (looked-noted (noted (ready_at block) missed.first l) (looked-noted l looked block missed.first) block missed.then))
 
     pub looked-told : (told : Bool) → HasLooked worker k (rousing told worker l)
     looked-told false = looked
-    looked-told true = (suc looked.0, looked.1, ap (λ (z : Notes). record z { roused = worker ∷ z.roused }) looked.2)
+    looked-told true = (suc looked.0, looked.1, looked.2, ap (λ (z : Notes). record z { sleeps = Roused worker ∷ z.sleeps }) looked.3)
 
     pub looked-on : (m : Notes) → HasLooked worker l m → HasLooked worker k m
-    looked-on m more = let all = often-more more.0 looked.0 worker k.roused in (
+    looked-on m more = let all = often-more more.0 looked.0 worker k.sleeps in (
       all.0,
       more.1 ++ looked.1,
-      more.2 ∙ ap (λ (z : Notes). record z { looks = more.1 ++ z.looks; roused = often more.0 worker z.roused }) looked.2
-          ∙ (λ i. record k { looks = sym (append_assoc more.1 looked.1 k.looks) i; roused = all.1 i }),
+      none-free more.1 looked.1 more.2 looked.2,
+      more.3 ∙ ap (λ (z : Notes). record z { looks = more.1 ++ z.looks; sleeps = often more.0 worker z.sleeps }) looked.3
+          ∙ (λ i. record k { looks = sym (append_assoc more.1 looked.1 k.looks) i; sleeps = all.1 i }),
     )
 
     -- what it does then

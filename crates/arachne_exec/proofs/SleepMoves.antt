@@ -8,33 +8,40 @@ use mathlib.Core.Option.{some, none}
 use native.Mathlib.Decide.{ℕ_discrete}
 use lib.ListN.{get_elem?}
 use Rattle.atomic_table.specs.Table.{step, keeps, Allows, stepped}
-use Rattle.arachne_weights.specs.Tokens.{held, learns}
+use Rattle.arachne_weights.specs.Tokens.{held}
 use Rattle.arachne_exec.specs.declared.view.Notes.{Notes}
+use Rattle.arachne_exec.specs.declared.view.SleepDeed.TheVariants.{Roused}
 use Rattle.arachne_exec.specs.Layout.{idle_at, numbers_at, summary_at, ready_at, worker_of, others, in_word}
 use Rattle.std.proofs.lemmas.Nat.Bits.{bit_at-lt}
-use Rattle.arachne_exec.specs.Board.{one, is_idle, Board, IsShown, WakesSleepers, IsLawful}
+use Rattle.arachne_exec.specs.Board.{one, is_idle, Board, IsShown, WakesSleepers, HasChanged, IsTold, IsLawful}
 use Rattle.arachne_exec.specs.Changes.{noted, rousing, unshowing, owing, having_seen, lying, rising, working}
 use Rattle.arachne_exec.specs.Steps.{Mine, knowing, FindsShown, Shows, Hides, LooksAgain, LooksIdle, Unparks, Rises, Rests, LooksNext, Registers, Leaves}
 use Rattle.arachne_exec.proofs.Bits.{one-same, one-apart, same_others, clear_same, clear_other, clear_le, unset, set_same, set_other, not_one, clear_counts, set_counts, elsewhere, here}
 use Rattle.arachne_exec.proofs.Keeping.{keeps-aside, keeps-summary, keeps-view}
-use Rattle.arachne_exec.proofs.Balancing.{more-times, balanced-same}
+use Rattle.arachne_exec.proofs.Balancing.{balanced-same}
 use Rattle.arachne_exec.proofs.Hearing.{KeepsMarks, hears-on}
 use Rattle.arachne_exec.proofs.Naming.{Knows, found-word, names-on}
 use Rattle.arachne_exec.proofs.Debts.{with-same, with-more, with-less, with-others}
 use Rattle.arachne_exec.proofs.KeepsShown.{shows-on, shows-owing, shows-paid}
-use Rattle.arachne_exec.proofs.Splits.{splits-on}
-use Rattle.arachne_exec.proofs.Sleeping.{risen-times, lain-times, Ends, ends-same, seats-same, keeps-sleep, sleeps-on}
+use Rattle.arachne_exec.proofs.Coming.{adds-risen, adds-lain, clears-none, changes-elsewhere, idle-bits, told-nothing, comes, comes-still}
+use Rattle.arachne_exec.proofs.Sleeping.{roused-counts, risen-counts, lain-counts, Ends, ends-same, seats-same, keeps-sleep, sleeps-on}
 use Rattle.arachne_exec.proofs.Moves.{summary_apart, clash, was_set, some_number, unchanged, stays, unmarked, ageless, sunk, same_ready, quiet-shows, noting, knowing-still}
+
+-- the summary words, the idle word and the worker numbers are no ready and no free words
+summary-silent : (d found put : ℕ) → ¬ HasChanged (summary_at d) found put
+summary-silent d found put = changes-elsewhere (summary_at d) found put (λ block e. omega (arith, e)) (λ block e. omega (arith, e))
+
+aside-silent : (i found put : ℕ) → i < 16 → ¬ HasChanged i found put
+aside-silent i found put low = changes-elsewhere i found put (λ block e. omega (arith, e, low)) (λ block e. omega (arith, e, low))
 
 module _ (shards slots id w : ℕ) where
   module _ (s : Board) (h : IsLawful shards s) (k l : Notes) (mine : get_elem? s.views id ≡ some (held w k)) (hand : l.hand ≡ k.hand) (spawned : l.spawned ≡ k.spawned) (ended : l.ended ≡ k.ended)
-      (marks : KeepsMarks k l) (split : l.splits ≡ k.splits) (knows : Knows (64 * shards) s.words l) where
+      (marks : KeepsMarks k l) (knows : Knows (64 * shards) s.words l) where
     -- no word changes
-    view-law : IsShown (64 * shards) (record { words = s.words; homes = s.homes; views = set s.views id (held w l) }) → WakesSleepers (record { words = s.words; homes = s.homes; views = set s.views id (held w l) })
+    view-law : (i : ℕ) → IsTold i (get_or s.words i 0) (get_or s.words i 0) k l → IsShown (64 * shards) (record { words = s.words; homes = s.homes; views = set s.views id (held w l) }) → WakesSleepers (record { words = s.words; homes = s.homes; views = set s.views id (held w l) })
         → IsLawful shards (record { words = s.words; homes = s.homes; views = set s.views id (held w l) })
-    view-law shows sleep = record {
-      shared = learns h.shared id w k l mine;
-      seats = splits-on s.views h.seats id w k mine l split;
+    view-law i told shows sleep = record {
+      came = comes-still shards id w s h k mine i l told;
       keeper = keeps-view (64 * shards) s h.keeper id (held w k) mine (held w l) hand;
       balance = balanced-same s h.balance id (held w k) (held w l) mine s.words spawned ended hand;
       hears = hears-on (64 * shards) s h.hears id (held w k) (held w l) mine s.homes s.words (λ p inside. refl) marks;
@@ -44,11 +51,10 @@ module _ (shards slots id w : ℕ) where
     }
 
     -- the idle word or the numbers change
-    aside-law : (i now : ℕ) → i < 16 → IsShown (64 * shards) (record { words = set s.words i now; homes = s.homes; views = set s.views id (held w l) })
+    aside-law : (i now : ℕ) → i < 16 → IsTold i (get_or s.words i 0) now k l → IsShown (64 * shards) (record { words = set s.words i now; homes = s.homes; views = set s.views id (held w l) })
         → WakesSleepers (record { words = set s.words i now; homes = s.homes; views = set s.views id (held w l) }) → IsLawful shards (record { words = set s.words i now; homes = s.homes; views = set s.views id (held w l) })
-    aside-law i now low shows sleep = record {
-      shared = learns h.shared id w k l mine;
-      seats = splits-on s.views h.seats id w k mine l split;
+    aside-law i now low told shows sleep = record {
+      came = comes shards id w s h k mine i l now s.homes told;
       keeper = keeps-aside (64 * shards) s h.keeper id (held w k) mine (held w l) i now low hand;
       balance = balanced-same s h.balance id (held w k) (held w l) mine _ spawned ended hand;
       hears = hears-on (64 * shards) s h.hears id (held w k) (held w l) mine s.homes _ (unmarked shards slots id w s h k mine i now (λ p e. omega (arith, e, low))) marks;
@@ -58,11 +64,10 @@ module _ (shards slots id w : ℕ) where
     }
 
     -- a summary word changes
-    summary-law : (d now : ℕ) → IsShown (64 * shards) (record { words = set s.words (summary_at d) now; homes = s.homes; views = set s.views id (held w l) })
+    summary-law : (d now : ℕ) → IsTold (summary_at d) (get_or s.words (summary_at d) 0) now k l → IsShown (64 * shards) (record { words = set s.words (summary_at d) now; homes = s.homes; views = set s.views id (held w l) })
         → WakesSleepers (record { words = set s.words (summary_at d) now; homes = s.homes; views = set s.views id (held w l) }) → IsLawful shards (record { words = set s.words (summary_at d) now; homes = s.homes; views = set s.views id (held w l) })
-    summary-law d now shows sleep = record {
-      shared = learns h.shared id w k l mine;
-      seats = splits-on s.views h.seats id w k mine l split;
+    summary-law d now told shows sleep = record {
+      came = comes shards id w s h k mine (summary_at d) l now s.homes told;
       keeper = keeps-summary (64 * shards) s h.keeper id (held w k) mine (held w l) d now hand;
       balance = balanced-same s h.balance id (held w k) (held w l) mine _ spawned ended hand;
       hears = hears-on (64 * shards) s h.hears id (held w k) (held w l) mine s.homes _ (unmarked shards slots id w s h k mine (summary_at d) now (λ p e. omega (arith, e))) marks;
@@ -75,11 +80,11 @@ module _ (shards slots id w : ℕ) where
 
   module _ (k : Notes) (xs : List (ℕ × ℕ)) (block : ℕ) (within : block < 64 * shards) where
     -- the seat has paid for the block, and no word changes
-    paid-law : (s : Board) → IsLawful shards s → get_elem? s.views id ≡ some (held w k) → k.unshown ≡ block + 1 → (0 < get_or s.words (ready_at block) 0 → in_word summary_at s.words block ≡ 1)
+    paid-law : (s : Board) → IsLawful shards s → get_elem? s.views id ≡ some (held w k) → k.unshown ≡ block + 1 → ℕ → (0 < get_or s.words (ready_at block) 0 → in_word summary_at s.words block ≡ 1)
         → IsLawful shards (record { words = s.words; homes = s.homes; views = set s.views id (held w (unshowing 0 k)) })
-    paid-law s h mine debt shown = view-law s h k (unshowing 0 k) mine refl refl refl (refl, refl, refl, refl) refl (knowing-still shards slots id w s h k mine)
+    paid-law s h mine debt i shown = view-law s h k (unshowing 0 k) mine refl refl refl (refl, refl, refl, refl) (knowing-still shards slots id w s h k mine) i (told-nothing refl (clears-none i (get_or s.words i 0)) (refl, refl, refl, refl, refl, refl, refl, refl))
         (shows-paid (64 * shards) s h.shows id (held w k) (held w (unshowing 0 k)) mine s.words s.homes block debt refl shown (λ c ne r. r) (λ c ne. refl))
-        (sleeps-on s h.sleep id (held w k) (held w (unshowing 0 k)) mine s.words s.homes refl refl (λ c r. r) refl refl refl (refl, refl, refl))
+        (sleeps-on s h.sleep id (held w k) (held w (unshowing 0 k)) mine s.words s.homes refl refl (λ c r. r) refl refl refl refl)
 
     pub finds_shown : k.unshown ≡ block + 1 → Allows (IsLawful shards) slots id (held w k, xs) (summary_at (block / 64)) (λ n. n) (FindsShown (step slots (summary_at (block / 64)) 0 0 none) (held w k, xs))
     finds_shown debt s h _ mine small =
@@ -89,7 +94,7 @@ module _ (shards slots id w : ℕ) where
           held w (unshowing 0 k),
           keeps,
           tt,
-          unchanged shards slots id w (unshowing 0 k) xs i s (paid-law s h mine debt (λ _. there)),
+          unchanged shards slots id w (unshowing 0 k) xs i s (paid-law s h mine debt i (λ _. there)),
           λ c e. let is : block ≡ c = omega (arith, debt, e) in ((λ _. refl), λ none_there. absurd (clash n (block % 64) there (subst (λ x. bit_at n (x % 64) ≡ 0) (sym is) none_there))),
         ))
         (λ other. let clear = not_one n (block % 64) other in (
@@ -107,7 +112,7 @@ module _ (shards slots id w : ℕ) where
           held w (unshowing 0 k),
           keeps,
           tt,
-          unchanged shards slots id w (unshowing 0 k) xs i s (paid-law s h mine debt (λ some_ready. absurd (omega (arith, some_ready, empty)))),
+          unchanged shards slots id w (unshowing 0 k) xs i s (paid-law s h mine debt i (λ some_ready. absurd (omega (arith, some_ready, empty)))),
           ((λ _. refl), λ full. absurd (full empty)),
         ))
         (λ full. (held w k, keeps, tt, stays shards slots id w s h k mine xs i, ((λ empty. absurd (full empty)), λ _. refl)))
@@ -133,7 +138,7 @@ module _ (shards slots id w : ℕ) where
           held w l,
           keeps,
           tt,
-          summary-law s h k l mine refl refl refl (refl, refl, refl, refl) refl (knowing-still shards slots id w s h k mine) d now (shown-now s h mine debt l refl)
+          summary-law s h k l mine refl refl refl (refl, refl, refl, refl) (knowing-still shards slots id w s h k mine) d now (told-nothing refl (summary-silent d n now) (refl, refl, refl, refl, refl, refl, refl, refl)) (shown-now s h mine debt l refl)
               (keeps-sleep s h.sleep id (held w k) (held w l) mine (set s.words i now) s.homes
               (λ j low. (λ z. bit_at (numbers z) j + seats-same s h.sleep id (held w k) (held w l) mine refl j z) ∙ h.sleep.single j low)
               (h.sleep.near id (held w k) mine)
@@ -142,19 +147,19 @@ module _ (shards slots id w : ℕ) where
               (λ is. let one_ = one-same (d + 1) (c + 1) (omega (arith, is)) in ((λ o. omega (arith, more, one_)), inr (omega (arith, more, one_))))
               (λ ne. let same = get_or-set_other s.words i (summary_at c) now 0 (λ f. ne (sym (summary_apart c d f))) in ((λ o. omega (arith, more, o)), inl (omega (arith, some_shown, same)))))
               (λ j c is below. inl (is, below))
-              (ends-same k l s.words (set s.words i now) idles (refl, refl, refl))),
+              (ends-same k l s.words (set s.words i now) idles refl)),
           λ c at. let same : d ≡ c / 64 = summary_apart d (c / 64) at in ((λ _. ap (λ x. knowing m (owing (x + 1) (unshowing 0 k))) same), λ full. absurd (full empty)),
         ))
         (λ full. let l : Notes = unshowing 0 k in (
           held w l,
           keeps,
           tt,
-          summary-law s h k l mine refl refl refl (refl, refl, refl, refl) refl (knowing-still shards slots id w s h k mine) d now (shown-now s h mine debt l refl)
+          summary-law s h k l mine refl refl refl (refl, refl, refl, refl) (knowing-still shards slots id w s h k mine) d now (told-nothing refl (summary-silent d n now) (refl, refl, refl, refl, refl, refl, refl, refl)) (shown-now s h mine debt l refl)
               (sleeps-on s h.sleep id (held w k) (held w l) mine (set s.words i now) s.homes numbers idles
               (λ c some_shown. dite (ℕ_discrete (summary_at c) i)
               (λ e. subst (λ x. 0 < get_or s.words x 0) (sym e) (some_number n full))
               (λ ne. let same = get_or-set_other s.words i (summary_at c) now 0 ne in omega (arith, some_shown, same)))
-              refl refl refl (refl, refl, refl)),
+              refl refl refl refl),
           λ c at. ((λ empty. absurd (full empty)), λ _. refl),
         ))
 
@@ -165,13 +170,13 @@ module _ (shards slots id w : ℕ) where
           held w l,
           keeps,
           tt,
-          summary-law s h k l mine refl refl refl (refl, refl, refl, refl) refl (knowing-still shards slots id w s h k mine) d now
+          summary-law s h k l mine refl refl refl (refl, refl, refl, refl) (knowing-still shards slots id w s h k mine) d now (told-nothing refl (summary-silent d n now) (refl, refl, refl, refl, refl, refl, refl, refl))
               (shows-owing (64 * shards) s h.shows id (held w k) (held w l) mine (set s.words i now) s.homes block free refl
               (λ c ne. same_ready shards slots id w s h k mine i now (λ e f. omega (arith, f)) c)
               (λ c ne. elsewhere summary_at summary_apart s.words block room now (λ j low apart. clear_other n (block % 64) (omega arith) j low apart) c ne))
               (sleeps-on s h.sleep id (held w k) (held w l) mine (set s.words i now) s.homes
               (get_or-set_other s.words i numbers_at now 0 (λ e. omega (arith, e))) (get_or-set_other s.words i idle_at now 0 (λ e. omega (arith, e)))
-              (sunk shards slots id w s h k mine d (omega (arith, within)) now (clear_le n (block % 64) (omega arith))) refl refl refl (refl, refl, refl)),
+              (sunk shards slots id w s h k mine d (omega (arith, within)) now (clear_le n (block % 64) (omega arith))) refl refl refl refl),
           λ c at first. let same : block ≡ c = let e = summary_apart d (c / 64) at in let r = same_others (block % 64) (c % 64) (omega arith) (omega arith) first in omega (arith, e, r) in ap (λ x. knowing m (unshowing (x + 1) k)) same,
         )
 
@@ -209,7 +214,7 @@ module _ (shards slots id w : ℕ) where
           held w l,
           keeps,
           tt,
-          unchanged shards slots id w l xs idle_at s (view-law s h k l mine refl refl refl (refl, refl, refl, refl) refl (knowing-still shards slots id w s h k mine) (view-shows s h k l mine refl)
+          unchanged shards slots id w l xs idle_at s (view-law s h k l mine refl refl refl (refl, refl, refl, refl) (knowing-still shards slots id w s h k mine) idle_at (told-nothing refl (clears-none idle_at (get_or s.words idle_at 0)) (refl, refl, refl, refl, refl, refl, refl, refl)) (view-shows s h k l mine refl)
               (keeps-sleep s h.sleep id (held w k) (held w l) mine s.words s.homes
               (λ j low. ap (λ x. bit_at (get_or s.words numbers_at 0) j + x) (seats-same s h.sleep id (held w k) (held w l) mine refl j) ∙ h.sleep.single j low)
               (h.sleep.near id (held w k) mine)
@@ -218,19 +223,20 @@ module _ (shards slots id w : ℕ) where
               (λ is. absurd (clash n (worker_of d) (subst (λ x. is_idle s.words (x % 64) ≡ 1) is e) clear))
               (λ ne. let same = with-others (λ z. z.owes) s.views id (held w k) (held w l) mine d debt refl c ne in ((λ o. omega (arith, o, same)), inl some_shown)))
               (λ j c is below. inl (is, below))
-              (ends-same k l s.words s.words refl (refl, refl, refl)))),
+              (ends-same k l s.words s.words refl refl))),
           λ c e. let is : d ≡ c = omega (arith, debt, e) in ((λ there. absurd (clash n (worker_of d) (subst (λ x. bit_at n (worker_of x) ≡ 1) (sym is) there) clear)), λ _. refl),
         ))
 
     -- the idle bit of the worker is cleared
     unpark-law : (s : Board) → IsLawful shards s → get_elem? s.views id ≡ some (held w k) → (l : Notes) → l.hand ≡ k.hand → l.spawned ≡ k.spawned → l.ended ≡ k.ended → KeepsMarks k l
-        → l.splits ≡ k.splits → Knows (64 * shards) s.words l → l.unshown ≡ k.unshown → l.owes ≡ 0 → l.worker ≡ k.worker → l.seen ≡ k.seen → (now : ℕ) → now ≡ bit_and (get_or s.words idle_at 0) (others (worker_of d))
+        → Knows (64 * shards) s.words l → l.unshown ≡ k.unshown → l.owes ≡ 0 → l.worker ≡ k.worker → l.seen ≡ k.seen → (now : ℕ) → now ≡ bit_and (get_or s.words idle_at 0) (others (worker_of d))
+        → IsTold idle_at (get_or s.words idle_at 0) now k l
         → Ends k l s.words (set s.words idle_at now)
         → IsLawful shards (record { words = set s.words idle_at now; homes = s.homes; views = set s.views id (held w l) })
-    unpark-law s h mine l hand spawned ended marks split knows unshown owes worker seen now is_now ends =
+    unpark-law s h mine l hand spawned ended marks knows unshown owes worker seen now is_now told ends =
         let n : ℕ = get_or s.words idle_at 0 in
         let there : get_or (set s.words idle_at now) idle_at 0 ≡ bit_and n (others (worker_of d)) = get_or-set_same s.words idle_at now 0 (idle-room s h) ∙ is_now in
-        aside-law s h k l mine hand spawned ended marks split knows idle_at now (omega arith) (idle-shows s h k l mine unshown now)
+        aside-law s h k l mine hand spawned ended marks knows idle_at now (omega arith) told (idle-shows s h k l mine unshown now)
         (keeps-sleep s h.sleep id (held w k) (held w l) mine (set s.words idle_at now) s.homes
         (λ j low. (λ z. bit_at (get_or-set_other s.words idle_at numbers_at now 0 (λ e. omega (arith, e)) z) j + seats-same s h.sleep id (held w k) (held w l) mine worker j z) ∙ h.sleep.single j low)
         (let near = h.sleep.near id (held w k) mine in omega (arith, near, worker))
@@ -251,9 +257,10 @@ module _ (shards slots id w : ℕ) where
           held w (rousing true (worker_of d) (owing 0 k)),
           keeps,
           tt,
-          unpark-law s h mine (rousing true (worker_of d) (owing 0 k)) refl refl refl (refl, refl, refl, refl) refl (knowing-still shards slots id w s h k mine) refl refl refl refl _ refl
+          unpark-law s h mine (rousing true (worker_of d) (owing 0 k)) refl refl refl (refl, refl, refl, refl) (knowing-still shards slots id w s h k mine) refl refl refl refl _ refl
+              (record { looks = inr (inr (refl, aside-silent idle_at n now (omega arith))); one_bit = idle-bits n now; spawned = inl refl; ended = inl refl; woken = inl refl; heard = inl refl; blocked = inl refl; unblocked = inl refl; sleeps = inr (Roused (worker_of d), refl); splits = refl })
               (λ j low. let was = fewer j low in let one_ : bit_at n (worker_of d) * one (worker_of d) j ≡ one (worker_of d) j = ap (λ x. x * one (worker_of d) j) there ∙ omega arith in
-              let more = more-times j (worker_of d) k.roused in omega (arith, was, one_, more)),
+              let more = roused-counts j (worker_of d) k.sleeps in omega (arith, was, one_, more.0, more.1, more.2)),
           λ c e. let is : d ≡ c = omega (arith, debt, e) in (
             refl,
             ap (λ x. others (worker_of x)) is,
@@ -265,7 +272,8 @@ module _ (shards slots id w : ℕ) where
           held w (owing 0 k),
           keeps,
           tt,
-          unpark-law s h mine (owing 0 k) refl refl refl (refl, refl, refl, refl) refl (knowing-still shards slots id w s h k mine) refl refl refl refl _ refl
+          unpark-law s h mine (owing 0 k) refl refl refl (refl, refl, refl, refl) (knowing-still shards slots id w s h k mine) refl refl refl refl _ refl
+              (told-nothing refl (aside-silent idle_at n now (omega arith)) (refl, refl, refl, refl, refl, refl, refl, refl))
               (λ j low. let was = fewer j low in let none_ : bit_at n (worker_of d) * one (worker_of d) j ≡ 0 = ap (λ x. x * one (worker_of d) j) clear ∙ omega arith in omega (arith, was, none_)),
           λ c e. let is : d ≡ c = omega (arith, debt, e) in (
             refl,
@@ -284,7 +292,9 @@ module _ (shards slots id w : ℕ) where
           held w l,
           keeps,
           tt,
-          aside-law s h k l mine refl refl refl (refl, refl, refl, refl) refl (λ p inside has. found-word s.words p idle_at k.looks) idle_at now (omega arith) (idle-shows s h k l mine refl now)
+          aside-law s h k l mine refl refl refl (refl, refl, refl, refl) (λ p inside has. found-word s.words p idle_at k.looks) idle_at now (omega arith)
+              (record { looks = inl refl; one_bit = idle-bits n now; spawned = inl refl; ended = inl refl; woken = inl refl; heard = inl refl; blocked = inl refl; unblocked = inl refl; sleeps = adds-risen (bit_at n j) j k.sleeps; splits = refl })
+              (idle-shows s h k l mine refl now)
               (keeps-sleep s h.sleep id (held w k) (held w l) mine (set s.words idle_at now) s.homes
               (λ i low. (λ z. bit_at (get_or-set_other s.words idle_at numbers_at now 0 (λ e. omega (arith, e)) z) i + seats-same s h.sleep id (held w k) (held w l) mine refl i z) ∙ h.sleep.single i low)
               (h.sleep.near id (held w k) mine)
@@ -294,7 +304,7 @@ module _ (shards slots id w : ℕ) where
               (λ i c is below. absurd (omega (arith, below)))
               (λ i low. let near = h.sleep.near id (held w k) mine in
               let was = ap (λ x. bit_at x i + bit_at n j * one j i) there ∙ clear_counts n j i (omega (arith, near, is_worker)) low in
-              let more = risen-times i (bit_at n j) j k.risen (bit_at-lt n j) in omega (arith, was, more))),
+              let more = risen-counts i (bit_at n j) j k.sleeps (bit_at-lt n j) in omega (arith, was, more.0, more.1, more.2))),
           (refl, (λ e. omega (arith, e, is_worker)), λ c e. let is : j ≡ c = omega (arith, is_worker, e) in (ap others is, ap (λ x. knowing m (rising x n k)) is)),
         )
 
@@ -306,7 +316,9 @@ module _ (shards slots id w : ℕ) where
           held w l,
           keeps,
           tt,
-          aside-law s h k l mine refl refl refl (refl, refl, refl, refl) refl (λ p inside has. found-word s.words p idle_at k.looks) idle_at now (omega arith) (idle-shows s h k l mine refl now)
+          aside-law s h k l mine refl refl refl (refl, refl, refl, refl) (λ p inside has. found-word s.words p idle_at k.looks) idle_at now (omega arith)
+              (record { looks = inl refl; one_bit = idle-bits n now; spawned = inl refl; ended = inl refl; woken = inl refl; heard = inl refl; blocked = inl refl; unblocked = inl refl; sleeps = adds-lain (bit_at n j) j k.sleeps; splits = refl })
+              (idle-shows s h k l mine refl now)
               (keeps-sleep s h.sleep id (held w k) (held w l) mine (set s.words idle_at now) s.homes
               (λ i low. (λ z. bit_at (get_or-set_other s.words idle_at numbers_at now 0 (λ e. omega (arith, e)) z) i + seats-same s h.sleep id (held w k) (held w l) mine refl i z) ∙ h.sleep.single i low)
               (h.sleep.near id (held w k) mine)
@@ -316,8 +328,8 @@ module _ (shards slots id w : ℕ) where
               (λ c e some_shown. let same = with-same (λ z. z.owes) s.views id (held w k) (held w l) mine refl c in
               let old = get_or-set_other s.words idle_at (summary_at c) now 0 (λ f. omega (arith, f)) in ((λ o. omega (arith, o, same)), inl (omega (arith, some_shown, old))))
               (λ i c is below. absurd (omega (arith, below)))
-              (λ i low. let more = lain-times i (bit_at n j) j k.lain (bit_at-lt n j) in
-              let now_set = ap (λ x. bit_at x i) there ∙ set_counts n j i in omega (arith, more, now_set))),
+              (λ i low. let more = lain-counts i (bit_at n j) j k.sleeps (bit_at-lt n j) in
+              let now_set = ap (λ x. bit_at x i) there ∙ set_counts n j i in omega (arith, more.0, more.1, more.2, now_set))),
           (refl, (λ e. omega (arith, e, is_worker)), λ c e. let is : j ≡ c = omega (arith, is_worker, e) in (ap (λ x. 2 ^ x) is, ap (λ x. knowing m (lying x n k)) is)),
         )
 
@@ -329,7 +341,7 @@ module _ (shards slots id w : ℕ) where
           held w l,
           keeps,
           tt,
-          unchanged shards slots id w l xs i s (view-law s h k l mine refl refl refl (refl, refl, refl, refl) refl (knowing-still shards slots id w s h k mine) (view-shows s h k l mine refl)
+          unchanged shards slots id w l xs i s (view-law s h k l mine refl refl refl (refl, refl, refl, refl) (knowing-still shards slots id w s h k mine) i (told-nothing refl (clears-none i (get_or s.words i 0)) (refl, refl, refl, refl, refl, refl, refl, refl)) (view-shows s h k l mine refl)
               (keeps-sleep s h.sleep id (held w k) (held w l) mine s.words s.homes
               (λ c low. ap (λ x. bit_at (get_or s.words numbers_at 0) c + x) (seats-same s h.sleep id (held w k) (held w l) mine refl c) ∙ h.sleep.single c low)
               (h.sleep.near id (held w k) mine)
@@ -338,7 +350,7 @@ module _ (shards slots id w : ℕ) where
               (λ g c is below. dite (ℕ_discrete c k.seen)
               (λ e. let at : summary_at (g + 64 * c) ≡ i = omega (arith, is_worker, is, e) in inr (ap (λ x. get_or s.words x 0) at ∙ empty))
               (λ ne. let apart : ¬ (c ≡ k.seen) = ne in inl (is, omega (arith, below, apart))))
-              (ends-same k l s.words s.words refl (refl, refl, refl)))),
+              (ends-same k l s.words s.words refl refl))),
           ((λ _. refl), λ full. absurd (full empty)),
         ))
         (λ full. (held w (noted i n k), keeps, tt, noting shards slots id w s h k mine xs i, ((λ empty. absurd (full empty)), λ _. refl)))
@@ -354,7 +366,7 @@ module _ (shards slots id w : ℕ) where
           held w l,
           keeps,
           tt,
-          aside-law s h k l mine refl refl refl (refl, refl, refl, refl) refl (knowing-still shards slots id w s h k mine) i now (omega arith) (number-shows s h k l mine refl now)
+          aside-law s h k l mine refl refl refl (refl, refl, refl, refl) (knowing-still shards slots id w s h k mine) i now (omega arith) (told-nothing refl (aside-silent i n now (omega arith)) (refl, refl, refl, refl, refl, refl, refl, refl)) (number-shows s h k l mine refl now)
               (keeps-sleep s h.sleep id (held w k) (held w l) mine (set s.words i now) s.homes
               (λ c below. let more = with-more (λ z. z.worker) s.views id (held w k) (held w l) mine j no_worker refl c in let single = h.sleep.single c below in
               let at : bit_at (get_or (set s.words i now) i 0) c ≡ bit_at now c = ap (λ x. bit_at x c) there_now in dite (ℕ_discrete j c)
@@ -368,7 +380,7 @@ module _ (shards slots id w : ℕ) where
               (λ c e some_shown. let same = with-same (λ z. z.owes) s.views id (held w k) (held w l) mine refl c in
               let old = get_or-set_other s.words i (summary_at c) now 0 (λ f. omega (arith, f)) in ((λ o. omega (arith, o, same)), inl (omega (arith, some_shown, old))))
               (λ g c is below. absurd (omega (arith, below)))
-              (ends-same k l s.words (set s.words i now) (get_or-set_other s.words i idle_at now 0 (λ f. omega (arith, f))) (refl, refl, refl))),
+              (ends-same k l s.words (set s.words i now) (get_or-set_other s.words i idle_at now 0 (λ f. omega (arith, f))) refl)),
           λ c first below. let same : j ≡ c = same_others j c low below first in (
             λ _. ap (λ x. knowing m (working (x + 1) k)) same,
             λ none_there. absurd (clash n j there (subst (λ x. bit_at n x ≡ 0) (sym same) none_there)),
@@ -393,7 +405,7 @@ module _ (shards slots id w : ℕ) where
           held w l,
           keeps,
           tt,
-          aside-law s h k l mine refl refl refl (refl, refl, refl, refl) refl (knowing-still shards slots id w s h k mine) i now (omega arith) (number-shows s h k l mine refl now)
+          aside-law s h k l mine refl refl refl (refl, refl, refl, refl) (knowing-still shards slots id w s h k mine) i now (omega arith) (told-nothing refl (aside-silent i n now (omega arith)) (refl, refl, refl, refl, refl, refl, refl, refl)) (number-shows s h k l mine refl now)
               (keeps-sleep s h.sleep id (held w k) (held w l) mine (set s.words i now) s.homes
               (λ c below. let less = with-less (λ z. z.worker) s.views id (held w k) (held w l) mine j is_worker refl c in let single = h.sleep.single c below in
               let at : bit_at (get_or (set s.words i now) i 0) c ≡ bit_at now c = ap (λ x. bit_at x c) there_now in dite (ℕ_discrete j c)
@@ -406,6 +418,6 @@ module _ (shards slots id w : ℕ) where
               (λ c e some_shown. let same = with-same (λ z. z.owes) s.views id (held w k) (held w l) mine refl c in
               let old = get_or-set_other s.words i (summary_at c) now 0 (λ f. omega (arith, f)) in ((λ o. omega (arith, o, same)), inl (omega (arith, some_shown, old))))
               (λ g c is below. absurd (omega (arith, below)))
-              (ends-same k l s.words (set s.words i now) (get_or-set_other s.words i idle_at now 0 (λ f. omega (arith, f))) (refl, refl, refl))),
+              (ends-same k l s.words (set s.words i now) (get_or-set_other s.words i idle_at now 0 (λ f. omega (arith, f))) refl)),
           refl,
         )

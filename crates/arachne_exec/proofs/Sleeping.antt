@@ -1,5 +1,6 @@
 -- Each kind of step keeps that a sleeper is woken, and that each sleep ends once.
-use Rattle.std.proofs.Common.{◌≡◌, ◌≢◌, ◌⊎◌, inl, ⊎_elim, ℕ, zero, suc, ◌+◌, ◌-◌, ◌*◌, ◌%◌, ◌<◌, ◌≤◌, List, get_or, set, sym, ap, ◌∙◌, subst, arith}
+use Rattle.std.proofs.Common.{◌≡◌, ◌≢◌, ◌⊎◌, inl, ⊎_elim, ℕ, zero, suc, ◌+◌, ◌-◌, ◌*◌, ◌%◌, ◌<◌, ◌≤◌, List, ◌∷◌, get_or, set, sym, ap, ◌∙◌, subst, arith}
+use Rattle.std.proofs.lemmas.List.Sums.{sum_by-cons}
 use Rattle.std.specs.Int.{bit_at}
 use mathlib.Core.Option.{some}
 use mathlib.Core.Option as maybe
@@ -8,35 +9,48 @@ use Rattle.atomic_table.proofs.Lists.{at_set}
 use Rattle.arachne_weights.specs.declared.token.Token.{Token}
 use Rattle.arachne_weights.proofs.Totals.{total-set, two-le-total}
 use Rattle.arachne_exec.specs.declared.view.Notes.{Notes}
+use Rattle.arachne_exec.specs.declared.view.SleepDeed.{SleepDeed}
+use Rattle.arachne_exec.specs.declared.view.SleepDeed.TheVariants.{LayDown, LayOn, Rose, Roused}
 use Rattle.arachne_exec.specs.Layout.{idle_at, numbers_at, summary_at}
-use Rattle.arachne_exec.specs.Board.{one, times, owed, seats_of, is_idle, Board, WakesSleepers}
+use Rattle.arachne_exec.specs.Board.{one, lies_by, rises_by, rouses_by, lies_in, rises_in, rouses_in, owed, seats_of, is_idle, Board, WakesSleepers}
 use Rattle.arachne_exec.specs.Changes.{lain_more, risen_more}
 use Rattle.arachne_exec.proofs.Bits.{one-same}
-use Rattle.arachne_exec.proofs.Balancing.{more-times}
 use Rattle.arachne_exec.proofs.Debts.{with-same}
 
--- a worker that rises, or lies down, or doesn't
-pub risen-times : (w n j : ℕ) (xs : List ℕ) → n < 2 → times w (risen_more n j xs) ≡ n * one j w + times w xs
-risen-times w zero j xs low = omega arith
-risen-times w (suc zero) j xs low = more-times w j xs ∙ omega arith
-risen-times w (suc (suc n)) j xs low = absurd (omega (arith, low))
+-- what one deed more counts
+deed-counts : (w : ℕ) (d : SleepDeed) (xs : List SleepDeed) → (lies_in w (d ∷ xs) ≡ lies_by w d + lies_in w xs) × (rises_in w (d ∷ xs) ≡ rises_by w d + rises_in w xs) × (rouses_in w (d ∷ xs) ≡ rouses_by w d + rouses_in w xs)
+deed-counts w d xs = (sum_by-cons (λ (x : SleepDeed). lies_by w x) d xs, sum_by-cons (λ (x : SleepDeed). rises_by w x) d xs, sum_by-cons (λ (x : SleepDeed). rouses_by w x) d xs)
 
-pub lain-times : (w n j : ℕ) (xs : List ℕ) → n < 2 → times w (lain_more n j xs) ≡ (1 - n) * one j w + times w xs
-lain-times w zero j xs low = more-times w j xs ∙ omega arith
-lain-times w (suc zero) j xs low = omega arith
-lain-times w (suc (suc n)) j xs low = absurd (omega (arith, low))
+-- so often more lain down, risen and roused
+abbrev pub Counts : ℕ → (lie rise rouse : ℕ) → (xs more : List SleepDeed) → Type 0
+Counts w lie rise rouse xs more = (lies_in w more ≡ lie + lies_in w xs) × (rises_in w more ≡ rise + rises_in w xs) × (rouses_in w more ≡ rouse + rouses_in w xs)
+
+pub roused-counts : (w j : ℕ) (xs : List SleepDeed) → Counts w 0 0 (one j w) xs (Roused j ∷ xs)
+roused-counts w j xs = deed-counts w (Roused j) xs
+
+-- a worker that rises, or lies down, or doesn't
+pub risen-counts : (w n j : ℕ) (xs : List SleepDeed) → n < 2 → Counts w 0 (n * one j w) 0 xs (risen_more n j xs)
+risen-counts w zero j xs low = (omega arith, omega arith, omega arith)
+risen-counts w (suc zero) j xs low = let more = deed-counts w (Rose j) xs in (more.0, more.1 ∙ omega arith, more.2)
+risen-counts w (suc (suc n)) j xs low = absurd (omega (arith, low))
+
+pub lain-counts : (w n j : ℕ) (xs : List SleepDeed) → n < 2 → Counts w ((1 - n) * one j w) 0 0 xs (lain_more n j xs)
+lain-counts w zero j xs low = let more = deed-counts w (LayDown j) xs in (more.0 ∙ omega arith, more.1, more.2)
+lain-counts w (suc zero) j xs low = let more = deed-counts w (LayOn j) xs in (more.0 ∙ omega arith, more.1, more.2)
+lain-counts w (suc (suc n)) j xs low = absurd (omega (arith, low))
 
 -- it has neither lain down nor risen, and woken nobody
 abbrev pub Unmoved : Notes → Notes → Type 0
-Unmoved k l = (l.lain ≡ k.lain) × (l.risen ≡ k.risen) × (l.roused ≡ k.roused)
+Unmoved k l = l.sleeps ≡ k.sleeps
 
 -- what a step has to keep of each worker, of this view and of the idle word
 abbrev pub Ends : Notes → Notes → List ℕ → List ℕ → Type 0
-Ends k l words now = (w : ℕ) → w < 64 → times w l.lain + times w k.risen + times w k.roused + is_idle words w ≡ times w k.lain + times w l.risen + times w l.roused + is_idle now w
+Ends k l words now = (w : ℕ) → w < 64
+    → lies_in w l.sleeps + rises_in w k.sleeps + rouses_in w k.sleeps + is_idle words w ≡ lies_in w k.sleeps + rises_in w l.sleeps + rouses_in w l.sleeps + is_idle now w
 
 pub ends-same : (k l : Notes) (words now : List ℕ) → get_or now idle_at 0 ≡ get_or words idle_at 0 → Unmoved k l → Ends k l words now
 ends-same k l words now idle same w low =
-    let a = ap (times w) same.0 in let d = ap (times w) same.1 in let c = ap (times w) same.2 in let e = ap (λ n. bit_at n w) idle in omega (arith, a, d, c, e)
+    let a = ap (lies_in w) same in let d = ap (rises_in w) same in let c = ap (rouses_in w) same in let e = ap (λ n. bit_at n w) idle in omega (arith, a, d, c, e)
 
 module _ (b : Board) (r : WakesSleepers b) (h : ℕ) (v u : Token Notes) (mine : get_elem? b.views h ≡ some v) where
   pub seats-same : u.known.worker ≡ v.known.worker → (w : ℕ) → seats_of w (set b.views h u) ≡ seats_of w b.views
@@ -87,9 +101,9 @@ module _ (b : Board) (r : WakesSleepers b) (h : ℕ) (v u : Token Notes) (mine :
       near = λ j x there. ⊎_elim (λ t. subst (λ (y : Token Notes). y.known.worker ≤ 64) t.1 low) (λ t. r.near j x t.1) (at_set b.views h j u x there);
       awake = awake;
       ended = λ w small.
-          let one_ = total-set (λ (t : Token Notes). times w t.known.lain) b.views h v u mine in
-          let two = total-set (λ (t : Token Notes). times w t.known.risen) b.views h v u mine in
-          let three = total-set (λ (t : Token Notes). times w t.known.roused) b.views h v u mine in
+          let one_ = total-set (λ (t : Token Notes). lies_in w t.known.sleeps) b.views h v u mine in
+          let two = total-set (λ (t : Token Notes). rises_in w t.known.sleeps) b.views h v u mine in
+          let three = total-set (λ (t : Token Notes). rouses_in w t.known.sleeps) b.views h v u mine in
           omega (arith, one_, two, three, r.ended w small, ends w small);
     }
 

@@ -1,28 +1,24 @@
 -- What holds of the words, the slots and the seats of an executor between any two steps.
-use Rattle.std.specs.Prelude.{◌≡◌, ◌⊎◌, ℕ, ◌+◌, ◌*◌, ◌/◌, ◌%◌, ◌<◌, ◌≤◌, ◌==◌, min, List, [], ◌∷◌, length, slice_index, if◌then◌else◌}
+use Rattle.std.specs.Prelude.{◌≡◌, ◌≢◌, ◌⊎◌, ℕ, ◌+◌, ◌*◌, ◌/◌, ◌%◌, ◌^◌, ◌<◌, ◌≤◌, ◌==◌, min, List, [], ◌∷◌, ◌++◌, length, slice_index, slice_set, if◌then◌else◌}
 use Rattle.std.specs.Int.{bit_at}
+use Rattle.std.specs.Int.RustNames.{bit_and, bit_or}
 use Rattle.std.specs.List.{sum_by}
 use mathlib.Core.Option.{some, none}
 use mathlib.Core.Option as maybe
 use lib.ListN.{get_elem?}
 use Rattle.atomic_table.specs.Table.{State}
 use Rattle.arachne_weights.specs.declared.token.Token.{Token}
-use Rattle.arachne_weights.specs.Tokens.{IsReachable, held}
-use Rattle.arachne_weights.specs.Weight.{whole}
+use Rattle.arachne_weights.specs.Tokens.{held, spent}
 use Rattle.arachne_exec.specs.declared.view.Notes.{Notes}
-use Rattle.arachne_exec.specs.Layout.{idle_at, numbers_at, summary_at, ready_at, free_at, mark_at, words_of, in_word, last_generation}
+use Rattle.arachne_exec.specs.declared.view.SleepDeed.{SleepDeed}
+use Rattle.arachne_exec.specs.declared.view.SleepDeed.TheVariants.{LayDown, LayOn, Rose, Roused}
+use Rattle.arachne_exec.specs.First.{AreFirstWords}
+use Rattle.arachne_exec.specs.Changes.{blank, first_view, first_of, second_of, both_of}
+use Rattle.arachne_exec.specs.Layout.{idle_at, numbers_at, summary_at, ready_at, free_at, mark_at, words_of, in_word, others, last_generation}
 
 -- the words, the jobs that are at home, and what seats know
 abbrev pub Board : Type 0
 Board = State ℕ (Token Notes)
-
--- a seat that has done nothing
-abbrev pub blank : Notes
-blank = record { hand = []; spawned = []; ended = []; woken = []; heard = []; blocked = []; unblocked = []; lain = []; risen = []; roused = []; looks = []; unshown = 0; owes = 0; worker = 0; seen = 0; splits = 0 }
-
--- the first seat has the whole weight
-abbrev pub first_view : Token Notes
-first_view = held whole blank
 
 -- ---- counting
 
@@ -49,13 +45,28 @@ abbrev pub is_number : ℕ → maybe.Option ℕ → ℕ
 is_number job none = 0
 is_number job (some other) = one other job
 
+-- of a change of a sleep: 1 if that worker lay down, rose, or was roused
+abbrev pub lies_by : ℕ → SleepDeed → ℕ
+lies_by worker (LayDown other) = one other worker
+lies_by worker (LayOn other) = 0
+lies_by worker (Rose other) = 0
+lies_by worker (Roused other) = 0
+
+abbrev pub rises_by : ℕ → SleepDeed → ℕ
+rises_by worker (LayDown other) = 0
+rises_by worker (LayOn other) = 0
+rises_by worker (Rose other) = one other worker
+rises_by worker (Roused other) = 0
+
+abbrev pub rouses_by : ℕ → SleepDeed → ℕ
+rouses_by worker (LayDown other) = 0
+rouses_by worker (LayOn other) = 0
+rouses_by worker (Rose other) = 0
+rouses_by worker (Roused other) = one other worker
+
 -- how often over all seats
 abbrev pub by_all : (Notes → ℕ) → List (Token Notes) → ℕ
 by_all count views = sum_by (λ (t : Token Notes). count t.known) views
-
--- how often seats were split
-abbrev pub splits_of : List (Token Notes) → ℕ
-splits_of views = by_all (λ (k : Notes). k.splits) views
 
 -- ---- who keeps a place
 
@@ -153,16 +164,25 @@ abbrev pub seats_of : ℕ → List (Token Notes) → ℕ
 seats_of worker views = by_all (λ (k : Notes). one k.worker (worker + 1)) views
 
 -- how often a worker's seat has set its idle bit where it was clear: the worker lies down
+abbrev pub lies_in : ℕ → List SleepDeed → ℕ
+lies_in worker sleeps = sum_by (λ (d : SleepDeed). lies_by worker d) sleeps
+
 abbrev pub lies : ℕ → List (Token Notes) → ℕ
-lies worker views = by_all (λ (k : Notes). times worker k.lain) views
+lies worker views = by_all (λ (k : Notes). lies_in worker k.sleeps) views
 
 -- how often its seat has cleared the bit where it was set: the worker rises by itself
+abbrev pub rises_in : ℕ → List SleepDeed → ℕ
+rises_in worker sleeps = sum_by (λ (d : SleepDeed). rises_by worker d) sleeps
+
 abbrev pub rises : ℕ → List (Token Notes) → ℕ
-rises worker views = by_all (λ (k : Notes). times worker k.risen) views
+rises worker views = by_all (λ (k : Notes). rises_in worker k.sleeps) views
 
 -- how often a seat has found the bit set, and cleared it to wake the worker, which its call says
+abbrev pub rouses_in : ℕ → List SleepDeed → ℕ
+rouses_in worker sleeps = sum_by (λ (d : SleepDeed). rouses_by worker d) sleeps
+
 abbrev pub rouses : ℕ → List (Token Notes) → ℕ
-rouses worker views = by_all (λ (k : Notes). times worker k.roused) views
+rouses worker views = by_all (λ (k : Notes). rouses_in worker k.sleeps) views
 
 abbrev pub is_idle : List ℕ → ℕ → ℕ
 is_idle words worker = bit_at (slice_index words idle_at) worker
@@ -177,10 +197,61 @@ pub record WakesSleepers (b : Board) : Type 0 where
       → 0 < slice_index b.words (summary_at (worker + 64 * k)) → 0 < owed (worker + 64 * k) b.views
   pub ended : (worker : ℕ) → worker < 64 → lies worker b.views ≡ rises worker b.views + rouses worker b.views + is_idle b.words worker
 
--- The rule of an executor with so many shards. Each seat but the first was split off another, which counts it.
+-- ---- how a board comes about
+
+-- what each step keeps
+abbrev pub IsKept : ℕ → Board → Type 0
+IsKept shards b = HasOneKeeper (64 * shards) b × IsBalanced b × HearsWakes (64 * shards) b × CountsEnds (64 * shards) b × IsShown (64 * shards) b × WakesSleepers b
+
+-- one is noted, or none
+abbrev pub Adds : {A : Type 0} → List A → List A → Type 0
+Adds before after = (after ≡ before) ⊎ ((x : _) × (after ≡ x ∷ before))
+
+-- a block's free word has changed, or a bit of its ready word was cleared
+abbrev pub HasChanged : (word found put : ℕ) → Type 0
+HasChanged word found put = (block : ℕ) × (((word ≡ free_at block) × (found ≢ put)) ⊎ ((word ≡ ready_at block) × (i : ℕ) × (bit_at found i ≡ 1) × (bit_at put i ≡ 0)))
+
+-- one bit was cleared or set, or none
+abbrev pub ChangesOne : (found put : ℕ) → Type 0
+ChangesOne found put = (put ≡ found) ⊎ ((i : ℕ) × ((put ≡ bit_and found (others i)) ⊎ (put ≡ bit_or found (2 ^ i))))
+
+-- A seat that knew k made a step on a word, found that number there and put that one, and knows l. It has noted the one or
+-- the other of the word, or nothing unless a free word has changed or a ready bit was cleared. What it had noted stays. A
+-- free word changes by one bit.
+pub record IsTold (word found put : ℕ) (k l : Notes) : Type 0 where
+  pub looks : (l.looks ≡ (word, found) ∷ k.looks) ⊎ (l.looks ≡ (word, put) ∷ k.looks) ⊎ ((l.looks ≡ k.looks) × ¬ HasChanged word found put)
+  pub one_bit : (block : ℕ) → word ≡ free_at block → ChangesOne found put
+  pub spawned : Adds k.spawned l.spawned
+  pub ended : Adds k.ended l.ended
+  pub woken : Adds k.woken l.woken
+  pub heard : Adds k.heard l.heard
+  pub blocked : Adds k.blocked l.blocked
+  pub unblocked : Adds k.unblocked l.unblocked
+  pub sleeps : Adds k.sleeps l.sleeps
+  pub splits : l.splits ≡ k.splits
+
+-- the board after that step
+abbrev pub after_step : Board → (seat weight word put : ℕ) → Notes → List (maybe.Option ℕ) → Board
+after_step b seat weight word put l homes = record { words = slice_set b.words word put; homes = homes; views = slice_set b.views seat (held weight l) }
+
+abbrev pub with_views : Board → List (Token Notes) → Board
+with_views b views = record { words = b.words; homes = b.homes; views = views }
+
+-- The boards that can come about. At first the words are the first ones, and one seat has done nothing. Then, one after
+-- another, a seat makes a step on a word and finds what stands there, is split, which it counts, or takes in another. A
+-- new seat stands at the end.
+pub data HasCome (shards : ℕ) : Board → Type 0 where
+  begins : (b : Board) → AreFirstWords (64 * shards) b.words → b.views ≡ first_view ∷ [] → HasCome shards b
+  acts : {b : Board} → HasCome shards b → IsKept shards b → (seat weight word put : ℕ) (k l : Notes) (homes : List (maybe.Option ℕ)) → get_elem? b.views seat ≡ some (held weight k)
+      → IsTold word (slice_index b.words word) put k l → HasCome shards (after_step b seat weight word put l homes)
+  splits : {b : Board} → HasCome shards b → (seat weight : ℕ) (k : Notes) → get_elem? b.views seat ≡ some (held weight k)
+      → HasCome shards (with_views b (slice_set b.views seat (first_of (held weight k)) ++ second_of (held weight k) ∷ []))
+  joins : {b : Board} → HasCome shards b → (seat other weight added : ℕ) (k l : Notes) → get_elem? b.views seat ≡ some (held weight k) → other ≢ seat → get_elem? b.views other ≡ some (held added l)
+      → HasCome shards (with_views b (slice_set (slice_set b.views seat (both_of (held weight k) (held added l))) other (spent blank)))
+
+-- the rule of an executor with so many shards
 pub record IsLawful (shards : ℕ) (b : Board) : Type 0 where
-  pub shared : IsReachable blank b.views
-  pub seats : length b.views ≡ 1 + splits_of b.views
+  pub came : HasCome shards b
   pub keeper : HasOneKeeper (64 * shards) b
   pub balance : IsBalanced b
   pub hears : HearsWakes (64 * shards) b

@@ -1,5 +1,5 @@
 -- What each call answers, by what its seat has and knows then.
-use Rattle.std.specs.Prelude.{◌≡◌, ◌≢◌, ◌⊎◌, ℕ, ◌+◌, ◌*◌, ◌/◌, ◌%◌, ◌<◌, ◌≤◌, ◌^◌, ◌↔◌, IsTrue, List, ◌∷◌, ◌++◌, map}
+use Rattle.std.specs.Prelude.{◌≡◌, ◌≢◌, ◌⊎◌, ℕ, ◌+◌, ◌*◌, ◌/◌, ◌%◌, ◌<◌, ◌≤◌, ◌^◌, ◌↔◌, IsTrue, List, [], ◌∷◌, ◌++◌, map}
 use Rattle.std.specs.Int.{bit_at}
 use Rattle.std.specs.Int.RustNames.{bit_and}
 use Rattle.atomic_table.specs.Table.{rest}
@@ -51,7 +51,7 @@ pub record HasPlaced (at : PlacedJob) (block job : ℕ) (k after : Notes) : Type
   pub named : at.name ≡ name_of at.place mark
   pub known : after ≡ record k {
     spawned = (at.place, job) ∷ k.spawned;
-    roused = roused_more at.unpark (worker_at at.place) k.roused;
+    sleeps = roused_more at.unpark (worker_at at.place) k.sleeps;
     looks = (mark_at at.place, mark) ∷ (free_at block, found) ∷ (free_at block, free) ∷ k.looks;
   }
 
@@ -144,6 +144,10 @@ HasRested (rested.Ready unpark) place k after = (mark : ℕ)
     × (((mark % 4 ≢ 0) × (after ≡ rousing unpark (worker_at place) (laying_down (noted (mark_at place) mark k))))
     ⊎ ((then : ℕ) × (then ≢ mark) × (after ≡ rousing unpark (worker_at place) (laying_down (noted (mark_at place) then (noted (mark_at place) mark k))))))
 
+-- the place got the next generation, and then its bit in the free word was set
+abbrev pub HasFreed : (place mark : ℕ) → List (ℕ × ℕ) → Type 0
+HasFreed place mark looks = (free : ℕ) × (looks ≡ (free_at (place / 64), free) ∷ (mark_at place, 4 * (mark / 4 + 1)) ∷ [])
+
 -- The job of the newest place has ended, where this mark was found first. A place is retired, that is, blocked for ever,
 -- where no name has the next generation.
 pub record HasFinished (place : ℕ) (k after : Notes) : Type 0 where
@@ -158,7 +162,7 @@ pub record HasFinished (place : ℕ) (k after : Notes) : Type 0 where
     blocked = after.blocked;
     looks = after.looks;
   }
-  pub retired : ((mark / 4 + 1 < last_generation) × (after.blocked ≡ k.blocked)) ⊎ ((last_generation ≤ mark / 4 + 1) × (after.blocked ≡ place ∷ k.blocked))
+  pub retired : ((mark / 4 + 1 < last_generation) × (after.blocked ≡ k.blocked) × HasFreed place mark then) ⊎ ((last_generation ≤ mark / 4 + 1) × (after.blocked ≡ place ∷ k.blocked) × (then ≡ []))
 
 -- the mark at the place was found not to be of this generation; or there is no such place, or no such generation
 abbrev pub IsGone : ℕ → ℕ → ℕ → Notes → Notes → Type 0
@@ -200,10 +204,15 @@ HasWokenHere here.Already places place generation k after = IsAlready place gene
 HasWokenHere here.Gone places place generation k after = IsGone places place generation k after
 HasWokenHere here.Lost places place generation k after = IsLost place generation k after
 
--- it has looked at words, and has cleared the idle bit of that worker so often to wake it, and of no other; nothing else
--- has changed
+-- none is a look at a free word
+abbrev pub AreNoneFree : List (ℕ × ℕ) → Type 0
+AreNoneFree [] = Unit {0}
+AreNoneFree (look ∷ looks) = ((block : ℕ) → look.0 ≢ free_at block) × AreNoneFree looks
+
+-- it has looked at words but free ones, and has cleared the idle bit of that worker so often to wake it, and of no other;
+-- nothing else has changed
 abbrev pub HasLooked : ℕ → Notes → Notes → Type 0
-HasLooked worker k after = (n : ℕ) × (looks : List (ℕ × ℕ)) × (after ≡ record k { looks = looks ++ k.looks; roused = often n worker k.roused })
+HasLooked worker k after = (n : ℕ) × (looks : List (ℕ × ℕ)) × AreNoneFree looks × (after ≡ record k { looks = looks ++ k.looks; sleeps = often n worker k.sleeps })
 
 -- it has looked, and then taken a job of a block of that shard, one of so many
 abbrev pub HasTakenInShard : HeldJob → (shards shard : ℕ) → Notes → Notes → Type 0

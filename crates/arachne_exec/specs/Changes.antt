@@ -3,10 +3,19 @@ use Rattle.std.specs.Prelude.{ℕ, zero, suc, ◌+◌, ◌*◌, ◌/◌, ◌%◌
 use Rattle.std.specs.Int.{bit_at}
 use Rattle.arachne_weights.specs.declared.token.Token.{Token}
 use Rattle.arachne_weights.specs.Tokens.{held}
-use Rattle.arachne_weights.specs.Weight.{first_part, second_part, joined}
+use Rattle.arachne_weights.specs.Weight.{whole, first_part, second_part, joined}
 use Rattle.arachne_exec.specs.declared.view.Notes.{Notes}
+use Rattle.arachne_exec.specs.declared.view.SleepDeed.{SleepDeed}
+use Rattle.arachne_exec.specs.declared.view.SleepDeed.TheVariants.{LayDown, LayOn, Rose, Roused}
 use Rattle.arachne_exec.specs.Layout.{idle_at, mark_at}
-use Rattle.arachne_exec.specs.Board.{blank}
+
+-- a seat that has done nothing
+abbrev pub blank : Notes
+blank = record { hand = []; spawned = []; ended = []; woken = []; heard = []; blocked = []; unblocked = []; sleeps = []; looks = []; unshown = 0; owes = 0; worker = 0; seen = 0; splits = 0 }
+
+-- the first seat has the whole weight
+abbrev pub first_view : Token Notes
+first_view = held whole blank
 
 abbrev pub older : List (ℕ × ℕ) → List (ℕ × ℕ)
 older [] = []
@@ -79,35 +88,35 @@ abbrev pub noted : ℕ → ℕ → Notes → Notes
 noted word number k = record k { looks = (word, number) ∷ k.looks }
 
 -- the idle bit of a worker was found set, and cleared: it is to be unparked
-abbrev pub roused_more : Bool → ℕ → List ℕ → List ℕ
-roused_more false worker roused = roused
-roused_more true worker roused = worker ∷ roused
+abbrev pub roused_more : Bool → ℕ → List SleepDeed → List SleepDeed
+roused_more false worker sleeps = sleeps
+roused_more true worker sleeps = Roused worker ∷ sleeps
 
 abbrev pub rousing : Bool → ℕ → Notes → Notes
-rousing told worker k = record k { roused = roused_more told worker k.roused }
+rousing told worker k = record k { sleeps = roused_more told worker k.sleeps }
 
 -- that worker's idle bit was found set so often, and cleared to wake it
-abbrev pub often : ℕ → ℕ → List ℕ → List ℕ
-often zero worker roused = roused
-often (suc n) worker roused = worker ∷ often n worker roused
+abbrev pub often : ℕ → ℕ → List SleepDeed → List SleepDeed
+often zero worker sleeps = sleeps
+often (suc n) worker sleeps = Roused worker ∷ often n worker sleeps
 
 -- a worker has found its idle bit so (0: clear, 1: set), and set it: it lies down where it was clear
-abbrev pub lain_more : ℕ → ℕ → List ℕ → List ℕ
-lain_more zero worker lain = worker ∷ lain
-lain_more (suc n) worker lain = lain
+abbrev pub lain_more : ℕ → ℕ → List SleepDeed → List SleepDeed
+lain_more zero worker sleeps = LayDown worker ∷ sleeps
+lain_more (suc n) worker sleeps = LayOn worker ∷ sleeps
 
 -- the idle word was found to be that number, and the worker has set its bit there, and seen none of its summary words
 -- since
 abbrev pub lying : ℕ → ℕ → Notes → Notes
-lying worker found k = record k { lain = lain_more (bit_at found worker) worker k.lain; looks = (idle_at, found) ∷ k.looks; seen = 0 }
+lying worker found k = record k { sleeps = lain_more (bit_at found worker) worker k.sleeps; looks = (idle_at, found) ∷ k.looks; seen = 0 }
 
 -- a worker has found its idle bit so (0: clear, 1: set), and cleared it: it rises where it was set
-abbrev pub risen_more : ℕ → ℕ → List ℕ → List ℕ
-risen_more zero worker risen = risen
-risen_more (suc n) worker risen = worker ∷ risen
+abbrev pub risen_more : ℕ → ℕ → List SleepDeed → List SleepDeed
+risen_more zero worker sleeps = sleeps
+risen_more (suc n) worker sleeps = Rose worker ∷ sleeps
 
 abbrev pub rising : ℕ → ℕ → Notes → Notes
-rising worker found k = record k { risen = risen_more (bit_at found worker) worker k.risen; looks = (idle_at, found) ∷ k.looks; seen = 0 }
+rising worker found k = record k { sleeps = risen_more (bit_at found worker) worker k.sleeps; looks = (idle_at, found) ∷ k.looks; seen = 0 }
 
 abbrev pub unshowing : ℕ → Notes → Notes
 unshowing block k = record k { unshown = block }
@@ -146,9 +155,7 @@ together k l = record k {
   heard = k.heard ++ l.heard;
   blocked = k.blocked ++ l.blocked;
   unblocked = k.unblocked ++ l.unblocked;
-  lain = k.lain ++ l.lain;
-  risen = k.risen ++ l.risen;
-  roused = k.roused ++ l.roused;
+  sleeps = k.sleeps ++ l.sleeps;
   looks = k.looks ++ l.looks;
   splits = k.splits + l.splits;
 }

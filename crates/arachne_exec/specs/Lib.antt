@@ -1,7 +1,7 @@
 pub mod Layout
 pub mod First
-pub mod Board
 pub mod Changes
+pub mod Board
 pub mod Steps
 pub mod Seats
 pub mod Turns

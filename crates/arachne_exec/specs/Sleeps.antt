@@ -30,22 +30,16 @@ wake_unparks woken.Gone = false
 wake_unparks woken.Lost = false
 
 -- where it says so the worker was roused once, and nobody else was, nor has lain down or risen
-pub record Rouses (unpark : Bool) (worker : ℕ) (k after : Notes) : Type 0 where
-  pub roused : after.roused ≡ roused_more unpark worker k.roused
-  pub lain : after.lain ≡ k.lain
-  pub risen : after.risen ≡ k.risen
+abbrev pub Rouses : (unpark : Bool) (worker : ℕ) → Notes → Notes → Type 0
+Rouses unpark worker k after = after.sleeps ≡ roused_more unpark worker k.sleeps
 
 abbrev pub RousesNobody : Notes → Notes → Type 0
 RousesNobody k after = Rouses false 0 k after
 
--- Run: the worker has neither lain down nor risen. Park: it lies, newly (0) or as it did before (1), and has found all
--- of its summary words empty since. Again: it lay, and has risen, unless it was roused meanwhile (0).
-abbrev pub HasSlept : Next → ℕ → ℕ → Notes → Notes → Type 0
-HasSlept (next.Run job) shards worker k after = (after.lain ≡ k.lain) × (after.risen ≡ k.risen)
-HasSlept next.Park shards worker k after = (was : ℕ) × (after.lain ≡ lain_more was worker k.lain) × (after.risen ≡ k.risen) × HasSeenAll shards after
-HasSlept next.Again shards worker k after = (was then : ℕ) × (after.lain ≡ lain_more was worker k.lain) × (after.risen ≡ risen_more then worker k.risen)
-
--- the same, and before it the worker may have roused itself, and nobody else
-pub record Sleeps (answer : Next) (shards worker : ℕ) (k after : Notes) : Type 0 where
-  pub own : (n : ℕ) × (after.roused ≡ often n worker k.roused)
-  pub slept : HasSlept answer shards worker k after
+-- First the worker may have roused itself, and nobody else. Then, Run: it has neither lain down nor risen. Park: it has
+-- set its bit, which was clear (0) or set (1), and found all of its summary words empty since. Again: it has set the bit,
+-- and has risen, unless it was roused meanwhile (0).
+abbrev pub Sleeps : Next → ℕ → ℕ → Notes → Notes → Type 0
+Sleeps (next.Run job) shards worker k after = (n : ℕ) × (after.sleeps ≡ often n worker k.sleeps)
+Sleeps next.Park shards worker k after = (n was : ℕ) × (after.sleeps ≡ lain_more was worker (often n worker k.sleeps)) × HasSeenAll shards after
+Sleeps next.Again shards worker k after = (n was then : ℕ) × (after.sleeps ≡ risen_more then worker (lain_more was worker (often n worker k.sleeps)))

@@ -1,8 +1,7 @@
 //! The executor and its seats.
 ghost use Rattle.std.specs.Prelude.{◌≡◌, ◌*◌, ◌↔◌, ◌≤◌, [], IsTrue, IfOk};
 ghost use Rattle.arachne_weights.specs.Weight.{whole, first_part, second_part, joined};
-ghost use Rattle.arachne_exec.specs.Board.{blank};
-ghost use Rattle.arachne_exec.specs.Changes.{splitting, together};
+ghost use Rattle.arachne_exec.specs.Changes.{blank, splitting, together};
 
 use crate::layout::{empty_slots, first_words};
 use crate::seat::{ExecSeat, SeatInCall};

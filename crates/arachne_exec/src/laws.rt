@@ -12,12 +12,21 @@ ghost use Rattle.arachne_exec.specs.Layout.{last_generation, worker_of};
 ghost use Rattle.arachne_exec.specs.Changes.{laying_down, rousing};
 ghost use Rattle.arachne_exec.specs.Calls.{worker_at, HasSpawned, HasSpawnedHere, HasTaken, HasTakenNone, HasTakenMany, HasStarted, HasRested, HasFinished, HasWoken, HasWokenHere, HasAnswered};
 ghost use Rattle.arachne_exec.specs.Sleeps.{spawn_unparks, rest_unparks, wake_unparks, Rouses, RousesNobody, Sleeps};
-ghost use Rattle.arachne_exec.specs.Board.{Board, IsLawful, at_home, is_ready, is_free, is_blocked, is_idle, seats_of, ends_at, lies, rises, rouses};
+ghost use Rattle.arachne_exec.specs.Board.{Board, HasCome, IsLawful, at_home, is_ready, is_free, is_blocked, is_idle, seats_of, ends_at, lies, rises, rouses};
 ghost use Rattle.arachne_exec.specs.Promises.{IsReadyJob, IsEmptyPlace, keepers_of, HasReady, IsShownOrOwed, IsParked, AreOwedTo};
 ghost use Rattle.arachne_exec.specs.Promises.{spawns, ends, times_in_hand, spawned_at, ended_at, lives_at, blocks, unblocks, wakes, wakes_heard, is_marked, is_unused, generation_at};
 
 use crate::executor::Executor;
 use crate::seat::ExecSeat;
+
+/// A board comes about by one step after another. Each found what stood in its word, and kept the rest of the rule.
+///
+/// A seat notes of a word only the number that its step found there or put there, and keeps what it has noted. Each change
+/// of a free word is noted and is of one bit, and so is each ready bit that is cleared. So a number that was noted was
+/// there, whatever the kind of the step says.
+pub fn boards_come_by_steps()
+    ensures { (shards : ℕ) (b : Board) → IsLawful shards b → HasCome shards b }
+{}
 
 /// Each place has one keeper. So a job that is neither blocked nor in a seat's hand has its bit set in its block's
 /// ready word, and whoever finds the word empty knows that each job of the block is blocked or in the hand of a seat.

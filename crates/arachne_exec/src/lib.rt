@@ -25,12 +25,12 @@ pub use answers::{
 };
 pub use executor::Executor;
 pub use laws::{
-    calls_say_whom_they_rouse, executors_cross_threads, free_places_are_empty, jobs_are_conserved,
-    names_are_of_one_job, ready_blocks_are_shown, ready_jobs_are_shown, sleepers_are_told,
-    sleepers_are_woken, wakes_are_heard, workers_are_one,
+    boards_come_by_steps, calls_say_whom_they_rouse, executors_cross_threads,
+    free_places_are_empty, jobs_are_conserved, names_are_of_one_job, ready_blocks_are_shown,
+    ready_jobs_are_shown, sleepers_are_told, sleepers_are_woken, wakes_are_heard, workers_are_one,
 };
 pub use layout::{
     BLOCKS_PER_SHARD, MOST_SHARDS, PLACES_PER_BLOCK, WORKERS, place_of, worker_of_place,
 };
 pub use seat::ExecSeat;
-pub use view::{Notes, View};
+pub use view::{Notes, SleepDeed, View};

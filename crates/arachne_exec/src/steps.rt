@@ -6,7 +6,8 @@ use atomic_table::{Join, Play, Split, TableRule};
 pub struct Lawful;
 
 impl TableRule<u64, View, usize> for Lawful {
-    ghost use Rattle.arachne_exec.specs.Board.{IsLawful, first_view};
+    ghost use Rattle.arachne_exec.specs.Board.{IsLawful};
+    ghost use Rattle.arachne_exec.specs.Changes.{first_view};
 
     ghost holds = { IsLawful };
 
@@ -227,8 +228,7 @@ impl Split<View> for Halve {
 
 impl Join<View> for Halve {
     ghost use Rattle.arachne_weights.specs.Tokens.{spent};
-    ghost use Rattle.arachne_exec.specs.Board.{blank};
-    ghost use Rattle.arachne_exec.specs.Changes.{both_of};
+    ghost use Rattle.arachne_exec.specs.Changes.{blank, both_of};
 
     ghost both = { both_of };
 

@@ -2,6 +2,18 @@
 use arachne_weights::Token;
 use std::collections::LinkedList;
 
+/// A change of a worker's sleep by a step, with the worker's number.
+pub enum SleepDeed {
+    /// The worker's seat has set its idle bit, which was clear.
+    LayDown(u64),
+    /// The worker's seat has set its idle bit, which was set.
+    LayOn(u64),
+    /// The worker's seat has cleared its idle bit, which was set.
+    Rose(u64),
+    /// A seat has found the worker's idle bit set, and cleared it to wake the worker.
+    Roused(u64),
+}
+
 /// What a seat has and knows. Each list has the newest first.
 pub struct Notes {
     /// The places in its hand, each with its job.
@@ -15,11 +27,8 @@ pub struct Notes {
     /// The places that it has blocked, or retired, and those that it has found blocked, and got.
     pub blocked: LinkedList<u64>,
     pub unblocked: LinkedList<u64>,
-    /// The workers that it was when it set their idle bits, which were clear, and when it cleared them, which were set.
-    pub lain: LinkedList<u64>,
-    pub risen: LinkedList<u64>,
-    /// The workers whose idle bits it has found set, and cleared to wake them.
-    pub roused: LinkedList<u64>,
+    /// Its changes of workers' sleeps.
+    pub sleeps: LinkedList<SleepDeed>,
     /// The numbers that it has found in words, or put there, each with its word.
     pub looks: LinkedList<(usize, u64)>,
     /// One more than the block whose bit in the summary word it owes. 0: none.

@@ -6,9 +6,8 @@ use Rattle.std.specs.declared.option.Option.{Option}
 use Rattle.std.specs.declared.option.Option.TheVariants.{None, Some}
 use Rattle.arachne_weights.specs.Weight.{whole, first_part, second_part, joined}
 use Rattle.arachne_exec.specs.declared.view.Notes.{Notes}
-use Rattle.arachne_exec.specs.Board.{blank}
 use Rattle.arachne_exec.specs.Layout.{others, places_in_word}
-use Rattle.arachne_exec.specs.Changes.{splitting, together}
+use Rattle.arachne_exec.specs.Changes.{blank, splitting, together}
 use Rattle.arachne_exec.specs.Seats.{Places, SeatView}
 use Rattle.arachne_exec_c.specs.Codes.{done, refused, no_memory}
 

@@ -1,0 +1,114 @@
+-- What a step has noted, and that seats which have come about are tokens that can.
+use Rattle.std.proofs.Common.{◌≡◌, ◌≢◌, ◌⊎◌, inl, inr, ⊎_elim, ℕ, zero, suc, ◌^◌, List, ◌∷◌, get_or, set, refl, sym, ◌∙◌, subst, arith}
+use Rattle.std.specs.Int.{bit_at}
+use Rattle.std.specs.Int.RustNames.{bit_or}
+use Rattle.std.proofs.lemmas.List.{set-get_or}
+use mathlib.Core.Logic.{dite}
+use mathlib.Core.Option.{some}
+use mathlib.Core.Option as maybe
+use native.Mathlib.Decide.{ℕ_discrete}
+use lib.ListN.{get_elem?}
+use Rattle.arachne_weights.specs.Tokens.{held}
+use Rattle.arachne_weights.specs.Tokens as tokens
+use Rattle.arachne_exec.specs.declared.view.Notes.{Notes}
+use Rattle.arachne_exec.specs.declared.view.SleepDeed.{SleepDeed}
+use Rattle.arachne_exec.specs.declared.view.SleepDeed.TheVariants.{LayDown, LayOn, Rose}
+use Rattle.arachne_exec.specs.Layout.{idle_at, ready_at, free_at, mark_at}
+use Rattle.arachne_exec.specs.Changes.{blank, splitting, together, heard_more, lain_more, risen_more}
+use Rattle.arachne_exec.specs.Board.{Board, IsLawful, Adds, HasChanged, ChangesOne, IsTold, after_step, HasCome, begins, acts, splits, joins}
+use Rattle.arachne_exec.proofs.Bits.{set_same, set_other}
+
+-- ---- one more is noted, or none
+
+pub adds-heard : (n place : ℕ) (xs : List ℕ) → Adds xs (heard_more n place xs)
+adds-heard zero place xs = inl refl
+adds-heard (suc n) place xs = inr (place, refl)
+
+pub adds-risen : (n worker : ℕ) (xs : List SleepDeed) → Adds xs (risen_more n worker xs)
+adds-risen zero worker xs = inl refl
+adds-risen (suc n) worker xs = inr (Rose worker, refl)
+
+pub adds-lain : (n worker : ℕ) (xs : List SleepDeed) → Adds xs (lain_more n worker xs)
+adds-lain zero worker xs = inr (LayDown worker, refl)
+adds-lain (suc n) worker xs = inr (LayOn worker, refl)
+
+-- ---- no free word has changed, and no ready bit was cleared
+
+unequal : (n i : ℕ) → bit_at n i ≡ 1 → bit_at n i ≡ 0 → ⊥
+unequal n i a b = let wrong : 1 ≡ 0 = sym a ∙ b in omega (arith, wrong)
+
+pub clears-none : (word n : ℕ) → ¬ HasChanged word n n
+clears-none word n c = ⊎_elim (λ free. free.1 refl) (λ ready. unequal n ready.1 ready.2 ready.3) c.1
+
+pub sets-one : (block n i : ℕ) → ¬ HasChanged (ready_at block) n (bit_or n (2 ^ i))
+sets-one block n i c = ⊎_elim
+    (λ free. omega (arith, free.0))
+    (λ ready. dite (ℕ_discrete ready.1 i)
+    (λ e. unequal (bit_or n (2 ^ i)) i (set_same n i) (subst (λ j. bit_at (bit_or n (2 ^ i)) j ≡ 0) e ready.3))
+    (λ ne. unequal n ready.1 ready.2 (sym (set_other n i ready.1 ne) ∙ ready.3)))
+    c.1
+
+pub changes-elsewhere : (word found put : ℕ) → ((block : ℕ) → word ≢ free_at block) → ((block : ℕ) → word ≢ ready_at block) → ¬ HasChanged word found put
+changes-elsewhere word found put free ready c = ⊎_elim (λ is. free c.0 is.0) (λ is. ready c.0 is.0) c.1
+
+-- ---- a free word changes by one bit
+
+abbrev pub IsOneBit : (word found put : ℕ) → Type 0
+IsOneBit word found put = (block : ℕ) → word ≡ free_at block → ChangesOne found put
+
+pub same-bits : (word found put : ℕ) → ¬ HasChanged word found put → IsOneBit word found put
+same-bits word found put same block at = inl (dite (ℕ_discrete found put) (λ e. sym e) (λ ne. absurd (same (block, inl (at, ne)))))
+
+-- a word that is no free word
+no-free : (word found put : ℕ) → ((block : ℕ) → word ≢ free_at block) → IsOneBit word found put
+no-free word found put apart block at = absurd {A = ChangesOne found put} (apart block at)
+
+pub ready-bits : (d found put : ℕ) → IsOneBit (ready_at d) found put
+ready-bits d found put = no-free (ready_at d) found put (λ block e. omega (arith, e))
+
+pub mark-bits : (q found put : ℕ) → IsOneBit (mark_at q) found put
+mark-bits q found put = no-free (mark_at q) found put (λ block e. omega (arith, e))
+
+pub idle-bits : (found put : ℕ) → IsOneBit idle_at found put
+idle-bits found put = no-free idle_at found put (λ block e. omega (arith, e))
+
+-- ---- what a step tells
+
+-- the seat has noted nothing but what it found, or nothing at all
+abbrev pub Idles : Notes → Notes → Type 0
+Idles k l = (l.spawned ≡ k.spawned) × (l.ended ≡ k.ended) × (l.woken ≡ k.woken) × (l.heard ≡ k.heard) × (l.blocked ≡ k.blocked) × (l.unblocked ≡ k.unblocked) × (l.sleeps ≡ k.sleeps) × (l.splits ≡ k.splits)
+
+module _ {word found put : ℕ} {k l : Notes} where
+  told : (l.looks ≡ (word, found) ∷ k.looks) ⊎ (l.looks ≡ (word, put) ∷ k.looks) ⊎ ((l.looks ≡ k.looks) × ¬ HasChanged word found put) → IsOneBit word found put → Idles k l → IsTold word found put k l
+  told looks one_bit e = record {
+    looks = looks;
+    one_bit = one_bit;
+    spawned = inl e.0;
+    ended = inl e.1;
+    woken = inl e.2;
+    heard = inl e.3;
+    blocked = inl e.4;
+    unblocked = inl e.5;
+    sleeps = inl e.6;
+    splits = e.7;
+  }
+
+  pub told-found : l.looks ≡ (word, found) ∷ k.looks → IsOneBit word found put → Idles k l → IsTold word found put k l
+  told-found looks one_bit e = told (inl looks) one_bit e
+
+  pub told-nothing : l.looks ≡ k.looks → ¬ HasChanged word found put → Idles k l → IsTold word found put k l
+  told-nothing looks same e = told (inr (inr (looks, same))) (same-bits word found put same) e
+
+module _ (shards id w : ℕ) (s : Board) (h : IsLawful shards s) (k : Notes) (mine : get_elem? s.views id ≡ some (held w k)) (i : ℕ) (l : Notes) where
+  pub comes : (put : ℕ) (homes : List (maybe.Option ℕ)) → IsTold i (get_or s.words i 0) put k l → HasCome shards (after_step s id w i put l homes)
+  comes put homes told_so = acts h.came (h.keeper, h.balance, h.hears, h.names, h.shows, h.sleep) id w i put k l homes mine told_so
+
+  -- where the word stays
+  pub comes-still : IsTold i (get_or s.words i 0) (get_or s.words i 0) k l → HasCome shards (record { words = s.words; homes = s.homes; views = set s.views id (held w l) })
+  comes-still told_so = subst (λ ws. HasCome shards (record { words = ws; homes = s.homes; views = set s.views id (held w l) })) (set-get_or s.words i 0) (comes (get_or s.words i 0) s.homes told_so)
+
+pub reached : {shards : ℕ} {b : Board} → HasCome shards b → tokens.IsReachable blank b.views
+reached (begins b first one) = subst (tokens.IsReachable blank) (sym one) (tokens.begins blank)
+reached (acts come kept seat weight word put k l homes mine told_so) = tokens.learns (reached come) seat weight k l mine
+reached (splits come seat weight k mine) = tokens.splits (reached come) seat weight k (splitting k) blank mine
+reached (joins come seat other weight added k l mine apart from) = tokens.joins (reached come) seat other weight added k l (together k l) mine apart from
