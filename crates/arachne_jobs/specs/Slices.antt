@@ -36,7 +36,7 @@ HasNoRest _ = Unit {0}
 -- of the steps that a job had, fewer are left, or as many where it awaits a child; one that still waits for a lock has
 -- made none
 abbrev pub UsesSteps : {Child : Type 0} → Slice Child → ℕ → ℕ → Type 0
-UsesSteps (Blocks unended) had left = left ≤ had
+UsesSteps Blocks had left = left ≤ had
 UsesSteps (Awaits lock) had left = left ≡ had
 UsesSteps _ had left = left < had
 
@@ -45,7 +45,7 @@ module _ {Job Child : Type 0} (forks : Job → Child → Type 0) (pause_of : Job
   abbrev pub IsLeft : Slice Child → Job → Type 0
   IsLeft Goes job = pause_of job ≡ None
   IsLeft (Forks class child) job = forks job child
-  IsLeft (Blocks unended) job = pause_of job ≡ Some pause.Joins
+  IsLeft Blocks job = pause_of job ≡ Some pause.Joins
   IsLeft (Asks lock) job = pause_of job ≡ Some (pause.Asks lock)
   IsLeft (Awaits lock) job = pause_of job ≡ Some (pause.Asks lock)
   IsLeft (Frees lock) job = pause_of job ≡ Some (pause.Frees lock)

@@ -1,5 +1,4 @@
-//! What lies in the cell of a child that waits for a place.
-use crate::unended::Unended;
+//! What is in the cell of a child that waits for a place.
 use crate::wanted::Wanted;
 use arachne_core::ThreadId;
 use arachne_join::Fits;
@@ -12,7 +11,7 @@ pub struct Waiting<'p> {
     pub(crate) parent: ThreadId,
 }
 
-/// What lies in a cell.
+/// What is in a cell.
 #[derive(Drop)]
 pub enum LeftInCell<'p> {
     /// The child, which has not begun.
@@ -34,8 +33,8 @@ impl<'p> Fits<Wanted> for LeftInCell<'p> {
 pub enum Found<'p> {
     /// The child has ended.
     Outcome(DetachedOutcome),
-    /// The child waited still, and waits no longer.
+    /// The child still waited, and no longer does.
     Child(Thread<'p>),
     /// The child is at a place of its own, or on the way to one.
-    Nothing(Unended),
+    Nothing,
 }

@@ -23,7 +23,7 @@ pub struct Wanted {
 }
 
 impl Wanted {
-    /// The outcome of this thread is wanted, by this parent.
+    /// Returns that the outcome of this thread is wanted, by this parent.
     #[inline(always)]
     pub(crate) fn of(thread: &Thread<'_>, parent: Option<ThreadId>) -> Wanted
         ensures thread { IsFor thread.now result }
@@ -45,8 +45,8 @@ impl Fits<Wanted> for DetachedOutcome {
     ghost fits = { IsWanted };
 }
 
-/// The end that leaves the outcome of a thread.
+/// The end at which a thread's outcome is left.
 pub type OutcomeSender = Sender<DetachedOutcome, Wanted>;
 
-/// The end that the outcome of a thread comes to.
+/// The end at which a thread's outcome is got.
 pub type OutcomeReceiver = Receiver<DetachedOutcome, Wanted>;

@@ -15,9 +15,7 @@ use crate::fault::WorkerFault;
 use crate::machine::Machine;
 use arachne_arbiter::{Cores, Pace};
 use arachne_contexts::{Contexts, Held, Identified, Placed};
-use arachne_jobs::{
-    Openings, PlaceLeft, RunJob, Slice, give_back, has_room, make_room, put_ticket,
-};
+use arachne_jobs::{Openings, RunJob, Slice, make_room, put_ticket};
 use arachne_lang::Class;
 use arachne_spill::SpillPass;
 use arachne_workers::{PostedThread, ThreadStop};
@@ -78,7 +76,7 @@ pub(crate) fn go_on<H: Wait + Clock, T: RunJob, C: Contexts<T>, R: Rng>(
                 rt, alloc, machine, seat, pass, held, class, child, forks,
             );
         }
-        Slice::Blocks(_) => return Ok(ThreadStop::Blocks),
+        Slice::Blocks => return Ok(ThreadStop::Blocks),
         Slice::Ends => return Ok(ThreadStop::Ends),
         Slice::Asks(lock) => Want::Asks(lock),
         Slice::Awaits(lock) => Want::Awaits(lock),
@@ -133,13 +131,14 @@ fn answer_fork<H: Wait, T: RunJob, C: Contexts<T>, R: Rng>(
         let post = post_at::<H, T, C>(rt, machine, seat, claim, job)?;
         return Ok(ThreadStop::Posted(post));
     }
-    let wants_room = is_worth_room(class, forks.openings.is_large);
-    let made = make_room(rt, &machine.tickets, room, pass, wants_room);
-    let waits = may_wait(class, has_room(rt, &machine.tickets, pass, made));
+    let tickets = &machine.tickets;
+    if is_worth_room(class, forks.openings.is_large) {
+        make_room(rt, tickets, room, pass);
+    }
+    let waits = may_wait(class, !tickets.is_full(rt, pass));
     if let Some(ticket) = held.value.put_aside(alloc, me, child, tag, waits)? {
-        // Where the queue was filled meanwhile, the child waits without a ticket, for its parent.
-        if let Ok(put) = put_ticket(rt, &machine.tickets, pass, ticket) {
-            room.child_waits(put);
+        // If others have filled the queue meanwhile, the child waits without a ticket, for its parent.
+        if put_ticket(rt, tickets, room, pass, ticket).is_ok() {
             return Ok(ThreadStop::Spilled);
         }
     }
@@ -182,20 +181,20 @@ fn is_worth_room(class: Class, is_large: bool) -> bool
     class == Class::Normal && is_large
 }
 
-/// Gives back a place at which nothing was posted. It is to be counted then.
+/// Gives back a place at which nothing was posted. The caller counts it as free.
 pub(crate) fn give_place_back<H: Wait, T: RunJob, C: Contexts<T>>(
     rt: &H,
     machine: &Machine<C, T::Ticket>,
     spare: &mut C::Seat,
     claim: C::Claim,
-) -> Result<PlaceLeft, WorkerFault>
+) -> Result<(), WorkerFault>
     requires seat { C.sits machine.now.table spare.old }
     requires out { HasOut (C.has machine.now.table) (a_claim claim) spare.old }
     ensures seat { C.sits machine.now.table spare.new }
     ensures out { OnOk result (IsSpent (C.has machine.now.table) (a_claim claim) spare.old spare.new) }
 {
-    match give_back::<H, T, C>(rt, &machine.table, spare, claim) {
-        Ok(left) => Ok(left),
+    match machine.table.give_back(rt, spare, claim) {
+        Ok(()) => Ok(()),
         Err(_) => Err(WorkerFault::Token),
     }
 }
@@ -266,8 +265,8 @@ pub(crate) fn post_waiting<H: Wait, T: RunJob, C: Contexts<T>>(
     match job {
         Some(job) => Ok(Some(post_at::<H, T, C>(rt, machine, spare, claim, job)?)),
         None => {
-            let left = give_place_back::<H, T, C>(rt, machine, spare, claim)?;
-            machine.shared.room().place_was_left(left);
+            give_place_back::<H, T, C>(rt, machine, spare, claim)?;
+            machine.shared.room().place_was_left();
             Ok(None)
         }
     }

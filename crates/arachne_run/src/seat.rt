@@ -17,11 +17,9 @@ use crate::in_hand::{InHand, has_lock, rests_so};
 use crate::machine::Machine;
 use crate::tokens::Tokens;
 use arachne_arbiter::{Arbiter, Cores, Pace, Parking, SliceCounts};
-use arachne_contexts::{Contexts, Moved, Placed, Tagged, Taken, Woken};
+use arachne_contexts::{Claimed, Contexts, Moved, Placed, Tagged, Taken, Woken};
 use arachne_core::{MarkWord, OccWord, Place, Rest, ThreadId};
-use arachne_jobs::{
-    Openings, PlaceLeft, RunJob, RunSpares, RunThread, RunTicket, claim_again, finish, next_ticket,
-};
+use arachne_jobs::{Openings, RunJob, RunSpares, RunThread, RunTicket, next_ticket};
 use arachne_spill::SpillPass;
 use arachne_workers::{
     Desk, Grip, Halt, PostedThread, ThreadStop, TicketResult, WorkerEvent, is_drained,
@@ -143,26 +141,20 @@ impl<'a, H: Wait, T: RunJob, C: Contexts<T>, R: Rng + Drop, G: Gate> RunSeat<'a,
 
     /// Keeps a place for the one that a thread has left, if the core, which looked like `before`, was full. Otherwise
     /// counts that one as free.
-    fn keep_or_count(&mut self, left: PlaceLeft, before: OccWord) -> Result<(), Halt>
+    fn keep_or_count(&mut self, before: OccWord) -> Result<(), Halt>
         ensures { self.new ≡ self.old }
     {
-        let (machine, room) = (self.machine, self.machine.shared.room());
+        let (rt, machine) = (self.rt, self.machine);
         if self.is_broken || !may_keep(machine, before) {
-            room.place_was_left(left);
+            machine.shared.room().place_was_left();
             return Ok(());
         }
         self.is_broken = true;
-        let spare = &mut self.spare;
-        let left = match claim_again::<H, T, C>(self.rt, &machine.table, spare, self.core, left) {
-            Ok(claim) => match self.kept.keep(claim) {
-                Ok(()) => None,
-                Err(claim) => Some(give_place_back::<H, T, C>(self.rt, machine, spare, claim)?),
-            },
-            Err(left) => Some(left),
-        };
+        let (spare, kept) = (&mut self.spare, &mut self.kept);
+        let is_kept = claim_again::<H, T, C>(rt, machine, spare, kept, self.core)?;
         self.is_broken = false;
-        if let Some(left) = left {
-            room.place_was_left(left);
+        if !is_kept {
+            machine.shared.room().place_was_left();
         }
         Ok(())
     }
@@ -254,10 +246,13 @@ impl<'a, H: Wait + Clock, T: RunJob, C: Contexts<T>, R: Rng + Drop, G: Gate> Des
         let Some(InHand { held, has_lock }) = self.held.take() else {
             return Err(Halt::from(WorkerFault::Token));
         };
-        match finish(self.rt, &self.machine.table, &mut self.seat, held) {
-            Ok((job, left)) => {
+        let table = &self.machine.table;
+        match table.finish(self.rt, &mut self.seat, held) {
+            Ok(job) => {
+                // The place is free before the outcome is left, as only `finish` returns the job, and is kept or counted
+                // before the parent is woken: then others would already go for it.
                 let parent = job.leave(&mut self.forks.spares);
-                self.keep_or_count(left, before)?;
+                self.keep_or_count(before)?;
                 match parent {
                     Ok(None) => {
                         self.machine.shared.stop();
@@ -287,8 +282,8 @@ impl<'a, H: Wait + Clock, T: RunJob, C: Contexts<T>, R: Rng + Drop, G: Gate> Des
         };
         let (rt, machine) = (self.rt, self.machine);
         match give_place_back::<H, T, C>(rt, machine, &mut self.spare, claim) {
-            Ok(left) => {
-                machine.shared.room().place_was_left(left);
+            Ok(()) => {
+                machine.shared.room().place_was_left();
                 Ok(true)
             }
             Err(fault) => {
@@ -353,11 +348,10 @@ impl<'a, H: Wait + Clock, T: RunJob, C: Contexts<T>, R: Rng + Drop, G: Gate> Des
         if self.is_broken {
             return Err(Halt::from(WorkerFault::Token));
         }
-        let Some((ticket, taken)) = next_ticket(self.rt, &self.machine.tickets, &mut self.pass)
-        else {
+        let (tickets, room) = (&self.machine.tickets, self.machine.shared.room());
+        let Some(ticket) = next_ticket(self.rt, tickets, room, &mut self.pass) else {
             return Ok(TicketResult::None);
         };
-        self.machine.shared.room().ticket_was_taken(taken);
         if !ticket.still_waits() {
             return Ok(TicketResult::Gone);
         }
@@ -449,6 +443,33 @@ fn has_orders_left(arbiter: &Option<Arbiter>, orders: usize) -> bool
     match arbiter {
         Some(arbiter) => arbiter.applied() < orders,
         None => false,
+    }
+}
+
+/// Claims a place of the core by one attempt, and keeps it. Returns whether it did. Otherwise none was claimed.
+fn claim_again<H: Wait, T: RunJob, C: Contexts<T>>(
+    rt: &H,
+    machine: &Machine<C, T::Ticket>,
+    spare: &mut C::Seat,
+    kept: &mut Claims<C::Claim>,
+    core: u8,
+) -> Result<bool, WorkerFault>
+    requires seat { C.sits machine.now.table spare.old }
+    requires out { C.has machine.now.table spare.old (map a_claim kept.old) }
+    requires set_up { IsSetUp C.core_count C.slot_count machine.now }
+    requires core { core < machine.now.cores }
+    ensures seat { C.sits machine.now.table spare.new }
+    ensures out { OnOk result (C.has machine.now.table spare.new (map a_claim kept.new)) }
+{
+    let Ok(Claimed::Place(claim)) = machine.table.claim(rt, spare, core) else {
+        return Ok(false);
+    };
+    match kept.keep(claim) {
+        Ok(()) => Ok(true),
+        Err(claim) => {
+            give_place_back::<H, T, C>(rt, machine, spare, claim)?;
+            Ok(false)
+        }
     }
 }
 
