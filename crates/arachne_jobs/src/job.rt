@@ -1,4 +1,4 @@
-//! What a context holds in a run: a thread of the program.
+//! The value of a context in a run: a thread of the program.
 ghost use Rattle.std.specs.Prelude.{◌≡◌, ◌≤◌, ◌<◌, ℕ, List, [], false, true, vec_capacity, vec_len, IfErr, IfNone, IfOk, IfSome, IsSome, OnErr, OnOk, None, Some};
 ghost use Rattle.arachne_lang.specs.declared.program.Program.{Program};
 ghost use Rattle.arachne_lang.specs.Program.{source_of};
@@ -9,7 +9,7 @@ ghost use Rattle.arachne_machine.specs.Suspended.{awaited};
 ghost use Rattle.arachne_machine.specs.Tallying.{AdvancesOver};
 ghost use Rattle.arachne_machine.specs.declared.pause.Pending.TheVariants as pause;
 ghost use Rattle.arachne_jobs.specs.Threads.{HasWaited, IsForking, IsGoing, IsAwaiting, name_of, pause_of, program_of, running_tag_of, tag_of};
-ghost use Rattle.arachne_jobs.specs.Cells.{IsFoundOf, IsFor, IsOf};
+ghost use Rattle.arachne_jobs.specs.Cells.{IsFoundOf, IsFor};
 ghost use Rattle.arachne_jobs.specs.Dues.{GoesOnOver, HasTallied, IsJoined, due_to};
 ghost use Rattle.arachne_jobs.specs.Ends.{IsEnd, IsWaitEnd};
 ghost use Rattle.arachne_jobs.specs.Slices.{HasNoRest, IsLeft, IsRequest, MayRest, UsesSteps};
@@ -38,7 +38,7 @@ use std::marker::Model;
 #[derive(Drop)]
 pub struct Job<'p> {
     thread: Thread<'p>,
-    /// What ties it to others, without a lifetime.
+    /// Its ties to other jobs, without a lifetime.
     ties: Box<Ties>,
     /// The box into which its outcome is written.
     contents: Box<Contents>,
@@ -172,8 +172,9 @@ impl<'p> RunJob for Job<'p> {
     {
         let mut child = child;
         child.set_tag(tag);
+        self.ties.ends.try_reserve(1)?;
         let (job, receiver) = Job::of(alloc, child, Some(me), spares)?;
-        self.expect(receiver)?;
+        self.ties.ends.push_reserved(End::Awaits(receiver));
         self.thread.forked();
         Ok(job)
     }
@@ -241,7 +242,7 @@ impl<'p> RunJob for Job<'p> {
             cell,
             end: Some(end),
         });
-        ties.set_parent(parent);
+        ties.parent = Some(parent);
         Some(Job {
             thread,
             ties,
@@ -291,13 +292,12 @@ impl<'p> JobOf<'p> for Job<'p> {
         spares: &mut JobSpares<'p>,
     ) -> Result<(Job<'p>, OutcomeReceiver), AllocError> {
         let thread = Thread::start(alloc, program, 0)?;
-        let (job, receiver) = Job::of(alloc, thread, None, spares)?;
-        Ok((job, receiver))
+        Job::of(alloc, thread, None, spares)
     }
 }
 
 impl<'p> Job<'p> {
-    /// Returns the job of this thread, and the end that its outcome comes to.
+    /// Returns the job of this thread, and the end at which its outcome is got.
     fn of(
         alloc: Global,
         thread: Thread<'p>,
@@ -383,7 +383,7 @@ impl<'p> Job<'p> {
         }
     }
 
-    /// The child runs in this thread's place once it is awaited, or at once if it is.
+    /// Has the child run in this thread's place once it is awaited, or at once if it is.
     fn place(&mut self, child: Thread<'p>) -> Result<(), JobFault>
         requires pending { IsPlacing (pause_of self.old.thread) }
         requires child { MayBePlaced self.old.thread child }
@@ -397,19 +397,8 @@ impl<'p> Job<'p> {
         Ok(())
     }
 
-    /// Awaits the outcome of one more child, at this end.
-    fn expect(&mut self, receiver: OutcomeReceiver) -> Result<(), JobFault>
-        requires { IsOf (program_of self.old.thread) receiver.opening.key }
-        ensures { self.new ≡ self.old }
-    {
-        match self.ties.ends.push(End::Awaits(receiver)) {
-            Ok(()) => Ok(()),
-            Err(_) => Err(JobFault::Memory),
-        }
-    }
-
     /// Joins the child that it awaits if that has ended, or runs it in place if it still waits. Returns whether it did
-    /// either. Otherwise it can't go on.
+    /// either: if not, the job can't go on.
     fn join(&mut self, spares: &mut JobSpares<'p>) -> Result<bool, JobFault>
         requires { IsAwaiting self.old.thread }
         ensures tag { tag_of self.new.thread ≡ tag_of self.old.thread }

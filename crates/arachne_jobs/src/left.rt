@@ -1,4 +1,4 @@
-//! What is in the cell of a child that waits for a place.
+//! The content of the cell of a child that waits for a place.
 use crate::wanted::Wanted;
 use arachne_core::ThreadId;
 use arachne_join::Fits;
@@ -11,7 +11,7 @@ pub struct Waiting<'p> {
     pub(crate) parent: ThreadId,
 }
 
-/// What is in a cell.
+/// The content of a cell.
 #[derive(Drop)]
 pub enum LeftInCell<'p> {
     /// The child, which has not begun.
@@ -28,7 +28,7 @@ impl<'p> Fits<Wanted> for LeftInCell<'p> {
     ghost may_wait = { MayWait };
 }
 
-/// What a parent finds in the cell of a child that it awaits.
+/// The result of a parent's look into the cell of a child that it awaits.
 #[derive(Drop)]
 pub enum Found<'p> {
     /// The child has ended.

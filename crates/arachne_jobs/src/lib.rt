@@ -1,4 +1,5 @@
-//! What a context holds in a run: a thread of a task program with the cells of its children, and how workers see it.
+//! The values of contexts in a run, threads of a task program with the cells of their children, and how workers see
+//! them.
 #![tactic(auto)]
 
 mod classes;

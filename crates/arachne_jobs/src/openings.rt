@@ -14,16 +14,16 @@ use arachne_machine::Placing;
 pub struct Openings {
     pub tags: Tags,
     pub draws: u64,
-    /// Whether the child that was forked last has much to do.
+    /// Set if the child that was forked last has much to do.
     pub is_large: bool,
     pub due: Due,
 }
 
-/// How many turns of a sweep a child has at least that is worth room in the queue.
+/// The least number of turns of a sweep for which a child is worth room in the queue.
 const LARGE: u64 = 1024;
 
 impl Openings {
-    /// Returns means with no tag drawn, no word owed, and nothing due.
+    /// Returns means without a tag, with no word owed and nothing due.
     pub fn new() -> Openings
         ensures { (result.tags.left ≡ 0) × (result.draws ≡ 0) × (result.is_large ≡ false) × (result.due.amount ≡ 0) }
     {
@@ -55,7 +55,7 @@ impl Openings {
     }
 }
 
-/// What a thread asks for at its forks: whether its child may get a place or wait for one, and otherwise a tag for it.
+/// The answers to a thread at its forks: whether its child may get a place or wait for one, and otherwise a tag for it.
 #[derive(Drop)]
 pub(crate) struct ForkPlacing<'a> {
     pub(crate) room: &'a Room,

@@ -23,13 +23,9 @@ pub fn put_ticket<R: Wait, K: Tagged + Drop>(
     ensures same { OnErr result (pass.new ≡ pass.old) }
     ensures handed_back { IfErr result (λ back. back ≡ ticket) }
 {
-    match tickets.push(rt, pass, ticket) {
-        Ok(()) => {
-            room.child_waits();
-            Ok(())
-        }
-        Err(ticket) => Err(ticket),
-    }
+    tickets.push(rt, pass, ticket)?;
+    room.child_waits();
+    Ok(())
 }
 
 /// Takes the oldest ticket out of the queue and counts that.
@@ -50,11 +46,13 @@ pub fn next_ticket<R: Wait, K: Tagged + Drop>(
     Some(ticket)
 }
 
-/// How many tickets of children that still wait go to the end of the queue at most while room is made in it.
+/// The most tickets of children that still wait that go to the end of the queue while room is made in it.
 const MOST_LIVE: u32 = 8;
 
-/// Makes room in a full queue for one ticket: drops those of children that no longer wait, the oldest first. A ticket
-/// of a child that still waits goes to the end of the queue.
+/// Makes room for a ticket, if the queue is full.
+///
+/// Drops the tickets of children that no longer wait, the oldest first. A ticket of a child that still waits goes to the
+/// end of the queue.
 pub fn make_room<R: Wait, K: RunTicket>(
     rt: &R,
     tickets: &SpillQueue<K>,

@@ -6,48 +6,34 @@ use crate::tags::BLOCK;
 use crossbeam_utils::CachePadded;
 use std::sync::atomic::{AtomicU64, Ordering};
 
-/// How many children may wait at most.
-#[derive(Clone, Copy)]
-struct Limit {
-    most: u64,
-}
-
-impl Limit {
-    /// Returns whether one more child may wait beside these.
-    #[inline(always)]
-    fn allows(self, waiting: u64) -> bool
-        ensures { IsTrue result ↔ waiting < self.most }
-    {
-        waiting < self.most
-    }
-}
-
-/// How many places of a machine are free and how many children wait for one, or a little more or less, and how many
-/// blocks of tags are drawn. They say whether a fork is worth a look: what is claimed, and which child goes on, is
-/// decided by the table and by the child's cell. Each number has a cache line of its own.
+/// The numbers of free places, of children that wait for one, and of blocks of tags that are drawn.
+///
+/// The first two may be a little off, and only say whether a fork is worth a look: the table decides who gets a place,
+/// and a child's cell who runs the child. Each number has a cache line of its own.
 #[derive(Drop)]
 pub struct Room {
     free: CachePadded<AtomicU64>,
     waiting: CachePadded<AtomicU64>,
-    limit: Limit,
+    /// The most children that may wait.
+    most: u64,
     blocks: CachePadded<AtomicU64>,
 }
 
 impl Room {
     /// Returns words by which all places of these cores are free, no child waits, of `most_waiting` at most, and no
-    /// block of tags is drawn. The root's tag, 0, is in none.
+    /// block of tags is drawn. The root's tag, 0, is in no block.
     pub fn new(cores: u8, slots: u8, most_waiting: u64) -> Room
-        ensures { result.limit.most ≡ most_waiting }
+        ensures { result.most ≡ most_waiting }
     {
         Room {
             free: CachePadded::new(AtomicU64::new(places_of(cores, slots))),
             waiting: CachePadded::new(AtomicU64::new(0)),
-            limit: Limit { most: most_waiting },
+            most: most_waiting,
             blocks: CachePadded::new(AtomicU64::new(0)),
         }
     }
 
-    /// Returns whether a place seems to be free. One of a closed core, or of a core that a thread has alone, counts
+    /// Returns whether a place seems to be free. A place of a closed core, or of a core that a thread has alone, counts
     /// too.
     #[inline(always)]
     pub fn has_free_place(&self) -> bool {
@@ -74,7 +60,15 @@ impl Room {
     /// Returns whether one more child may wait.
     #[inline(always)]
     pub fn may_wait(&self) -> bool {
-        self.limit.allows(seen(&self.waiting))
+        self.is_room_beside(seen(&self.waiting))
+    }
+
+    /// Returns whether one more child may wait beside these.
+    #[inline(always)]
+    fn is_room_beside(&self, waiting: u64) -> bool
+        ensures { IsTrue result ↔ waiting < self.now.most }
+    {
+        waiting < self.most
     }
 
     /// Counts a child that begins to wait.
@@ -113,7 +107,7 @@ fn places_of(cores: u8, slots: u8) -> u64
     u64::from(cores) * u64::from(slots)
 }
 
-/// Reads a number of things that may be taken before they are counted, so that it is below 0 for a moment.
+/// Reads a number, which is below 0 for a moment if something is taken before it was counted.
 #[inline(always)]
 fn seen(number: &AtomicU64) -> u64 {
     or_zero(number.load(Ordering::SeqCst))

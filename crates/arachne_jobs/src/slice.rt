@@ -1,8 +1,7 @@
-//! What a worker does with a job: it runs a part of a slice, and replies to its pause.
-ghost use Rattle.std.specs.Prelude.{◌≡◌, ◌≤◌, [], false, IfOk, IfSome, IsSome, OnOk};
+//! The traits by which workers see jobs: a worker runs a part of a job's slice, and replies to its pause.
+ghost use Rattle.std.specs.Prelude.{◌≡◌, ◌≤◌, ℕ, List, [], Option, false, IfOk, IfSome, IsSome, None, OnOk, Some};
 ghost use Rattle.arachne_lang.specs.Program.{source_of};
 ghost use Rattle.arachne_lang.specs.Checked.{IsChecked};
-ghost use Rattle.std.specs.Prelude.{ℕ, List, Option, None, Some};
 ghost use Rattle.arachne_core.specs.declared.thread_id.ThreadId.{ThreadId};
 ghost use Rattle.arachne_machine.specs.declared.pause.Pending.{Pending};
 ghost use Rattle.arachne_machine.specs.declared.pause.Pending.TheVariants as pause;
@@ -17,7 +16,7 @@ use arachne_core::{Rest, ThreadId};
 use arachne_lang::{Class, Name, Program};
 use std::alloc::{AllocError, Global};
 
-/// Where a job stops.
+/// The reason for which a job stops.
 #[derive(Drop)]
 pub enum Slice<Child> {
     /// It goes on.
@@ -64,8 +63,9 @@ pub trait RunThread: Tagged + Drop {
     fn rest(&self) -> Option<Rest>
         ensures { IfSome result (λ rest. MayRest rest (pause_of self.now)) };
 
-    /// Replies that what it asks for is done: it holds the lock, the lock is free, or the amount was added. The error
-    /// is `Foreign` if it asks for nothing.
+    /// Replies that its request is done: it holds the lock, the lock is free, or the amount was added.
+    ///
+    /// The error is `Foreign` if it asks for nothing.
     fn answer(&mut self) -> Result<(), JobFault>
         ensures tag { Self.tag_of self.new ≡ Self.tag_of self.old }
         ensures parent { parent_of self.new ≡ parent_of self.old }
@@ -73,34 +73,36 @@ pub trait RunThread: Tagged + Drop {
         ensures answered { OnOk result (pause_of self.new ≡ None) };
 }
 
-/// What stands for a child that waits for a place.
+/// A ticket, which stands for a child that waits for a place.
 pub trait RunTicket: Tagged + Drop {
     /// Returns whether its child still waits. It takes nothing.
     fn still_waits(&self) -> bool;
 }
 
-/// What a worker keeps of ended threads for those that begin.
+/// The memory of ended threads that a worker keeps for those that begin.
 pub trait RunSpares: Drop {
     /// Returns nothing kept. It takes no memory.
     fn none(alloc: Global) -> Self;
 }
 
-/// What a context holds in a run: a thread with all that its slices and its forks need.
+/// The value of a context in a run: a thread with all that its slices and its forks need.
 pub trait RunJob: RunThread {
     /// A thread that was forked and has no place yet.
     type Child: Drop;
 
-    /// What stands for a child that waits for a place.
+    /// The ticket of a child that waits for a place.
     type Ticket: RunTicket;
 
-    /// What a worker keeps of ended threads for those that begin.
+    /// The memory of ended threads that a worker keeps.
     type Spares: RunSpares;
 
     /// The job forks this child, and has no reply yet.
     ghost forks: { Self → Self.Child → Type 0 };
 
-    /// Runs it for at most `left` steps, from which those that it makes are taken. A thread that waits makes none. A
-    /// child for which there is no place runs in this job's. What it tallies is due then.
+    /// Runs it for at most `left` steps, from which those that it makes are taken.
+    ///
+    /// A thread that waits makes none. A child for which there is no place runs in this job's. The amounts that it
+    /// tallies are due then.
     fn slice(
         &mut self,
         left: &mut u32,
@@ -130,8 +132,9 @@ pub trait RunJob: RunThread {
         ensures childs_parent { IfOk result (λ job. Self.parent_of job ≡ Some me) }
         ensures answered { OnOk result (Self.pause_of self.new ≡ None) };
 
-    /// Has the child wait with this tag for a place, or until this job, which runs under this id, awaits it. Returns
-    /// its ticket, or `None` if it is not to wait or memory is refused: then the child runs in this job's place.
+    /// Has the child wait with this tag for a place, or until this job, which runs under this id, awaits it.
+    ///
+    /// Returns its ticket, or `None` if not `waits` or memory is refused: then the child runs in this job's place.
     fn put_aside(
         &mut self,
         alloc: Global,
@@ -153,8 +156,9 @@ pub trait RunJob: RunThread {
         ensures parent { IfSome result (λ job. IsSome (Self.parent_of job)) }
         ensures tag { IfSome result (λ job. Self.tag_of job ≡ Self.Ticket.tag_of ticket) };
 
-    /// Leaves the outcome for its parent, and returns the id of the parent, which must be woken. The root has none. The
-    /// error is `Foreign` if the thread has not ended.
+    /// Leaves the outcome for its parent, and returns the id of the parent, which must be woken. The root has none.
+    ///
+    /// The error is `Foreign` if the thread has not ended.
     fn leave(self, spares: &mut Self::Spares) -> Result<Option<ThreadId>, JobFault>
         ensures ended { OnOk result (Self.pause_of self ≡ Some pause.Ended) }
         ensures parent { IfOk result (λ parent. parent ≡ Self.parent_of self) };
@@ -162,7 +166,7 @@ pub trait RunJob: RunThread {
 
 /// The jobs of a program's threads.
 pub trait JobOf<'p>: RunJob {
-    /// Returns the root's job, which has the tag 0, and the end that its outcome comes to.
+    /// Returns the root's job, which has the tag 0, and the end at which its outcome is got.
     fn begin(
         alloc: Global,
         program: &'p Program,

@@ -3,7 +3,7 @@ ghost use Rattle.std.specs.Prelude.{◌≡◌, ◌+◌, ◌<◌, ◌%◌};
 
 use crate::room::Room;
 
-/// How many tags a worker draws at once: a block.
+/// The number of tags that a worker draws at once: a block.
 pub const BLOCK: u64 = 64;
 
 /// The tags that a worker has drawn and not given yet, in a row from the next one on.
@@ -14,7 +14,7 @@ pub struct Tags {
 }
 
 impl Tags {
-    /// Returns none.
+    /// Returns no tags.
     pub fn new() -> Tags
         ensures { result.left ≡ 0 }
     {

@@ -1,5 +1,5 @@
-//! What ties a job to others, in one box, and what ended jobs leave of it.
-ghost use Rattle.std.specs.Prelude.{◌≡◌, ◌≤◌, ◌+◌, [], IfOk, Some, vec_len, vec_capacity};
+//! The ties of a job to others, in one box, and the ties of ended jobs.
+ghost use Rattle.std.specs.Prelude.{◌≡◌, ◌≤◌, ◌+◌, [], IfOk, vec_len, vec_capacity};
 
 use crate::ends::End;
 use arachne_core::ThreadId;
@@ -13,17 +13,7 @@ pub struct Ties {
     pub(crate) parent: Option<ThreadId>,
 }
 
-impl Ties {
-    /// Makes them those of a child of this parent.
-    #[inline(always)]
-    pub(crate) fn set_parent(&mut self, parent: ThreadId)
-        ensures { self.new ≡ record self.old { parent = Some parent } }
-    {
-        self.parent = Some(parent);
-    }
-}
-
-/// How many ties are kept at most.
+/// The most ties that are kept.
 const MOST: usize = 64;
 
 /// The ties of ended jobs, with the room of their lists, for jobs that begin.
@@ -43,7 +33,7 @@ impl Model for SpareTies {
 }
 
 impl SpareTies {
-    /// Returns none. It takes no memory.
+    /// Returns no ties. It takes no memory.
     pub(crate) fn new(alloc: Global) -> SpareTies {
         SpareTies {
             ties: Vec::new(alloc),

@@ -40,7 +40,7 @@ impl<'p> Model for WaitCell<'p> {
     ghost view = { λ c. arc_value c.cell };
 }
 
-/// What is in the queue for a child that waits: its cell and its tag. Contracts see the cell.
+/// The ticket of a child that waits: its cell and its tag. Contracts see the cell.
 #[derive(Drop)]
 pub struct Ticket<'p> {
     cell: Arc<Cell<'p>>,
@@ -101,8 +101,8 @@ impl<'p> WaitCell<'p> {
         Ok((WaitCell { cell }, Ticket { cell: ticket, tag }))
     }
 
-    /// Returns what the parent that awaits the child finds. If there is nothing, the cell was seen in a state in which
-    /// no child waited.
+    /// Takes the outcome or the child out of the cell, for the parent that awaits it. If there is neither, the cell was
+    /// seen in a state in which no child waited.
     pub(crate) fn find(&self) -> Result<Found<'p>, Missed<Wanted>>
         ensures found { IfOk result (IsFoundFor self.now.key) }
         ensures missed { IfErr result (λ missed. (missed.state ≢ CellState.Waiting) × (missed.receipt ≡ shown self.now.table (Saw missed.state))) }
@@ -125,10 +125,8 @@ impl<'p> WaitCell<'p> {
             Err(missed) => Err(missed),
         }
     }
-}
 
-impl<'p> WaitCell<'p> {
-    /// Leaves the child's outcome, with the sending end of this cell. Returns what shows that it did.
+    /// Leaves the child's outcome, with the sending end of this cell. Returns the receipt.
     pub(crate) fn leave(
         self,
         end: SendingEnd<LeftInCell<'p>, Wanted>,

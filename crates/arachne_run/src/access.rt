@@ -25,7 +25,7 @@ use std::marker::Model;
 use std::sync::Wait;
 use std::time::Clock;
 
-/// What a thread asks for.
+/// A thread's request.
 #[derive(Clone, Copy)]
 pub(crate) enum Want {
     /// This lock.
@@ -38,7 +38,7 @@ pub(crate) enum Want {
     Tallies(u64, u64),
 }
 
-/// What came of what a thread asked for.
+/// The result of a thread's request.
 pub(crate) enum Served {
     /// It waits for this lock.
     Waits(u64),
@@ -289,7 +289,7 @@ impl<'a> Access<'a> {
     }
 }
 
-/// Returns where a thread stops that has freed a lock: it goes on, and who holds the lock next is woken.
+/// Returns how a thread stops that has freed a lock: it goes on, and the lock's next holder is woken.
 #[inline(always)]
 fn stop_after(freed: Freed) -> ThreadStop
     ensures next { MatchOption freed.next (result ≡ stopped.Goes) (λ next. result ≡ stopped.Wakes next.id) }

@@ -10,9 +10,9 @@ ghost use Rattle.arachne_run.specs.Serving.{StopsAt};
 ghost use Rattle.arachne_run.specs.Tokens.{IsOutWith, IsSetUp, IsSpent, thread_in};
 
 use crate::access::{Access, Want};
-use crate::claims::Claims;
 use crate::fault::WorkerFault;
 use crate::machine::Machine;
+use crate::stack::Stack;
 use arachne_arbiter::{Cores, Pace};
 use arachne_contexts::{Contexts, Held, Identified, Placed};
 use arachne_jobs::{Openings, RunJob, Slice, make_room, put_ticket};
@@ -24,13 +24,13 @@ use std::alloc::{AllocError, Global};
 use std::sync::Wait;
 use std::time::Clock;
 
-/// What a worker has for the forks of threads.
+/// A worker's means for the forks of threads.
 #[derive(Drop)]
 pub(crate) struct ForkSupplies<R, P> {
     /// The core's chooser.
     pub(crate) chooser: R,
     pub(crate) openings: Openings,
-    /// What is kept of ended threads for those that begin.
+    /// The memory of ended threads, for those that begin.
     pub(crate) spares: P,
 }
 
@@ -204,7 +204,7 @@ pub(crate) fn free_place<H: Wait, T: RunJob, C: Contexts<T>>(
     rt: &H,
     machine: &Machine<C, T::Ticket>,
     spare: &mut C::Seat,
-    kept: &mut Claims<C::Claim>,
+    kept: &mut Stack<C::Claim>,
     core: u8,
 ) -> Result<Option<C::Claim>, WorkerFault>
     requires seat { C.sits machine.now.table spare.old }
@@ -214,7 +214,7 @@ pub(crate) fn free_place<H: Wait, T: RunJob, C: Contexts<T>>(
     ensures seat { C.sits machine.now.table spare.new }
     ensures out { IfOk result (IsOutWith (C.has machine.now.table spare.new) kept.new) }
 {
-    if let Some(claim) = kept.take() {
+    if let Some(claim) = kept.pop() {
         return Ok(Some(claim));
     }
     let claim = machine.cores::<H, T>(rt).claim_on(spare, core)?;

@@ -9,12 +9,12 @@ ghost use Rattle.arachne_contexts.specs.Out.{Claim as a_claim, KeepsOut};
 ghost use Rattle.arachne_run.specs.Tokens.{AreIdle, IsSetUp, ground_of};
 
 use crate::access::Access;
-use crate::claims::{Claims, may_keep};
 use crate::fault::WorkerFault;
 use crate::forking::{ForkSupplies, free_place, give_place_back, go_on, post_waiting};
 use crate::gate::Gate;
 use crate::in_hand::{InHand, has_lock, rests_so};
 use crate::machine::Machine;
+use crate::stack::Stack;
 use crate::tokens::Tokens;
 use arachne_arbiter::{Arbiter, Cores, Pace, Parking, SliceCounts};
 use arachne_contexts::{Claimed, Contexts, Moved, Placed, Tagged, Taken, Woken};
@@ -40,14 +40,14 @@ pub(crate) struct RunSeat<'a, H, T: RunJob, C: Contexts<T>, R, G> {
     pub(crate) alloc: Global,
     pub(crate) machine: &'a Machine<C, T::Ticket>,
     pub(crate) core: u8,
-    /// Whether something else may be out with the seats, since the table did not know a token. Then the worker ends.
+    /// Set if something else may be out with the seats, since the table did not know a token. Then the worker ends.
     pub(crate) is_broken: bool,
     /// The thread in hand is out with it.
     pub(crate) seat: C::Seat,
     pub(crate) held: Option<InHand<T, C::Hold>>,
     /// The kept places are out with it.
     pub(crate) spare: C::Seat,
-    pub(crate) kept: Claims<C::Claim>,
+    pub(crate) kept: Stack<C::Claim>,
     pub(crate) pass: SpillPass<T::Ticket>,
     pub(crate) arbiter: Option<Arbiter>,
     pub(crate) forks: ForkSupplies<R, T::Spares>,
@@ -104,7 +104,7 @@ impl<'a, H: Wait, T: RunJob, C: Contexts<T>, R: Rng + Drop, G: Gate> RunSeat<'a,
             seat,
             held: None,
             spare,
-            kept: Claims::new(alloc),
+            kept: Stack::new(alloc),
             pass,
             arbiter,
             forks: ForkSupplies {
@@ -145,18 +145,28 @@ impl<'a, H: Wait, T: RunJob, C: Contexts<T>, R: Rng + Drop, G: Gate> RunSeat<'a,
         ensures { self.new ≡ self.old }
     {
         let (rt, machine) = (self.rt, self.machine);
-        if self.is_broken || !may_keep(machine, before) {
-            machine.shared.room().place_was_left();
+        let room = machine.shared.room();
+        if self.is_broken || !machine.keeps_place(before) {
+            room.place_was_left();
             return Ok(());
         }
-        self.is_broken = true;
-        let (spare, kept) = (&mut self.spare, &mut self.kept);
-        let is_kept = claim_again::<H, T, C>(rt, machine, spare, kept, self.core)?;
-        self.is_broken = false;
-        if !is_kept {
-            machine.shared.room().place_was_left();
+        let claim = match machine.table.claim(rt, &mut self.spare, self.core) {
+            Ok(Claimed::Place(claim)) => claim,
+            _ => {
+                room.place_was_left();
+                return Ok(());
+            }
+        };
+        match self.kept.push(claim) {
+            Ok(()) => Ok(()),
+            Err(claim) => {
+                self.is_broken = true;
+                give_place_back::<H, T, C>(rt, machine, &mut self.spare, claim)?;
+                self.is_broken = false;
+                room.place_was_left();
+                Ok(())
+            }
         }
-        Ok(())
     }
 }
 
@@ -270,14 +280,14 @@ impl<'a, H: Wait + Clock, T: RunJob, C: Contexts<T>, R: Rng + Drop, G: Gate> Des
     }
 
     fn kept(&self) -> usize {
-        self.kept.count()
+        self.kept.len()
     }
 
     fn give_one_back(&mut self) -> Result<bool, Halt> {
         if self.is_broken {
             return Err(Halt::from(WorkerFault::Token));
         }
-        let Some(claim) = self.kept.take() else {
+        let Some(claim) = self.kept.pop() else {
             return Ok(false);
         };
         let (rt, machine) = (self.rt, self.machine);
@@ -340,7 +350,7 @@ impl<'a, H: Wait + Clock, T: RunJob, C: Contexts<T>, R: Rng + Drop, G: Gate> Des
         if !self.machine.shared.room().is_any_waiting() {
             return false;
         }
-        let kept = self.kept.count();
+        let kept = self.kept.len();
         may_take_ticket(self.look(), kept, self.machine.slots)
     }
 
@@ -426,14 +436,9 @@ fn tend_by<H: Wait, T: Tagged, C: Contexts<T>>(
 {
     let before = arbiter.applied();
     let receivers = arbiter.tend(cores, seat, parking, slices);
-    (news_of(before, arbiter.applied()), receivers)
-}
-
-/// Returns how many orders are applied now, if one was applied since `before`.
-fn news_of(before: usize, after: usize) -> Option<usize>
-    ensures { result ≡ (if after == before then None else Some after) }
-{
-    if after != before { Some(after) } else { None }
+    let after = arbiter.applied();
+    let news = if after != before { Some(after) } else { None };
+    (news, receivers)
 }
 
 /// Returns whether there is an arbiter that has not applied all orders.
@@ -446,40 +451,13 @@ fn has_orders_left(arbiter: &Option<Arbiter>, orders: usize) -> bool
     }
 }
 
-/// Claims a place of the core by one attempt, and keeps it. Returns whether it did. Otherwise none was claimed.
-fn claim_again<H: Wait, T: RunJob, C: Contexts<T>>(
-    rt: &H,
-    machine: &Machine<C, T::Ticket>,
-    spare: &mut C::Seat,
-    kept: &mut Claims<C::Claim>,
-    core: u8,
-) -> Result<bool, WorkerFault>
-    requires seat { C.sits machine.now.table spare.old }
-    requires out { C.has machine.now.table spare.old (map a_claim kept.old) }
-    requires set_up { IsSetUp C.core_count C.slot_count machine.now }
-    requires core { core < machine.now.cores }
-    ensures seat { C.sits machine.now.table spare.new }
-    ensures out { OnOk result (C.has machine.now.table spare.new (map a_claim kept.new)) }
-{
-    let Ok(Claimed::Place(claim)) = machine.table.claim(rt, spare, core) else {
-        return Ok(false);
-    };
-    match kept.keep(claim) {
-        Ok(()) => Ok(true),
-        Err(claim) => {
-            give_place_back::<H, T, C>(rt, machine, spare, claim)?;
-            Ok(false)
-        }
-    }
-}
-
 /// Posts the child of a ticket, if it still waits and the core has a place.
 fn post_child<H: Wait, T: RunJob, C: Contexts<T>>(
     rt: &H,
     alloc: Global,
     machine: &Machine<C, T::Ticket>,
     spare: &mut C::Seat,
-    kept: &mut Claims<C::Claim>,
+    kept: &mut Stack<C::Claim>,
     core: u8,
     ticket: T::Ticket,
     spares: &mut T::Spares,
