@@ -1,4 +1,4 @@
--- What the cells of a run are for.
+-- The purpose and the content of the cells of a run.
 use Rattle.std.specs.Prelude.{◌≡◌, None, Some}
 use Rattle.arachne_lang.specs.declared.program.Program.{Program}
 use Rattle.arachne_lang.specs.Program.{source_of}

@@ -49,7 +49,7 @@ pub fn next_ticket<R: Wait, K: Tagged + Drop>(
 /// The most tickets of children that still wait that go to the end of the queue while room is made in it.
 const MOST_LIVE: u32 = 8;
 
-/// Makes room for a ticket, if the queue is full.
+/// Makes room for a ticket, if it is wanted and the queue is full.
 ///
 /// Drops the tickets of children that no longer wait, the oldest first. A ticket of a child that still waits goes to the
 /// end of the queue.
@@ -58,10 +58,14 @@ pub fn make_room<R: Wait, K: RunTicket>(
     tickets: &SpillQueue<K>,
     room: &Room,
     pass: &mut SpillPass<K>,
+    is_wanted: bool,
 )
     requires { IsPassOf tickets.now pass.old }
     ensures { IsPassOf tickets.now pass.new }
 {
+    if !is_wanted {
+        return;
+    }
     let mut live = 0;
     for _ in 0..CAPACITY {
         if live >= MOST_LIVE || !tickets.is_full(rt, pass) {

@@ -132,9 +132,8 @@ fn answer_fork<H: Wait, T: RunJob, C: Contexts<T>, R: Rng>(
         return Ok(ThreadStop::Posted(post));
     }
     let tickets = &machine.tickets;
-    if is_worth_room(class, forks.openings.is_large) {
-        make_room(rt, tickets, room, pass);
-    }
+    let wants_room = is_worth_room(class, forks.openings.is_large);
+    make_room(rt, tickets, room, pass, wants_room);
     let waits = may_wait(class, !tickets.is_full(rt, pass));
     if let Some(ticket) = held.value.put_aside(alloc, me, child, tag, waits)? {
         // If others have filled the queue meanwhile, the child waits without a ticket, for its parent.

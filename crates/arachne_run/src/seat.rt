@@ -150,19 +150,18 @@ impl<'a, H: Wait, T: RunJob, C: Contexts<T>, R: Rng + Drop, G: Gate> RunSeat<'a,
             room.place_was_left();
             return Ok(());
         }
-        let claim = match machine.table.claim(rt, &mut self.spare, self.core) {
-            Ok(Claimed::Place(claim)) => claim,
+        match machine.table.claim(rt, &mut self.spare, self.core) {
+            Ok(Claimed::Place(claim)) => match self.kept.push(claim) {
+                Ok(()) => Ok(()),
+                Err(claim) => {
+                    self.is_broken = true;
+                    give_place_back::<H, T, C>(rt, machine, &mut self.spare, claim)?;
+                    self.is_broken = false;
+                    room.place_was_left();
+                    Ok(())
+                }
+            },
             _ => {
-                room.place_was_left();
-                return Ok(());
-            }
-        };
-        match self.kept.push(claim) {
-            Ok(()) => Ok(()),
-            Err(claim) => {
-                self.is_broken = true;
-                give_place_back::<H, T, C>(rt, machine, &mut self.spare, claim)?;
-                self.is_broken = false;
                 room.place_was_left();
                 Ok(())
             }
@@ -358,8 +357,9 @@ impl<'a, H: Wait + Clock, T: RunJob, C: Contexts<T>, R: Rng + Drop, G: Gate> Des
         if self.is_broken {
             return Err(Halt::from(WorkerFault::Token));
         }
-        let (tickets, room) = (&self.machine.tickets, self.machine.shared.room());
-        let Some(ticket) = next_ticket(self.rt, tickets, room, &mut self.pass) else {
+        let (rt, machine) = (self.rt, self.machine);
+        let room = machine.shared.room();
+        let Some(ticket) = next_ticket(rt, &machine.tickets, room, &mut self.pass) else {
             return Ok(TicketResult::None);
         };
         if !ticket.still_waits() {
@@ -367,9 +367,9 @@ impl<'a, H: Wait + Clock, T: RunJob, C: Contexts<T>, R: Rng + Drop, G: Gate> Des
         }
         self.is_broken = true;
         let posted = post_child::<H, T, C>(
-            self.rt,
+            rt,
             self.alloc,
-            self.machine,
+            machine,
             &mut self.spare,
             &mut self.kept,
             self.core,
@@ -437,8 +437,11 @@ fn tend_by<H: Wait, T: Tagged, C: Contexts<T>>(
     let before = arbiter.applied();
     let receivers = arbiter.tend(cores, seat, parking, slices);
     let after = arbiter.applied();
-    let news = if after != before { Some(after) } else { None };
-    (news, receivers)
+    if after == before {
+        (None, receivers)
+    } else {
+        (Some(after), receivers)
+    }
 }
 
 /// Returns whether there is an arbiter that has not applied all orders.

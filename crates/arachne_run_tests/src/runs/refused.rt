@@ -98,7 +98,10 @@ fn a_child_waits_on_if_its_job_is_refused_memory(rt: HostRuntime) -> Result<(), 
     for (nth, &bytes) in LEFT.iter().enumerate() {
         let refused = is_refused(alloc, &program, bytes);
         let (is_first, is_last) = (nth == 0, nth + 1 == LEFT.len());
-        if refused.is_none() || is_first && refused != Some(true) || is_last && refused != Some(false) {
+        if refused.is_none()
+            || is_first && refused != Some(true)
+            || is_last && refused != Some(false)
+        {
             return Err(Fail::new(format_args!("{bytes}: {refused:?}")));
         }
     }
