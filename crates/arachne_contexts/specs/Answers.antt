@@ -1,4 +1,4 @@
--- What a table's answers say.
+-- The contracts of a table's results.
 use Rattle.std.specs.Prelude.{◌≡◌, ℕ, ◌<◌, Bool, true, false, List, [], ◌∷◌, map, Option, None, Some}
 use Rattle.arachne_core.specs.declared.place.Place.{Place}
 use Rattle.arachne_core.specs.declared.state.Rest.{Rest}
@@ -16,65 +16,65 @@ use Rattle.arachne_contexts.specs.declared.answers.Moved.{Moved}
 use Rattle.arachne_contexts.specs.declared.answers.Moved.TheVariants as moved
 use Rattle.arachne_contexts.specs.Words.{ShowsFull, ShowsClosed, ShowsInUse, ShowsNoRoom, ShowsReadyAt, ShowsWoken}
 
--- a claim on a core of so many places: a place there, or a word that shows why not
+-- the result of a claim on a core of `slots` places: a place there, or a word that shows why there is none
 abbrev pub ClaimsOn : {C : Type 0} → ℕ → (C → Place) → ℕ → Claimed C → Type 0
 ClaimsOn slots place_of core (claimed.Place claim) = (place_of claim).core ≡ core
 ClaimsOn slots place_of core (claimed.Full word) = ShowsFull slots word
 ClaimsOn slots place_of core (claimed.Closed word) = ShowsClosed word
 ClaimsOn slots place_of core (claimed.Lost word) = Unit {0}
 
--- the place that a claim got, or that there is none, unless it was lost
+-- the place of a claim, or no place if the core had none; None if the claim was lost
 abbrev pub settled_claim : {C : Type 0} → Claimed C → Option (Option C)
 settled_claim (claimed.Place claim) = Some (Some claim)
 settled_claim (claimed.Full word) = Some None
 settled_claim (claimed.Closed word) = Some None
 settled_claim (claimed.Lost word) = None
 
--- a claim of a whole core: its index 0, or a word that shows why not
+-- the result of a claim of a whole core: its index 0, or a word that shows why it was refused
 abbrev pub ClaimsWhole : {C : Type 0} → (C → Place) → ℕ → Claimed C → Type 0
 ClaimsWhole place_of core (claimed.Place claim) = place_of claim ≡ record { core = core; index = 0 }
 ClaimsWhole place_of core (claimed.Full word) = ShowsInUse word
 ClaimsWhole place_of core (claimed.Closed word) = ShowsClosed word
 ClaimsWhole place_of core (claimed.Lost word) = Unit {0}
 
--- a take at a place: the thread there, or a word that shows none that is ready
+-- the result of a take at a place: the thread there, or a word that shows that none is ready
 abbrev pub TakesAt : {T H : Type 0} → (H → Place) → Place → Taken T H → Type 0
 TakesAt place_of p (taken.Run held) = place_of held.hold ≡ p
 TakesAt place_of p (taken.NotReady word) = ShowsReadyAt p word → ⊥
 TakesAt place_of p (taken.Lost word) = Unit {0}
 
--- a thread that is put back: a wake that came meanwhile is told only where the thread was to be blocked
+-- the result of a put-back: `WokenMeanwhile` only if the thread was to be blocked
 abbrev pub RestsAs : Rest → Rested → Type 0
 RestsAs rest.Ready rested.AsAsked = Unit {0}
 RestsAs rest.Ready rested.WokenMeanwhile = ⊥
 RestsAs rest.Blocked rested.AsAsked = Unit {0}
 RestsAs rest.Blocked rested.WokenMeanwhile = Unit {0}
 
--- a wake of an id
+-- the result of a wake of an id: `Already` has a word that shows it
 abbrev pub WakesAs : ThreadId → Woken → Type 0
 WakesAs id woken.Woken = Unit {0}
 WakesAs id (woken.Already word) = ShowsWoken id word
 WakesAs id woken.Gone = Unit {0}
 WakesAs id (woken.Lost word) = Unit {0}
 
--- whether the thread was woken, unless the wake was lost
+-- whether the thread was woken; None if the wake was lost
 abbrev pub settled_wake : Woken → Option Bool
 settled_wake woken.Woken = Some true
 settled_wake (woken.Already word) = Some false
 settled_wake woken.Gone = Some false
 settled_wake (woken.Lost word) = None
 
--- a move to a core of so many places
+-- the result of a move to a core of `slots` places: `NoRoom` has a word that shows it
 abbrev pub MovesAs : ℕ → Moved → Type 0
 MovesAs slots (moved.NoRoom word) = ShowsNoRoom slots word
 MovesAs slots answer = Unit {0}
 
--- the contexts rise, so no thread is in the list twice
+-- the contexts are in ascending order, so no thread is in the list twice
 abbrev pub IsByContext : {T : Type 0} → List (ThreadId × T) → Type 0
 IsByContext [] = Unit {0}
 IsByContext (t ∷ []) = Unit {0}
 IsByContext (t ∷ u ∷ ts) = (t.0.context < u.0.context) × IsByContext (u ∷ ts)
 
--- the threads, each by its id and its tag
+-- the ids and tags of the threads
 abbrev pub tagged_threads : {T : Type 0} → (T → ℕ) → List (ThreadId × T) → List (ThreadId × ℕ)
 tagged_threads tag_of threads = map (λ (t : _). (t.0, tag_of t.1)) threads

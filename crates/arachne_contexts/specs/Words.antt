@@ -1,4 +1,4 @@
--- What a word shows of a core or of a context.
+-- The meaning of a word, for a core or for a context.
 use Rattle.std.specs.Prelude.{◌≡◌, ◌≢◌, ℕ, ◌<◌, ◌⊎◌, true, false, slice_index_or}
 use Rattle.arachne_core.specs.declared.mark.Mark.TheVariants.{Ready, Woken}
 use Rattle.arachne_core.specs.declared.place.Place.{Place}
@@ -7,34 +7,34 @@ use Rattle.arachne_core.specs.declared.layout.TheConstants.{CORE_BITS}
 use Rattle.arachne_core.specs.Occupancy.{Occupancy, occupancy_of}
 use Rattle.arachne_core.specs.Marked.{Marked, marked_of}
 
--- no index is free, where a core has so many
+-- no index below `slots` is free
 abbrev pub HasNoFree : ℕ → Occupancy → Type 0
 HasNoFree slots o = (i : ℕ) → i < slots → slice_index_or o.occupied i false ≡ true
 
--- nothing new may come, since one thread has the core alone or no index is free
+-- no new thread may come to the core: it is exclusive, or no index is free
 abbrev pub HasNoPlace : ℕ → Occupancy → Type 0
 HasNoPlace slots o = (o.exclusive ≡ true) ⊎ HasNoFree slots o
 
 abbrev pub ShowsClosed : ℕ → Type 0
 ShowsClosed word = (occupancy_of word).closed ≡ true
 
--- an open core with no place for a thread
+-- the word shows an open core that has no place for a thread
 abbrev pub ShowsFull : ℕ → ℕ → Type 0
 ShowsFull slots word = ((occupancy_of word).closed ≡ false) × HasNoPlace slots (occupancy_of word)
 
--- an open core with something on it
+-- the word shows an open core with something on it
 abbrev pub ShowsInUse : ℕ → Type 0
 ShowsInUse word = ((occupancy_of word).closed ≡ false) × (word ≢ 0)
 
--- a core that no thread may be moved to
+-- the word shows a core to which no thread may be moved
 abbrev pub ShowsNoRoom : ℕ → ℕ → Type 0
 ShowsNoRoom slots word = ((occupancy_of word).closed ≡ true) ⊎ HasNoPlace slots (occupancy_of word)
 
--- a ready thread at the place
+-- the word shows a ready thread at the place
 abbrev pub ShowsReadyAt : Place → ℕ → Type 0
 ShowsReadyAt p word = ((marked_of CORE_BITS word).mark ≡ Ready) × ((marked_of CORE_BITS word).place ≡ p)
 
--- the thread of the id, which is ready or was woken while it is held
+-- the word shows the thread of the id, which is ready or was woken while it is held
 abbrev pub ShowsWoken : ThreadId → ℕ → Type 0
 ShowsWoken id word = (((marked_of CORE_BITS word).mark ≡ Ready) ⊎ ((marked_of CORE_BITS word).mark ≡ Woken))
     × ((marked_of CORE_BITS word).generation ≡ id.generation)

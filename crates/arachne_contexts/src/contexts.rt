@@ -1,4 +1,4 @@
-//! The calls of a table.
+//! The trait of context tables.
 ghost use Rattle.std.specs.Prelude.{◌≡◌, ◌≢◌, ℕ, ◌*◌, ◌<◌, List, [], ◌∷◌, IfOk, IfErr};
 ghost use Rattle.arachne_core.specs.Occupancy.{IsOccupancyWord};
 ghost use Rattle.arachne_core.specs.Marked.{IsMarkWord};
@@ -15,27 +15,32 @@ use arachne_core::{CORE_BITS, Place, Rest, ThreadId};
 use std::alloc::{AllocError, Global};
 use std::sync::Wait;
 
-/// A context table for threads of one type. Each claim and each thread that is held must be spent through the seat that
-/// got it.
+/// A context table for threads of one type.
+///
+/// Each claim and each held thread must be spent through the seat that got it.
 pub trait Contexts<T: Tagged>: Seats {
     /// A place that a seat has claimed.
     type Claim: Placed + Drop;
 
-    /// What a thread that a seat holds is known by.
+    /// The handle of a thread that a seat holds, by which the table knows the thread.
     type Hold: Identified + Drop;
 
-    /// What is out with the seat, in any order: what it has claimed or taken and not spent.
+    /// These claims and threads are out with the seat, in any order: it has claimed or taken them and not spent them.
     ghost has: { Self → Self.Seat → List (Out Self.Claim Self.Hold) → Type 0 };
 
-    /// By all that the seat has seen, each thread that was posted has ended or is one of these, each once, by its id
-    /// and its tag. Of a form whose seats don't know what was posted it says nothing.
+    /// By all that the seat has seen, each thread that was posted has ended or is one of these.
+    ///
+    /// Each is named once, by its id and its tag. For a form of table whose seats don't know what was posted this is
+    /// always true.
     ghost settles: { Self → Self.Seat → List (ThreadId × ℕ) → Type 0 };
 
-    /// The occupancy word of a core, looked at with no seat. It tells nothing, and is for a choice alone.
+    /// Returns the occupancy word of a core, read without a seat.
+    ///
+    /// The contract promises nothing of the word. It is only for choosing a core.
     fn glance<R: Wait>(&self, rt: &R, core: u8) -> u64
         requires core { core < Self.core_count self.now };
 
-    /// The occupancy word of a core.
+    /// Returns the occupancy word of a core.
     fn look<R: Wait>(&self, rt: &R, seat: &mut Self::Seat, core: u8) -> u64
         requires seat { Self.sits self.now seat.old }
         requires core { core < Self.core_count self.now }
@@ -44,7 +49,7 @@ pub trait Contexts<T: Tagged>: Seats {
         ensures out { KeepsOut (has self.now) seat.old seat.new }
         ensures word { IsOccupancyWord result };
 
-    /// The mark word of a context.
+    /// Returns the mark word of a context.
     fn look_mark<R: Wait>(&self, rt: &R, seat: &mut Self::Seat, context: u32) -> u64
         requires seat { Self.sits self.now seat.old }
         requires context { context < Self.core_count self.now * Self.slot_count self.now }
@@ -53,8 +58,9 @@ pub trait Contexts<T: Tagged>: Seats {
         ensures out { KeepsOut (has self.now) seat.old seat.new }
         ensures word { IsMarkWord CORE_BITS result };
 
-    /// Claims the lowest free index of a core, by one try. The error is want of memory for what is posted there, and
-    /// leaves all as it was.
+    /// Tries once to claim the lowest free index of a core.
+    ///
+    /// Fails if memory for what will be posted there is refused. Then nothing has changed.
     fn claim<R: Wait>(
         &self,
         rt: &R,
@@ -68,8 +74,9 @@ pub trait Contexts<T: Tagged>: Seats {
         ensures out { GetsClaim (has self.now) seat.old seat.new result }
         ensures answer { IfOk result (ClaimsOn (Self.slot_count self.now) Self.Claim.place_of core) };
 
-    /// Claims an empty core for one thread, at index 0. The error is want of memory for what is posted there, and
-    /// leaves all as it was.
+    /// Tries once to claim an empty core for one thread, at index 0.
+    ///
+    /// Fails if memory for what will be posted there is refused. Then nothing has changed.
     fn claim_alone<R: Wait>(
         &self,
         rt: &R,
@@ -83,7 +90,9 @@ pub trait Contexts<T: Tagged>: Seats {
         ensures out { GetsClaim (has self.now) seat.old seat.new result }
         ensures answer { IfOk result (ClaimsWhole Self.Claim.place_of core) };
 
-    /// Frees a place at which nothing was posted. A claim that the table doesn't know comes back.
+    /// Frees a claimed place at which nothing was posted.
+    ///
+    /// Returns the claim as an error if the table doesn't know it.
     fn give_back<R: Wait>(
         &self,
         rt: &R,
@@ -97,8 +106,10 @@ pub trait Contexts<T: Tagged>: Seats {
         ensures out { Spends (has self.now) (a_claim claim) seat.old seat.new result }
         ensures handed_back { IfErr result (λ back. back ≡ claim) };
 
-    /// Posts a thread at a claimed place. It is ready, also where its core was closed since. Where the table doesn't
-    /// know the claim, both come back.
+    /// Posts a thread at a claimed place.
+    ///
+    /// The thread is ready, even if its core was closed after the claim. Returns the claim and the value as an error if
+    /// the table doesn't know the claim.
     fn post<R: Wait>(
         &self,
         rt: &R,
@@ -129,7 +140,9 @@ pub trait Contexts<T: Tagged>: Seats {
         ensures out { GetsThread (has self.now) T.tag_of seat.old seat.new result }
         ensures answer { TakesAt Self.Hold.place_of (record { core = core; index = index }) result };
 
-    /// Puts a thread back. A thread that the table doesn't know, or whose tag has changed, comes back.
+    /// Puts a thread back.
+    ///
+    /// Returns the thread as an error if the table doesn't know it, or if its tag has changed.
     fn put_back<R: Wait>(
         &self,
         rt: &R,
@@ -145,8 +158,9 @@ pub trait Contexts<T: Tagged>: Seats {
         ensures answer { IfOk result (RestsAs rest) }
         ensures handed_back { IfErr result (λ back. back ≡ held) };
 
-    /// Ends a thread, and frees its place unless its context has had its last generation. A thread that the table
-    /// doesn't know, or whose tag has changed, comes back.
+    /// Ends a thread, and frees its place unless its context has had its last generation.
+    ///
+    /// Returns the thread as an error if the table doesn't know it, or if its tag has changed.
     fn finish<R: Wait>(
         &self,
         rt: &R,
@@ -161,7 +175,7 @@ pub trait Contexts<T: Tagged>: Seats {
         ensures value { IfOk result (λ value. value ≡ held.value) }
         ensures handed_back { IfErr result (λ back. back ≡ held) };
 
-    /// Wakes the thread of an id, which may be any.
+    /// Wakes the thread of this id. Any id may be passed.
     fn wake<R: Wait>(&self, rt: &R, seat: &mut Self::Seat, id: ThreadId) -> Woken
         requires seat { Self.sits self.now seat.old }
         ensures seat { Self.sits self.now seat.new }
@@ -169,7 +183,7 @@ pub trait Contexts<T: Tagged>: Seats {
         ensures out { KeepsOut (has self.now) seat.old seat.new }
         ensures answer { WakesAs id result };
 
-    /// Closes a core, which takes no more threads then. Answers its occupancy word from before.
+    /// Closes a core, which then takes no more threads. Returns its occupancy word from before.
     fn close_core<R: Wait>(&self, rt: &R, seat: &mut Self::Seat, core: u8) -> u64
         requires seat { Self.sits self.now seat.old }
         requires core { core < Self.core_count self.now }
@@ -178,7 +192,7 @@ pub trait Contexts<T: Tagged>: Seats {
         ensures out { KeepsOut (has self.now) seat.old seat.new }
         ensures word { IsOccupancyWord result };
 
-    /// Opens a core. Answers its occupancy word from before.
+    /// Opens a core. Returns its occupancy word from before.
     fn open_core<R: Wait>(&self, rt: &R, seat: &mut Self::Seat, core: u8) -> u64
         requires seat { Self.sits self.now seat.old }
         requires core { core < Self.core_count self.now }
@@ -187,7 +201,7 @@ pub trait Contexts<T: Tagged>: Seats {
         ensures out { KeepsOut (has self.now) seat.old seat.new }
         ensures word { IsOccupancyWord result };
 
-    /// Whether a core is closed and no place of it is occupied.
+    /// Returns whether a core is closed and none of its places is occupied.
     fn is_drained<R: Wait>(&self, rt: &R, seat: &mut Self::Seat, core: u8) -> bool
         requires seat { Self.sits self.now seat.old }
         requires core { core < Self.core_count self.now }
@@ -207,8 +221,10 @@ pub trait Contexts<T: Tagged>: Seats {
         ensures out { KeepsOut (has self.now) seat.old seat.new }
         ensures answer { MovesAs (Self.slot_count self.now) result };
 
-    /// What was posted and not finished, each thread once, by context. The seat is whole, and nothing claimed or taken
-    /// is out. Table and seat come back where memory is refused.
+    /// Closes the table. Returns what was posted and not finished, each thread once, in the order of the contexts.
+    ///
+    /// The seat must be whole, and nothing may be out with it. If memory is refused, returns the table and the seat as
+    /// an error.
     fn close<R: Wait>(
         self,
         rt: &R,
@@ -224,12 +240,12 @@ pub trait Contexts<T: Tagged>: Seats {
         ensures weight { IfErr result (λ back. Self.weight back.1 ≡ Self.weight seat) }
         ensures idle { IfErr result (λ back. Self.idle back.0 back.1) };
 
-    /// A seat is idle where nothing is out with it.
+    /// A seat is idle exactly if nothing is out with it.
     ghost nothing_out: { (table : Self) (seat : Self.Seat) → Self.idle table seat → has table seat [] };
 
     ghost is_idle: { (table : Self) (seat : Self.Seat) → has table seat [] → Self.idle table seat };
 
-    /// What is out is out in any order.
+    /// The order of what is out has no meaning.
     ghost swapped: { (table : Self) (seat : Self.Seat) (first second : Out Self.Claim Self.Hold) (outs : List (Out Self.Claim Self.Hold))
         → has table seat (first ∷ second ∷ outs) → has table seat (second ∷ first ∷ outs) };
 }

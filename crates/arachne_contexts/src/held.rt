@@ -1,46 +1,47 @@
-//! Threads and places that a seat has, until it spends them.
+//! The threads and places that a seat has, until it spends them.
 ghost use Rattle.std.specs.Prelude.{◌≡◌};
 ghost use Rattle.arachne_core.specs.declared.place.Place.{Place};
 ghost use Rattle.arachne_core.specs.declared.thread_id.ThreadId.{ThreadId};
 
 use arachne_core::{Place, ThreadId};
 
-/// What has a place in a table.
+/// A thing that has a place in a table.
 pub trait Placed {
     ghost place_of: { Self → Place };
 
-    /// The place.
+    /// Returns the place.
     fn place(&self) -> Place
         ensures { result ≡ place_of self.now };
 }
 
-/// What stands for a thread in a table.
+/// A thing that names a thread in a table.
 pub trait Identified: Placed {
     ghost id_of: { Self → ThreadId };
 
-    /// The thread's id.
+    /// Returns the thread's id.
     fn id(&self) -> ThreadId
         ensures { result ≡ id_of self.now };
 }
 
-/// A thread that a seat has taken: its value, and what the table knows it by. The value may be changed, but not its
-/// tag.
+/// A thread that a seat has taken: its value, and the handle by which the table knows it.
+///
+/// The value may be changed, but its tag must not.
 #[derive(Drop)]
 pub struct Held<T, H> {
     pub value: T,
-    /// What the table knows the thread by. It stays with the value that it came with.
+    /// The handle of the thread. It must stay with the value with which it was taken.
     pub hold: H,
 }
 
 impl<T, H: Identified> Held<T, H> {
-    /// The thread's id.
+    /// Returns the thread's id.
     pub fn id(&self) -> ThreadId
         ensures { result ≡ H.id_of self.now.hold }
     {
         self.hold.id()
     }
 
-    /// Where the thread was taken.
+    /// Returns the place at which the thread was taken.
     pub fn place(&self) -> Place
         ensures { result ≡ H.place_of self.now.hold }
     {

@@ -1,8 +1,8 @@
-//! Context tables: what every form of table offers to those who run threads.
+//! Context tables: the trait of every form of table, for those who run threads.
 //!
-//! A table has contexts, one for each place of its cores. Whoever steps at it has a seat. A seat claims a place, posts
-//! a thread there, takes threads that are ready, and puts them back or finishes them. What a thread is, the table's
-//! user says: a table keeps values that have a tag.
+//! A table has contexts, one for each place of its cores. Whoever calls it has a seat. A seat claims a place, posts a
+//! thread there, takes threads that are ready, and puts them back or finishes them. A thread is a value of the caller's
+//! type: the table needs nothing of it but its tag.
 #![tactic(auto)]
 
 mod answers;

@@ -6,27 +6,29 @@ use arachne_core::{CORES, LAST_GENERATION, SLOTS};
 use std::alloc::{AllocError, Global};
 use std::sync::Wait;
 
-/// A table's seats, with which its threads step. Each has a part of the whole weight, so whoever has all of it knows
-/// that no other seat is in use. A seat is used with the table that it came from.
+/// The seats of a table, through which all steps at it are made.
+///
+/// Each seat has a part of the whole weight, so whoever has the whole weight knows that no other seat is in use. A seat
+/// is used only with the table that it came from.
 pub trait Seats {
     type Seat: Drop;
 
-    /// The seat is of this table.
+    /// The seat belongs to this table.
     ghost sits: { Self → Self.Seat → Type 0 };
 
-    /// Nothing is out with the seat: whatever it claimed or took is spent.
+    /// Nothing is out with the seat: all that it has claimed or taken is spent.
     ghost idle: { Self → Self.Seat → Type 0 };
 
     /// The seat's part of the whole weight.
     ghost weight: { Self.Seat → ℕ };
 
-    /// How many cores the table has.
+    /// The number of cores of the table.
     ghost core_count: { Self → ℕ };
 
-    /// How many places each of its cores has.
+    /// The number of places of each core.
     ghost slot_count: { Self → ℕ };
 
-    /// A table whose contexts are free and of one generation, and the seat with the whole weight.
+    /// Creates a table whose contexts are free and of one generation, and the seat with the whole weight.
     fn new(
         alloc: Global,
         cores: u8,
@@ -44,8 +46,9 @@ pub trait Seats {
         ensures idle { IfOk result (λ made. Self.idle made.0 made.1) }
         ensures weight { IfOk result (λ made. Self.weight made.1 ≡ whole) };
 
-    /// Halves the weight, rounded up for the first seat. At weight 1 or 0 neither gets any. Whatever was claimed or
-    /// taken through the seat must be spent before.
+    /// Splits a seat in two, each with half of its weight, rounded up for the first.
+    ///
+    /// If the weight is 1 or 0, both get weight 0. All that was claimed or taken through the seat must be spent before.
     fn split<R: Wait>(&self, rt: &R, seat: Self::Seat) -> (Self::Seat, Self::Seat)
         requires seat { Self.sits self.now seat }
         requires idle { Self.idle self.now seat }
@@ -56,8 +59,9 @@ pub trait Seats {
         ensures first_weight { Self.weight result.0 ≡ first_part (Self.weight seat) }
         ensures second_weight { Self.weight result.1 ≡ second_part (Self.weight seat) };
 
-    /// Adds up the weights, to at most the whole. Whatever was claimed or taken through either seat must be spent
-    /// before.
+    /// Joins two seats into one, whose weight is the sum of theirs, but at most the whole.
+    ///
+    /// All that was claimed or taken through either seat must be spent before.
     fn join_seats<R: Wait>(&self, rt: &R, seat: Self::Seat, other: Self::Seat) -> Self::Seat
         requires seat { Self.sits self.now seat }
         requires other { Self.sits self.now other }
@@ -67,10 +71,10 @@ pub trait Seats {
         ensures idle { Self.idle self.now result }
         ensures weight { Self.weight result ≡ joined (Self.weight seat) (Self.weight other) };
 
-    /// Whether all other seats were joined into this one.
+    /// Returns whether all other seats were joined into this one.
     fn is_whole(&self, seat: &Self::Seat) -> bool
         ensures { IsTrue result ↔ (Self.weight seat.now ≡ whole) };
 
-    /// How many of the seat's claims and threads it hasn't spent.
+    /// Returns the number of claims and threads that the seat has not spent.
     fn out(&self, seat: &Self::Seat) -> u32;
 }

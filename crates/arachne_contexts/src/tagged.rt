@@ -1,7 +1,9 @@
-//! What a table's values have.
+//! The values of a table.
 ghost use Rattle.std.specs.Prelude.{◌≡◌, ℕ};
 
-/// A value with a tag. What is posted in a context is known by its id and its tag.
+/// A value with a tag.
+///
+/// A thread that was posted is known by its id and its tag.
 pub trait Tagged {
     ghost tag_of: { Self → ℕ };
 

@@ -1,4 +1,4 @@
--- Sets, maps and collections with one member changed: what they say there, and elsewhere.
+-- Sets, maps and collections with one member changed: their values there, and elsewhere.
 use Rattle.std.proofs.Common.{◌≡◌, ℕ, ◌+◌, Bool, true, false, cond, eqb, ◌⊎◌, inl, inr, refl, sym, ap, ◌∙◌}
 use Rattle.std.proofs.lemmas.Bool.{eqb-true, eq-eqb, ne_eqb, and_parts, and_from, cases_Bool, true≢false, false_from_ne_true}
 use Rattle.arachne_core.specs.declared.place.Place.{Place}

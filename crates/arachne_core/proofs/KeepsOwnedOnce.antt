@@ -25,7 +25,7 @@ record Change : Type 0 where
 abbrev changed : World → Change → World
 changed w c = record w { state = c.state; generation = c.generation; occupied = c.occupied; alone = c.alone; given = c.given; ended = c.ended }
 
--- The change is at context x alone, and what is owned once there is so afterwards.
+-- The event changes only context x, and what is owned once there is so afterwards.
 record ChangesOne (w : World) (x : ℕ) (c : Change) : Type 0 where
   state : (y : ℕ) → (y ≡ x → ⊥) → c.state y ≡ w.state y
   generation : (y : ℕ) → (y ≡ x → ⊥) → c.generation y ≡ w.generation y
@@ -91,7 +91,7 @@ owned w x c o x_in h = record {
 
 -- ---- events that give and end no thread
 
--- Context x gets a state with the same thread, if any; its place and its core's being alone may change.
+-- Context x gets a state with the same thread, if there is one. Its place and whether its core is exclusive may change.
 quiet : (w : World) (x : ℕ) (s : State) (oc : Place → Bool) (al : ℕ → Bool) → OwnedOnce w → IsContext w x
     → ((p : Place) → (p ≡ w.at x → ⊥) → oc p ≡ w.occupied p)
     → (IsTrue (oc (w.at x)) ↔ (s ≢ Free))
@@ -440,7 +440,7 @@ move w h x y o a =
     let at_y : at y ≡ p = with_at-same (with_at w.at x q) y p in
     let at_x : at x ≡ q = with_at-other (with_at w.at x q) y p x apart ∙ with_at-same w.at x q in
     let at_z : (z : ℕ) → (z ≡ x → ⊥) → (z ≡ y → ⊥) → at z ≡ w.at z = λ z n m. with_at-other (with_at w.at x q) y p z m ∙ with_at-other w.at x q z n in
-    -- the context that stood before where z stands now
+    -- the context that stood before at the place at which z stands now
     let from : (z : ℕ) → IsContext w z → (u : ℕ) × IsContext w u × (at z ≡ w.at u) × ((z ≡ x → u ≡ y) × (z ≡ y → u ≡ x) × ((z ≡ x → ⊥) → (z ≡ y → ⊥) → u ≡ z)) =
     λ z z_in. elim (cases_eq z x) [
       | inl e ↦ (y, a.to, ap at e ∙ at_x, ((λ _. refl), (λ f. absurd (apart (sym e ∙ f))), (λ n m. absurd (n e))))

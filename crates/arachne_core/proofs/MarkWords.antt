@@ -36,7 +36,7 @@ mark_code-mark_named (suc (suc (suc (suc zero)))) h = refl
 mark_code-mark_named (suc (suc (suc (suc (suc zero))))) h = refl
 mark_code-mark_named (suc (suc (suc (suc (suc (suc n)))))) h = absurd (omega (arith, h))
 
--- the fields of a word whose mark and alone are `low`
+-- the fields of a word whose mark and `alone` bit are `low`
 pub fields : (b low i c g : ℕ) → low < 2 ^ 4 → i < 2 ^ 6 → c < 2 ^ b →
     ((low + 2 ^ 4 * i + 2 ^ 10 * c + 2 ^ (10 + b) * g) / 2 ^ 10 % 2 ^ b ≡ c)
     × ((low + 2 ^ 4 * i + 2 ^ 10 * c + 2 ^ (10 + b) * g) / 2 ^ 4 % 2 ^ 6 ≡ i)
@@ -83,7 +83,7 @@ mark_word-marked_of b w h =
     ∙ ap (λ (n : ℕ). 2 ^ 10 * n) (mul_comm (2 ^ b) (w / 2 ^ (10 + b)) ∙ ap (λ (n : ℕ). n * 2 ^ b) (sym (shr-shr w 10 b))) in
     omega (arith, code, flag, split, top)
 
--- a word of 64 bits is a mark word exactly where its mark is one of the six and its index one of a core's
+-- a word of 64 bits is a mark word exactly if its mark is one of the six and its index one of a core's
 pub is_mark_word : (b w : ℕ) → IsMarkWord b w ↔ ((w < 2 ^ 64) × (w % 2 ^ 3 < 6) × (w / 2 ^ 4 % 2 ^ 6 < SLOTS))
 is_mark_word b w = (
   λ h.

@@ -1,4 +1,4 @@
--- What a table keeps beside its value, at first and after contexts swap places.
+-- The invariant of a table's lists, at first and after contexts swap places.
 use Rattle.std.proofs.Common.{◌≡◌, ℕ, ◌*◌, ◌<◌, ◌≤◌, false, inl, inr, List, [], length, get_or, set, map, replicate, refl, sym, ap, ◌∙◌, subst, arith}
 use Rattle.std.specs.List.{range_with_len}
 use Rattle.std.proofs.lemmas.Bool.{cases_eq}

@@ -91,7 +91,7 @@ empty_word : occupancy_word vacant ≡ 0
 unfolding vacant
 empty_word = refl
 
--- what a closed core's word says, with index 55 occupied
+-- the fields of a closed core's word, with index 55 occupied
 last_index_read : get_or (occupancy_of (2 ^ 62 + 2 ^ 56 + 2 ^ 55)).occupied 55 false ≡ true
 unfolding flags
 last_index_read = refl

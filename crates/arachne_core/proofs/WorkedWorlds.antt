@@ -1,5 +1,5 @@
--- The definitions of the World on small worlds: what must be allowed is, with its effect, what must not be is not, and
--- each fact of being owned once refuses a world that breaks it. No other proof rests on these.
+-- The definitions of the World on small worlds: events that must be allowed are, with their effects; others are not;
+-- and each fact of `OwnedOnce` refuses a world that breaks it. No other proof rests on these.
 use Rattle.std.proofs.Common.{◌≡◌, ℕ, zero, suc, ◌+◌, ◌*◌, ◌<◌, Bool, true, false, eqb, inl, inr, List, [], ◌∷◌, refl, sym, ap, ◌∙◌, arith}
 use Rattle.std.proofs.lemmas.Bool.{true≢false}
 use Rattle.arachne_core.specs.declared.place.Place.{Place}
@@ -143,7 +143,7 @@ spent_then = (refl, refl, refl, refl)
 no_release_of_a_spent_context : ¬ Allowed last (event.Release 1 0)
 no_release_of_a_spent_context a = let same : Spent ≡ Claimed 1 = a.claimed in cc
 
--- ---- a thread alone on its core
+-- ---- a thread on an exclusive core
 
 abbrev alone : World
 alone = after begun (event.Alone 0 2)
@@ -163,7 +163,7 @@ not_alone_beside_a_claimed_place a = true≢false (a.empty 1 (omega arith))
 alone_until_released : (after alone (event.Release 0 2)).alone 1 ≡ false
 alone_until_released = refl
 
--- a spent context isn't shown alone, and its core stays so
+-- the `alone` bit of a spent context isn't set, and its core stays exclusive
 abbrev spent_alone : World
 spent_alone = after_all (record alone { generation = λ x. 1 }) (event.Post 0 2 7 ∷ event.Take 0 2 ∷ event.Retire 0 2 ∷ [])
 

@@ -1,4 +1,4 @@
--- What contracts see of the type World: its contexts and cores in lists by number, and the World that these stand for.
+-- The model of the type World: its contexts and cores in lists by number, and the World that these stand for.
 use Rattle.std.specs.Prelude.{◌≡◌, ℕ, ◌+◌, ◌≤◌, Bool, true, false, ◌&&◌, List, [], length, count_by, slice_index_or, Result, Ok, Err, codes}
 use Rattle.arachne_core.specs.declared.state.Context.{Context}
 use Rattle.arachne_core.specs.declared.state.State.{State}
@@ -17,16 +17,16 @@ use Rattle.arachne_core.specs.World.{World, Thread, same_thread, core_of, Allowe
 pub record ContextTable : Type 0 where
   pub contexts : List Context
   pub cores : List Occupancy
-  -- how many places each core has
+  -- the number of places of each core
   pub slots : ℕ
   -- the threads that were posted, and those that have ended, in order
   pub given : List Thread
   pub ended : List Thread
-  -- for how many more of each there is room
+  -- the number of posts and of retires for which memory is reserved
   pub posts : ℕ
   pub retires : ℕ
 
--- what stands for a context or a core that the table doesn't have
+-- the default context and core, for a number that the table doesn't have
 abbrev pub no_context : Context
 no_context = record { place = record { core = 0; index = 0 }; generation = 0; state = state.Free }
 
@@ -39,7 +39,7 @@ context k x = slice_index_or k.contexts x no_context
 abbrev pub core : ContextTable → ℕ → Occupancy
 core k c = slice_index_or k.cores c no_core
 
--- how often the list has the thread
+-- the number of times that the list has the thread
 abbrev pub times : List Thread → Thread → ℕ
 times ts t = count_by (same_thread t) ts
 
@@ -59,9 +59,9 @@ world_of k = record {
   ended = times k.ended;
 }
 
--- ---- what a table answers
+-- ---- the result of an event on a table
 
--- the room for posts and for retires that an event uses
+-- the number of posts, and of retires, for which an event uses reserved memory
 abbrev pub posts_of : Event → ℕ
 posts_of (event.Post h x tag) = 1
 posts_of e = 0
@@ -70,34 +70,34 @@ abbrev pub retires_of : Event → ℕ
 retires_of (event.Retire h x) = 1
 retires_of e = 0
 
--- the event needs room, and none is left
+-- the event needs reserved memory, and none is left
 abbrev pub LacksRoom : ContextTable → Event → Type 0
 LacksRoom k (event.Post h x tag) = k.posts ≡ 0
 LacksRoom k (event.Retire h x) = k.retires ≡ 0
 LacksRoom k e = ⊥
 
--- The answer to an event, with the table before and after: the event is made exactly where it is allowed, unless memory
--- for it is refused; else nothing changes.
+-- The result of an event, given the table before and after it. The event is applied exactly if it is allowed, unless
+-- memory for it is refused; otherwise nothing changes.
 abbrev pub Answers : Event → ContextTable → ContextTable → Result (Unit {0}) NotApplied → Type 0
 Answers e old new (Ok done) = Allowed (world_of old) e × (world_of new ≡ after (world_of old) e)
     × (old.posts ≤ new.posts + posts_of e) × (old.retires ≤ new.retires + retires_of e)
 Answers e old new (Err NotAllowed) = (Allowed (world_of old) e → ⊥) × (new ≡ old)
 Answers e old new (Err Memory) = Allowed (world_of old) e × LacksRoom old e × (new ≡ old)
 
--- how a refusal is written
+-- the text of a refusal
 abbrev pub refusal_text : NotApplied → List ℕ
 refusal_text NotAllowed = codes "the event isn't allowed here"
 refusal_text Memory = codes "memory for the event was refused"
 
--- ---- what the words show of the World
+-- ---- the words of the World
 
--- a core's occupancy: an index is occupied where its place is
+-- this is the occupancy of core c: an index is occupied exactly if its place is
 pub record ShowsCore (w : World) (c : ℕ) (o : Occupancy) : Type 0 where
   pub occupied : (i : ℕ) → slice_index_or o.occupied i false ≡ w.occupied (record { core = c; index = i })
   pub closed : o.closed ≡ w.closed c
   pub exclusive : o.exclusive ≡ w.alone c
 
--- no index from the core's last place on is occupied
+-- no index is occupied from `slots` on
 abbrev pub IsVacantFrom : ℕ → Occupancy → Type 0
 IsVacantFrom slots o = (i : ℕ) → slots ≤ i → slice_index_or o.occupied i false ≡ false
 
@@ -116,7 +116,7 @@ is_live_state (state.Blocked tag) = true
 is_live_state (state.Held h woken tag) = true
 is_live_state s = false
 
--- alone is shown for a live context on a core that is alone
+-- The mark word of a context. Its `alone` bit is set if the context is live and its core exclusive.
 abbrev pub marked : World → ℕ → Marked
 marked w x = record {
   mark = mark_of (w.state x);

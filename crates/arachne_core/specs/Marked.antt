@@ -1,4 +1,4 @@
--- The mark word of a context, and what it says. The core's number has b bits, and the generation has those above it.
+-- The mark word of a context, and its fields. The core's number has b bits, and the bits above it are the generation.
 use Rattle.std.specs.Prelude.{◌≡◌, ℕ, ◌+◌, ◌-◌, ◌*◌, ◌/◌, ◌%◌, ◌^◌, ◌<◌, Bool, if◌then◌else◌, ◌==◌}
 use Rattle.std.specs.Int.{bit_at}
 use Rattle.arachne_core.specs.declared.mark.Mark.{Mark}
@@ -7,7 +7,7 @@ use Rattle.arachne_core.specs.declared.place.Place.{Place}
 use Rattle.arachne_core.specs.declared.layout.TheConstants.{SLOTS}
 use Rattle.arachne_core.specs.Occupancy.{bit}
 
--- a context's mark, whether its thread has its core alone, where it stands, and its generation
+-- a context's mark, whether its core is exclusive to its thread, its place, and its generation
 pub record Marked : Type 0 where
   pub mark : Mark
   pub alone : Bool
@@ -26,12 +26,12 @@ mark_code Spent = 5
 abbrev pub mark_named : ℕ → Mark
 mark_named n = if n == 0 then Free else if n == 1 then Ready else if n == 2 then Blocked else if n == 3 then Held else if n == 4 then Woken else Spent
 
--- The word: the mark from bit 0, alone at bit 3, the index from bit 4, the core from bit 10, the generation from bit 10
--- + b.
+-- The mark word of these fields: the mark from bit 0, `alone` at bit 3, the index from bit 4, the core from bit 10, the
+-- generation from bit 10 + b.
 abbrev pub mark_word : ℕ → Marked → ℕ
 mark_word b m = mark_code m.mark + 2 ^ 3 * bit m.alone + 2 ^ 4 * m.place.index + 2 ^ 10 * m.place.core + 2 ^ (10 + b) * m.generation
 
--- what a word says
+-- the fields of a word
 abbrev pub marked_of : ℕ → ℕ → Marked
 marked_of b w = record {
   mark = mark_named (w % 2 ^ 3);
@@ -40,11 +40,11 @@ marked_of b w = record {
   generation = w / 2 ^ (10 + b);
 }
 
--- it is the word of what it says, its index is one of a core's, and it has 64 bits
+-- the number is the word of the fields that are read from it, its index is one of a core's, and it has 64 bits
 abbrev pub IsMarkWord : ℕ → ℕ → Type 0
 IsMarkWord b w = (mark_word b (marked_of b w) ≡ w) × (w / 2 ^ 4 % 2 ^ 6 < SLOTS) × (w < 2 ^ 64)
 
--- there is a word of 64 bits for it
+-- there is a word of 64 bits for these fields
 abbrev pub FitsWord : ℕ → Marked → Type 0
 FitsWord b m = (m.place.index < SLOTS) × (m.place.core < 2 ^ b) × (m.generation < 2 ^ (54 - b))
 

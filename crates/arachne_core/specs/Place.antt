@@ -2,7 +2,7 @@
 use Rattle.std.specs.Prelude.{ℕ, ◌+◌, ◌*◌, ◌/◌, ◌%◌, Bool, ◌&&◌, ◌==◌}
 use Rattle.arachne_core.specs.declared.place.Place.{Place}
 
--- the place at which a context stands at first, where a core has so many places
+-- the place at which a context stands at first, if each core has `slots` places
 abbrev pub first_place : ℕ → ℕ → Place
 first_place slots context = record { core = context / slots; index = context % slots }
 

@@ -7,8 +7,8 @@ use Rattle.arachne_core.specs.declared.state.State.TheVariants.{Free, Held}
 use Rattle.arachne_core.specs.Place.{first_place}
 use Rattle.arachne_core.specs.World.{World, Thread, IsContext, IsPlace, Allowed, after, IsEmptyCore}
 
--- the World at first: each context at the place of its number, free and of one generation, each core open, nothing
--- given
+-- the World at first: each context at the place of its number, free and of one generation, each core open, no thread
+-- posted
 pub record IsOpening (w : World) (first : ℕ) : Type 0 where
   pub within : first ≤ w.last
   pub at : (x : ℕ) → IsContext w x → w.at x ≡ first_place w.slots x
@@ -20,7 +20,7 @@ pub record IsOpening (w : World) (first : ℕ) : Type 0 where
   pub given : (t : Thread) → w.given t ≡ 0
   pub ended : (t : Thread) → w.ended t ≡ 0
 
--- each event of the list is allowed where it stands
+-- each event of the list is allowed in the World in which it happens
 abbrev pub IsRun : World → List Event → Type 0
 IsRun w [] = Unit {0}
 IsRun w (e ∷ es) = Allowed w e × IsRun (after w e) es
@@ -30,7 +30,7 @@ abbrev pub after_all : World → List Event → World
 after_all w [] = w
 after_all w (e ∷ es) = after_all (after w e) es
 
--- a thread that was posted and has not ended
+-- the thread was posted and has not ended
 abbrev pub IsLive : World → Thread → Type 0
 IsLive w t = w.ended t < w.given t
 
@@ -38,7 +38,7 @@ IsLive w t = w.ended t < w.given t
 abbrev pub Holds : World → ℕ → Thread → Type 0
 Holds w h t = IsLive w t × ((woken : Bool) × (w.state t.0.context ≡ Held h woken t.1))
 
--- live threads that share a context or a place are one, and a held thread has one carrier
+-- two live threads that share a context or a place are the same thread, and a held thread has one carrier
 pub record SharesNothing (w : World) : Type 0 where
   pub contexts : (s t : Thread) → IsLive w s → IsLive w t → s.0.context ≡ t.0.context → s ≡ t
   pub places : (s t : Thread) → IsLive w s → IsLive w t → w.at s.0.context ≡ w.at t.0.context → s ≡ t
@@ -50,12 +50,12 @@ LetsGo h x (event.Rest k y r) = (k ≡ h) × (y ≡ x)
 LetsGo h x (event.Retire k y) = (k ≡ h) × (y ≡ x)
 LetsGo h x e = ⊥
 
--- no event of the list does
+-- no event of the list is one by which h lets go of its thread in x
 abbrev pub NeverLetsGo : ℕ → ℕ → List Event → Type 0
 NeverLetsGo h x [] = Unit {0}
 NeverLetsGo h x (e ∷ es) = (LetsGo h x e → ⊥) × NeverLetsGo h x es
 
--- the core is closed, and no place of it is occupied
+-- the core is closed and has no occupied place
 abbrev pub IsDrained : World → ℕ → Type 0
 IsDrained w c = (c < w.cores) × IsTrue (w.closed c) × IsEmptyCore w c
 

@@ -1,4 +1,4 @@
--- The lists of a table: what is always true of them, and one change at a time.
+-- The lists of a table: their invariant, and one change at a time.
 use Rattle.std.specs.Prelude.{◌≡◌, ℕ, ◌*◌, ◌<◌, ◌≤◌, ◌+◌, Bool, List, slice_set, slice_index_or, length}
 use Rattle.arachne_core.specs.declared.state.Context.{Context}
 use Rattle.arachne_core.specs.declared.place.Place.{Place}
@@ -29,7 +29,7 @@ with_exclusive k c b = with_core k c (record (core k c) { exclusive = b })
 abbrev pub with_swapped : ContextTable → ℕ → ℕ → ContextTable
 with_swapped k x y = with_context (with_context k x (record (context k x) { place = (context k y).place })) y (record (context k y) { place = (context k x).place })
 
--- the event was made
+-- the event was applied, and took no more reserved memory than it needs
 abbrev pub Makes : Event → ContextTable → ContextTable → Type 0
 Makes e old new = (world_of new ≡ after (world_of old) e) × (old.posts ≤ new.posts + posts_of e) × (old.retires ≤ new.retires + retires_of e)
 
@@ -37,12 +37,12 @@ Makes e old new = (world_of new ≡ after (world_of old) e) × (old.posts ≤ ne
 abbrev pub HasPlace : ContextTable → Place → Type 0
 HasPlace k p = (p.core < length k.cores) × (p.index < length (core k p.core).occupied)
 
--- a context at first
+-- a context as it is at first
 abbrev pub first_context : ℕ → ℕ → ℕ → Context
 first_context slots generation x = record { place = first_place slots x; generation = generation; state = Free }
 
--- The lists are as long as there are contexts and cores, each place and generation is in range, and `residents` has the
--- context at each place.
+-- The invariant of the lists: they have an entry for each context and core, each place and generation is in range, and
+-- `residents` has the context at each place.
 pub record IsTable (slots : ℕ) (cs : List Context) (os : List Occupancy) (rs : List ℕ) : Type 0 where
   pub few : length os ≤ CORES
   pub some_slots : 1 ≤ slots

@@ -8,21 +8,22 @@ use crate::thread_id::ThreadId;
 use std::error::Error;
 use std::fmt;
 
-/// One event of a context table. Each atomic step of a table is one of these; a step that changes
-/// nothing is `Still`.
+/// An event of a context table.
+///
+/// Each atomic step of a table is one of these. A step that changes nothing is `Still`.
 #[derive(Clone, Copy, Debug, PartialEq, Eq)]
 pub enum Event {
-    /// The carrier claims a free context on a core that is neither closed nor alone.
+    /// The carrier claims a free context on a core that is neither closed nor exclusive.
     Claim {
         carrier: u32,
         context: u32,
     },
-    /// The carrier claims the context at index 0 of an empty core, and has the core for it alone.
+    /// The carrier claims the context at index 0 of an empty core, which is exclusive from then on.
     Alone {
         carrier: u32,
         context: u32,
     },
-    /// The carrier puts a thread with this tag into a context that it has claimed.
+    /// The carrier posts a thread with this tag in a context that it has claimed.
     Post {
         carrier: u32,
         context: u32,
@@ -43,7 +44,7 @@ pub enum Event {
     Wake {
         id: ThreadId,
     },
-    /// A thread that the carrier holds ends; the carrier keeps the context's place.
+    /// A thread that the carrier holds ends. The carrier keeps the context's place.
     Retire {
         carrier: u32,
         context: u32,
@@ -61,8 +62,8 @@ pub enum Event {
     OpenCore {
         core: u8,
     },
-    /// The carrier moves a resting thread from `from` to the place of `to`, a context that it has
-    /// claimed on another core; the two contexts swap places.
+    /// The carrier moves a resting thread from `from` to the place of `to`, a context that it has claimed on another
+    /// core. The two contexts swap places.
     Move {
         carrier: u32,
         from: u32,
@@ -72,12 +73,12 @@ pub enum Event {
     Still,
 }
 
-/// Why an event wasn't made. Nothing has changed then.
+/// The reason why an event was not applied. The World is unchanged then.
 #[derive(Clone, Copy, Debug, PartialEq, Eq)]
 pub enum NotApplied {
-    /// The event isn't allowed where the World stands, or names a core or context that isn't there.
+    /// The World does not allow the event, or has no such core or context.
     NotAllowed,
-    /// The event is allowed, and memory for its record was refused.
+    /// The event is allowed, but memory for its record was refused.
     Memory,
 }
 

@@ -22,60 +22,64 @@ pub fn events_keep_owned_once()
     ensures { (w : World) (e : Event) → OwnedOnce w → Allowed w e → OwnedOnce (after w e) }
 {}
 
-/// So does every run, whatever its events.
+/// Every run keeps the World owned once, whatever its events.
 pub fn runs_keep_owned_once()
     ensures { (w : World) (es : List Event) → OwnedOnce w → IsRun w es → OwnedOnce (after_all w es) }
 {}
 
-/// In a World that is owned once no two live threads share a context, a place or a carrier's hold.
+/// In a World that is owned once, no two live threads share a context, a place or a carrier's hold.
 pub fn owned_once_shares_nothing()
     ensures { (w : World) → OwnedOnce w → SharesNothing w }
 {}
 
-/// A thread that a carrier holds is held by that carrier in every run, until the carrier puts it back or ends it. So
-/// no thread has two carriers, and between two takes of a context its first carrier has let go of it.
+/// A held thread keeps its carrier in every run, until that carrier puts it back or ends it.
+///
+/// So no thread has two carriers, and between two takes of a context its first carrier has let go of it.
 pub fn holder_keeps_its_thread()
     ensures { (w : World) (es : List Event) (h x : ℕ) → IsHeldBy h (w.state x) → IsRun w es → NeverLetsGo h x es → IsHeldBy h ((after_all w es).state x) }
 {}
 
-/// A core that is closed with no place occupied stays so, in every run, until it is opened.
+/// A core that is closed and has no occupied place stays so in every run, until it is opened.
 pub fn drained_core_stays_drained()
     ensures { (w : World) (es : List Event) (c : ℕ) → IsDrained w c → IsRun w es → NeverOpens c es → IsDrained (after_all w es) c }
 {}
 
-/// The machine has up to 64 cores of up to 56 places, and the last generation has 48 bits. The fields of the words
-/// have room for just these.
+/// The sizes of the machine: up to 64 cores of up to 56 places, and generations of 48 bits.
+///
+/// The fields of the words have room for exactly these.
 pub fn sizes()
     ensures cores { (CORES ≡ 64) × (CORES ≡ 2 ^ CORE_BITS) }
     ensures slots { (SLOTS ≡ 56) × (MASK_BITS ≡ SLOTS) }
     ensures generations { (LAST_GENERATION + 1 ≡ 2 ^ 48) × (10 + CORE_BITS + GENERATION_BITS ≡ 64) }
 {}
 
-/// A core's occupancy that is packed into a word is read from it as it was.
+/// An occupancy that is packed into a word is read back unchanged.
 pub fn occupancy_words_read_as_packed()
     ensures { (c : Occupancy) → length c.occupied ≡ MASK_BITS → occupancy_of (occupancy_word c) ≡ c }
 {}
 
-/// What is read from a number of 64 bits is packed into the same number, exactly where the field of its count says how
-/// many bits of its mask are set.
+/// A number is an occupancy word exactly if it has 64 bits and its count is the number of set bits of its mask.
+///
+/// Such a number is packed again from what is read from it.
 pub fn occupancy_words_pack_as_read()
     ensures { (word : ℕ) → IsOccupancyWord word ↔ ((word < 2 ^ 64) × (count_field word ≡ count_of (occupancy_of word).occupied)) }
 {}
 
-/// Adding the bit of index i, which is free, and one in the field of the count sets bit i of the mask, raises the count
-/// by one and changes no other field.
+/// Adding the bit of a free index i, and one in the field of the count, occupies that index.
+///
+/// This sets bit i of the mask, raises the count by one, and changes no other field.
 pub fn adding_an_index()
     ensures { (word i : ℕ) → IsOccupancyWord word → i < MASK_BITS → slice_index_or (occupancy_of word).occupied i false ≡ false
         → HasOneMore word i (word + (2 ^ i + 2 ^ MASK_BITS)) }
 {}
 
-/// Taking these away from a word in which index i is occupied undoes that.
+/// Subtracting the same two bits from a word in which index i is occupied undoes that.
 pub fn taking_an_index_away()
     ensures { (word i : ℕ) → IsOccupancyWord word → i < MASK_BITS → slice_index_or (occupancy_of word).occupied i false ≡ true
         → HasOneMore (word - (2 ^ i + 2 ^ MASK_BITS)) i word }
 {}
 
-/// Setting bit 62 of a word closes the core, and clearing it opens the core; no other field changes.
+/// Setting bit 62 of a word closes the core, and clearing it opens the core. No other field changes.
 pub fn closing_and_opening()
     ensures closing { (word : ℕ) → IsOccupancyWord word
         → IsOccupancyWord (bit_or word (2 ^ 62)) × (occupancy_of (bit_or word (2 ^ 62)) ≡ record (occupancy_of word) { closed = true }) }
@@ -83,35 +87,36 @@ pub fn closing_and_opening()
         → IsOccupancyWord (bit_and word (2 ^ 64 - 1 - 2 ^ 62)) × (occupancy_of (bit_and word (2 ^ 64 - 1 - 2 ^ 62)) ≡ record (occupancy_of word) { closed = false }) }
 {}
 
-/// Adding `2^63` to the word of a core that isn't exclusive makes it so, and changes no other field.
+/// Adding `2^63` to the word of a core that is not exclusive makes it exclusive. No other field changes.
 pub fn adding_exclusive()
     ensures { (word : ℕ) → IsOccupancyWord word → (occupancy_of word).exclusive ≡ false
         → IsOccupancyWord (word + 2 ^ 63) × (occupancy_of (word + 2 ^ 63) ≡ record (occupancy_of word) { exclusive = true }) }
 {}
 
-/// Taking `2^63` away from the word of an exclusive core ends that, and changes no other field.
+/// Subtracting `2^63` from the word of an exclusive core makes it not exclusive. No other field changes.
 pub fn taking_exclusive_away()
     ensures { (word : ℕ) → IsOccupancyWord word → (occupancy_of word).exclusive ≡ true
         → IsOccupancyWord (word - 2 ^ 63) × (occupancy_of (word - 2 ^ 63) ≡ record (occupancy_of word) { exclusive = false }) }
 {}
 
-/// A mark word that is packed is read as it was, where its index and core fit.
+/// A packed mark word is read back unchanged, if its index and its core fit their fields.
 pub fn mark_words_read_as_packed()
     ensures { (bits : ℕ) (m : Marked) → m.place.index < 2 ^ 6 → m.place.core < 2 ^ bits → marked_of bits (mark_word bits m) ≡ m }
 {}
 
-/// What is read from a number of 64 bits is packed into the same number with an index of a core, exactly where the mark
-/// is one of the six and the index one of a core's.
+/// A number is a mark word exactly if it has 64 bits, its mark is one of the six, and its index is one of a core's.
+///
+/// Such a number is packed again from what is read from it.
 pub fn mark_words_pack_as_read()
     ensures { (bits word : ℕ) → IsMarkWord bits word ↔ ((word < 2 ^ 64) × (word % 2 ^ 3 < 6) × (word / 2 ^ 4 % 2 ^ 6 < SLOTS)) }
 {}
 
-/// Setting the mark of a mark word keeps alone, place and generation.
+/// Setting the mark of a mark word keeps its `alone` bit, its place and its generation.
 pub fn setting_a_mark()
     ensures { (bits word : ℕ) (mark : Mark) → marked_of bits (with_mark word mark) ≡ record (marked_of bits word) { mark = mark } }
 {}
 
-/// Setting the place of a mark word keeps mark, alone and generation.
+/// Setting the place of a mark word keeps its mark, its `alone` bit and its generation.
 pub fn setting_a_place()
     ensures { (bits word : ℕ) (place : Place) → place.index < 2 ^ 6 → place.core < 2 ^ bits
         → marked_of bits (with_place bits word place) ≡ record (marked_of bits word) { place = place } }

@@ -1,9 +1,9 @@
-//! The mark of a context.
+//! The mark of a context: its state without the carrier and the tag.
 
-/// What a mark word says of its context.
+/// The state of a context, as its mark word shows it.
 #[derive(Clone, Copy, Debug, PartialEq, Eq)]
 pub enum Mark {
-    /// No thread; the context may be claimed.
+    /// There is no thread. The context is free or claimed.
     Free = 0,
     /// The thread may be taken.
     Ready = 1,
@@ -11,9 +11,9 @@ pub enum Mark {
     Blocked = 2,
     /// A carrier runs the thread.
     Held = 3,
-    /// A carrier runs the thread, which was woken meanwhile.
+    /// A carrier runs the thread, which was woken since it was taken.
     Woken = 4,
-    /// The context's last thread has ended.
+    /// The thread of the context's last generation has ended.
     Spent = 5,
 }
 
@@ -21,14 +21,14 @@ impl Mark {
     ghost use Rattle.std.specs.Prelude.{◌≡◌, ◌<◌};
     ghost use Rattle.arachne_core.specs.Marked.{mark_code, mark_named};
 
-    /// The code of the mark in a word.
+    /// Returns the code of the mark in a word.
     pub fn code(self) -> u64
         ensures { result ≡ mark_code self }
     {
         self as u64
     }
 
-    /// The mark with this code.
+    /// Returns the mark of this code.
     pub fn from_code(code: u64) -> Self
         requires { code < 6 }
         ensures { result ≡ mark_named code }

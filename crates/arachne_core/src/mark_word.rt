@@ -26,8 +26,10 @@ const FIRST_CORE_MASK: u64 = (1 << FIRST_CORE_BITS) - 1;
 
 const FIRST_GENERATION_SHIFT: u32 = CORE_SHIFT + FIRST_CORE_BITS;
 
-/// What a context is at, in one word: the mark in bits 0 to 2, alone in bit 3, the index in bits 4 to 9,
-/// the core in bits 10 to 15, and the generation above.
+/// The state, place and generation of a context, packed into one word.
+///
+/// The mark is in bits 0 to 2, `alone` in bit 3, the index in bits 4 to 9, the core in bits 10 to 15, and the
+/// generation in the bits above.
 #[derive(Clone, Copy, Debug, PartialEq, Eq)]
 pub struct MarkWord {
     word: u64,
@@ -50,7 +52,7 @@ impl Model for MarkWord {
 }
 
 impl MarkWord {
-    /// The word of a context.
+    /// Returns the word with these fields.
     pub fn new(mark: Mark, alone: bool, place: Place, generation: u64) -> Self
         requires { FitsWord CORE_BITS (record { mark = mark; alone = alone; place = place; generation = generation }) }
         ensures { result ≡ record { mark = mark; alone = alone; place = place; generation = generation } }
@@ -63,7 +65,7 @@ impl MarkWord {
         }
     }
 
-    /// Reads a word, whose mark must be one of the six and whose index one of a core's.
+    /// Reads a word. Returns `None` if its mark is not one of the six or its index not one of a core's.
     pub fn from_word(word: u64) -> Option<Self>
         ensures some { IsSome result ↔ IsMarkWord CORE_BITS word }
         ensures value { IfSome result (λ mark. mark ≡ marked_of CORE_BITS word) }
@@ -75,8 +77,10 @@ impl MarkWord {
         }
     }
 
-    /// Reads a word of the first layout, in which the core had 4 bits and the generation 50: the word with the same
-    /// fields, unless the mark is none of the six, the index none of a core's, or the generation past the last.
+    /// Reads a word of the first layout, in which the core had 4 bits and the generation 50.
+    ///
+    /// Returns the word with the same fields, or `None` if the mark is not one of the six, the index not one of a
+    /// core's, or the generation past the last.
     pub fn from_first(word: u64) -> Option<Self>
         ensures some { IsSome result ↔ (IsMarkWord FIRST_CORE_BITS word × ((marked_of FIRST_CORE_BITS word).generation ≤ LAST_GENERATION)) }
         ensures value { IfSome result (λ mark. mark ≡ marked_of FIRST_CORE_BITS word) }
@@ -95,7 +99,7 @@ impl MarkWord {
         }
     }
 
-    /// The word itself.
+    /// Returns the word as a number.
     pub fn word(self) -> u64
         ensures packed { result ≡ mark_word CORE_BITS self }
         ensures read { IsMarkWord CORE_BITS result × (marked_of CORE_BITS result ≡ self) }
@@ -109,14 +113,14 @@ impl MarkWord {
         Mark::from_code(self.word & MARK_MASK)
     }
 
-    /// Whether the thread was posted on a core that it has alone.
+    /// Returns the `alone` bit: whether the thread was posted on a core that is exclusive to it.
     pub fn is_alone(self) -> bool
         ensures { result ≡ self.alone }
     {
         self.word & ALONE != 0
     }
 
-    /// Where the context stands.
+    /// Returns the place of the context.
     pub fn place(self) -> Place
         ensures value { result ≡ self.place }
         ensures within { (result.core < CORES) × (result.index < SLOTS) }
@@ -134,7 +138,7 @@ impl MarkWord {
         self.word >> GENERATION_SHIFT
     }
 
-    /// The word with another mark.
+    /// Returns the word with another mark.
     pub fn with_mark(self, mark: Mark) -> Self
         ensures { result ≡ record self { mark = mark } }
     {
@@ -143,7 +147,7 @@ impl MarkWord {
         }
     }
 
-    /// The word with another place.
+    /// Returns the word with another place.
     pub fn with_place(self, place: Place) -> Self
         requires index { place.index < SLOTS }
         requires core { place.core < 2 ^ CORE_BITS }

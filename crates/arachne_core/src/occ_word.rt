@@ -8,21 +8,23 @@ use std::marker::Model;
 
 const COUNT_SHIFT: u32 = MASK_BITS as u32;
 
-/// The mask of a core of which each index is occupied.
+/// The mask of a core whose indexes are all occupied.
 pub const FULL_MASK: u64 = (1 << COUNT_SHIFT) - 1;
 
-/// One more in the count of a word.
+/// A count of one, in the count's field of a word.
 pub const COUNT_ONE: u64 = 1 << COUNT_SHIFT;
 
 const COUNT_MASK: u64 = (1 << 6) - 1;
 
 const CLOSED: u64 = 1 << 62;
 
-/// The bit of a core that one thread has alone.
+/// The bit of an exclusive core, which only one thread uses.
 pub const EXCLUSIVE: u64 = 1 << 63;
 
-/// Which indexes of a core are occupied, and how many, in one word: the mask in bits 0 to 55, the
-/// number of its set bits in bits 56 to 61, closed in bit 62 and exclusive in bit 63.
+/// The occupancy of a core, packed into one word.
+///
+/// The mask of the occupied indexes is in bits 0 to 55, the number of its set bits in bits 56 to 61, the closed bit is
+/// bit 62, and the exclusive bit is bit 63.
 #[derive(Clone, Copy, Debug, PartialEq, Eq)]
 pub struct OccWord {
     word: u64,
@@ -44,14 +46,14 @@ impl Model for OccWord {
 }
 
 impl OccWord {
-    /// The word of an open core with no index occupied: 0.
+    /// Returns the word of an open core with no index occupied: 0.
     pub fn empty() -> Self
         ensures { result ≡ vacant }
     {
         OccWord { word: 0 }
     }
 
-    /// The word with this mask, whose count is that of its set bits.
+    /// Returns the word with this mask, whose count is the number of its set bits.
     pub fn new(mask: u64, closed: bool, exclusive: bool) -> Self
         requires { mask < 2 ^ MASK_BITS }
         ensures { result ≡ record { occupied = flags MASK_BITS mask; closed = closed; exclusive = exclusive } }
@@ -64,7 +66,7 @@ impl OccWord {
         }
     }
 
-    /// Reads a word, whose count must be the number of set bits in its mask.
+    /// Reads a word. Returns `None` if its count is not the number of set bits in its mask.
     pub fn from_word(word: u64) -> Option<Self>
         ensures some { IsSome result ↔ IsOccupancyWord word }
         ensures value { IfSome result (λ occ. occ ≡ occupancy_of word) }
@@ -76,7 +78,7 @@ impl OccWord {
         }
     }
 
-    /// The word itself.
+    /// Returns the word as a number.
     pub fn word(self) -> u64
         ensures packed { result ≡ occupancy_word self }
         ensures read { IsOccupancyWord result × (occupancy_of result ≡ self) }
@@ -84,7 +86,7 @@ impl OccWord {
         self.word
     }
 
-    /// Bit i is set where index i is occupied.
+    /// Returns the mask, in which bit i is set if index i is occupied.
     pub fn mask(self) -> u64
         ensures bits { result ≡ mask_of self.occupied }
         ensures within { result < 2 ^ MASK_BITS }
@@ -92,7 +94,7 @@ impl OccWord {
         self.word & FULL_MASK
     }
 
-    /// How many indexes are occupied.
+    /// Returns the number of occupied indexes.
     pub fn count(self) -> u8
         ensures bits { result ≡ count_of self.occupied }
         ensures within { result ≤ MASK_BITS }
@@ -112,7 +114,7 @@ impl OccWord {
         self.word & EXCLUSIVE != 0
     }
 
-    /// Whether no index is occupied.
+    /// Returns whether no index is occupied.
     pub fn is_empty(self) -> bool
         ensures { IsTrue result ↔ EachIndex self.occupied (λ i. slice_index_or self.occupied i false ≡ false) }
     {
@@ -126,7 +128,7 @@ impl OccWord {
         (self.word >> u32::from(index)) & 1 == 1
     }
 
-    /// The lowest index that isn't occupied.
+    /// Returns the lowest index that is not occupied.
     pub fn lowest_free(self) -> Option<u8>
         ensures within { IfSome result (λ free. free < MASK_BITS) }
         ensures free { IfSome result (λ free. slice_index_or self.occupied free false ≡ false) }
@@ -141,7 +143,7 @@ impl OccWord {
         }
     }
 
-    /// The lowest index that isn't occupied, on a core of so many places.
+    /// Returns the lowest index that is not occupied, on a core of `slots` places.
     pub fn lowest_free_below(self, slots: u8) -> Option<u8>
         requires { slots ≤ MASK_BITS }
         ensures within { IfSome result (λ free. free < slots) }
@@ -155,7 +157,7 @@ impl OccWord {
         }
     }
 
-    /// The word with this index occupied, count included.
+    /// Returns the word with this index occupied. The count is updated too.
     pub fn with_bit(self, index: u8) -> Self
         requires { index < MASK_BITS }
         ensures { result ≡ record self { occupied = slice_set self.occupied index true } }
@@ -169,7 +171,7 @@ impl OccWord {
         }
     }
 
-    /// The word with this index free, count included.
+    /// Returns the word with this index free. The count is updated too.
     pub fn without_bit(self, index: u8) -> Self
         requires { index < MASK_BITS }
         ensures { result ≡ record self { occupied = slice_set self.occupied index false } }
@@ -183,7 +185,7 @@ impl OccWord {
         }
     }
 
-    /// The word of the core, closed or open.
+    /// Returns the word with the closed bit set or cleared.
     pub fn with_closed(self, closed: bool) -> Self
         ensures { result ≡ record self { closed = closed } }
     {
@@ -192,7 +194,7 @@ impl OccWord {
         OccWord { word }
     }
 
-    /// The word of the core, with one thread alone on it or not.
+    /// Returns the word with the exclusive bit set or cleared.
     pub fn with_exclusive(self, exclusive: bool) -> Self
         ensures { result ≡ record self { exclusive = exclusive } }
     {

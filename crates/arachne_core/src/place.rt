@@ -3,9 +3,9 @@
 /// A place for one context: an index of a core.
 #[derive(Clone, Copy, Debug, PartialEq, Eq)]
 pub struct Place {
-    /// The number of the core.
+    /// The core.
     pub core: u8,
-    /// The index in the core, below the number of places that each core has.
+    /// The index on the core, below the number of places that each core has.
     pub index: u8,
 }
 
@@ -13,7 +13,7 @@ impl Place {
     ghost use Rattle.std.specs.Prelude.{◌≡◌, ◌*◌, ◌<◌};
     ghost use Rattle.arachne_core.specs.Place.{first_place, number_of};
 
-    /// The place at which a context stands at first, where each core has so many places.
+    /// Returns the place at which a context stands at first, if each core has `slots` places.
     pub fn of_context(context: u32, slots: u8) -> Self
         requires { context < 256 * slots }
         ensures { result ≡ first_place slots context }
@@ -25,7 +25,7 @@ impl Place {
         }
     }
 
-    /// The context that stands here at first, where each core has so many places.
+    /// Returns the context that stands here at first, if each core has `slots` places.
     pub fn number(self, slots: u8) -> u32
         ensures { result ≡ number_of slots self }
     {

@@ -1,42 +1,44 @@
-//! What a context is at.
+//! The states of a context.
 
 use crate::layout::LAST_GENERATION;
 use crate::mark::Mark;
 use crate::place::Place;
 
-/// The state of a context. A carrier is whoever holds or has claimed contexts, as a seat at the table;
-/// a tag is the number that came with the thread.
+/// The state of a context.
+///
+/// A carrier is whoever holds or has claimed contexts, as a seat at the table. A tag is the number that was posted with
+/// the thread.
 #[derive(Clone, Copy, Debug, PartialEq, Eq)]
 pub enum State {
-    /// No thread, and nobody is about to post one.
+    /// There is no thread, and nobody is about to post one.
     Free,
-    /// No thread yet: the carrier may post one.
+    /// There is no thread yet. The carrier may post one.
     Claimed { carrier: u32 },
     /// The thread may be taken.
     Ready { tag: u64 },
     /// The thread waits to be woken.
     Blocked { tag: u64 },
-    /// The carrier runs the thread, which was woken meanwhile or not.
+    /// The carrier runs the thread. `woken`: the thread was woken since it was taken.
     Held { carrier: u32, woken: bool, tag: u64 },
-    /// The thread of the last generation has ended: the context is never used again.
+    /// The thread of the last generation has ended. The context is never used again.
     Spent,
 }
 
 /// How a carrier puts a thread back.
 #[derive(Clone, Copy, Debug, PartialEq, Eq)]
 pub enum Rest {
-    /// The thread may go on.
+    /// The thread may be taken again.
     Ready,
-    /// The thread waits to be woken, unless it was woken while it was held.
+    /// The thread waits to be woken. If it was woken while it was held, it is ready instead.
     Blocked,
 }
 
-/// One context of the table.
+/// A context of the table.
 #[derive(Clone, Copy, Debug, PartialEq, Eq)]
 pub struct Context {
-    /// Where the context stands.
+    /// The place at which the context stands.
     pub place: Place,
-    /// How many threads have ended here, counted from the table's first generation.
+    /// The number of threads that have ended here, added to the table's first generation.
     pub generation: u64,
     pub state: State,
 }
@@ -73,7 +75,7 @@ impl State {
         }
     }
 
-    /// Ready or blocked.
+    /// Returns whether the state is ready or blocked.
     pub(crate) fn is_at_rest(self) -> bool
         ensures { IsTrue result ↔ IsAtRest self }
     {
@@ -95,7 +97,7 @@ impl State {
         }
     }
 
-    /// Blocked, or held and not woken yet.
+    /// Returns whether the thread is blocked, or held and not woken yet.
     pub(crate) fn can_be_woken(self) -> bool
         ensures { IsTrue result ↔ CanBeWoken self }
     {
@@ -106,7 +108,7 @@ impl State {
         }
     }
 
-    /// At rest or held.
+    /// Returns whether there is a thread: ready, blocked or held.
     pub(crate) fn is_live(self) -> bool
         ensures { result ≡ is_live_state self }
     {
@@ -116,7 +118,7 @@ impl State {
         }
     }
 
-    /// The tag of the thread, or 0 where there is none.
+    /// Returns the tag of the thread, or 0 if there is none.
     pub(crate) fn tag(self) -> u64
         ensures { result ≡ tag_of self }
     {
@@ -126,7 +128,7 @@ impl State {
         }
     }
 
-    /// The mark that stands for the state.
+    /// Returns the mark of the state.
     pub(crate) fn mark(self) -> Mark
         ensures { result ≡ mark_of self }
     {
@@ -140,7 +142,7 @@ impl State {
         }
     }
 
-    /// The state once the carrier has taken the thread.
+    /// Returns the state after the carrier has taken the thread.
     pub(crate) fn taken(self, carrier: u32) -> Self
         ensures { result ≡ taken carrier self }
     {
@@ -154,7 +156,7 @@ impl State {
         }
     }
 
-    /// The state once the carrier has put the thread back.
+    /// Returns the state after the carrier has put the thread back.
     pub(crate) fn put_back(self, rest: Rest) -> Self
         ensures { result ≡ put_back rest self }
     {
@@ -172,7 +174,7 @@ impl State {
         }
     }
 
-    /// The state once the thread was woken.
+    /// Returns the state after the thread was woken.
     pub(crate) fn woken(self) -> Self
         ensures { result ≡ woken self }
     {
@@ -191,7 +193,7 @@ impl State {
 impl Context {
     ghost use Rattle.std.specs.Prelude.{◌≡◌, ◌+◌, ◌<◌, ◌≤◌, nat_lt, if◌then◌else◌};
 
-    /// The context once the carrier's thread in it has ended.
+    /// Returns the context after the thread that the carrier holds in it has ended.
     pub(crate) fn retired(self, carrier: u32) -> Self
         requires { self.generation ≤ LAST_GENERATION }
         ensures state { result.state ≡ (if nat_lt self.generation LAST_GENERATION then State.Claimed carrier else State.Spent) }

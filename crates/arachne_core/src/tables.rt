@@ -1,4 +1,4 @@
-//! The lists in which a World is kept, and each event on them.
+//! The lists that make up a World, and each event on them.
 
 ghost use Rattle.std.specs.Prelude.{◌≡◌, ◌≢◌, ℕ, ◌<◌, ◌≤◌, ◌+◌, ◌*◌, ◌↔◌, length, map, IsTrue, IsOk, IfOk, IfErr, OnOk, OnErr, replicate, ◌++◌, ◌∷◌, []};
 ghost use Rattle.std.specs.List.{range_with_len};
@@ -17,12 +17,12 @@ use crate::thread_id::ThreadId;
 use std::alloc::{AllocError, Global};
 use std::marker::Model;
 
-/// The contexts and cores of a World by number, and its threads in order.
+/// The contexts and cores of a World by number, and its posted and ended threads in order.
 #[derive(Debug, Drop)]
 pub struct Tables {
     contexts: Vec<Context>,
     cores: Vec<OccWord>,
-    /// How many places each core has.
+    /// The number of places of each core.
     slots: u8,
     /// The context at each place, by the place's number.
     residents: Vec<u32>,
@@ -51,7 +51,7 @@ impl Model for Tables {
 }
 
 impl Tables {
-    /// A table whose contexts stand at their first places, free and of one generation.
+    /// Creates a table whose contexts stand at their first places, free and of one generation.
     pub fn new(
         alloc: Global,
         cores: u8,
@@ -80,7 +80,7 @@ impl Tables {
         })
     }
 
-    /// Makes room for so many more posts and retires.
+    /// Reserves memory for `posts` more posts and `retires` more retires.
     pub fn reserve(&mut self, posts: usize, retires: usize) -> Result<(), AllocError>
         ensures kept { self.new ≡ record self.old { posts = self.new.posts; retires = self.new.retires } }
         ensures grown { (self.old.posts ≤ self.new.posts) × (self.old.retires ≤ self.new.retires) }
@@ -106,7 +106,7 @@ impl Tables {
         (number as usize) < self.contexts.len()
     }
 
-    /// How many cores there are.
+    /// Returns the number of cores.
     pub fn count(&self) -> u8
         ensures value { result ≡ length self.now.cores }
         ensures few { result ≤ CORES }
@@ -114,7 +114,7 @@ impl Tables {
         self.cores.len() as u8
     }
 
-    /// How many places each core has.
+    /// Returns the number of places of each core.
     pub fn slots(&self) -> u8
         ensures value { result ≡ self.now.slots }
         ensures some { 1 ≤ result }
@@ -242,9 +242,9 @@ impl Tables {
         }
     }
 
-    // ---- where an event is allowed
+    // ---- whether an event is allowed
 
-    /// Whether the World allows the event.
+    /// Returns whether the World allows the event.
     pub fn allows(&self, event: Event) -> bool
         ensures { IsTrue result ↔ Allowed (world_of self.now) event }
     {
@@ -342,9 +342,9 @@ impl Tables {
             && !self.core(second.place.core).is_exclusive()
     }
 
-    // ---- each event, where it is allowed
+    // ---- each event, if it is allowed
 
-    /// Makes the event, or leaves everything as it was where memory is refused.
+    /// Applies the event. If memory is refused, nothing changes.
     pub fn make(&mut self, event: Event) -> Result<(), NotApplied>
         requires { Allowed (world_of self.old) event }
         ensures { Answers event self.old self.new result }
@@ -504,7 +504,7 @@ impl Tables {
     }
 }
 
-/// The contexts at first, by number.
+/// Returns the contexts at first, by number.
 fn first_contexts(
     alloc: Global,
     count: u32,
@@ -525,14 +525,14 @@ fn first_contexts(
     Ok(contexts)
 }
 
-/// The cores at first: open, with no index occupied.
+/// Returns the cores at first: open, with no index occupied.
 fn first_cores(alloc: Global, count: u8) -> Result<Vec<OccWord>, AllocError>
     ensures { IfOk result (λ made. made.items ≡ replicate count vacant) }
 {
     vec![in alloc; OccWord::empty(); usize::from(count)]
 }
 
-/// The context at each place at first: the one of the place's number.
+/// Returns the context at each place at first: the one whose number is the place's.
 fn first_residents(alloc: Global, count: u32) -> Result<Vec<u32>, AllocError>
     ensures { IfOk result (λ made. made.items ≡ range_with_len 0 count) }
 {

@@ -10,8 +10,10 @@ use crate::tables::Tables;
 use std::alloc::{AllocError, Global};
 use std::marker::Model;
 
-/// A context table in which each event happens at once. It is owned once at every moment, and costs
-/// the same however many contexts it has.
+/// A context table in which each event happens at once.
+///
+/// It is owned once at every moment: each context, place and thread has exactly one owner. The cost of an event does
+/// not depend on the number of contexts.
 #[derive(Debug, Drop)]
 pub struct World {
     tables: Tables,
@@ -35,7 +37,7 @@ impl World {
     ghost use Rattle.arachne_core.specs.Run.{IsOpening};
     ghost use Rattle.arachne_core.specs.ContextTable.{world_of, ShowsCore, IsVacantFrom, marked, Answers};
 
-    /// A World with this many cores, each with this many places, whose contexts are free and of one generation.
+    /// Creates a World of `cores` cores with `slots` places each, whose contexts are free and of one generation.
     pub fn new(
         alloc: Global,
         cores: u8,
@@ -56,7 +58,7 @@ impl World {
         Ok(World { tables })
     }
 
-    /// Makes room for so many more posts and retires, which then take no memory.
+    /// Reserves memory for `posts` more posts and `retires` more retires, which then take none.
     pub fn reserve(&mut self, posts: usize, retires: usize) -> Result<(), AllocError>
         ensures kept { self.new ≡ record self.old { posts = self.new.posts; retires = self.new.retires } }
         ensures grown { (self.old.posts ≤ self.new.posts) × (self.old.retires ≤ self.new.retires) }
@@ -67,8 +69,10 @@ impl World {
         self.tables.reserve(posts, retires)
     }
 
-    /// Makes the event where it is allowed. Only a post and a retire may want memory, where no room was
-    /// reserved for them.
+    /// Applies the event, if it is allowed.
+    ///
+    /// Returns `NotAllowed` if it is not, and `Memory` if memory was refused. Then the World is unchanged. Only a post
+    /// or a retire takes memory, if none was reserved for it.
     pub fn apply(&mut self, event: Event) -> Result<(), NotApplied>
         ensures answer { Answers event self.old self.new result }
         ensures err { OnErr result (self.new ≡ self.old) }
@@ -82,7 +86,7 @@ impl World {
         self.tables.make(event)
     }
 
-    /// How many cores there are.
+    /// Returns the number of cores.
     pub fn cores(&self) -> u8
         ensures value { result ≡ (world_of self.now).cores }
         ensures few { result ≤ CORES }
@@ -90,7 +94,7 @@ impl World {
         self.tables.count()
     }
 
-    /// How many places each core has.
+    /// Returns the number of places of each core.
     pub fn slots(&self) -> u8
         ensures value { result ≡ (world_of self.now).slots }
         ensures some { 1 ≤ result }
@@ -99,14 +103,14 @@ impl World {
         self.tables.slots()
     }
 
-    /// Tells whoever has a World that it is owned once. Nothing is done.
+    /// Does nothing. Its contract says that a World is owned once.
     pub fn is_owned_once(&self)
         ensures { OwnedOnce (world_of self.now) }
     {
         let _ = &self.tables;
     }
 
-    /// The context that stands at a place.
+    /// Returns the context that stands at a place.
     pub fn context_at(&self, place: Place) -> u32
         requires { IsPlace (world_of self.now) place }
         ensures within { IsContext (world_of self.now) result }
@@ -115,7 +119,7 @@ impl World {
         self.tables.resident(place)
     }
 
-    /// Where a context stands.
+    /// Returns the place of a context.
     pub fn place_of(&self, context: u32) -> Place
         requires { IsContext (world_of self.now) context }
         ensures { result ≡ (world_of self.now).at context }
@@ -123,7 +127,7 @@ impl World {
         self.tables.context(context).place
     }
 
-    /// What a context is at.
+    /// Returns the state of a context.
     pub fn state(&self, context: u32) -> State
         requires { IsContext (world_of self.now) context }
         ensures { result ≡ (world_of self.now).state context }
@@ -131,7 +135,7 @@ impl World {
         self.tables.context(context).state
     }
 
-    /// The occupancy word of a core.
+    /// Returns the occupancy word of a core.
     pub fn occ(&self, core: u8) -> OccWord
         requires { core < (world_of self.now).cores }
         ensures shows { ShowsCore (world_of self.now) core result }
@@ -140,7 +144,7 @@ impl World {
         self.tables.core(core)
     }
 
-    /// The mark word of a context.
+    /// Returns the mark word of a context.
     pub fn mark(&self, context: u32) -> MarkWord
         requires { IsContext (world_of self.now) context }
         ensures { result ≡ marked (world_of self.now) context }

@@ -1,4 +1,4 @@
--- Each step on a block of cells keeps its rule, and tells what it says.
+-- Each step on a block of cells keeps its rule, and what it says of its seat is true.
 use Rattle.std.proofs.Common.{◌≡◌, ℕ, zero, suc, ◌+◌, ◌<◌, ◌≢◌, ◌⊎◌, inl, inr, ⊎_elim, List, [], ◌∷◌, ◌++◌, map, length, replicate, get_or, set, sym, refl, ap, ◌∙◌, subst, arith, length-set, get_or-set_same, get_or-set_other}
 use Rattle.std.proofs.lemmas.List.{set-get_or}
 use mathlib.Core.Option.{some, none, some-injective, some-ne-none}
@@ -78,7 +78,7 @@ module _ {K : Type 0} where
     record { send = λ i s t. absurd t; receive = b.receive; paired = λ j k s r e. absurd (b.send n (subst (MaySend u.part u.index) e (sends_there j u.part u.index s)) refl) },
   )
 
-  -- the receiving end has the whole cell, where nobody else may send there
+  -- the receiving end has the whole cell, if nobody else may send there
   emptied_apart : (key : K) (misses n p : ℕ) (u : PartView K) → (MaySend u.part u.index n → ⊥) → AreApart (part_view (Receiving key misses) n p) u → AreApart u (part_view (Receiving key misses) n p)
       → AreApart (part_view Unused n (p + 1)) u × AreApart u (part_view Unused n (p + 1))
   emptied_apart key misses n p u nobody a b = (
@@ -99,7 +99,7 @@ module _ {T K : Type 0} where
   pub slot_laid : (v : PartView K) (content laid : Content T K) (me after : Me (Content T K) (PartView K)) → me ≡ with_slot v content → after ≡ (me.0, (v.index, laid) ∷ rest me.1) → after ≡ with_slot v laid
   slot_laid v content laid me after is e = e ∙ ap (λ (m : Me (Content T K) (PartView K)). let x : Me (Content T K) (PartView K) = (m.0, (v.index, laid) ∷ rest m.1) in x) is
 
-  -- what opening tells, and the sending end then
+  -- what opening says, and the sending end after it
   pub opened : (n p : ℕ) (asked : Snapshot K) (me w : Me (Content T K) (PartView K)) → me ≡ with_slot (part_view Unused n p) (For asked) → Opens me w → w ≡ with_slot (part_view (Opened asked.value) n p) (For asked)
   opened n p asked me w is told = (subst (λ (m : Me (Content T K) (PartView K)). Opens m w) is told) asked refl
 
@@ -330,7 +330,7 @@ module _ {T K : Type 0} (fits : K → T → Type 0) where
       ))
       (kept.known id v at))
 
-  -- what a fetch tells the receiving end
+  -- what a fetch says of the receiving end
   pub come : (n p misses full found : ℕ) (key : K) (me w : Me (Content T K) (PartView K)) → IsReceivingAt n p key misses me → Fetches fits me found w → full ≡ word_after (p + 1) → found ≡ full
       → (value : T) × (w ≡ with_slot (part_view Unused n (p + 1)) (Value value)) × fits key value
   come n p misses full found key me w is told flipped same = ((subst (λ (m : Me (Content T K) (PartView K)). Fetches fits m found w) is told) key refl).0 (same ∙ flipped)

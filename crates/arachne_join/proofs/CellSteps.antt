@@ -1,4 +1,4 @@
--- Each step on a cell keeps its rule, and tells what it says.
+-- Each step on a cell keeps its rule, and what it says of its seat is true.
 use Rattle.std.proofs.Common.{◌≡◌, ℕ, zero, suc, ◌<◌, ◌≤◌, ◌≢◌, ◌⊎◌, inl, inr, ⊎_elim, List, [], ◌∷◌, ◌++◌, length, replicate, get_or, set, Option, Some, None, sym, refl, ap, ◌∙◌, subst, arith, length-set, get_or-set_same}
 use mathlib.Core.Option.{some, none, some-injective, some-ne-none}
 use mathlib.Core.Option as maybe
@@ -27,7 +27,7 @@ is_state n Fetched m = omega (arith, m)
 is_state n (Saw s) m = absurd m
 is_state n Never m = absurd m
 
--- who only looked made nothing
+-- a seat that only looked has not left the word as it is
 looked_made_nothing : (n : ℕ) (p : Role) (s : CellState) → p ≡ Saw s → IsMadeBy n p → ⊥
 looked_made_nothing n p s e m = subst (IsMadeBy n) e m
 
@@ -42,7 +42,7 @@ module _ {T : Type 0} where
   knows_after n m h h' (Saw s) others k = tt
   knows_after n m h h' Never others k = absurd (others tt)
 
-  -- a seat is exclusive only where the cell is empty or taken
+  -- a seat is exclusive only if the cell is empty or taken
   exclusive_at : (n : ℕ) (h : List (maybe.Option (Option T))) (p : Role) → IsExclusive p → Knows n h p → (n ≡ 0) ⊎ (n ≡ 2)
   exclusive_at n h Maker a k = inl k.0
   exclusive_at n h Sender a k = inl k
@@ -67,7 +67,7 @@ only : {A : Type 0} (a b : A) (i : ℕ) → get_elem? (a ∷ []) i ≡ some b �
 only a b zero e = (refl, some-injective a b e)
 only a b (suc i) e = absurd (some-ne-none b (sym e))
 
--- the seat that another is joined into had fetched alone, or both had
+-- the seat that is joined into the one that fetched had fetched too, or the joined seat has the role `Fetched`
 join_cases : (q : Role) → (q ≡ Fetched) ⊎ (joined_role q ≡ Fetched)
 join_cases Fetched = inl refl
 join_cases Maker = inr refl
@@ -83,7 +83,7 @@ module _ {T K : Type 0} (fits may_wait : T → Type 0) where
       → (j : ℕ) (u : View K) → get_elem? views j ≡ some u → j ≢ id → IsExclusive u.role → ⊥
   others_beside n h views id v st at mine j u e ne a = ne (st.exclusive j id u v e at a mine)
 
-  -- no seat is exclusive where the cell is full or a value waits
+  -- no seat is exclusive if the cell is full or a value waits
   none_exclusive : (n : ℕ) (h : List (maybe.Option (Option T))) (views : List (View K)) (id : ℕ) → IsLawful fits may_wait n h views → n ≢ 0 → n ≢ 2
       → (j : ℕ) (u : View K) → get_elem? views j ≡ some u → j ≢ id → IsExclusive u.role → ⊥
   none_exclusive n h views id st ne_zero ne_two j u e ne a = ⊎_elim ne_zero ne_two (exclusive_at n h u.role a (st.known j u e))
@@ -230,7 +230,7 @@ module _ {T K : Type 0} (fits may_wait : T → Type 0) where
       (view k (Saw (state_of n)), (kept.0, new_looks n s.homes s.views k (state_of n) st), (is_state n st.made.1.role st.made.3, refl))
 
 module _ {T K : Type 0} (fits may_wait P : K → T → Type 0) (key : K) where
-  -- where the word is `old`, a seat that looked takes the slot with its value, and the word becomes `new`
+  -- if the word is `old`, a seat that looked takes the slot with its value, and the word becomes `new`
   takes_value : (old new : ℕ) (p : Role) (slots id : ℕ) (v : View K) (saw : CellState) (me : Me (Option T) (View K)) → me ≡ (v, []) → v.key ≡ Some key → v.role ≡ Saw saw
       → old ≢ 0 → old ≢ 2 → new ≢ 1 → new ≢ 3 → IsMadeBy new p → ((h : List (maybe.Option (Option T))) → Knows new h p)
       → ((h : List (maybe.Option (Option T))) (views : List (View K)) → IsLawful (fits key) (may_wait key) old h views → IsHome (P key) h)
@@ -259,13 +259,13 @@ module _ {T K : Type 0} (fits may_wait P : K → T → Type 0) (key : K) where
       some_key key' e = let both : Some key ≡ Some key' = sym keyed ∙ e in cc
 
 module _ {T K : Type 0} (fits may_wait : K → T → Type 0) (key : K) where
-  -- where the cell is full, the seat takes the value that fits
+  -- if the cell is full, the seat takes the value that fits
   pub fetches : (slots id : ℕ) (v : View K) (saw : CellState) (me : Me (Option T) (View K)) → me ≡ (v, []) → v.key ≡ Some key → v.role ≡ Saw saw
       → Allows (IsKept (fits key) (may_wait key)) slots id me 0 (λ n. either (n == 1) 2 n) (Takes fits 1 Fetched me)
   fetches slots id v saw me empty_handed keyed looked = takes_value fits may_wait fits key 1 2 Fetched slots id v saw me empty_handed keyed looked
       (λ e. omega arith) (λ e. omega arith) (λ e. omega arith) (λ e. omega arith) refl (λ h. refl) (λ h views st. st.full refl)
 
-  -- where a value waits, the seat takes it and is the sending end
+  -- if a value waits, the seat takes it and is the sending end
   pub takes_back : (slots id : ℕ) (v : View K) (saw : CellState) (me : Me (Option T) (View K)) → me ≡ (v, []) → v.key ≡ Some key → v.role ≡ Saw saw
       → Allows (IsKept (fits key) (may_wait key)) slots id me 0 (λ n. either (n == 3) 0 n) (Takes may_wait 3 Sender me)
   takes_back slots id v saw me empty_handed keyed looked = takes_value fits may_wait may_wait key 3 0 Sender slots id v saw me empty_handed keyed looked

@@ -1,4 +1,4 @@
--- Which of the types of a block may cross threads: all, where the value may.
+-- The types of a block that may cross threads: all, if the value may.
 use denote.RattleType.{RattleType}
 use denote.Enum.Declared as enum
 use denote.Enum.Enum.{Enum}
@@ -30,7 +30,7 @@ content_send : (T K : RattleType) → IsSend T → IsSend (content.the_row T K)
 content_send T K s = recorded_send (Enum (enum.shape (content.the_type T K))) ((content.the_type T K).D) ((content.the_type T K).to) ((content.the_type T K).to_one)
     (enum_send (enum.shape (content.the_type T K)) (search (sendable, std.crosses, s) depth 20))
 
--- a struct may cross where its fields may
+-- a struct may cross if its fields may
 fields_send : (D : struct.Declared) → AllSend (struct.fields D) → IsSend (struct.row D)
 fields_send D all = recorded_send (Struct (struct.shape D)) D.D D.to D.to_one (struct_send (struct.shape D) all)
 

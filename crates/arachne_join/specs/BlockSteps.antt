@@ -1,4 +1,4 @@
--- What each step on a block tells its seat: of the seat before, the word found and the seat after.
+-- For each step on a block, a relation between the seat before it, the word that was found, and the seat after it.
 use Rattle.std.specs.Prelude.{◌≡◌, ◌≢◌, ℕ, ◌+◌, [], ◌∷◌}
 use Rattle.std.specs.declared.snapshot.Snapshot.{Snapshot}
 use Rattle.atomic_table.specs.Table.{Me}
@@ -10,14 +10,14 @@ use Rattle.arachne_join.specs.declared.part.PartView.{PartView}
 use Rattle.arachne_join.specs.Parts.{part_view, as_part, word_after, IsReceivingFor}
 
 module _ {K : Type 0} where
-  -- the seat that has all cells from an index on gives the one there to a new seat
+  -- the two seats after the seat that has all cells from an index on has given the first of them to a new seat
   abbrev pub without_first : PartView K → PartView K
   without_first v = part_view Rest (v.index + 1) v.passed
 
   abbrev pub the_first : PartView K → PartView K
   the_first v = as_part v Fresh
 
-  -- an opened cell becomes its two ends
+  -- the two ends of an opened cell
   abbrev pub sending_part : Part K → Part K
   sending_part Rest = Rest
   sending_part Fresh = Fresh
@@ -42,7 +42,7 @@ module _ {K : Type 0} where
   abbrev pub receiving_end : PartView K → PartView K
   receiving_end v = as_part v (receiving_part v.part)
 
-  -- the receiving end once it looked and found no value
+  -- the receiving end after it has looked once more and found no value
   abbrev pub missed_part : Part K → Part K
   missed_part Rest = Rest
   missed_part Fresh = Fresh
@@ -64,7 +64,7 @@ module _ {K : Type 0} where
   misses_of (Receiving key misses) = misses
   misses_of Spent = 0
 
-  -- the cell once the value was fetched
+  -- the cell after its value was fetched
   abbrev pub emptied : PartView K → PartView K
   emptied v = part_view Unused v.index (v.passed + 1)
 
@@ -77,7 +77,7 @@ module _ {T K : Type 0} where
   abbrev pub IsUnusedAt : ℕ → ℕ → Me (Content T K) (PartView K) → Type 0
   IsUnusedAt i passed m = m ≡ with_slot (part_view Unused i passed) Empty
 
-  -- the sending end, with the slot, in which no value is
+  -- the sending end, with the slot, which has no value
   abbrev pub IsSendingAt : ℕ → ℕ → K → Me (Content T K) (PartView K) → Type 0
   IsSendingAt i passed key m = (asked : Snapshot K) × (m ≡ with_slot (part_view (Sending key) i passed) (For asked))
 
@@ -88,12 +88,12 @@ module _ {T K : Type 0} where
   abbrev pub Starts : Me (Content T K) (PartView K) → Me (Content T K) (PartView K) → Type 0
   Starts m w = w ≡ with_slot (as_part m.0 Unused) Empty
 
-  -- the cell is opened for the key that lies in the slot
+  -- the cell is opened for the key in the slot
   abbrev pub Opens : Me (Content T K) (PartView K) → Me (Content T K) (PartView K) → Type 0
   Opens m w = (asked : Snapshot K) → m ≡ with_slot m.0 (For asked) → w ≡ with_slot (as_part m.0 (Opened asked.value)) (For asked)
 
-  -- Where the word is what it is after one more value, the seat has the whole cell, with a value that fits its key.
-  -- Else it has missed once more
+  -- If the word that was found is the one after one more value, the seat has the whole cell, with a value that fits its
+  -- key. Otherwise it has missed once more.
   abbrev pub Fetches : (K → T → Type 0) → Me (Content T K) (PartView K) → ℕ → Me (Content T K) (PartView K) → Type 0
   Fetches fits m found w = (key : K) → IsReceivingFor key m.0.part
       → (found ≡ word_after (m.0.passed + 1) → (value : T) × (w ≡ with_slot (emptied m.0) (Value value)) × fits key value)

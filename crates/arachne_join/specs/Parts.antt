@@ -1,4 +1,4 @@
--- What a seat at a block has of its cells, and what it knows of them.
+-- The part of a block's cells that a seat has, and what it knows of them.
 use Rattle.std.specs.Prelude.{◌≡◌, ◌⊎◌, ℕ, ◌+◌, ◌%◌, ◌<◌, ◌≤◌, List, length, slice_index}
 use mathlib.Core.Option.{some}
 use mathlib.Core.Option as maybe
@@ -9,7 +9,7 @@ use Rattle.arachne_join.specs.declared.part.Part.{Part}
 use Rattle.arachne_join.specs.declared.part.Part.TheVariants.{Rest, Fresh, Unused, Opened, Sending, Receiving, Spent}
 use Rattle.arachne_join.specs.declared.part.PartView.{PartView}
 
--- a cell's word after so many values were left in it
+-- a cell's word after `passed` values were left in it
 abbrev pub word_after : ℕ → ℕ
 word_after passed = passed % 2
 
@@ -17,11 +17,11 @@ module _ {K : Type 0} where
   abbrev pub part_view : Part K → ℕ → ℕ → PartView K
   part_view part index passed = record { part = part; index = index; passed = passed }
 
-  -- the same cell, as another part of it
+  -- the same cell, with another part of it
   abbrev pub as_part : PartView K → Part K → PartView K
   as_part v part = part_view part v.index v.passed
 
-  -- a seat with this part at the index n has the right to leave a value in the cell i
+  -- a seat with this part at index n has the right to leave a value in cell i
   abbrev pub MaySend : Part K → ℕ → ℕ → Type 0
   MaySend Rest n i = n ≤ i
   MaySend Fresh n i = n ≡ i
@@ -31,7 +31,7 @@ module _ {K : Type 0} where
   MaySend (Receiving key misses) n i = ⊥
   MaySend Spent n i = ⊥
 
-  -- it has the right to fetch from the cell i
+  -- a seat with this part at index n has the right to fetch from cell i
   abbrev pub MayReceive : Part K → ℕ → ℕ → Type 0
   MayReceive Rest n i = n ≤ i
   MayReceive Fresh n i = n ≡ i
@@ -59,7 +59,7 @@ module _ {K : Type 0} where
   IsReceivingFor key (Receiving k misses) = k ≡ key
   IsReceivingFor key Spent = ⊥
 
-  -- Two seats: each right is of one of them, and the two ends of one cell have one key and one count
+  -- Two seats: no right belongs to both, and the two ends of one cell have the same key and the same count.
   pub record AreApart (v w : PartView K) : Type 0 where
     pub send : (i : ℕ) → MaySend v.part v.index i → MaySend w.part w.index i → ⊥
     pub receive : (i : ℕ) → MayReceive v.part v.index i → MayReceive w.part w.index i → ⊥
@@ -71,13 +71,13 @@ module _ {T K : Type 0} where
   IsFresh words homes i = (slice_index words i ≡ 0) × (get_elem? homes i ≡ some (some Empty))
 
   module _ (fits : K → T → Type 0) where
-    -- a value that fits the key lies in the cell
+    -- a value that fits the key is in the cell
     abbrev pub HasCome : K → List ℕ → List (maybe.Option (Content T K)) → ℕ → ℕ → Type 0
     HasCome key words homes i passed =
         (slice_index words i ≡ word_after (passed + 1)) × ((value : T) × (get_elem? homes i ≡ some (some (Value value))) × fits key value)
 
-    -- What a seat with this part at the index i knows of the words and of the slots at home, where so many values have
-    -- passed through the cell
+    -- The knowledge of a seat with this part at index i about the words, and about the slots in the table, after
+    -- `passed` values have passed through the cell.
     abbrev pub Knows : List ℕ → List (maybe.Option (Content T K)) → ℕ → ℕ → Part K → Type 0
     Knows words homes i passed Rest = (j : ℕ) → i ≤ j → j < length homes → IsFresh words homes j
     Knows words homes i passed Fresh = i < length homes → IsFresh words homes i

@@ -1,4 +1,4 @@
--- What holds of a cell between any two steps.
+-- The rule of a cell, which is true between any two steps.
 use Rattle.std.specs.Prelude.{◌≡◌, ℕ, List, length, slice_index, Option, Some, None}
 use mathlib.Core.Option.{some}
 use mathlib.Core.Option as maybe
@@ -8,7 +8,7 @@ use Rattle.arachne_join.specs.declared.view.Role.{Role}
 use Rattle.arachne_join.specs.declared.view.Role.TheVariants.{Maker, Sender, Left, PutBack, Fetched, Saw, Never}
 use Rattle.arachne_join.specs.declared.view.View.{View}
 
--- at most one seat has such a role: that of the seat that the slot is out with, or that fetched the value
+-- At most one seat has one of these roles: the seat that has the slot, or the one that fetched the value.
 abbrev pub IsExclusive : Role → Type 0
 IsExclusive Maker = Unit {0}
 IsExclusive Sender = Unit {0}
@@ -18,7 +18,7 @@ IsExclusive Fetched = Unit {0}
 IsExclusive (Saw s) = ⊥
 IsExclusive Never = Unit {0}
 
--- a seat with this role made the word what it is
+-- the word is the one that a seat with this role has left
 abbrev pub IsMadeBy : ℕ → Role → Type 0
 IsMadeBy word Maker = word ≡ 0
 IsMadeBy word Sender = word ≡ 0
@@ -39,14 +39,14 @@ module _ {T : Type 0} where
   Knows word homes (Saw s) = Unit {0}
   Knows word homes Never = ⊥
 
-  -- the slot is at home, with a value of which this holds
+  -- the slot is in the table, with a value that fulfils P
   abbrev pub IsHome : (T → Type 0) → List (maybe.Option (Option T)) → Type 0
   IsHome P homes = (value : T) × (get_elem? homes 0 ≡ some (some (Some value))) × P value
 
 module _ {T K : Type 0} (fits may_wait : T → Type 0) where
-  -- Where the word is 1 the slot is at home with a value that fits, where it is 3 with one that may wait.
-  -- Some seat made the word what it is: the sending end 0, one that left the value 1, one that fetched it 2, one that
-  -- put a value back 3
+  -- If the word is 1, the slot is in the table with a value that fits; if it is 3, with one that may wait. Some seat
+  -- has left the word as it is: the sending end 0, the one that left the value 1, the one that fetched it 2, and the
+  -- one that put a value back 3.
   pub record IsLawful (word : ℕ) (homes : List (maybe.Option (Option T))) (views : List (View K)) : Type 0 where
     pub full : word ≡ 1 → IsHome fits homes
     pub waiting : word ≡ 3 → IsHome may_wait homes

@@ -1,4 +1,4 @@
--- What each step on a cell tells its seat: of the seat before, the word found and the seat after.
+-- For each step on a cell, a relation between the seat before it, the word that was found, and the seat after it.
 use Rattle.std.specs.Prelude.{◌≡◌, ◌≢◌, ◌≤◌, ℕ, [], ◌∷◌, Option, Some, None}
 use Rattle.atomic_table.specs.Table.{Me}
 use Rattle.arachne_join.specs.declared.view.Role.{Role}
@@ -7,7 +7,7 @@ use Rattle.arachne_join.specs.declared.view.View.{View}
 use Rattle.arachne_join.specs.States.{state_of}
 use Rattle.arachne_join.specs.Views.{view}
 
--- the role of the seat that fetched, once another with this role is joined into it: both can't have fetched
+-- the role of the seat that fetched, after another seat with this role was joined into it: they can't both have fetched
 abbrev pub joined_role : Role → Role
 joined_role Fetched = Never
 joined_role role = Fetched
@@ -25,12 +25,12 @@ module _ {T K : Type 0} where
   abbrev pub HoldsValue : Me (Option T) (View K) → Type 0
   HoldsValue m = (value : T) × (m.1 ≡ (0, Some value) ∷ [])
 
-  -- one of the four states was seen, and nothing else done
+  -- the seat saw one of the four states, and did nothing else
   abbrev pub Looks : Me (Option T) (View K) → ℕ → Me (Option T) (View K) → Type 0
   Looks m found w = (found ≤ 3) × (w ≡ (view m.0.key (Saw (state_of found)), []))
 
-  -- where the word was the one expected, the seat has this role and the slot, with a value of which P holds by the
-  -- seat's key. Else it looked
+  -- If the word was the expected one, the seat has role p and the slot, with a value that fulfils P for the seat's key.
+  -- Otherwise it only looked.
   abbrev pub Takes : (K → T → Type 0) → ℕ → Role → Me (Option T) (View K) → ℕ → Me (Option T) (View K) → Type 0
   Takes P expected p m found w =
       (found ≡ expected → (value : T) × (w ≡ (view m.0.key p, (0, Some value) ∷ [])) × ((key : K) → m.0.key ≡ Some key → P key value))

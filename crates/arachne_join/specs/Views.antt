@@ -1,4 +1,4 @@
--- What clauses see of a cell, of its sending end and of a receipt, and what a seat knows.
+-- The models of a cell, of its sending end and of a receipt, and what a seat knows.
 use Rattle.std.specs.Prelude.{Option, None, List, [], ◌∷◌}
 use Rattle.atomic_table.specs.Seated.{TableId}
 use Rattle.arachne_join.specs.declared.state.CellState.TheVariants.{Empty}
@@ -6,12 +6,12 @@ use Rattle.arachne_join.specs.declared.view.Role.{Role}
 use Rattle.arachne_join.specs.declared.view.Role.TheVariants.{Saw, Never}
 use Rattle.arachne_join.specs.declared.view.View.{View}
 
--- a cell: which table it is, and what it is for
+-- a cell: the identity of its table, and the key for which it was made
 pub record Cell (K : Type 0) : Type 0 where
   pub table : TableId
   pub key : K
 
--- a receipt: which cell's table, and what was done or seen there
+-- a receipt: the cell's table, and what was done or seen there
 pub record Shown : Type 0 where
   pub table : TableId
   pub role : Role

@@ -13,13 +13,15 @@ use std::alloc::{AllocError, Global};
 use std::marker::Model;
 use std::snapshot::Snapshot;
 
-/// How many cells a block has.
+/// The number of cells of a block.
 pub(crate) const CELLS: usize = 64;
 
 /// A seat at a block.
 pub(crate) type BlockSeat<T, K> = Seat<Content<T, K>, PartView<K>>;
 
-/// Cells that share one table. Each has a word, which flips whenever a value is left in the cell, and a slot.
+/// Cells that share one table.
+///
+/// Each cell has a word, which flips whenever a value is left in the cell, and a slot.
 #[derive(Drop)]
 pub(crate) struct CellBlock<T: Fits<K>, K> {
     table: Table<Content<T, K>, PartView<K>, (), BlockRule, Global>,
@@ -36,7 +38,7 @@ impl<T: Fits<K>, K> Model for CellBlock<T, K> {
     ghost invariant = { λ b. b.table.shared.table_id.words ≡ b.table.shared.table_id.slots };
 }
 
-// The slots of a new block.
+// Returns the slots of a new block.
 fn empty_slots<T: Drop, K>(alloc: Global) -> Result<Vec<Content<T, K>>, AllocError>
     ensures { IfOk result (λ slots. slots.items ≡ replicate CELLS Empty) }
 {
@@ -48,7 +50,7 @@ fn empty_slots<T: Drop, K>(alloc: Global) -> Result<Vec<Content<T, K>>, AllocErr
 }
 
 impl<T: Fits<K> + Drop, K> CellBlock<T, K> {
-    /// A new block, and the seat that has all its cells.
+    /// Creates a block, and the seat that has all its cells.
     pub(crate) fn new(alloc: Global) -> Result<(CellBlock<T, K>, BlockSeat<T, K>), AllocError>
         ensures size { IfOk result (λ made. made.0.slots ≡ CELLS) }
         ensures seat { IfOk result (λ made. (made.1.table_id ≡ made.0) × (made.1.me ≡ (part_view Rest 0 0, []))) }
@@ -62,7 +64,7 @@ impl<T: Fits<K> + Drop, K> CellBlock<T, K> {
 }
 
 impl<T: Fits<K>, K> CellBlock<T, K> {
-    /// Gives the first cell that the seat has to a seat of its own.
+    /// Moves the first cell that the seat has to a seat of its own.
     pub(crate) fn give_first(&self, all: &mut BlockSeat<T, K>, index: usize) -> BlockSeat<T, K>
         requires own { all.old.table_id ≡ self.now }
         requires inside { index < self.now.slots }
@@ -77,7 +79,9 @@ impl<T: Fits<K>, K> CellBlock<T, K> {
         cell
     }
 
-    /// Opens an unused cell for a key. The seat becomes the sending end, and a new one the receiving end.
+    /// Opens an unused cell for a key.
+    ///
+    /// The seat becomes the sending end. Returns a new seat, the receiving end.
     pub(crate) fn open(&self, seat: &mut BlockSeat<T, K>, index: usize, key: &K) -> BlockSeat<T, K>
         requires own { seat.old.table_id ≡ self.now }
         requires inside { index < self.now.slots }
@@ -95,7 +99,7 @@ impl<T: Fits<K>, K> CellBlock<T, K> {
         shared.split_seat::<PartEnds>(seat)
     }
 
-    /// Leaves the value at the sending end's cell: lays it into the slot, and flips the word.
+    /// Leaves the value in the sending end's cell: puts it into the slot, and flips the word.
     pub(crate) fn leave(&self, seat: BlockSeat<T, K>, index: usize, full: u64, value: T)
         requires own { seat.table_id ≡ self.now }
         requires inside { index < self.now.slots }
@@ -111,8 +115,9 @@ impl<T: Fits<K>, K> CellBlock<T, K> {
         shared.store::<LeaveThere>(&mut seat, index, full);
     }
 
-    /// The value that was left at the receiving end's cell, if it is there now. Then the seat has the whole cell,
-    /// unused.
+    /// Returns the value that was left in the receiving end's cell, if it is there now.
+    ///
+    /// If so, the seat then has the whole cell, unused.
     pub(crate) fn fetch(&self, seat: &mut BlockSeat<T, K>, index: usize, full: u64) -> Option<T>
         requires own { seat.old.table_id ≡ self.now }
         requires inside { index < self.now.slots }

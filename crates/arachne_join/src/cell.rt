@@ -17,9 +17,9 @@ use atomic_table::{Seat, Table};
 use std::alloc::{AllocError, Global};
 use std::marker::Model;
 
-/// A cell for at most one fetched value. Whoever shares it, as by an `Arc`, may fetch.
+/// A cell for a value that is fetched at most once. Whoever shares the cell, for example by an `Arc`, may fetch.
 ///
-/// Contracts see which table it is, and the key that it was made for.
+/// Contracts see the identity of its table, and the key for which it was made.
 #[derive(Drop)]
 pub struct JoinCell<T: Fits<K>, K> {
     pub(crate) table: Table<Option<T>, View<K>, K, CellRule, Global>,
@@ -36,7 +36,7 @@ impl<T: Fits<K>, K> Model for JoinCell<T, K> {
     ghost invariant = { λ c. (c.table.shared.table_id.words ≡ 1) × (c.table.shared.table_id.slots ≡ 1) };
 }
 
-/// Why a call got no value: the state in which it saw the cell, and what shows that it did.
+/// The error of a call that got no value: the state in which it saw the cell, and the receipt that shows it.
 #[derive(Drop)]
 pub struct Missed<K> {
     pub state: CellState,
@@ -56,7 +56,7 @@ impl<K> Missed<K> {
 }
 
 impl<T: Fits<K>, K> JoinCell<T, K> {
-    /// An empty cell for this key, and its sending end.
+    /// Creates an empty cell for this key, and its sending end.
     pub fn new(alloc: Global, key: &K) -> Result<(JoinCell<T, K>, SendingEnd<T, K>), AllocError>
         ensures { IfOk result (λ made. (made.0.key ≡ key.now) × (made.1 ≡ made.0.table)) }
     {
@@ -65,7 +65,7 @@ impl<T: Fits<K>, K> JoinCell<T, K> {
         Ok((JoinCell { table }, SendingEnd::of(seat)))
     }
 
-    // A new seat, and the word that it found.
+    // Returns the word that a new seat found, and that seat.
     fn look(&self) -> (u64, Seat<Option<T>, View<K>>)
         ensures place { result.1.table_id ≡ self.now.table }
         ensures look { Looks (view (Some self.now.key) Maker, []) result.0 result.1.me }
@@ -73,7 +73,7 @@ impl<T: Fits<K>, K> JoinCell<T, K> {
         self.table.shared.load_new_seat::<Look>(0)
     }
 
-    // Lays the value into the slot, which is with the sending end.
+    // Puts the value into the slot, which the sending end has.
     pub(crate) fn fill(&self, seat: &mut Seat<Option<T>, View<K>>, value: T)
         requires { (seat.old.table_id ≡ self.now.table) × Sends seat.old.me }
         ensures place { (seat.new.table_id ≡ seat.old.table_id) × (seat.new.id ≡ seat.old.id) }
@@ -85,7 +85,7 @@ impl<T: Fits<K>, K> JoinCell<T, K> {
         }
     }
 
-    // Takes the value out of the slot, which is with the seat.
+    // Takes the value out of the slot, which the seat has.
     fn take_out(&self, seat: &mut Seat<Option<T>, View<K>>) -> T
         requires { (seat.old.table_id ≡ self.now.table) × HoldsValue seat.old.me }
         ensures place { (seat.new.table_id ≡ seat.old.table_id) × (seat.new.id ≡ seat.old.id) }
@@ -94,7 +94,7 @@ impl<T: Fits<K>, K> JoinCell<T, K> {
         self.table.shared.exchange(seat, 0, None).unwrap()
     }
 
-    /// The state in which the cell was at one moment of the call, and the receipt of that look. Nothing is taken.
+    /// Returns the state of the cell at one moment of the call, and the receipt of that look. Takes nothing.
     pub fn seen(&self) -> (CellState, Receipt<K>)
         ensures { result.1 ≡ shown self.now.table (Saw result.0) }
     {
@@ -102,7 +102,7 @@ impl<T: Fits<K>, K> JoinCell<T, K> {
         (CellState::of(found), Receipt::of(seat))
     }
 
-    /// The value that was left, if it is there now.
+    /// Returns the value that was left, if it is there now.
     pub fn fetch(&self) -> Result<(T, Receipt<K>), Missed<K>>
         ensures value { IfOk result (λ got. T.fits self.now.key got.0) }
         ensures fetched { IfOk result (λ got. got.1 ≡ shown self.now.table Fetched) }
@@ -122,7 +122,7 @@ impl<T: Fits<K>, K> JoinCell<T, K> {
         Ok((value, Receipt::of(seat)))
     }
 
-    /// The value that was put back, if it is there now, and the cell's sending end with it.
+    /// Returns the value that was put back, if it is there now, with the cell's sending end.
     pub fn take_back(&self) -> Result<(T, SendingEnd<T, K>), Missed<K>>
         ensures value { IfOk result (λ got. T.may_wait self.now.key got.0) }
         ensures sending_end { IfOk result (λ got. got.1 ≡ self.now.table) }
@@ -141,7 +141,8 @@ impl<T: Fits<K>, K> JoinCell<T, K> {
         Ok((value, SendingEnd::of(seat)))
     }
 
-    /// Of one cell at most one call has fetched: a receipt beside that of a fetch is of something else.
+    /// Does nothing. Its contract says that at most one call has fetched from a cell: beside the receipt of a fetch,
+    /// any other receipt of that cell is not of a fetch.
     pub fn fetched_once(&self, fetched: Receipt<K>, other: Receipt<K>)
         requires fetched { fetched ≡ shown self.now.table Fetched }
         requires other { other.table ≡ self.now.table }

@@ -10,9 +10,9 @@ use std::marker::Model;
 use std::snapshot::Snapshot;
 use std::sync::Arc;
 
-/// A cell that nobody uses. It is opened for one value at a time, and comes back where that value is fetched.
+/// A cell that nobody uses. It is opened for one value at a time, and is returned when that value is fetched.
 ///
-/// Contracts see which cell it is, and how many values have passed through it.
+/// Contracts see the identity of the cell, and how many values have passed through it.
 #[derive(Drop)]
 pub struct UnusedCell<T: Fits<K>, K> {
     block: Arc<CellBlock<T, K>>,
@@ -33,7 +33,7 @@ impl<T: Fits<K>, K> Model for UnusedCell<T, K> {
     ghost invariant = { λ c. IsPlaced (arc_value c.block) c.seat.table_id c.index c.full c.seat.me.0.passed × IsUnusedAt c.index c.seat.me.0.passed c.seat.me };
 }
 
-/// The end of an opening that leaves the value. Where it is dropped, its cell stays empty for ever.
+/// The end of an opening that leaves the value. If it is dropped, its cell stays empty for ever.
 ///
 /// Contracts see the opening: the cell, how many values had passed through it, and the key.
 #[derive(Drop)]
@@ -57,7 +57,7 @@ impl<T: Fits<K>, K> Model for Sender<T, K> {
     ghost invariant = { λ s. IsPlaced (arc_value s.block) s.seat.table_id s.index s.full s.seat.me.0.passed × IsSendingAt s.index s.seat.me.0.passed s.key.value s.seat.me };
 }
 
-/// The end of an opening that fetches the value. Where it is dropped, its cell is not used again.
+/// The end of an opening that fetches the value. If it is dropped, its cell is not used again.
 ///
 /// Contracts see the opening, as those of `Sender` do, and how many times the receiver looked and found no value.
 #[derive(Drop)]
@@ -85,7 +85,7 @@ impl<T: Fits<K>, K> Model for Receiver<T, K> {
 }
 
 impl<T: Fits<K> + Drop, K> UnusedCell<T, K> {
-    /// A cell through which no value has passed yet.
+    /// Creates a cell through which no value has passed yet.
     pub(crate) fn new(
         block: Arc<CellBlock<T, K>>,
         seat: BlockSeat<T, K>,
@@ -104,8 +104,9 @@ impl<T: Fits<K> + Drop, K> UnusedCell<T, K> {
         }
     }
 
-    /// Opens the cell for one value that fits the key. It takes no memory. Where its block can't have one more owner,
-    /// the cell comes back.
+    /// Opens the cell for one value that fits the key. Takes no memory.
+    ///
+    /// Returns the cell as an error if its block can't have one more owner.
     pub fn open(self, key: &K) -> Result<(Receiver<T, K>, Sender<T, K>), UnusedCell<T, K>>
         ensures receiver { IfOk result (λ ends. ends.0 ≡ awaited (opening self key.now)) }
         ensures sender { IfOk result (λ ends. ends.1 ≡ opening self key.now) }
@@ -140,7 +141,7 @@ impl<T: Fits<K> + Drop, K> UnusedCell<T, K> {
 }
 
 impl<T: Fits<K> + Drop, K> Sender<T, K> {
-    /// Leaves the value, which the receiver then fetches. It takes no memory and waits for nobody.
+    /// Leaves the value, which the receiver then fetches. Takes no memory and waits for nobody.
     pub fn leave(self, value: T)
         requires { T.fits self.key value }
     {
@@ -156,7 +157,9 @@ impl<T: Fits<K> + Drop, K> Sender<T, K> {
 }
 
 impl<T: Fits<K> + Drop, K> Receiver<T, K> {
-    /// The value, if it was left, and the cell to be used again. A miss is one load, which found no value.
+    /// Returns the value, if it was left, and the cell, to be used again.
+    ///
+    /// If it was not left, one load has found that, and the receiver is returned.
     pub fn fetch(self) -> Result<(T, UnusedCell<T, K>), Receiver<T, K>>
         ensures value { IfOk result (λ got. T.fits self.opening.key got.0) }
         ensures cell { IfOk result (λ got. got.1 ≡ used_once_more self.opening.cell) }

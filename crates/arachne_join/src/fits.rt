@@ -1,10 +1,10 @@
-//! What a cell's values are for.
+//! The relation between a cell's values and its key.
 
-/// A type whose values can say for which key they are. Both members are for proofs alone.
+/// A type whose values may fit a key. Both members are only for proofs.
 pub trait Fits<K> {
-    /// A value that may be left in a cell with this key: what a fetch gives.
+    /// The value may be left in a cell with this key. A fetch returns only such values.
     ghost fits: { K → Self → Type 0 };
 
-    /// A value that may be put back into a cell with this key until it is taken back: by default none.
+    /// The value may be put back into a cell with this key until it is taken back. By default none may.
     ghost may_wait: { K → Self → Type 0 } = { λ _ _. ⊥ };
 }

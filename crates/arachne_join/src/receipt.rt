@@ -1,4 +1,4 @@
-//! What shows which step a call made at which cell.
+//! The receipt of a step at a cell.
 ghost use Rattle.std.specs.Prelude.{◌≡◌, []};
 ghost use Rattle.arachne_join.specs.Views.{shown};
 
@@ -6,7 +6,9 @@ use crate::view::View;
 use atomic_table::{Badge, Seat};
 use std::marker::Model;
 
-/// Shows what a call did or saw at a cell. It has no bytes, and may be dropped.
+/// Shows what a call did or saw at a cell.
+///
+/// It has no bytes, and may be dropped.
 #[derive(Drop)]
 pub struct Receipt<K> {
     badge: Badge<View<K>>,

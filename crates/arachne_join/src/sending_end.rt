@@ -13,10 +13,9 @@ use crate::view::View;
 use atomic_table::Seat;
 use std::marker::Model;
 
-/// The one sending end of a cell, with the cell's slot. It has no bytes, and leaving a value uses it up. Where it is
-/// dropped, the cell stays empty.
+/// The one sending end of a cell, with the cell's slot. Leaving a value consumes it.
 ///
-/// Contracts see which table it belongs to.
+/// It has no bytes. If it is dropped, the cell stays empty. Contracts see the identity of its cell's table.
 #[derive(Drop)]
 pub struct SendingEnd<T, K> {
     seat: Seat<Option<T>, View<K>>,
@@ -43,7 +42,7 @@ impl<T, K> SendingEnd<T, K> {
 }
 
 impl<T: Fits<K>, K> SendingEnd<T, K> {
-    /// Leaves the value, which a fetch then gives. It takes no memory and waits for nobody.
+    /// Leaves the value, which a fetch then returns. Takes no memory and waits for nobody.
     pub fn leave(self, cell: &JoinCell<T, K>, value: T) -> Receipt<K>
         requires cell { self ≡ cell.now.table }
         requires value { T.fits cell.now.key value }
@@ -55,8 +54,9 @@ impl<T: Fits<K>, K> SendingEnd<T, K> {
         Receipt::of(seat)
     }
 
-    /// Puts a value back that is not what the cell is for yet. Whoever takes it back gets the sending end with it.
-    /// It takes no memory and waits for nobody.
+    /// Puts back a value that may only wait in the cell.
+    ///
+    /// Whoever takes it back gets the sending end with it. Takes no memory and waits for nobody.
     pub fn put_back(self, cell: &JoinCell<T, K>, waiting: T) -> Receipt<K>
         requires cell { self ≡ cell.now.table }
         requires value { T.may_wait cell.now.key waiting }

@@ -8,11 +8,11 @@ use crate::fits::Fits;
 use std::alloc::{AllocError, Global};
 use std::sync::Arc;
 
-/// How many unused cells are kept. Others are given up, so that one thread doesn't collect those that other threads
-/// make.
+/// The most unused cells that are kept. Others are dropped, so that a thread doesn't collect the cells that other
+/// threads create.
 const MOST: usize = 4 * CELLS;
 
-/// Unused cells. One thread has them, and makes a new block of them where it has none.
+/// Unused cells of one thread, which creates a new block of them if none is left.
 ///
 /// A block is freed once none of its cells is in use or kept.
 #[derive(Drop)]
@@ -21,14 +21,14 @@ pub struct SpareCells<T: Fits<K>, K> {
 }
 
 impl<T: Fits<K> + Drop, K> SpareCells<T, K> {
-    /// No cells yet. It takes no memory.
+    /// Creates an empty set of cells. Takes no memory.
     pub fn new(alloc: Global) -> SpareCells<T, K> {
         SpareCells {
             cells: Vec::new(alloc),
         }
     }
 
-    /// An unused cell. It takes memory only where none is kept, for a new block.
+    /// Returns an unused cell. Takes memory only if none is kept, for a new block.
     pub fn take(&mut self, alloc: Global) -> Result<UnusedCell<T, K>, AllocError> {
         match self.cells.pop() {
             Some(cell) => Ok(cell),
@@ -36,14 +36,14 @@ impl<T: Fits<K> + Drop, K> SpareCells<T, K> {
         }
     }
 
-    /// Keeps a cell for the next opening, unless enough are kept or there is no memory to keep it.
+    /// Keeps a cell for the next opening, unless enough are kept or memory for it is refused.
     pub fn give(&mut self, cell: UnusedCell<T, K>) {
         if self.cells.len() < MOST {
             let _ = self.cells.push(cell);
         }
     }
 
-    /// The two ends of an opening of one of the cells, for one value that fits the key.
+    /// Opens one of the cells for a value that fits the key. Returns the two ends of the opening.
     pub fn open(
         &mut self,
         alloc: Global,
@@ -61,7 +61,7 @@ impl<T: Fits<K> + Drop, K> SpareCells<T, K> {
         }
     }
 
-    // Makes a block, keeps its cells but the first, and gives that one.
+    // Creates a block, keeps all its cells but the first, and returns that one.
     fn add_block(&mut self, alloc: Global) -> Result<UnusedCell<T, K>, AllocError> {
         self.cells.reserve(CELLS - 1)?;
         let (block, mut all) = CellBlock::new(alloc)?;

@@ -10,14 +10,14 @@ pub(crate) const TAKEN: u64 = 2;
 
 pub(crate) const WAITING: u64 = 3;
 
-/// Where a cell stands.
+/// The state of a cell.
 ///
-/// | State | The slot | Goes on to |
+/// | State | The slot | Next state |
 /// |---|---|---|
 /// | `Empty` | with the sending end | `Full` by `leave`, `Waiting` by `put_back` |
 /// | `Full` | in the cell, with a value that fits | `Taken` by `fetch` |
 /// | `Waiting` | in the cell, with a value that may wait | `Empty` by `take_back` |
-/// | `Taken` | no value any more | nothing |
+/// | `Taken` | no value any more | none |
 #[derive(Clone, Copy, Debug, PartialEq, Eq)]
 pub enum CellState {
     Empty,

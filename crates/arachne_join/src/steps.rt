@@ -1,4 +1,4 @@
-//! The rule of a cell's table, and what each step tells. These types are for proofs alone.
+//! The rule of a cell's table, and what a seat knows after each step. These types are only for proofs.
 ghost use Rattle.std.specs.Prelude.{◌≡◌, ◌≢◌, Some, [], ◌∷◌};
 ghost use Rattle.arachne_join.specs.declared.view.Role.TheVariants.{Maker, Sender, Left, PutBack, Fetched, Never};
 ghost use Rattle.arachne_join.specs.Views.{view, blank};
@@ -17,7 +17,7 @@ impl<T: Fits<K>, K> TableRule<Option<T>, View<K>, K> for CellRule {
     ghost first = { λ key. view (Some key) Maker };
 }
 
-/// The first seat takes the slot, and is the sending end.
+/// The first seat takes the slot, and becomes the sending end.
 pub(crate) struct TakeSlot;
 
 impl<T, K> Play<Option<T>, View<K>> for TakeSlot {
@@ -36,7 +36,7 @@ impl<T, K> Play<Option<T>, View<K>> for PutBack {
     ghost then = { λ _ m n w. Becomes PutBack w };
 }
 
-/// A new seat looks.
+/// A new seat reads the word.
 pub(crate) struct Look;
 
 impl<T, K> Play<Option<T>, View<K>> for Look {
@@ -55,7 +55,7 @@ impl<T: Fits<K>, K> Play<Option<T>, View<K>> for TakeBack {
     ghost then = { λ _ m n w. Takes T.may_wait 3 Sender m n w };
 }
 
-/// The seat that fetched gives the empty slot back to the cell.
+/// The seat that fetched puts the empty slot back into the cell.
 pub(crate) struct ReturnSlot;
 
 impl<T, K> Play<Option<T>, View<K>> for ReturnSlot {
@@ -71,7 +71,7 @@ impl<K> Join<View<K>> for JoinFetched {
     ghost spent = { blank };
 }
 
-/// The two that became one seat had not both fetched.
+/// The two seats that were joined had not both fetched.
 pub(crate) struct FetchedAlone;
 
 impl<T, K> Play<Option<T>, View<K>> for FetchedAlone {

@@ -1,4 +1,4 @@
--- How the accounts of an evaluation grow.
+-- The growth of the accounts of an evaluation.
 use Rattle.std.proofs.Common.{◌≡◌, ℕ, zero, suc, ◌+◌, ◌^◌, ◌<◌, ◌≤◌, List, [], ◌∷◌, ◌++◌, length, get_or, take, drop, Vec, Global, Bool, true, false, refl, ap, sym, ◌∙◌, subst, arith, append_assoc, append-nil, length-append, add-one, inl, inr}
 use Rattle.std.specs.Prelude.{◌==◌}
 use Rattle.std.specs.Cmp.{unsigned_Decides}
@@ -148,7 +148,7 @@ HasDone-held lock own own₁ sums lines same_name same_forks gains = record {
   come = sym (append-nil lines);
 }
 
--- A thread forks another, does something during its life, and the other has ended.
+-- A thread forks a child, has effects of its own while that runs, and the child has ended.
 pub HasDone-forked : (locks : ℕ) (task : Child) (child during : Effects) (own : Own) (sums : List ℕ) (lines : List Line) (own₁ : Own) (sums₁ : List ℕ) (lines₁ : List Line)
     (sums₂ : List ℕ) (lines₂ : List Line)
     → HasDone during (record own { forks = own.forks + 1 }) sums lines own₁ sums₁ lines₁

@@ -7,9 +7,9 @@ use Rattle.arachne_lang.specs.declared.reading.stop.Stop.{Stop}
 use Rattle.arachne_lang.specs.declared.reading.stop.Stop.TheVariants as stop
 use Rattle.arachne_lang.specs.Reading.{Fails, Halt, Departs, Overflows, Reading, ◌>>=◌, word_at, digits_at, figures_at, items_within, items_at, arrays_within, arrays_at}
 
--- ---- how much is left
+-- ---- the bytes that are left
 
--- no more than so many bytes are left behind what was read
+-- at most this many bytes are left behind the value that was read
 abbrev pub Leaves : {A : Type 0} → ℕ → Reading A → Type 0
 Leaves n (Ok x) = length x.1 ≤ n
 Leaves n (Err h) = Unit {0}
@@ -126,7 +126,7 @@ same_line_then turns others n arrays (Ok rest) left each =
     (items_leave [] rest) (λ x le. each (arrays ++ x.0 ∷ []) x.1 (omega (arith, le, left rest refl)))
 same_line_then turns others n arrays (Err h) left each = refl
 
--- behind the word of a line are fewer bytes
+-- fewer bytes are left behind the word of a line
 line_leaves : (byte : ℕ) (bytes rest : List ℕ) → word_at (codes "array") (byte ∷ bytes) ≡ Ok rest → length rest ≤ length bytes
 line_leaves byte bytes rest e = omega (arith, word_leaves (codes "array") (byte ∷ bytes) rest e)
 
@@ -176,7 +176,7 @@ line_shorter bytes behind items rest e f =
 
 -- ---- the code's exits
 
--- what stops a first part stops all
+-- a stop in the first part stops the whole
 pub fails_then : {A B : Type 0} (why : Stop) (r : Result A Halt) (f : A → Result B Halt) → Fails why r → Fails why (r >>= f)
 fails_then stop.Memory r f e = tt
 fails_then (stop.Departs rest) r f e = rw e refl

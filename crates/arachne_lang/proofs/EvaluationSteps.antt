@@ -1,4 +1,4 @@
--- How what the parts of an expression do adds up to what the expression does.
+-- The effects of an expression are the sum of the effects of its parts.
 use Rattle.std.proofs.Common.{◌≡◌, ℕ, zero, suc, ◌+◌, ◌-◌, ◌*◌, ◌/◌, ◌^◌, ◌<◌, ◌≤◌, List, [], ◌∷◌, ◌++◌, length, Bool, true, false, refl, ap, sym, ◌∙◌, subst, arith, append_assoc, length-append, add-one, max, take}
 use Rattle.std.specs.Prelude.{◌==◌, if◌then◌else◌, nat_le}
 use Rattle.std.proofs.Math.ListN.{set, replicate}
@@ -140,7 +140,7 @@ module _ (program : Source) where
             last'.effects;
       }
 
-  -- no turns yet
+  -- no iterations yet
   pub IsFolded-none : (body : Tree) (env : Environment) (from first : ℕ) (own : Own) (shared shared' : Shared)
       → shared'.sums.items ≡ shared.sums.items → shared'.lines.items ≡ shared.lines.items
       → IsFolded program body env from first 0 own shared first own shared'
@@ -149,7 +149,7 @@ module _ (program : Source) where
     effects = rw (same_sums, same_lines) (HasDone-nothing own shared.sums.items shared.lines.items);
   }
 
-  -- a turn more
+  -- one iteration more
   pub IsFolded-turn : (body : Tree) (env : Environment) (from first n : ℕ) (own : Own) (shared : Shared) (own₁ : Own) (shared₁ shared₂ : Shared) (own₃ : Own) (shared₃ : Shared) (so_far x : ℕ)
       → IsFolded program body env from first n own shared so_far own₁ shared₁
       → shared₂.environment.items ≡ with_newest (with_newest env (from + n)) so_far
@@ -223,7 +223,7 @@ module _ (program : Source) where
             own₃ shared₃.sums.items shared₃.lines.items before.effects last;
       })
 
-  -- a range that is no longer than the grain
+  -- a range that is no longer than the grain is reduced in its thread
   halved-short : (r : Reduction) (grain : ℕ) (body : Tree) (env : Environment) (fuel first n : ℕ) → n ≤ max 1 grain
       → reduced_effects program body env first n ≡ halved_effects program r grain body env fuel first n
   halved-short r grain body env zero first n short = refl
@@ -267,7 +267,7 @@ module _ (program : Source) where
       subst (λ (e : Effects). HasDone e own shared.sums.items shared.lines.items own₁ shared₂.sums.items shared₂.lines.items)
       (sym (halved-long r grain body env fuel first n long)) done
 
-  -- A longer one forks its left half, and its right half is reduced during the child's life.
+  -- A longer range forks its left half, and reduces its right half while that child runs.
   pub IsHalved-long : (r : Reduction) (grain : ℕ) (body : Tree) (first n : ℕ) (own : Own) (shared : Shared) (own₁ : Own) (shared₁ : Shared) (shared₂ : Shared) (x y : ℕ)
       → max 1 grain < n → x < 2 ^ 64
       → IsHalved program r grain body shared.environment.items (first + n / 2) (n - n / 2) (record own { forks = own.forks + 1 }) shared y own₁ shared₁
@@ -374,7 +374,7 @@ split-right body n forks lines (suc d) long levels enough room =
 pub MaySplit-right : (body : Tree) (n forks : ℕ) (lines : List Line) → 1 < n → MaySplit body n forks lines → MaySplit body (n - n / 2) (forks + 1) lines
 MaySplit-right body n forks lines long split = split-right body n forks lines split.halvings long split.levels split.enough split.room
 
--- the newest variables are put anew
+-- the newest variables are overwritten
 pub newest-set : (env xs : List ℕ) (x a : ℕ) → xs ≡ with_newest env x → set xs (length env) a ≡ with_newest env a
 newest-set env xs x a is = rw is (set-append_seam env x [] a)
 
@@ -394,7 +394,7 @@ newest-cut env x = take-append_seam env (x ∷ [])
 pub two_newest-cut : (env : List ℕ) (x y : ℕ) → take (length env) (with_newest (with_newest env x) y) ≡ env
 two_newest-cut env x y = ap (take (length env)) (append_assoc env (x ∷ []) (y ∷ [])) ∙ take-append_seam env (x ∷ y ∷ [])
 
--- The root's thread begins with nothing.
+-- The account of the root's thread is empty at the beginning.
 pub IsRun-meaning : (program : Source) (shared : Shared) (shared₁ : Shared) (x : ℕ)
     → shared.environment.items ≡ []
     → shared.sums.items ≡ replicate program.ledgers 0

@@ -18,7 +18,7 @@ use Rattle.arachne_lang.proofs.ExactForms.{Exactly, contents, contents_at, exact
 
 -- ---- a form
 
--- how each is read behind its word
+-- the reading of each form behind its word
 form_is : (h : Head) (tree_at : List ℕ → Reading Tree) (bytes : List ℕ) → contents_at (kind_of h) (made h) tree_at bytes ≡ behind_word_at tree_at h bytes
 unfolding behind_word_at
 form_is head.Num tree_at bytes = refl
@@ -39,7 +39,7 @@ unfoldable forms : Language Tree
 unfolding expression
 forms = after (codes "(") expression (Number 0) (codes "num 0)") (lit< tt, refl)
 
--- a word, and what goes with it
+-- a word, and the contents that go with it
 abbrev Spelled : Language Tree
 Spelled = sequence heads (λ h. contents (kind_of h) (made h))
 

@@ -1,4 +1,4 @@
--- What stands behind the word of a form is read exactly.
+-- The rest of a form behind its word is read exactly.
 use Rattle.std.proofs.Common.{◌≡◌, ℕ, zero, suc, ◌^◌, ◌<◌, List, [], ◌++◌, Some, Ok, refl, sym, ap, subst, ◌∙◌, append_assoc, lit<}
 use Rattle.std.specs.Prelude.{codes}
 use Rattle.std.proofs.lemmas.List.{append-nil}
@@ -12,7 +12,7 @@ use Rattle.arachne_lang.proofs.ExactNumber.{number_before, exact_number}
 use Rattle.arachne_lang.proofs.Forms.{Values, Each, joined, Kind, Numeral, Parts, Both, Contents, contents_text, Fit}
 use Rattle.arachne_lang.proofs.ExpressionTexts.{expression, spelling-unique}
 
--- An expression is read so, with these levels left.
+-- An expression is read exactly with this many levels left.
 abbrev pub Exactly : ℕ → (List ℕ → Reading Tree) → Type 0
 Exactly levels tree_at = (bytes : List ℕ) → Exact expression levels levels bytes (tree_at bytes)
 
@@ -66,7 +66,7 @@ exact_before levels behind end same tree_at tree bytes =
     from_range : (tree : Tree) (t : List ℕ) → (expression_before end).range tree t → (sequence expression (λ a. behind_word end (nothing_more a))).range tree t
     from_range tree t h = record { value = tree; front = spelling tree; back = end; front_text = (h.0, refl); back_text = ([], (refl, refl), sym (append-nil end)); split = h.1 }
 
--- ---- so many expressions more than one
+-- ---- k + 1 expressions
 
 unfoldable pub parts : (k : ℕ) → (Values k → Tree) → Language Tree
 parts zero made = sequence (expression_before (codes ")")) (λ a. nothing_more (made a))
@@ -87,7 +87,7 @@ exact_parts (suc k) made levels tree_at tree bytes =
     (λ a. parts_at k (λ v. made (a.0, v)) tree_at a.1) (exact_before levels levels (codes " ") refl tree_at tree bytes)
     (λ a. exact_parts k (λ v. made (a.0, v)) levels tree_at tree a.1)
 
--- what a text of them shows
+-- the values of a text of k + 1 expressions
 record Shown (k : ℕ) (made : Values k → Tree) (tree : Tree) (t : List ℕ) : Type 0 where
   values : Values k
   is : tree ≡ made values
@@ -121,7 +121,7 @@ shape_of_shown (suc k) made tree values is =
       split = sym (append_assoc (spelling values.0) (codes " ") (joined k values.1));
     }
 
--- and in range
+-- their numbers are in range
 record InRange (k : ℕ) (made : Values k → Tree) (tree : Tree) (t : List ℕ) : Type 0 where
   values : Values k
   fit : Each NumbersFit k values
@@ -155,7 +155,7 @@ range_of_shown (suc k) made tree values fit is =
       split = sym (append_assoc (spelling values.0) (codes " ") (joined k values.1));
     }
 
--- ---- what stands behind the word of a form
+-- ---- the rest of a form behind its word
 
 unfoldable pub contents : (k : Kind) → (Contents k → Tree) → Language Tree
 unfolding parts
@@ -183,7 +183,7 @@ exact_contents (Both k) made levels tree_at tree bytes =
     (exact_number (2 ^ 64) 32 any_digit (lit< tt) space_is_no_digit levels levels refl bytes)
     (λ n. exact_parts k (λ v. made (n.0, v)) levels tree_at tree n.1)
 
--- what a text of it shows
+-- the contents of a text of such a rest
 pub record ShownBy (k : Kind) (made : Contents k → Tree) (tree : Tree) (t : List ℕ) : Type 0 where
   pub values : Contents k
   pub is : tree ≡ made values
@@ -213,7 +213,7 @@ contents_of_shown (Both k) made tree values is =
       split = sym (append_assoc (numeral values.0) (codes " ") (joined k values.1));
     }
 
--- and in range
+-- its numbers are in range
 pub record RangedBy (k : Kind) (made : Contents k → Tree) (tree : Tree) (t : List ℕ) : Type 0 where
   pub values : Contents k
   pub fit : Fit k values

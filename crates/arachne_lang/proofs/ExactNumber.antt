@@ -35,7 +35,7 @@ level_behind_digit n byte digit =
 abbrev pub Ends : {A : Type 0} → Language A → Type 0
 Ends {A} L = (a : A) (s : List ℕ) → L.shape a s → (end : ℕ) × (more : List ℕ) × (s ≡ end ∷ more) × NoDigit end
 
--- a number, and behind it a text of the language that goes with it
+-- a number, and behind it a text of the language that belongs to the number
 pub record Numbered {A : Type 0} (Q : ℕ → A → List ℕ → Type 0) (IsOne : ℕ → Type 0) (a : A) (t : List ℕ) : Type 0 where
   pub value : ℕ
   pub is_one : IsOne value
@@ -64,7 +64,7 @@ behind_digits n v s t end rest is none e =
     let behind = digits_before (numeral v) (numeral n) rest t end (numeral-AreDigits v) (numeral-AreDigits n) none (ap (λ (u : List ℕ). numeral v ++ u) (sym is) ∙ sym e) in
     record { more = behind.0; digits = behind.1; number = behind.2; text = behind.3 ∙ ap (λ (u : List ℕ). behind.0 ++ u) (sym is) }
 
--- where what is behind begins with no digit, the number is the same
+-- if the rest begins with no digit, the number is the same
 same_number : (n v : ℕ) (s t y : List ℕ) → Behind n v s t → ((digit : ℕ) → first (t ++ y) ≡ Some digit → NoDigit digit) → (v ≡ n) × (t ≡ s)
 same_number n v s t y behind none = by_digits behind.more behind.digits behind.number behind.text
   where
@@ -99,7 +99,7 @@ numeral-apart m n end other x y none no_other e =
     at_first : (digit : ℕ) → Some other ≡ Some digit → NoDigit digit
     at_first digit is = let same : other ≡ digit = cc in subst NoDigit same no_other
 
--- a number below a limit in its range, and what goes with it
+-- a number below a limit, in its range, and the text that belongs to it
 unfoldable pub numbered : {A : Type 0} (limit : ℕ) → 0 < limit → (K : ℕ → Language A) → ((n : ℕ) → Ends (K n)) → Language A
 numbered limit pos K ends = record {
   shape = Shaped K;
@@ -109,7 +109,7 @@ numbered limit pos K ends = record {
   unique = shaped-unique K ends;
 }
 
--- what may stand behind the digits of a number
+-- the texts that may follow the digits of a number
 unfoldable More : {A : Type 0} (limit : ℕ) (pos : 0 < limit) (K : ℕ → Language A) (ends : (n : ℕ) → Ends (K n)) (n : ℕ) → n < limit → Language A
 unfolding numbered
 More limit pos K ends n fits =
@@ -156,7 +156,7 @@ one_digit_more limit pos K ends n digit m fits more_fits positive is_one e l k b
     (λ a t h. subst (λ (u : List ℕ). Ranged limit K a u) (sym (joined n digit m t positive is_one e)) h))
     r exact
 
--- where no digit stands, the number ends
+-- if the next byte is no digit, the number ends
 number_ends : {A : Type 0} (limit : ℕ) (pos : 0 < limit) (K : ℕ → Language A) (ends : (n : ℕ) → Ends (K n)) (n : ℕ) (fits : n < limit) (l k : ℕ) (bytes : List ℕ)
     → ((byte : ℕ) → first bytes ≡ Some byte → NoDigit byte) → (r : Result (A × List ℕ) Halt) → Exact (K n) l k bytes r → Exact (More limit pos K ends n fits) l k bytes r
 unfolding More after numbered shaped_of
@@ -218,7 +218,7 @@ overflow {A} limit pos K ends n digit fits positive is_one over l bytes = record
         let u : v ≡ worth (n * 10 + (digit - 48)) more = w ∙ ap (λ (q : ℕ). worth q (one ∷ more)) (worth-numeral n) ∙ ap (λ (d : ℕ). worth (n * 10 + (d - 48)) more) same in
         omega (arith, over, u, worth-grows (n * 10 + (digit - 48)) more)
 
--- how what goes with a number is read, where no more than so many bytes are left
+-- The text that belongs to a number is read exactly, if at most `most` bytes are left.
 abbrev pub Reads : {A : Type 0} → (ℕ → Language A) → ℕ → ℕ → ℕ → (ℕ × List ℕ → Result (A × List ℕ) Halt) → Type 0
 Reads K l k most f = (n : ℕ) (rest : List ℕ) → length rest ≤ most → Exact (K n) l k rest (f (n, rest))
 

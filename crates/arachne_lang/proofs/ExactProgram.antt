@@ -60,7 +60,7 @@ exact_lines arrays bytes =
     (λ root. exact_word (nothing_more (source arrays ledgers.0 locks.0 root.0)) 64 64 64 (10 ∷ []) root.1 (λ rest. Ok (source arrays ledgers.0 locks.0 root.0, rest)) refl
     (λ rest. exact_nothing_more (source arrays ledgers.0 locks.0 root.0) 64 rest))))))
 
--- what a text of them shows
+-- the program that a text of these lines spells
 record OfLines (arrays : List (List ℕ)) (s : Source) (t : List ℕ) : Type 0 where
   arrays_are : s.arrays ≡ arrays
   text : t ≡ lines_text s.ledgers s.locks s.root
@@ -177,7 +177,7 @@ arrays_text-more : (array : List ℕ) (arrays : List (List ℕ)) (x : List ℕ) 
 arrays_text-more array arrays x =
     append_assoc (line (codes "array") array) (arrays_text arrays) x ∙ append_assoc (codes "array") (items_text array) (arrays_text arrays ++ x)
 
--- what stands behind the array lines begins with another letter
+-- the line behind the array lines begins with another letter
 differ : ◌≡◌ {A = Option ℕ} (Some 108) (Some 97) → ⊥
 differ e = let same : ◌≡◌ {A = ℕ} 108 97 = cc in absurd (omega (arith, same))
 
@@ -197,7 +197,7 @@ arrays-unique (one ∷ some) (other ∷ others) m k n j a b x y e =
 abbrev pub ArraysInRange : List (List ℕ) → Type 0
 ArraysInRange arrays = AllByRecursion InRange arrays
 
--- the lines, where these arrays stand before
+-- the lines of a program whose arrays begin with those that were read before
 abbrev ProgramShape : List (List ℕ) → Source → List ℕ → Type 0
 ProgramShape before s t = (more : List (List ℕ)) × (s.arrays ≡ before ++ more) × (t ≡ arrays_text more ++ lines_text s.ledgers s.locks s.root)
 
@@ -366,7 +366,7 @@ one_array before bytes r exact =
     only_range s t y [] is arrays ledgers locks root e at = absurd (differ (sym (ap (λ (u : List ℕ). first (u ++ y)) e) ∙ at))
     only_range s t y (array ∷ more) is arrays ledgers locks root e at = of_array_range before s t array more is arrays ledgers locks root e
 
--- the word as a value and what is behind it
+-- reading the word, with the bytes behind it as the rest
 abbrev worded : Result (List ℕ) Halt → Reading ℕ
 worded r = r >>= λ rest. Ok (0, rest)
 

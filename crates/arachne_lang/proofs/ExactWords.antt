@@ -1,4 +1,4 @@
--- Words that are told apart by their letters are read exactly.
+-- Words that their letters distinguish are read exactly.
 use Rattle.std.proofs.Common.{◌≡◌, ℕ, zero, suc, List, [], ◌∷◌, ◌++◌, Option, Some, None, refl, sym, ap, subst, ◌∙◌, append_assoc, inl, inr}
 use Rattle.std.specs.Prelude.{◌==◌, ◌&&◌, if◌then◌else◌, Bool, true, false, ◌⊎◌}
 use Rattle.std.proofs.lemmas.Bool.{eqb-true, eqb-false, and_parts}
@@ -6,14 +6,14 @@ use Rattle.std.proofs.lemmas.List.{append_cancel_left, append-nil}
 use Rattle.arachne_lang.specs.Reading.{Words, End, Behind, Letter, words_at}
 use Rattle.arachne_lang.proofs.Languages.{level_behind, levels_behind, Language, first, Exact, Residual, Exact-residual, Exact-among, byte_residual, same_residual, behind_word, exact_word}
 
--- ---- what the words spell
+-- ---- the spelling of the words
 
 abbrev pub spells : {A : Type 0} → Words A → A → List ℕ → Type 0
 spells (End value) a t = (a ≡ value) × (t ≡ [])
 spells (Behind letters words) a t = (s : List ℕ) × spells words a s × (t ≡ letters ++ s)
 spells (Letter letter words others) a t = ((s : List ℕ) × spells words a s × (t ≡ letter ∷ s)) ⊎ spells others a t
 
--- ---- words that are told apart
+-- ---- words that differ by their letters
 
 -- no bracket
 abbrev pub is_letter : ℕ → Bool
@@ -66,7 +66,7 @@ levels_of_letters n (byte ∷ bytes) e =
     let both = and_parts (is_letter byte) (are_letters bytes) e in
     rw (level_of_letter n byte both.0) (levels_of_letters n bytes both.1)
 
--- what is known of words with a letter and others
+-- the facts about words that go on with a letter, and others that don't
 record Told {A : Type 0} (letter : ℕ) (words others : Words A) : Type 0 where
   is_one : is_letter letter ≡ true
   apart : avoids letter others ≡ true

@@ -4,7 +4,7 @@ use Rattle.std.proofs.Math.Seq.{take-length}
 use Rattle.arachne_lang.specs.Tree.{Tree}
 use Rattle.arachne_lang.specs.Reading.{TooDeep, Reading, opened, form_at, expression_at}
 
--- how what stands behind the opening bracket is read
+-- the reading of the text behind the opening bracket
 abbrev pub inner_at : ℕ → List ℕ → Reading Tree
 inner_at zero = λ bytes. Err (TooDeep (40 ∷ bytes))
 inner_at (suc levels) = form_at (expression_at levels)

@@ -19,7 +19,7 @@ same_number end none m n x y e =
     ((number_before 1 end (lit< tt) none).unique m n (numeral m ++ end ∷ []) (numeral n ++ end ∷ []) x y refl refl
     (append_assoc (numeral m) (end ∷ []) x ∙ e ∙ sym (append_assoc (numeral n) (end ∷ []) y))).0
 
--- No other expression is at the front of a text that this one is at the front of.
+-- A text that begins with this expression begins with no other.
 abbrev Alone : Tree → Type 0
 Alone a = (b : Tree) (x y : List ℕ) → spelling a ++ x ≡ spelling b ++ y → a ≡ b
 

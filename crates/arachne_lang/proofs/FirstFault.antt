@@ -1,4 +1,4 @@
--- What stops the reading of a text is its first fault.
+-- The fault at which reading stops is the first fault of the text.
 use Rattle.std.proofs.Common.{◌≡◌, ℕ, zero, suc, ◌+◌, ◌-◌, ◌<◌, ◌≤◌, List, [], ◌∷◌, ◌++◌, length, take, drop, Some, None, Result, Ok, Err, refl, sym, ap, subst, ◌∙◌, append_assoc, arith, inl, inr, length-append}
 use Rattle.std.specs.Prelude.{◌⊎◌, ◌==◌, if◌then◌else◌, Bool, true, false, slice_index, MatchResult, IsErrAnd}
 use Rattle.std.proofs.Math.Seq.{take-append_seam, take-append-add, get_or-append_seam}
@@ -20,7 +20,7 @@ use Rattle.arachne_lang.proofs.ExactProgram.{texts, exact_text, text_of-unique, 
 
 -- ---- fronts of texts
 
--- what begins a text of the shape, or in range
+-- a front of a text of the shape, or of one in range
 begins : (front : List ℕ) → Alive (λ s t. t ≡ text_of s) front → Begins front
 begins front alive = (alive.value, alive.more, sym alive.text)
 
@@ -53,7 +53,7 @@ first_of_take rest more zero pos le = absurd (omega arith)
 first_of_take [] more (suc k) pos le = absurd (omega arith)
 first_of_take (byte ∷ rest) more (suc k) pos le = refl
 
--- No text of the shape goes on from here as the input does.
+-- No text of the shape goes on from here with the next byte of the input.
 pub record Ends (front rest : List ℕ) : Type 0 where
   pub left : ℕ
   pub levels : levels_behind 64 front ≡ Some left
@@ -74,7 +74,7 @@ longest front rest ends longer le begun =
           (first_of_take rest begun.1 (longer - length front) (omega arith) (omega (arith, le, length-append front rest))) text)
     ]
 
--- ---- what the other faults would need
+-- ---- the other faults are excluded
 
 -- no bracket in a front is too deep
 no_deep_bracket : (front rest : List ℕ) (left at : ℕ) → levels_behind 64 front ≡ Some left → at < length front → at < length (front ++ rest)
@@ -215,9 +215,9 @@ header_fault bytes no_header = record { has = (refl, no_header); first = rest }
     rest (fault.Number b) h = absurd (no_header h.0)
     rest (fault.Nesting b) h = absurd (no_header h.0)
 
--- ---- what reading gives
+-- ---- the result of reading
 
--- the fault where reading stops within a text
+-- the fault at which reading stops within a text
 abbrev pub fault_at : List ℕ → Halt → TextFault
 fault_at bytes (Departs rest) = fault.Syntax (length bytes - length rest)
 fault_at bytes (Overflows rest) = fault.Number (length bytes - length rest)
@@ -326,7 +326,7 @@ judged_each bytes = by (word_at header bytes) refl
     by (Ok rest) e = within (program_at rest) (judged bytes rest e)
     by (Err h) e = inr (fault.Header 0, judged_header bytes h e)
 
--- ---- what a reader may answer
+-- ---- the results that a reader may give
 
 abbrev pub Said : List ℕ → Result Program TextFault → Type 0
 Said bytes (Ok p) = IsAccepted (source_of p) × (text_of (source_of p) ≡ bytes)
@@ -355,7 +355,7 @@ said_every_text bytes (Err f) said source accepted text =
       | inr first ↦ absurd (accepted_has_no_fault bytes source accepted text f first.has)
     ]
 
--- how the code comes by what it says
+-- the steps by which the code gets its result
 pub said_header : (bytes : List ℕ) (why : Stop) → (why ≡ stop.Memory → ⊥) → Fails why (word_at header bytes) → Said bytes (Err (fault.Header 0))
 said_header bytes stop.Memory no_memory e = absurd (no_memory refl)
 said_header bytes (stop.Departs rest) no_memory e = inr (judged_header bytes (Departs rest.now) e)
@@ -377,7 +377,7 @@ said_stop bytes rest (stop.TooDeep left) at e = inr (said_halt bytes rest (TooDe
 pub said_fault : (bytes rest : List ℕ) (why : Stop) (f : TextFault) → word_at header bytes ≡ Ok rest → Fails why (program_at rest) → f ≡ fault_within bytes why → Said bytes (Err f)
 said_fault bytes rest why f at e is = subst (λ (g : TextFault). Said bytes (Err g)) (sym is) (said_stop bytes rest why at e)
 
--- two first faults are one
+-- a text has one first fault
 one_first_fault : (bytes : List ℕ) (f g : TextFault) → IsFirstFault bytes f → IsFirstFault bytes g → f ≡ g
 one_first_fault bytes f g one other =
     elim (one.first g other.has) [

@@ -8,7 +8,7 @@ use Rattle.arachne_lang.specs.Tree.{Tree, Number, Variable, Length, Item, Binary
 use Rattle.arachne_lang.specs.Spelling.{numeral, spelling, operation_word, class_word, reduction_word, after_spaces}
 use Rattle.arachne_lang.specs.Text.{NumbersFit, nesting}
 
--- ---- so many trees more than one
+-- ---- k + 1 trees
 
 abbrev pub Values : ℕ → Type 0
 Values zero = Tree
@@ -27,7 +27,7 @@ abbrev pub deepest : (k : ℕ) → Values k → ℕ
 deepest zero v = nesting v
 deepest (suc k) v = max (nesting v.0) (deepest k v.1)
 
--- ---- what stands behind the word of a form: a number, so many parts more than one, or both
+-- ---- the contents of a form behind its word: a number, k + 1 parts, or both
 
 pub data Kind : Type 0 where
   Numeral : Kind
@@ -125,7 +125,7 @@ formed (Fork class child during after) = record { form = head.Fork class; conten
 formed (Fold from to first body) = record { form = head.Fold; contents = (from, (to, (first, body))); is = refl }
 formed (Sweep reduction grain from to body) = record { form = head.Sweep reduction; contents = (grain, (from, (to, body))); is = refl }
 
--- what holds of each form where it holds of its parts
+-- a property of all trees, if each form has it whose parts have it
 pub by_forms : (P : Tree → Type 0) → ((h : Head) (c : Contents (kind_of h)) → EachPart P (kind_of h) c → P (made h c)) → (tree : Tree) → P tree
 by_forms P step (Number n) = step head.Num n tt
 by_forms P step (Variable n) = step head.Var n tt

@@ -1,4 +1,4 @@
--- Languages of texts, and what it is to read one exactly.
+-- Languages of texts, and exact reading of a language.
 use Rattle.std.proofs.Common.{◌≡◌, ℕ, zero, suc, List, [], ◌∷◌, ◌++◌, Option, Some, None, Result, Ok, Err, refl, sym, ap, subst, ◌∙◌, append_assoc}
 use Rattle.std.specs.Prelude.{◌==◌, if◌then◌else◌, Bool, true, false}
 use Rattle.std.proofs.lemmas.Bool.{eqb-true, eqb-false}
@@ -7,7 +7,7 @@ use Rattle.arachne_lang.specs.Reading.{Halt, Departs, Overflows, TooDeep, ◌>>=
 
 -- ---- levels
 
--- how many levels are left behind a byte, of so many before it
+-- the number of levels that are left behind a byte, of n before it
 abbrev pub level_behind : ℕ → ℕ → Option ℕ
 level_behind n byte = if byte == 40 then (elim n [ zero ↦ None | suc m ↦ Some m ]) else if byte == 41 then Some (suc n) else Some n
 
@@ -15,7 +15,7 @@ abbrev pub levels_then : Option ℕ → (ℕ → Option ℕ) → Option ℕ
 levels_then None f = None
 levels_then (Some n) f = f n
 
--- how many levels are left behind the bytes, if no bracket is too deep
+-- the number of levels that are left behind the bytes, if no bracket is too deep
 abbrev pub levels_behind : ℕ → List ℕ → Option ℕ
 levels_behind n [] = Some n
 levels_behind n (byte ∷ bytes) = levels_then (level_behind n byte) (λ m. levels_behind m bytes)
@@ -35,8 +35,8 @@ levels_between (Some j) f m e = (j, refl, e)
 
 -- ---- languages
 
--- Values, and the texts that spell them: those of the shape, and among them those whose numbers are in range. No text
--- of the shape begins another.
+-- A language: values, and the texts that spell them. The texts of `shape` have numbers of any size; `range` has those
+-- whose numbers are in range. No text of the shape begins another.
 pub record Language (A : Type 0) : Type 1 where
   pub shape : A → List ℕ → Type 0
   pub range : A → List ℕ → Type 0
@@ -54,8 +54,8 @@ abbrev pub first : List ℕ → Option ℕ
 first [] = None
 first (byte ∷ bytes) = Some byte
 
--- No text lies at the front of these bytes and the next, or goes on from there, if it is to agree with the next byte or
--- the end.
+-- No text of P is a prefix of bytes that begin with `front` and go on with the first byte of `rest`, or end there if
+-- `rest` is empty.
 abbrev pub Dead : {A : Type 0} → (A → List ℕ → Type 0) → List ℕ → List ℕ → Type 0
 Dead {A} P front rest = (a : A) (x t y : List ℕ) → first x ≡ first rest → P a t → front ++ x ≡ t ++ y → ⊥
 
@@ -93,7 +93,7 @@ Halts L n bytes (Departs rest) = Departure L n bytes rest
 Halts L n bytes (Overflows rest) = Overflow L n bytes rest
 Halts L n bytes (TooDeep rest) = Deepening L n bytes rest
 
--- With n levels left, this is what reading a text of the language gives, and m levels are left behind it.
+-- Reading a text of the language with n levels left gives this result, with m levels left behind it.
 abbrev pub Exact : {A : Type 0} → Language A → ℕ → ℕ → List ℕ → Result (A × List ℕ) Halt → Type 0
 Exact L n m bytes (Ok x) = (t : List ℕ) × L.range x.0 t × (bytes ≡ t ++ x.1) × (levels_behind n t ≡ Some m)
 Exact L n m bytes (Err h) = Halts L n bytes h
@@ -152,7 +152,7 @@ Halts-lift L M n m before bytes levels shape range (TooDeep rest) h = record {
   alive = rw append_assoc (Alive-lift before L.range M.range (h.front ++ 40 ∷ []) range h.alive);
 }
 
--- What the second language has is what the first has, behind some bytes.
+-- The texts of the second language that begin with these bytes are those bytes and a text of the first behind them.
 pub record Residual {A : Type 0} (before : List ℕ) (P Q : A → List ℕ → Type 0) : Type 0 where
   pub to : (a : A) (t : List ℕ) → P a t → Q a (before ++ t)
   pub only : (a : A) (t z y : List ℕ) → Q a t → before ++ z ≡ t ++ y → (s : List ℕ) × P a s × (t ≡ before ++ s)
@@ -172,7 +172,7 @@ Exact-residual L M n m k before bytes levels shape range (Ok x) h =
 Exact-residual L M n m k before bytes levels shape range (Err h) halts =
     Halts-lift L M n m before bytes levels (Residual-lifts before L.shape M.shape shape) (Residual-lifts before L.range M.range range) h halts
 
--- one byte more, where no text is empty
+-- the second has one byte more, if none of its texts is empty
 pub byte_residual : {A : Type 0} (byte : ℕ) (P Q : A → List ℕ → Type 0) → ((a : A) → Q a [] → ⊥)
     → ((a : A) (t : List ℕ) → P a t → Q a (byte ∷ t)) → ((a : A) (t : List ℕ) → Q a (byte ∷ t) → P a t) → Residual (byte ∷ []) P Q
 byte_residual {A} byte P Q not_empty to from = record { to = to; only = behind }
@@ -245,7 +245,7 @@ first_range L K = record {
   only = λ b t z y q e. (q.value, q.front, q.back ++ y, q.front_text, e ∙ ap (λ (u : List ℕ). u ++ y) q.split ∙ append_assoc q.front q.back y);
 }
 
--- the second part lies behind the first that was read
+-- the second part lies behind the first, which was read
 second_shape : {A B : Type 0} (L : Language A) (K : A → Language B) (a : A) (before : List ℕ) → L.range a before → Lifts before (K a).shape (sequence L K).shape
 unfolding sequence
 second_shape {A} L K a before read = record {
@@ -288,7 +288,7 @@ exact_second L K n m k a before bytes read levels (Ok x) h = (
 exact_second L K n m k a before bytes read levels (Err h) halts =
     Halts-lift (K a) (sequence L K) n m before bytes levels (second_shape L K a before read) (second_range L K a before read) h halts
 
--- the second is read exactly behind what was read
+-- the second is read exactly behind the first
 pub exact_sequence_on : {A B : Type 0} (L : Language A) (K : A → Language B) (n m k : ℕ) (bytes : List ℕ) (r : Result (A × List ℕ) Halt) (f : A × List ℕ → Result (B × List ℕ) Halt)
     → Exact L n m bytes r → ((x : A × List ℕ) → r ≡ Ok x → Exact (K x.0) m k x.1 (f x)) → Exact (sequence L K) n k bytes (r >>= f)
 exact_sequence_on L K n m k bytes (Ok x) f h behind =
@@ -370,7 +370,7 @@ behind_letter P letter word =
     without : (t s : List ℕ) → letter ∷ t ≡ letter ∷ (word ++ s) → t ≡ word ++ s
     without t s e = cc
 
--- the first letter is judged
+-- the first letter is compared
 exact_letter : {A : Type 0} (L : Language A) (n m k letter byte : ℕ) (word bytes : List ℕ) (f : List ℕ → Result (A × List ℕ) Halt) → levels_behind n (letter ∷ word) ≡ Some m
     → ((j : ℕ) → levels_behind j word ≡ Some m → Exact (behind_word word L) j k bytes (word_at word bytes >>= f))
     → (test : Bool) → (byte == letter) ≡ test → Exact (behind_word (letter ∷ word) L) n k (byte ∷ bytes) ((if test then word_at word bytes else Err (Departs (byte ∷ bytes))) >>= f)
@@ -395,7 +395,7 @@ exact_word L n m k (letter ∷ word) (byte ∷ bytes) f levels behind =
 
 -- ---- behind the front of a text
 
--- what may stand behind these bytes in a text of the language
+-- the texts that may follow these bytes in a text of the language
 unfoldable pub after : {A : Type 0} (before : List ℕ) (L : Language A) → (a : A) (t : List ℕ) → L.range a (before ++ t) → Language A
 after before L sample text is = record {
   shape = λ a t. L.shape a (before ++ t);
@@ -414,12 +414,12 @@ first_agrees : (front x rest : List ℕ) → first x ≡ first rest → first (f
 first_agrees [] x rest e = e
 first_agrees (byte ∷ front) x rest e = refl
 
--- texts that go on from a front as the bytes do begin as the bytes do
+-- texts that go on from a front as the bytes do also begin as the bytes do
 begins_alike : (front rest bytes x t y : List ℕ) → bytes ≡ front ++ rest → first x ≡ first rest → front ++ x ≡ t ++ y → first (t ++ y) ≡ first bytes
 begins_alike front rest bytes x t y split agrees e = sym (ap first e) ∙ first_agrees front x rest agrees ∙ sym (ap first split)
 
--- Where the second language has the texts of the first, and others only that do not begin as these bytes do, both are
--- read alike.
+-- If the second language has the texts of the first, and all others of its texts begin with another byte than these,
+-- both are read alike.
 pub Exact-among : {A : Type 0} (L M : Language A) (n k : ℕ) (bytes : List ℕ)
     → ((a : A) (t : List ℕ) → L.shape a t → M.shape a t) → ((a : A) (t : List ℕ) → L.range a t → M.range a t)
     → ((a : A) (t y : List ℕ) → M.shape a t → first (t ++ y) ≡ first bytes → L.shape a t)

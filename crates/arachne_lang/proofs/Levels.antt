@@ -1,4 +1,4 @@
--- Levels: what the counts of brackets say, and how deep the text of an expression goes.
+-- Levels: their relation to the counts of brackets, and the nesting of an expression's text.
 use Rattle.std.proofs.Common.{◌≡◌, ℕ, zero, suc, ◌+◌, ◌≤◌, ◌<◌, cond, List, [], ◌∷◌, ◌++◌, length, take, drop, Option, Some, None, refl, sym, ap, ◌∙◌, append_assoc, arith}
 use Rattle.std.specs.Prelude.{◌==◌, if◌then◌else◌, Bool, true, false, count_by, slice_index, codes}
 use Rattle.std.proofs.lemmas.Bool.{eqb-true, ne_eqb, eq-eqb}
@@ -82,7 +82,7 @@ levels_word h n x = levels_behind-append n (word_of h) x ∙ ap (λ (left : Opti
 pub levels_numeral : (k n : ℕ) (x : List ℕ) → levels_behind n (numeral k ++ x) ≡ levels_behind n x
 levels_numeral k n x = levels_digits (numeral k) (numeral-AreDigits k) n x
 
--- The text of a tree that nests no deeper than the levels that are left leaves as many behind it.
+-- The text of a tree whose nesting is at most the levels that are left leaves as many levels behind it.
 abbrev Leaves : Tree → Type 0
 Leaves tree = (n : ℕ) → nesting tree ≤ n → (x : List ℕ) → levels_behind n (spelling tree ++ x) ≡ levels_behind n x
 
@@ -109,7 +109,7 @@ leaves h c each (suc n) le x =
 pub levels_of_tree : (tree : Tree) (n : ℕ) → nesting tree ≤ n → (x : List ℕ) → levels_behind n (spelling tree ++ x) ≡ levels_behind n x
 levels_of_tree tree n le x = by_forms Leaves leaves tree n le x
 
--- And where no bracket of it is too deep, it nests no deeper.
+-- If no bracket of a tree's text is too deep, its nesting is at most the levels that are left.
 abbrev Nests : Tree → Type 0
 Nests tree = (n j : ℕ) (x : List ℕ) → levels_behind n (spelling tree ++ x) ≡ Some j → (nesting tree ≤ n) × (levels_behind n x ≡ Some j)
 

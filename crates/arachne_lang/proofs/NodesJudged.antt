@@ -1,4 +1,4 @@
--- The nodes of an expression are judged part by part.
+-- The nodes of an expression are checked part by part.
 use Rattle.std.proofs.Common.{◌≡◌, ℕ, ◌+◌, ◌<◌, ◌≤◌, List, [], ◌∷◌, ◌++◌, length, take, drop, refl, ap, sym, ◌∙◌, arith, length-append, Bool, true, false, Vec, Global, map, sum_by}
 use Rattle.std.specs.List.{fold}
 use Rattle.std.proofs.lemmas.List.{length-map}
@@ -62,7 +62,7 @@ length-node_faults program within bound (Fold from to first body) =
 length-node_faults program within bound (Sweep reduction grain from to body) =
     simp (length-append, length-node_faults program within bound from, length-node_faults program within bound to, length-node_faults program within (bound + 1) body) (omega arith)
 
--- nodes that follow others are judged where these have no fault
+-- nodes that follow others are checked if these have no fault
 pub judged_more : (node next : ℕ) (xs ys : List (Option NodeFault)) (answer : Result ℕ CheckFault) → Ok next ≡ judged node xs → answer ≡ judged next ys → answer ≡ judged node (xs ++ ys)
 judged_more node next [] ys answer is more = let same : next ≡ node = cc in more ∙ ap (λ n. judged n ys) same
 judged_more node next (None ∷ xs) ys answer is more = judged_more (node + 1) next xs ys answer is more
@@ -83,7 +83,7 @@ first_fault-err node fault [] is = cc
 first_fault-err node fault (None ∷ xs) is = first_fault-err (node + 1) fault xs is
 first_fault-err node fault (Some found ∷ xs) is = cc
 
--- The node at the top is judged first, and then its parts.
+-- The root is checked first, and then its parts.
 pub judged_parts : (node : ℕ) (xs : List (Option NodeFault)) (answer : Result ℕ CheckFault) → 0 < length xs
     → Ok tt ≡ first_fault node (take 1 xs) → answer ≡ judged (node + 1) (drop 1 xs) → answer ≡ judged node xs
 judged_parts node [] answer some top parts = absurd (omega arith)

@@ -1,4 +1,4 @@
--- The digits of a number: what they are worth, and that each number has one numeral.
+-- The digits of a number: their value, and that each number has one numeral.
 use Rattle.std.proofs.Common.{◌≡◌, ℕ, zero, suc, ◌+◌, ◌-◌, ◌*◌, ◌/◌, ◌%◌, ◌<◌, ◌≤◌, List, [], ◌∷◌, ◌++◌, refl, sym, ap, subst, ◌∙◌, arith, inl, inr}
 use Rattle.std.proofs.lemmas.Bool.{lt-ltb, le-ltb, cases_lt}
 use Rattle.std.proofs.lemmas.Nat.{div-mul-add, mod-mul-add}
@@ -62,9 +62,9 @@ digits_within-AreDigits (suc fuel) n =
 pub numeral-AreDigits : (n : ℕ) → AreDigits (numeral n)
 numeral-AreDigits n = digits_within-AreDigits (n + 1) n
 
--- ---- what digits are worth
+-- ---- the value of digits
 
--- the number whose first digits are worth so much
+-- the number whose first digits have the value n, and whose others are these
 abbrev pub worth : ℕ → List ℕ → ℕ
 worth n [] = n
 worth n (byte ∷ bytes) = worth (n * 10 + (byte - 48)) bytes
@@ -93,7 +93,7 @@ worth-numeral n = worth-digits_within (n + 1) n (omega arith)
 pub numeral-unique : (m n : ℕ) → numeral m ≡ numeral n → m ≡ n
 numeral-unique m n e = sym (worth-numeral m) ∙ ap (worth 0) e ∙ worth-numeral n
 
--- ---- digits before a byte that is none
+-- ---- digits before a byte that is no digit
 
 abbrev pub NoDigit : ℕ → Type 0
 NoDigit byte = IsDigit byte → ⊥
@@ -101,7 +101,7 @@ NoDigit byte = IsDigit byte → ⊥
 pub bracket_is_no_digit : NoDigit 41
 bracket_is_no_digit h = omega (arith, h.0)
 
--- Of two texts that go on alike, digits up to a byte that is none go on as far as the other's digits.
+-- Digits at the front of a text are a prefix of all its digits up to the first byte that is no digit.
 pub digits_before : (a b x y : List ℕ) (end : ℕ) → AreDigits a → AreDigits b → NoDigit end → a ++ end ∷ x ≡ b ++ y
     → (more : List ℕ) × AreDigits more × (a ≡ b ++ more) × (y ≡ more ++ end ∷ x)
 digits_before a [] x y end h k none e = (a, h, refl, sym e)
@@ -114,7 +114,7 @@ digits_before (digit ∷ a) (byte ∷ b) x y end h k none e =
     let behind = digits_before a b x y end h.1 k.1 none others in
     (behind.0, behind.1, cc, behind.3)
 
--- The digits before the last are those of a tenth. If they begin with 0 they are those of 0.
+-- The digits before the last are those of a tenth of the number. If they begin with 0, they are those of 0.
 no_zero_at_front : (front : List ℕ) (last tenth : ℕ) (more : List ℕ) → 0 < tenth → worth 0 front ≡ tenth → front ++ last ∷ [] ≡ 48 ∷ more
     → ((rest : List ℕ) → front ≡ 48 ∷ rest → tenth ≡ 0) → ⊥
 no_zero_at_front [] last tenth more pos w e zero_so = omega (arith, w)

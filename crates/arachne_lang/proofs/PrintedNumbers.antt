@@ -1,4 +1,4 @@
--- What std writes for a number is its numeral.
+-- The digits that std writes for a number are its numeral.
 use Rattle.std.proofs.Common.{◌≡◌, ℕ, ◌^◌, ◌<◌, List, [], ◌∷◌, length, get_or, refl, ap, ◌∙◌, sym, arith}
 use Rattle.std.specs.Prelude.{decimal}
 use Rattle.std.proofs.lemmas.Fmt.{decimal-digits_value}

@@ -21,7 +21,7 @@ apply-unit Parity a fits = sym (xor_zero_r a)
 apply-unit Least a fits = omega arith
 apply-unit Greatest a fits = omega arith
 
--- turns go on from where others ended
+-- iterations after others go on from their result
 turns-after : (step : ℕ → ℕ → ℕ) (m n first : ℕ) → turns step (m + n) first ≡ turns (λ j. step (m + j)) n (turns step m first)
 turns-after step m zero first = let same : m + 0 ≡ m = omega arith in ap (λ (k : ℕ). turns step k first) same
 turns-after step m (suc n) first =
@@ -41,7 +41,7 @@ turns-same : (r : Reduction) (f g : ℕ → ℕ) (n first : ℕ) → ((j : ℕ) 
 turns-same r f g zero first same = refl
 turns-same r f g (suc n) first same = rw (turns-same r f g n first same, same n) refl
 
--- what a reduction makes of so many values of a function from a number on
+-- the reduction of n values of a function, from the one at `first` on
 abbrev over : Reduction → (ℕ → ℕ) → ℕ → ℕ → ℕ
 over r f first n = turns (λ j so_far. apply (operation_of r) so_far (f (first + j))) n (unit_of r)
 

@@ -1,4 +1,4 @@
--- Programs are the same where their parts are.
+-- Programs are the same if their parts are.
 use Rattle.std.proofs.Common.{◌≡◌, ℕ, Bool, List, [], ◌∷◌, refl, subst, ap, Vec, Global}
 use Rattle.std.specs.Prelude.{◌&&◌, nat_eq, map}
 use Rattle.std.specs.Bool.{Decides}

@@ -1,4 +1,4 @@
--- What the definitions give on programs that were worked out by hand.
+-- The definitions on programs whose results were found by hand.
 use Rattle.std.proofs.Common.{◌≡◌, ℕ, ◌-◌, ◌^◌, List, [], ◌∷◌, refl}
 use Rattle.std.specs.Prelude.{map, ◌++◌, length, codes, Some, Ok, Err}
 use Rattle.arachne_lang.specs.declared.check_fault.CheckFault.TheVariants as fault
@@ -84,7 +84,7 @@ text_with_an_array : text_of array_program ≡
 unfolding array_program
 text_with_an_array = refl
 
--- an expression begins at byte 28 where no array stands before it, and a bracket more is the level of that byte
+-- without arrays the expression begins at byte 28, and each further opening bracket is one level deeper
 text_of_a_fork : text_of (plain 0 0 (Fork Normal (Number 20) (Number 3) (Binary Add (Variable 0) (Variable 1)))) ≡
     header ++ codes "ledgers 0" ++ 10 ∷ [] ++ codes "locks 0" ++ 10 ∷ [] ++ codes "(fork n (num 20) (num 3) (add (var 0) (var 1)))" ++ 10 ∷ []
 unfolding plain
@@ -93,7 +93,7 @@ text_of_a_fork = refl
 header_lines : length (header ++ codes "ledgers 0" ++ 10 ∷ [] ++ codes "locks 0" ++ 10 ∷ []) ≡ 28
 header_lines = refl
 
--- the checks of programs that were judged by hand
+-- the checks of programs whose verdicts were found by hand
 hold_in_hold : verdict_of (plain 0 1 (Hold 0 (Hold 5 (Number 1)))) ≡ Err (fault.WithinHold 1)
 unfolding plain
 hold_in_hold = refl

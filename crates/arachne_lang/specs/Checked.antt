@@ -1,26 +1,26 @@
--- Which programs are checked, and the first fault of the others.
+-- The programs that pass the check, and the first fault of the others.
 use Rattle.std.specs.Prelude.{ℕ, ◌≡◌, ◌+◌, nat_lt, nat_le, ◌&&◌, Bool, true, false, if◌then◌else◌, List, [], ◌∷◌, ◌++◌, length, sum_by, Option, None, Some, Result, Ok, Err}
 use Rattle.arachne_lang.specs.declared.check_fault.CheckFault.{CheckFault}
 use Rattle.arachne_lang.specs.declared.check_fault.CheckFault.TheVariants as fault
 use Rattle.arachne_lang.specs.Tree.{Tree, Number, Variable, Length, Item, Binary, Choose, Bind, Tally, Hold, Fork, Fold, Sweep, Source}
 use Rattle.arachne_lang.specs.Text.{nesting}
 
--- what may be wrong at a node, whose number in the text's order is given
+-- a fault of a node, given the node's number in the order of the text
 abbrev pub NodeFault : Type 0
 NodeFault = ℕ → CheckFault
 
--- a fault where a test fails
+-- the fault, if the test fails
 abbrev pub unless : Bool → NodeFault → Option NodeFault
 unless holds fault = if holds then None else Some fault
 
--- the first fault of two
+-- the first fault, or else the second
 abbrev pub or_else : Option NodeFault → Option NodeFault → Option NodeFault
 or_else None other = other
 or_else (Some fault) other = Some fault
 
--- For each node of an expression in the text's order, a node before its parts, its first fault if it has one. The
--- program says which arrays, ledgers and locks there are; so many variables are bound; and the expression stands within
--- a hold or does not.
+-- For each node of an expression, its first fault, if it has one. The nodes stand in the order of the text, a node
+-- before its parts. The arrays, ledgers and locks are those of the program, `bound` variables are bound, and `within`
+-- is true within a hold.
 abbrev pub node_faults : Source → Bool → ℕ → Tree → List (Option NodeFault)
 node_faults program within bound (Number n) = None ∷ []
 node_faults program within bound (Variable k) = unless (nat_lt k bound) fault.Unbound ∷ []
@@ -48,13 +48,13 @@ node_faults program within bound (Sweep reduction grain from to body) =
     or_else (if within then Some fault.WithinHold else None) (unless (nat_lt 0 grain) fault.NoGrain)
     ∷ node_faults program within bound from ++ node_faults program within bound to ++ node_faults program within (bound + 1) body
 
--- the first fault of nodes that are numbered from here on
+-- the first fault of these nodes, whose first has the number `node`
 abbrev pub first_fault : ℕ → List (Option NodeFault) → Result (Unit {0}) CheckFault
 first_fault node [] = Ok tt
 first_fault node (None ∷ nodes) = first_fault (node + 1) nodes
 first_fault node (Some fault ∷ nodes) = Err (fault node)
 
--- how many nodes an expression has
+-- the number of nodes of an expression
 abbrev pub node_count : Tree → ℕ
 node_count (Number n) = 1
 node_count (Variable k) = 1
@@ -69,13 +69,13 @@ node_count (Fork class child during after) = 1 + (node_count child + node_count 
 node_count (Fold from to first body) = 1 + (node_count from + node_count to + node_count first + node_count body)
 node_count (Sweep reduction grain from to body) = 1 + (node_count from + node_count to + node_count body)
 
--- nodes, arrays, items of all arrays, ledgers and locks
+-- the program keeps the limits on its nodes, arrays, items of all arrays, ledgers and locks
 abbrev pub is_within_limits : Source → Bool
 is_within_limits program =
     nat_le (node_count program.root) 4096 && nat_le (length program.arrays) 64
     && nat_le (sum_by length program.arrays) 1000000 && nat_le program.ledgers 16 && nat_le program.locks 16
 
--- What the check of a program answers: first the nesting is judged, then the limits, then the nodes.
+-- The result of the check of a program. First its nesting is checked, then the limits, then the nodes.
 abbrev pub verdict_of : Source → Result (Unit {0}) CheckFault
 verdict_of program =
     if nat_lt 64 (nesting program.root) then Err fault.Nesting

@@ -1,4 +1,4 @@
--- What the evaluation of an expression does beside its value: sums for the ledgers, holds of locks, and threads.
+-- The effects of evaluating an expression, beside its value: sums for the ledgers, holds of locks, and threads.
 use Rattle.std.specs.Prelude.{ℕ, zero, suc, ◌+◌, ◌-◌, ◌/◌, ◌==◌, if◌then◌else◌, List, [], ◌∷◌, ◌++◌, length, Option, Some, option_and_then, slice_get}
 use Rattle.arachne_lang.specs.declared.meaning.Line.{Line}
 use Rattle.arachne_lang.specs.declared.program.Class.{Class}
@@ -8,7 +8,8 @@ use Rattle.arachne_lang.specs.Tree.{Tree, Number, Variable, Length, Item, Binary
 use Rattle.arachne_lang.specs.Parts.{by_halves}
 use Rattle.arachne_lang.specs.Value.{wrapped, apply, operation_of, unit_of, turns, Environment, with_newest, value_of}
 
--- What a thread evaluates: an expression, or a reduction over so many numbers of a range from a first one on.
+-- The task of a thread: to evaluate an expression, or to reduce a range. The numbers of a reduction are its grain, the
+-- first number of the range, and the length of the range.
 pub data Task : Type 0 where
   Evaluate : Tree → Environment → Task
   Reduce : Reduction → ℕ → Tree → Environment → ℕ → ℕ → Task
@@ -19,16 +20,16 @@ pub record Child : Type 0 where
   pub task : Task
 
 pub record Effects : Type 0 where
-  -- for each ledger, all that is added to it, by the children too
+  -- for each ledger, the sum of all that is added to it, by the children too
   pub sums : ℕ → ℕ
-  -- for each lock, how often the own thread holds it
+  -- for each lock, the number of times that the thread itself holds it
   pub holds : ℕ → ℕ
-  -- what the own thread forks, in order
+  -- the children that the thread itself forks, in order
   pub children : List Child
-  -- the lines of the threads below the own one, whose name is given, and the number that its next fork gets
+  -- the lines of the threads below this one, given its name and the number of its next fork
   pub lines : List ℕ → ℕ → List Line
 
--- f of 0, of 1, and so on, so many, each modulo 2 ^ 64
+-- the first n values of f, from f of 0 on, each modulo 2 ^ 64
 abbrev pub tabulated : ℕ → (ℕ → ℕ) → List ℕ
 tabulated zero f = []
 tabulated (suc n) f = tabulated n f ++ wrapped (f n) ∷ []
@@ -41,7 +42,7 @@ line_of locks name effects = record { name = name; holds = tabulated locks effec
 abbrev pub nothing : Effects
 nothing = record { sums = λ ledger. 0; holds = λ lock. 0; children = []; lines = λ name next. [] }
 
--- One after the other: the later forks are numbered after the earlier ones.
+-- The effects of one after the other. The forks of the second are numbered after those of the first.
 infixl 10 ◌⨾◌
 abbrev pub ◌⨾◌ : Effects → Effects → Effects
 a ⨾ b = record {
@@ -57,8 +58,9 @@ tallied ledger amount = record nothing { sums = λ other. if other == ledger the
 abbrev pub held : ℕ → Effects
 held lock = record nothing { holds = λ other. if other == lock then 1 else 0 }
 
--- A child is forked, which has these effects, this is done during its life, and the child is joined. The fork comes
--- before those of during, and the lines of during stand before the child's own, which stands before those below it.
+-- The effects of a fork: a child with these effects is forked, `during` has its own while the child runs, and the child
+-- is joined. The fork comes before those of `during`. The lines of `during` stand before the child's line, and that
+-- stands before those of the threads below the child.
 abbrev pub forked : ℕ → Child → Effects → Effects → Effects
 forked locks child effects during = record {
   sums = λ ledger. effects.sums ledger + during.sums ledger;
@@ -70,17 +72,17 @@ forked locks child effects during = record {
       ++ effects.lines (name ++ next ∷ []) 0;
 }
 
--- The part of a sweep that is forked at a split is a normal thread.
+-- The child that is forked when a sweep is split. It is a normal thread.
 abbrev pub half : Reduction → ℕ → Tree → Environment → ℕ → ℕ → Child
 half reduction grain body env first n = record { class = Normal; task = Reduce reduction grain body env first n }
 
--- the effects of so many turns, one after the other
+-- the effects of this many iterations, one after the other
 abbrev pub turns_effects : (ℕ → Effects) → ℕ → Effects
 turns_effects turn zero = nothing
 turns_effects turn (suc j) = turns_effects turn j ⨾ turn j
 
--- The effects of a range of n numbers from a first one on. Of one that is longer than the grain the left half is
--- forked, and the right half is done during its life. A fuel of n is enough.
+-- The effects of a range of n numbers from `first` on. If it is longer than the grain, its left half is forked, and its
+-- right half is done while that runs. A fuel of n is enough.
 abbrev pub halves : ℕ → (ℕ → ℕ → Child) → (ℕ → Effects) → ℕ → ℕ → ℕ → ℕ → Effects
 halves locks child turn grain fuel first n =
     by_halves (λ from k. turns_effects (λ j. turn (from + j)) k) (λ from k left right. forked locks (child from (k / 2)) left right) grain fuel first n
@@ -115,7 +117,7 @@ effects_of arrays locks (Sweep reduction grain from to body) env =
     (value_of arrays from env)
     (value_of arrays to env - value_of arrays from env)
 
--- the value and the effects of a task
+-- the value of a task; its effects follow
 abbrev pub task_value : List (List ℕ) → Task → ℕ
 task_value arrays (Evaluate tree env) = value_of arrays tree env
 task_value arrays (Reduce reduction grain body env first n) =
@@ -126,7 +128,7 @@ task_effects arrays locks (Evaluate tree env) = effects_of arrays locks tree env
 task_effects arrays locks (Reduce reduction grain body env first n) =
     halves locks (half reduction grain body env) (λ i. effects_of arrays locks body (with_newest env i)) grain n first n
 
--- the task of the thread that the forks lead to from a task, if there is one
+-- the task of the thread to which these forks lead from a task, if there is one
 abbrev pub task_below : List (List ℕ) → ℕ → Task → List ℕ → Option Task
 task_below arrays locks task [] = Some task
 task_below arrays locks task (k ∷ forks) =

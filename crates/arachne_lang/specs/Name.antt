@@ -1,28 +1,28 @@
--- How the numbers of a thread's name are kept.
+-- The form in which the numbers of a thread's name are stored.
 use Rattle.std.specs.Prelude.{ℕ, ◌<◌, ◌≤◌, ◌^◌, ◌⊎◌, List, length}
 use Rattle.std.specs.List.{All}
 use Rattle.arachne_lang.specs.declared.name.Forks.{Forks}
 use Rattle.arachne_lang.specs.declared.name.Forks.TheVariants.{Bytes, Words, Heap}
 
--- at most 30 numbers, each below 256
+-- the name has at most 30 numbers, each below 256
 abbrev pub FitsBytes : List ℕ → Type 0
 FitsBytes name = (length name ≤ 30) × All (λ number. number < 256) name
 
--- at most 6 numbers, each below 2^32
+-- the name has at most 6 numbers, each below 2^32
 abbrev pub FitsWords : List ℕ → Type 0
 FitsWords name = (length name ≤ 6) × All (λ number. number < 2 ^ 32) name
 
--- the names that take no memory beside their own 32 bytes
+-- the name takes no memory beside its own 32 bytes
 abbrev pub FitsInline : List ℕ → Type 0
 FitsInline name = FitsBytes name ⊎ FitsWords name
 
--- the numbers that are kept
+-- the numbers that are stored
 abbrev pub numbers : Forks → List ℕ
 numbers (Bytes list) = list
 numbers (Words list) = list
 numbers (Heap list) = list.items
 
--- each name stands in the first of these that it fits into
+-- the numbers are stored in the first of these forms that they fit into
 abbrev pub IsKeptShort : Forks → Type 0
 IsKeptShort (Bytes list) = FitsBytes list
 IsKeptShort (Words list) = (¬ FitsBytes list) × FitsWords list

@@ -1,8 +1,8 @@
--- How a sweep is split.
+-- The recursion by which a sweep is split.
 use Rattle.std.specs.Prelude.{ℕ, zero, suc, ◌+◌, ◌-◌, ◌/◌, max, nat_le, if◌then◌else◌}
 
--- What is so of n numbers of a sweep from a first one on: where they are no more than the grain, and by its halves
--- where they are more. The grain 0 counts as 1. A fuel of n is enough.
+-- A function of n numbers of a sweep from a first one on, by recursion. If they are no more than the grain, it is
+-- `whole`; otherwise it is `split` of their two halves. A grain of 0 counts as 1. A fuel of n is enough.
 abbrev pub by_halves : {X : Type 0} → (ℕ → ℕ → X) → (ℕ → ℕ → X → X → X) → ℕ → ℕ → ℕ → ℕ → X
 by_halves whole split grain zero first n = whole first n
 by_halves whole split grain (suc fuel) first n =

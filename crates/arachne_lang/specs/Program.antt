@@ -1,4 +1,4 @@
--- What a program of the code is as a plain tree.
+-- The plain tree of a program of the code.
 use Rattle.std.specs.Prelude.{map}
 use Rattle.arachne_lang.specs.declared.program.Expr.{Expr, Num, Var, Len, Item', Binary', If', Let', Tally', Hold', Fork', Fold', Sweep'}
 use Rattle.arachne_lang.specs.declared.program.Program.{Program}

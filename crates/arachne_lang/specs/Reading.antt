@@ -1,5 +1,5 @@
--- What is read at the front of a text, as functions on its bytes: a value and the bytes behind it, or why reading stops
--- there.
+-- Reading the front of a text, as functions on its bytes. Each gives a value and the bytes behind it, or the reason why
+-- reading stops there.
 use Rattle.std.specs.Prelude.{ℕ, zero, suc, ◌≡◌, ◌+◌, ◌-◌, ◌*◌, ◌^◌, nat_lt, nat_le, ◌==◌, ◌&&◌, if◌then◌else◌, List, [], ◌∷◌, ◌++◌, length, Result, Ok, Err, codes}
 use Rattle.arachne_lang.specs.declared.reading.stop.Stop.{Stop}
 use Rattle.arachne_lang.specs.declared.reading.stop.Stop.TheVariants as stop
@@ -12,7 +12,7 @@ use Rattle.arachne_lang.specs.declared.reading.heads.Head.{Head}
 use Rattle.arachne_lang.specs.declared.reading.heads.Head.TheVariants as head
 use Rattle.arachne_lang.specs.Tree.{Tree, Number, Variable, Length, Item, Binary, Choose, Bind, Tally, Hold, Fork, Fold, Sweep, Source}
 
--- why reading stops, with the bytes that are left there
+-- the reason why reading stops, with the bytes that are left there
 pub data Halt : Type 0 where
   Departs : List ℕ → Halt
   Overflows : List ℕ → Halt
@@ -27,7 +27,7 @@ abbrev pub ◌>>=◌ : {A B : Type 0} → Result A Halt → (A → Result B Halt
 (Ok x) >>= f = f x
 (Err e) >>= f = Err e
 
--- What a function of the code returned, seen by view, is what reading gives, unless memory ran out.
+-- The code stopped for this reason, and reading stops for the same reason at the same bytes, unless memory was refused.
 abbrev pub Fails : {B : Type 0} → Stop → Result B Halt → Type 0
 Fails stop.Memory read = Unit {0}
 Fails (stop.Departs rest) read = read ≡ Err (Departs rest.now)
@@ -38,7 +38,7 @@ abbrev pub Gives : {A B : Type 0} → (A → B) → Result A Stop → Result B H
 Gives view (Ok x) read = read ≡ Ok (view x)
 Gives view (Err e) read = Fails e read
 
--- the fault that the code makes of a stop within this text
+-- the fault of this text that the code makes of a stop within it
 abbrev pub fault_within : List ℕ → Stop → TextFault
 fault_within text stop.Memory = fault.Memory
 fault_within text (stop.Departs rest) = fault.Syntax (length text - length rest.now)
@@ -51,7 +51,7 @@ word_at [] bytes = Ok bytes
 word_at (letter ∷ word) [] = Err (Departs [])
 word_at (letter ∷ word) (byte ∷ bytes) = if byte == letter then word_at word bytes else Err (Departs (byte ∷ bytes))
 
--- A number below a limit: its first digits have this value, and the others stand here.
+-- The number below a limit whose first digits have the value `value`, and whose other digits are the next bytes.
 abbrev pub digits_at : ℕ → ℕ → List ℕ → Reading ℕ
 digits_at limit value [] = Ok (value, [])
 digits_at limit value (byte ∷ bytes) =
@@ -59,7 +59,7 @@ digits_at limit value (byte ∷ bytes) =
     then (if nat_lt (value * 10 + (byte - 48)) limit then digits_at limit (value * 10 + (byte - 48)) bytes else Err (Overflows (byte ∷ bytes)))
     else Ok (value, byte ∷ bytes)
 
--- a number without its end: a zero ends it at once
+-- the number at the front, without what follows it; a leading zero is the whole number
 abbrev pub figures_at : ℕ → List ℕ → Reading ℕ
 figures_at limit [] = Err (Departs [])
 figures_at limit (byte ∷ bytes) =
@@ -67,14 +67,14 @@ figures_at limit (byte ∷ bytes) =
     else if nat_le 49 byte && nat_le byte 57 then digits_at limit (byte - 48) bytes
     else Err (Departs (byte ∷ bytes))
 
--- a number, and what ends it
+-- the number at the front, behind which `end` must stand
 unfoldable pub number_at : ℕ → List ℕ → List ℕ → Reading ℕ
 number_at limit end bytes = do
   number ← figures_at limit bytes
   rest ← word_at end number.1
   Ok (number.0, rest)
 
--- a part of a form, given how an expression is read, and what ends it
+-- the part of a form at the front, behind which `end` must stand; `tree_at` reads an expression
 unfoldable pub part_at : (List ℕ → Reading Tree) → List ℕ → List ℕ → Reading Tree
 part_at tree_at end bytes = do
   part ← tree_at bytes
@@ -83,60 +83,60 @@ part_at tree_at end bytes = do
 
 -- ---- the words of the forms
 
--- Words by their letters, each with its value: the end of one; those that go on with these letters; or those that go on
--- with this letter, behind it, and the others.
+-- A set of words, each with a value, as a tree of their letters: only the end of one word; words that all go on with
+-- these letters; or words that go on behind this letter, and the others.
 pub data Words (A : Type 0) : Type 0 where
   End : A → Words A
   Behind : List ℕ → Words A → Words A
   Letter : ℕ → Words A → Words A → Words A
 
--- the value of the word at the front
+-- the value of the word at the front, and the bytes behind it
 abbrev pub words_at : {A : Type 0} → Words A → List ℕ → Reading A
 words_at (End value) bytes = Ok (value, bytes)
 words_at (Behind letters words) bytes = word_at letters bytes >>= λ rest. words_at words rest
 words_at (Letter letter words others) [] = words_at others []
 words_at (Letter letter words others) (byte ∷ bytes) = if byte == letter then words_at words bytes else words_at others (byte ∷ bytes)
 
--- one word
+-- the set of one word
 abbrev pub ending : {A : Type 0} → List ℕ → A → Words A
 ending letters value = Behind letters (End value)
 
--- behind i: item, if
+-- the words that begin with i, behind it: item, if
 unfoldable pub words_in_i : Words Head
 words_in_i = Letter 116 (ending (codes "em ") head.Item) (ending (codes "f ") head.If)
 
--- behind l: let, len, lt
+-- the words that begin with l, behind it: let, len, lt
 unfoldable pub words_in_l : Words Head
 words_in_l =
     Letter 101 (Letter 116 (ending (codes " ") head.Let) (ending (codes "n ") head.Len))
     (ending (codes "t ") (head.Binary operation.Lt))
 
--- behind m: mul, min, max
+-- the words that begin with m, behind it: mul, min, max
 unfoldable pub words_in_m : Words Head
 words_in_m =
     Letter 117 (ending (codes "l ") (head.Binary operation.Mul))
     (Letter 105 (ending (codes "n ") (head.Binary operation.Min))
     (ending (codes "ax ") (head.Binary operation.Max)))
 
--- behind sweep and m: mul, min, max
+-- the reductions of a sweep that begin with m, behind it: mul, min, max
 unfoldable pub sweeps_in_m : Words Head
 sweeps_in_m =
     Letter 117 (ending (codes "l ") (head.Sweep reduction.Product))
     (Letter 105 (ending (codes "n ") (head.Sweep reduction.Least))
     (ending (codes "ax ") (head.Sweep reduction.Greatest)))
 
--- behind sweep: add, xor, mul, min, max
+-- the reductions of a sweep: add, xor, mul, min, max
 unfoldable pub words_of_sweeps : Words Head
 words_of_sweeps =
     Letter 97 (ending (codes "dd ") (head.Sweep reduction.Sum))
     (Letter 120 (ending (codes "or ") (head.Sweep reduction.Parity))
     (Behind (codes "m") sweeps_in_m))
 
--- behind s: sub, sweep
+-- the words that begin with s, behind it: sub, sweep
 unfoldable pub words_in_s : Words Head
 words_in_s = Letter 117 (ending (codes "b ") (head.Binary operation.Sub)) (Behind (codes "weep ") words_of_sweeps)
 
--- behind f: fold, fork
+-- the words that begin with f, behind it: fold, fork
 unfoldable pub words_in_f : Words Head
 words_in_f =
     Behind (codes "o")
@@ -144,7 +144,7 @@ words_in_f =
     (Behind (codes "rk ")
     (Letter 110 (ending (codes " ") (head.Fork class.Normal)) (ending (codes "x ") (head.Fork class.Exclusive)))))
 
--- all of them, by their first letters: a, e, f, h, i, l, m, n, s, t, v, x
+-- all words of forms, by their first letters: a, e, f, h, i, l, m, n, s, t, v, x
 unfoldable pub form_words : Words Head
 form_words =
     Letter 97 (ending (codes "dd ") (head.Binary operation.Add))
@@ -162,7 +162,7 @@ form_words =
 
 -- ---- expressions
 
--- what stands behind the word of a form, with the closing bracket
+-- the rest of a form behind its word, with the closing bracket
 unfoldable pub behind_word_at : (List ℕ → Reading Tree) → Head → List ℕ → Reading Tree
 behind_word_at tree_at head.Num bytes = do
   number ← number_at (2 ^ 64) (codes ")") bytes
@@ -217,25 +217,26 @@ behind_word_at tree_at (head.Sweep reduction) bytes = do
   body ← part_at tree_at (codes ")") to.1
   Ok (Sweep reduction grain.0 from.0 to.0 body.0, body.1)
 
--- a form behind its opening bracket, with the closing one
+-- the rest of a form behind its opening bracket, with the closing one
 unfoldable pub form_at : (List ℕ → Reading Tree) → List ℕ → Reading Tree
 form_at tree_at bytes = do
   head ← words_at form_words bytes
   behind_word_at tree_at head.0 head.1
 
--- what stands behind an opening bracket
+-- the value that `inner_at` reads behind the opening bracket, which must be at the front
 abbrev pub opened : (List ℕ → Reading Tree) → List ℕ → Reading Tree
 opened inner_at [] = Err (Departs [])
 opened inner_at (byte ∷ bytes) = if byte == 40 then inner_at bytes else Err (Departs (byte ∷ bytes))
 
--- an expression of at most so many levels
+-- the expression at the front, of at most this many levels
 unfoldable pub expression_at : ℕ → List ℕ → Reading Tree
 expression_at zero = opened (λ bytes. Err (TooDeep (40 ∷ bytes)))
 expression_at (suc levels) = opened (form_at (expression_at levels))
 
 -- ---- lines
 
--- The items of an array behind its word, and the newline. These items stand before. There are no more turns than bytes.
+-- The items of an array, of which `items` were read before, up to the newline. As many turns as there are bytes, and
+-- one more, are enough.
 abbrev pub items_within : ℕ → List ℕ → List ℕ → Reading (List ℕ)
 items_within zero items bytes = Err (Departs bytes)
 items_within (suc turns) items [] = Err (Departs [])
@@ -247,7 +248,7 @@ items_within (suc turns) items (byte ∷ bytes) =
 unfoldable pub items_at : List ℕ → List ℕ → Reading (List ℕ)
 items_at items bytes = items_within (suc (length bytes)) items bytes
 
--- The array lines, where these arrays stand before.
+-- The arrays of the array lines, of which `arrays` were read before.
 abbrev pub arrays_within : ℕ → List (List ℕ) → List ℕ → Reading (List (List ℕ))
 arrays_within zero arrays bytes = Err (Departs bytes)
 arrays_within (suc turns) arrays [] = Ok (arrays, [])
@@ -259,7 +260,7 @@ arrays_within (suc turns) arrays (byte ∷ bytes) =
 unfoldable pub arrays_at : List (List ℕ) → List ℕ → Reading (List (List ℕ))
 arrays_at arrays bytes = arrays_within (suc (length bytes)) arrays bytes
 
--- what stands behind the array lines
+-- the program with these arrays whose other lines are at the front
 unfoldable pub lines_at : List (List ℕ) → List ℕ → Reading Source
 lines_at arrays bytes = do
   rest ← word_at (codes "ledgers ") bytes
@@ -270,18 +271,18 @@ lines_at arrays bytes = do
   rest ← word_at (10 ∷ []) root.1
   Ok (record { arrays = arrays; ledgers = ledgers.0; locks = locks.0; root = root.0 }, rest)
 
--- the program that stands behind the header, with its last newline
+-- the program whose text without the header is at the front, up to its last newline
 unfoldable pub source_at : List ℕ → Reading Source
 source_at bytes = do
   arrays ← arrays_at [] bytes
   lines_at arrays.0 arrays.1
 
--- nothing is left
+-- the program, if no bytes are left
 abbrev pub ended : Source → List ℕ → Result Source Halt
 ended program [] = Ok program
 ended program (byte ∷ bytes) = Err (Departs (byte ∷ bytes))
 
--- all that stands behind the header
+-- the program whose text without the header these bytes are
 unfoldable pub program_at : List ℕ → Result Source Halt
 program_at bytes = do
   read ← source_at bytes

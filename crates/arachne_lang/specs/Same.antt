@@ -1,4 +1,4 @@
--- Whether two programs are the same, tested part by part.
+-- Tests whether two programs are the same, part by part.
 use Rattle.std.specs.Prelude.{Bool, true, false, ◌&&◌, ◌==◌, nat_eq}
 use lib.Pointwise.{pointwise}
 use Rattle.arachne_lang.specs.declared.program.Class.{Class}

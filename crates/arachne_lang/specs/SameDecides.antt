@@ -1,4 +1,4 @@
--- The tests say yes exactly of what is the same.
+-- The tests of `Same` are true exactly if both are the same.
 use Rattle.std.proofs.Common.{◌≡◌, ℕ, Bool, true, false, List, refl, subst, ap}
 use Rattle.std.specs.Prelude.{◌&&◌, ◌==◌, nat_eq}
 use Rattle.std.specs.Bool.{Decides}

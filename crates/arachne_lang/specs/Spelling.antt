@@ -9,7 +9,7 @@ use Rattle.arachne_lang.specs.declared.program.Reduction.{Reduction}
 use Rattle.arachne_lang.specs.declared.program.Reduction.TheVariants.{Sum, Product, Parity, Least, Greatest}
 use Rattle.arachne_lang.specs.Tree.{Tree, Number, Variable, Length, Item, Binary, Choose, Bind, Tally, Hold, Fork, Fold, Sweep, Source}
 
--- The digits of a number, with no needless zero at the front. A fuel above the number is enough.
+-- The digits of a number, without leading zeros. A fuel above the number is enough.
 abbrev pub digits_within : ℕ → ℕ → List ℕ
 digits_within zero n = []
 digits_within (suc fuel) n = if nat_lt n 10 then (48 + n) ∷ [] else digits_within fuel (n / 10) ++ (48 + n % 10) ∷ []

@@ -1,4 +1,4 @@
--- Which texts are accepted, and the faults of the others.
+-- The texts that are accepted, and the faults of the others.
 use Rattle.std.specs.Prelude.{ℕ, ◌≡◌, ◌+◌, ◌-◌, ◌^◌, ◌<◌, ◌≤◌, ◌==◌, max, List, ◌++◌, length, take, count_by, slice_index, ◌⊎◌}
 use Rattle.std.specs.List.{AllByRecursion}
 use Rattle.arachne_lang.specs.declared.text_fault.TextFault.{TextFault}
@@ -48,31 +48,31 @@ pub record IsAccepted (program : Source) : Type 0 where
   pub in_range : IsInRange program
   pub nesting : nesting program.root ≤ 64
 
--- The shape: the texts of all programs, with numbers of any size and any nesting. The bytes are such a text.
+-- The bytes are a text of the shape: that of some program, with numbers of any size and any nesting.
 abbrev pub IsText : List ℕ → Type 0
 IsText bytes = (program : Source) × (text_of program ≡ bytes)
 
--- The bytes begin such a text.
+-- The bytes are the beginning of a text of the shape.
 abbrev pub Begins : List ℕ → Type 0
 Begins bytes = (program : Source) × (rest : List ℕ) × (text_of program ≡ bytes ++ rest)
 
--- The bytes begin such a text in which each number is in range.
+-- The bytes are the beginning of a text of the shape in which each number is in range.
 abbrev pub BeginsInRange : List ℕ → Type 0
 BeginsInRange bytes = (program : Source) × (rest : List ℕ) × IsInRange program × (text_of program ≡ bytes ++ rest)
 
 abbrev pub StartsWith : List ℕ → List ℕ → Type 0
 StartsWith front bytes = (rest : List ℕ) × (bytes ≡ front ++ rest)
 
--- how many brackets are open after the bytes; brackets enclose expressions alone
+-- the number of brackets that are open after the bytes; only expressions have brackets
 abbrev pub level : List ℕ → ℕ
 level bytes = count_by (λ byte. byte == 40) bytes - count_by (λ byte. byte == 41) bytes
 
--- The input has this fault. Where the header is missing no other fault is looked for.
+-- The input has this fault. If the header is missing, it has no other.
 abbrev pub HasFault : List ℕ → TextFault → Type 0
 HasFault bytes Memory = ⊥
 -- it does not begin with the header
 HasFault bytes (Header at) = (at ≡ 0) × ¬ StartsWith header bytes
--- it is no text of the shape, and its longest front that begins one has this length
+-- it is not a text of the shape, and `at` is the length of the longest prefix of it that begins one
 HasFault bytes (Syntax at) =
     StartsWith header bytes × ¬ IsText bytes
     × (at ≤ length bytes) × Begins (take at bytes)
@@ -87,7 +87,7 @@ HasFault bytes (Nesting at) =
     × (slice_index bytes at ≡ 40) × (level (take at bytes) ≡ 64)
     × ((shorter : ℕ) → shorter ≤ at → level (take shorter bytes) ≤ 64)
 
--- the byte of a fault
+-- the index of the byte at which a fault stands
 abbrev pub byte_of : TextFault → ℕ
 byte_of Memory = 0
 byte_of (Header at) = at
@@ -95,7 +95,7 @@ byte_of (Syntax at) = at
 byte_of (Overflow at) = at
 byte_of (Nesting at) = at
 
--- It is the fault with the least byte, and the only one there.
+-- The input has this fault, and any other fault of it stands at a later byte.
 pub record IsFirstFault (bytes : List ℕ) (fault : TextFault) : Type 0 where
   pub has : HasFault bytes fault
   pub first : (other : TextFault) → HasFault bytes other → (byte_of fault < byte_of other) ⊎ (other ≡ fault)

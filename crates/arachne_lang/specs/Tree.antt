@@ -1,10 +1,10 @@
--- Programs as plain trees: what two programs that lie apart in memory have in common.
+-- Programs as plain trees. Two programs of the code that differ only in their addresses have the same tree.
 use Rattle.std.specs.Prelude.{ℕ, List}
 use Rattle.arachne_lang.specs.declared.program.Class.{Class}
 use Rattle.arachne_lang.specs.declared.program.Operation.{Operation}
 use Rattle.arachne_lang.specs.declared.program.Reduction.{Reduction}
 
--- an expression; numbers, and places in it, may be of any size
+-- an expression; its numbers, and the places that it names, may be of any size
 pub data Tree : Type 0 where
   Number : ℕ → Tree
   Variable : ℕ → Tree
@@ -19,7 +19,7 @@ pub data Tree : Type 0 where
   Tally : ℕ → Tree → Tree → Tree
   -- a lock, a body
   Hold : ℕ → Tree → Tree
-  -- the child, what the own thread does during its life, and what it does after the join
+  -- the child's expression, the one that the thread evaluates while the child runs, and the one after the join
   Fork : Class → Tree → Tree → Tree → Tree
   -- from, to, the first value, the body
   Fold : Tree → Tree → Tree → Tree → Tree

@@ -9,7 +9,7 @@ use Rattle.arachne_lang.specs.Tree.{Tree, Number, Variable, Length, Item, Binary
 abbrev pub wrapped : ℕ → ℕ
 wrapped n = n % 2 ^ 64
 
--- what an operation makes of two numbers, unsigned
+-- the result of an operation on two numbers, unsigned
 abbrev pub apply : Operation → ℕ → ℕ → ℕ
 apply Add x y = wrapped (x + y)
 apply Sub x y = wrapped (x + (2 ^ 64 - y))
@@ -20,7 +20,7 @@ apply Xor x y = bit_xor x y
 apply Lt x y = if nat_lt x y then 1 else 0
 apply Eq x y = if x == y then 1 else 0
 
--- the operation that a sweep reduces by, and the value that it starts from
+-- the operation by which a sweep reduces; the value that it starts from follows
 abbrev pub operation_of : Reduction → Operation
 operation_of Sum = Add
 operation_of Product = Mul
@@ -35,7 +35,7 @@ unit_of Parity = 0
 unit_of Least = 2 ^ 64 - 1
 unit_of Greatest = 0
 
--- what so many turns of a step make of a first value; turns are numbered from 0
+-- the result of n iterations of a step from a first value; the iterations are numbered from 0
 abbrev pub turns : (ℕ → ℕ → ℕ) → ℕ → ℕ → ℕ
 turns step zero first = first
 turns step (suc j) first = step j (turns step j first)
@@ -48,7 +48,7 @@ Environment = List ℕ
 abbrev pub with_newest : Environment → ℕ → Environment
 with_newest environment value = environment ++ value ∷ []
 
--- the array of this number, empty where there is none
+-- the array of this number, or the empty one if there is none
 abbrev pub array_at : List (List ℕ) → ℕ → List ℕ
 array_at arrays a = slice_index_or arrays a []
 

@@ -1,13 +1,13 @@
-//! Up to 30 small numbers in 31 bytes, for thread names that need no memory.
+//! Lists of up to 30 numbers below 256 in 31 bytes, for thread names that need no memory.
 ghost use Rattle.std.specs.Prelude.{◌≡◌, ◌<◌, [], ◌∷◌, ◌++◌, ◌↔◌, length, IfOk, IsTrue, SomeIff};
 
 use std::alloc::{AllocError, Global};
 use std::marker::Model;
 
-/// The most numbers that a list holds.
+/// The maximum length of a list.
 const ROOM: usize = 30;
 
-/// At most 30 numbers below 256, which take no memory beside the list's own 31 bytes.
+/// A list of at most 30 numbers below 256. It takes no memory beside its own 31 bytes.
 #[derive(Debug, Drop)]
 pub struct ByteList {
     len: u8,
@@ -25,7 +25,7 @@ impl Model for ByteList {
 }
 
 impl ByteList {
-    /// The list of no numbers.
+    /// Returns the empty list.
     pub fn empty() -> ByteList
         ensures { result ≡ [] }
     {
@@ -35,14 +35,14 @@ impl ByteList {
         }
     }
 
-    /// The numbers.
+    /// Returns the numbers as a slice.
     pub fn as_slice(&self) -> &[u8]
         ensures { result.now ≡ self.now }
     {
         &self.bytes[..usize::from(self.len)]
     }
 
-    /// The list with this number behind its own, where there is room and the number is below 256.
+    /// Returns the list with `number` appended. Returns `None` if the list is full or the number is 256 or more.
     pub fn with(&self, number: u64) -> Option<ByteList>
         ensures { SomeIff result ((length self.now < 30) × (number < 256)) (self.now ++ number ∷ []) }
     {
@@ -57,7 +57,7 @@ impl ByteList {
             bytes,
         })
     }
-    /// Whether it is the other list with this number behind it.
+    /// Returns whether this list is `front` with `number` appended.
     pub fn is_longer_by(&self, front: &ByteList, number: u64) -> bool
         ensures { IsTrue result ↔ (self.now ≡ front.now ++ number ∷ []) }
     {
@@ -67,7 +67,7 @@ impl ByteList {
         }
     }
 
-    /// The numbers, and this one behind them, whatever it is.
+    /// Returns the numbers with `number` appended, in a `Vec`, which holds a number of any size.
     pub fn widened(&self, alloc: Global, number: u64) -> Result<Vec<u64>, AllocError>
         ensures { IfOk result (λ longer. longer.items ≡ self.now ++ number ∷ []) }
     {

@@ -1,4 +1,4 @@
-//! Whether a program may run: its nesting, the limits, and each node in the order of the text.
+//! Checks that a program may run: its nesting, the limits, and each node in the order of the text.
 ghost use Rattle.std.specs.Prelude.{◌≡◌, ◌+◌, ◌-◌, ◌*◌, ◌^◌, ◌<◌, ◌≤◌, ◌↔◌, ◌++◌, IsTrue, IfOk, SomeIff, length, sum_by, take};
 ghost use Rattle.arachne_lang.specs.Program.{tree_of, source_of};
 ghost use Rattle.arachne_lang.specs.Text.{nesting};
@@ -8,22 +8,24 @@ ghost use Rattle.arachne_lang.specs.Judgement.{judged, KeepsLimits};
 use crate::check_fault::CheckFault;
 use crate::program::{Expr, Program};
 
-/// The levels of an expression, the root being at level 1.
+/// The maximum number of levels of an expression. The root is at level 1.
 const MOST_LEVELS: u32 = 64;
 
 const MOST_NODES: u64 = 4_096;
 
 const MOST_ARRAYS: usize = 64;
 
-/// In all arrays.
+/// The maximum number of items in all arrays together.
 const MOST_ITEMS: usize = 1_000_000;
 
 const MOST_LEDGERS: u8 = 16;
 
 const MOST_LOCKS: u8 = 16;
 
-/// Judges a program: first its nesting, then the limits, then its nodes in the order of the text, a node
-/// before its parts. It takes no memory, and no stack for what is nested deeper than is allowed.
+/// Checks that a program may run.
+///
+/// Checks first its nesting, then the limits, then its nodes in the order of the text, a node before its parts. Returns
+/// the first fault. Takes no memory, and no stack for what is nested deeper than is allowed.
 pub fn check(program: &Program) -> Result<(), CheckFault>
     ensures { result ≡ verdict_of (source_of program.now) }
 {
@@ -42,7 +44,7 @@ pub fn check(program: &Program) -> Result<(), CheckFault>
     Ok(())
 }
 
-/// Whether an expression has so many levels at most. It goes no deeper than that.
+/// Returns whether an expression has at most `levels` levels. Goes no deeper than that.
 #[tactic(auto, using(crate::proofs::NodesJudged::nesting_positive))]
 fn nests_within(expr: &Expr, levels: u32) -> bool
     ensures { IsTrue result ↔ (nesting (tree_of expr.now) ≤ levels) }
@@ -82,7 +84,7 @@ fn is_within_limits(program: &Program) -> bool
         && nodes_left(&program.root, MOST_NODES).is_some()
 }
 
-/// Whether all arrays together have so many items at most.
+/// Returns whether all arrays together have at most `items` items.
 fn have_items_within(arrays: &[Vec<u64>], items: usize) -> bool
     ensures { IsTrue result ↔ (sum_by (λ array. length array.items) arrays.now ≤ items) }
 {
@@ -96,7 +98,8 @@ fn have_items_within(arrays: &[Vec<u64>], items: usize) -> bool
     true
 }
 
-/// What an expression leaves of so many nodes, if these are enough. It stops where they are not.
+/// Returns `nodes` less the number of nodes of an expression, or `None` if the expression has more. Stops at the node
+/// that is one too many.
 #[tactic(auto, using(crate::proofs::NodesJudged::node_count_positive))]
 fn nodes_left(expr: &Expr, nodes: u64) -> Option<u64>
     ensures { SomeIff result (node_count (tree_of expr.now) ≤ nodes) (nodes - node_count (tree_of expr.now)) }
@@ -117,18 +120,18 @@ fn nodes_left(expr: &Expr, nodes: u64) -> Option<u64>
     }
 }
 
-/// Where an expression stands.
+/// The place of an expression in its program.
 #[derive(Clone, Copy)]
 struct Scope<'p> {
     program: &'p Program,
-    /// Within a hold.
+    /// True within a hold.
     within: bool,
-    /// How many variables are bound.
+    /// The number of bound variables.
     bound: u64,
 }
 
 impl<'p> Scope<'p> {
-    /// The scope with so many variables more.
+    /// Returns the scope with `variables` more variables.
     fn binding(self, variables: u64) -> Scope<'p>
         requires { self.bound + variables < 2 ^ 64 }
         ensures { result ≡ record self.entry { bound = self.entry.bound + variables } }
@@ -145,7 +148,7 @@ impl<'p> Scope<'p> {
         array < self.program.arrays.len() as u64
     }
 
-    /// Judges the node of this number at the top of an expression, and none of its parts.
+    /// Checks the root of an expression, which is the node of number `node`, and none of its parts.
     fn judge(self, expr: &Expr, node: u64) -> Result<(), CheckFault>
         ensures { result ≡ first_fault node (take 1
             (node_faults (source_of self.entry.program.now) self.entry.within self.entry.bound (tree_of expr.now))) }
@@ -168,7 +171,7 @@ impl<'p> Scope<'p> {
         }
     }
 
-    /// Judges the nodes of an expression, of which the first has this number. Answers the number of the node that
+    /// Checks the nodes of an expression, of which the first has the number `node`. Returns the number of the node that
     /// follows them.
     #[cycle(judging)]
     #[tactic(auto, using(crate::proofs::NodesJudged::judged_parts, crate::proofs::NodesJudged::some_faults))]
@@ -200,7 +203,7 @@ impl<'p> Scope<'p> {
         }
     }
 
-    /// The same for two parts, of which the last stands in a scope of its own.
+    /// Checks the nodes of two parts, `a` and then `b`, which stands in the scope `last`, like `check`.
     #[cycle(judging)]
     fn two(self, a: &Expr, last: Scope, b: &Expr, node: u64) -> Result<u64, CheckFault>
         requires nodes { node + node_count (tree_of a.now) + node_count (tree_of b.now) ≤ MOST_NODES }
@@ -215,7 +218,7 @@ impl<'p> Scope<'p> {
         last.check(b, second)
     }
 
-    /// The same for three parts.
+    /// Checks the nodes of three parts, of which `c` stands in the scope `last`, like `check`.
     #[cycle(judging)]
     fn three(self, a: &Expr, b: &Expr, last: Scope, c: &Expr, node: u64) -> Result<u64, CheckFault>
         requires nodes { node + node_count (tree_of a.now) + node_count (tree_of b.now) + node_count (tree_of c.now) ≤ MOST_NODES }
@@ -233,7 +236,7 @@ impl<'p> Scope<'p> {
         last.check(c, second)
     }
 
-    /// The same for four parts.
+    /// Checks the nodes of four parts, of which `d` stands in the scope `last`, like `check`.
     #[cycle(judging)]
     fn four(
         self,

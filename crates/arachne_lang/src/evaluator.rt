@@ -16,18 +16,18 @@ use crate::program::{Expr, Operation, Program, Reduction};
 use crate::sequence::Sequence;
 use std::alloc::{AllocError, Global};
 
-/// What the thread that is being evaluated did itself.
+/// The account of the thread that is being evaluated: its own actions, without those of its children.
 #[derive(Drop)]
 struct Own {
     name: Name,
-    /// For each lock, how often it was held.
+    /// For each lock, the number of times that the thread held it.
     holds: Vec<u64>,
-    /// How many threads it forked: the number of the next one.
+    /// The number of threads that it forked, which is the number of its next child.
     forks: u64,
 }
 
 impl Own {
-    /// A thread that has done nothing yet.
+    /// Returns the account of a thread that has done nothing yet.
     fn new(alloc: Global, name: Name, locks: u8) -> Result<Own, AllocError>
         ensures { IfOk result (IsFresh locks name) }
     {
@@ -38,7 +38,7 @@ impl Own {
         })
     }
 
-    /// The name of the next thread that this one forks.
+    /// Returns the name of the thread's next child, and counts it.
     fn fork(&mut self, alloc: Global) -> Result<Name, AllocError>
         requires { self.old.forks + 1 < 2 ^ 64 }
         ensures name { IfOk result (λ name. name ≡ self.old.name ++ self.old.forks ∷ []) }
@@ -59,7 +59,7 @@ impl Own {
     }
 }
 
-/// The line of a thread that has not ended.
+/// Returns a line that holds the place of a thread's own line until the thread has ended.
 fn unwritten_line(alloc: Global) -> Line {
     Line {
         name: Name::root(alloc),
@@ -67,18 +67,18 @@ fn unwritten_line(alloc: Global) -> Line {
     }
 }
 
-/// What all threads share.
+/// The state that all threads share.
 #[derive(Drop)]
 struct Shared {
     /// The variables of the thread that is being evaluated, the oldest first.
     environment: Vec<u64>,
-    /// For each ledger, what was tallied to it.
+    /// For each ledger, the sum of the amounts that were tallied to it.
     sums: Vec<u64>,
-    /// The lines so far.
+    /// The lines of the threads so far.
     lines: Vec<Line>,
 }
 
-/// What a sweep makes of a range.
+/// The constant parameters of a sweep.
 #[derive(Clone, Copy)]
 struct Reducer<'p> {
     reduction: Reduction,
@@ -86,7 +86,7 @@ struct Reducer<'p> {
     body: &'p Expr,
 }
 
-/// Adds to one of the numbers, if it is there.
+/// Adds `amount` to the number at `place`, modulo 2^64. Does nothing if there is no such place.
 fn add_at(numbers: &mut [u64], place: u64, amount: u64)
     ensures { Gains (tallied place amount).sums numbers.old numbers.new }
 {
@@ -97,8 +97,9 @@ fn add_at(numbers: &mut [u64], place: u64, amount: u64)
     numbers[place] = numbers[place].wrapping_add(amount);
 }
 
-/// Evaluates the expressions of a program, by plain recursion in one thread. An error is want of memory, and
-/// what is left of the accounts is then of no use.
+/// Evaluates the expressions of a program, by plain recursion in one thread.
+///
+/// The only error is that memory was refused. After it the accounts have no meaning.
 #[derive(Clone, Copy)]
 struct Evaluator<'p> {
     alloc: Global,
@@ -106,7 +107,7 @@ struct Evaluator<'p> {
 }
 
 impl Evaluator<'_> {
-    /// An item of an array, and 0 outside.
+    /// Returns an item of an array, or 0 if there is no such item.
     fn item(&self, array: u64, index: u64) -> u64
         ensures { result ≡ slice_index (array_at (source_of self.now.program.now).arrays array) index }
     {
@@ -116,7 +117,7 @@ impl Evaluator<'_> {
         }
     }
 
-    /// How many items an array has.
+    /// Returns the number of items of an array.
     fn length(&self, array: u64) -> u64
         ensures { result ≡ length (array_at (source_of self.now.program.now).arrays array) }
     {
@@ -126,8 +127,8 @@ impl Evaluator<'_> {
         }
     }
 
-    /// Evaluates an expression in a thread of its own: its line is the next one, and those of the threads below it
-    /// follow.
+    /// Evaluates an expression in a new thread. The thread's line is the next one, and the lines of the threads below
+    /// it follow.
     #[cycle(evaluation)]
     fn run(&self, shared: &mut Shared, name: Name, expr: &Expr) -> Result<u64, AllocError>
         requires { MayFork (tree_of expr.now) 0 shared.old.lines.items }
@@ -143,7 +144,7 @@ impl Evaluator<'_> {
         Ok(value)
     }
 
-    /// Reduces a range of so many numbers in a thread of its own, in the same way.
+    /// Reduces the `n` numbers from `first` on in a new thread, which has its lines as in `run`.
     #[cycle(evaluation)]
     fn run_half(
         &self,
@@ -168,7 +169,7 @@ impl Evaluator<'_> {
         Ok(value)
     }
 
-    /// Evaluates an expression in the thread that is being evaluated. The environment is as before.
+    /// Evaluates an expression in the current thread. The environment is unchanged.
     #[cycle(evaluation)]
     fn value(&self, shared: &mut Shared, own: &mut Own, expr: &Expr) -> Result<u64, AllocError>
         requires { MayFork (tree_of expr.now) own.old.forks shared.old.lines.items }
@@ -270,7 +271,7 @@ impl Evaluator<'_> {
         Ok(value)
     }
 
-    /// Evaluates an expression with a newest variable.
+    /// Evaluates an expression with `newest` as the newest variable.
     #[cycle(evaluation)]
     fn body(
         &self,
@@ -332,7 +333,7 @@ impl Evaluator<'_> {
         Ok(value)
     }
 
-    /// The child is evaluated after what is done during its life, so that each line is pushed where it stays.
+    /// Evaluates a fork. The child is evaluated after `during`, so that each line is pushed at its final place.
     #[cycle(evaluation)]
     fn fork(
         &self,
@@ -357,7 +358,7 @@ impl Evaluator<'_> {
         Ok(value)
     }
 
-    /// Evaluates an expression with two newest variables.
+    /// Evaluates an expression with `first` and then `second` as the newest variables.
     #[cycle(evaluation)]
     fn after(
         &self,
@@ -407,8 +408,9 @@ impl Evaluator<'_> {
         Ok(value)
     }
 
-    /// Takes so many turns of a fold. The number and the value so far are the two newest variables, and each turn
-    /// puts its own in the place of those before.
+    /// Evaluates `n` iterations of a fold, over the numbers from `from` on, with `first` as the first value.
+    ///
+    /// The number and the value so far are the two newest variables. Each iteration overwrites those of the one before.
     #[cycle(evaluation)]
     fn turns(
         &self,
@@ -463,8 +465,10 @@ impl Evaluator<'_> {
         Ok(value)
     }
 
-    /// Reduces a range of so many numbers. The left half of one that is longer than the grain is a child thread, which
-    /// is run after the right half, so that each line is pushed where it stays.
+    /// Reduces the `n` numbers from `first` on.
+    ///
+    /// If there are more than the grain, the left half is a child thread. It is run after the right half, so that each
+    /// line is pushed at its final place.
     #[cycle(evaluation)]
     fn halves(
         &self,
@@ -492,7 +496,7 @@ impl Evaluator<'_> {
         Ok(reducer.reduction.operation().apply(left_value, right_value))
     }
 
-    /// Reduces a range of so many numbers in the thread that is being evaluated. The number is the newest variable.
+    /// Reduces the `n` numbers from `first` on in the current thread, with the number as the newest variable.
     #[cycle(evaluation)]
     fn reduce(
         &self,
@@ -523,8 +527,10 @@ impl Evaluator<'_> {
     }
 }
 
-/// Evaluates a checked program on one thread, by plain recursion that goes no deeper than the program's 64
-/// levels and the 64 halvings of each sweep. The only error is want of memory.
+/// Evaluates a checked program on one thread.
+///
+/// The only error is that memory was refused. It is a plain recursion, which goes no deeper than the program's 64
+/// levels and the 64 halvings of each sweep.
 pub fn eval(alloc: Global, program: &Program) -> Result<Meaning, AllocError>
     requires { IsChecked (source_of program.now) }
     ensures { IfOk result (λ meaning. meaning ≡ meaning_of (source_of program.now)) }

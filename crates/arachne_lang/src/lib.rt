@@ -1,4 +1,4 @@
-//! The task language: its programs, their texts, and what they mean on one thread.
+//! The task language: its programs, their texts, and their meaning on one thread.
 #![tactic(auto)]
 
 mod byte_list;

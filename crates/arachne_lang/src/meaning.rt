@@ -1,21 +1,21 @@
-//! What a program means: its value, its ledgers' totals and its threads.
+//! The meaning of a program: its value, its ledgers' totals and its threads.
 use crate::name::Name;
 use crate::sequence::Sequence;
 
-/// A thread, and how often it held each lock, modulo 2^64.
+/// A thread's name, and for each lock the number of times that it held it, modulo 2^64.
 #[derive(Debug, PartialEq, Eq, Drop)]
 pub struct Line {
     pub name: Name,
     pub holds: Sequence<u64>,
 }
 
-/// What a program means.
+/// The meaning of a program: the result of its evaluation.
 #[derive(Debug, PartialEq, Eq, Drop)]
 pub struct Meaning {
-    /// The value of its expression.
+    /// The value of the program's expression.
     pub value: u64,
-    /// For each ledger the sum of what was tallied to it, modulo 2^64.
+    /// For each ledger, the sum of the amounts that were tallied to it, modulo 2^64.
     pub totals: Sequence<u64>,
-    /// Its threads, the root first.
+    /// The lines of its threads, the root's first.
     pub threads: Sequence<Line>,
 }

@@ -9,9 +9,10 @@ use crate::word_list::WordList;
 use std::alloc::{AllocError, Global};
 use std::marker::Model;
 
-/// A thread's name: the numbers of the forks that lead to it from the root, whose own name has none.
+/// A thread's name: the numbers of the forks that lead to it from the root. The root's name is empty.
 ///
-/// Up to 30 numbers below 256, or up to 6 below 2^32, stand in its own 32 bytes. Others are in a `Vec`.
+/// Up to 30 numbers below 256, or up to 6 below 2^32, are stored in the name's own 32 bytes. Others are stored in a
+/// `Vec`.
 #[derive(Debug, Drop)]
 pub struct Name {
     forks: Forks,
@@ -23,7 +24,7 @@ const _: () = prove!(size_of::<Name>() == 32);
 #[derive(Debug, Drop)]
 enum Forks {
     Bytes(ByteList),
-    /// One of them is 256 or more.
+    /// At least one of them is 256 or more.
     Words(WordList),
     Heap(Vec<u64>),
 }
@@ -41,7 +42,7 @@ impl Model for Name {
 }
 
 impl Name {
-    /// The name of the root thread. It takes no memory.
+    /// Returns the name of the root thread. Takes no memory.
     pub fn root(_alloc: Global) -> Name
         ensures { result ≡ [] }
     {
@@ -50,7 +51,9 @@ impl Name {
         }
     }
 
-    /// The name of the thread that this one forks with this number, from 0.
+    /// Returns the name of the child that this thread forks as its `number`-th, counted from 0.
+    ///
+    /// Memory is refused only if the name doesn't fit into its own 32 bytes.
     pub fn child(&self, alloc: Global, number: u64) -> Result<Name, AllocError>
         ensures named { IfOk result (λ name. name ≡ self.now ++ number ∷ []) }
         ensures inline { FitsInline (self.now ++ number ∷ []) → IsOk result }
@@ -70,7 +73,7 @@ impl Name {
         }
     }
 
-    /// The numbers of the name of such a thread, where words have room for them.
+    /// Returns the numbers of that child's name, or `None` if they don't fit into a `WordList`.
     fn words_with(&self, number: u64) -> Option<WordList>
         ensures { SomeIff result (FitsWords (self.now ++ number ∷ [])) (self.now ++ number ∷ []) }
     {
@@ -81,7 +84,7 @@ impl Name {
         }
     }
 
-    /// The name of such a thread that does not fit inline.
+    /// Returns the name of that child, whose numbers fit into none of the short lists.
     #[inline(never)]
     fn long_child(&self, alloc: Global, number: u64) -> Result<Name, AllocError>
         requires bytes { ¬ FitsBytes (self.now ++ number ∷ []) }
@@ -98,7 +101,7 @@ impl Name {
         })
     }
 
-    /// How many numbers it has.
+    /// Returns the length of the name.
     pub fn len(&self) -> usize
         ensures { result ≡ length self.now }
     {
@@ -109,7 +112,7 @@ impl Name {
         }
     }
 
-    /// The number at this place, from 0.
+    /// Returns the number at place `k`, from 0.
     pub fn number(&self, k: usize) -> u64
         requires { k < length self.now }
         ensures { result ≡ slice_index self.now k }
@@ -121,7 +124,7 @@ impl Name {
         }
     }
 
-    /// Whether it is the name of the child that the thread of the other name forks with this number.
+    /// Returns whether this is the name of the child that the thread of the name `parent` forks as its `number`-th.
     pub fn is_child_of(&self, parent: &Name, number: u64) -> bool
         ensures { IsTrue result ↔ (self.now ≡ parent.now ++ number ∷ []) }
     {
@@ -141,7 +144,7 @@ impl Name {
         }
     }
 
-    /// Whether these are its numbers.
+    /// Returns whether the name has these numbers.
     fn has_numbers(&self, numbers: &[u64]) -> bool
         ensures { IsTrue result ↔ (self.now ≡ numbers.now) }
     {
@@ -179,7 +182,7 @@ impl Eq for Name {
     ghost laws = { nat_list_eq_equiv };
 }
 
-/// The numbers, and this one behind them.
+/// Returns the numbers with `number` appended.
 fn with_number(alloc: Global, numbers: &[u64], number: u64) -> Result<Vec<u64>, AllocError>
     ensures { IfOk result (λ longer. longer.items ≡ numbers.now ++ number ∷ []) }
 {

@@ -1,4 +1,4 @@
-//! Writing the text of a program.
+//! Writes the text of a program.
 
 ghost use Rattle.std.specs.Prelude.{◌≡◌, ◌^◌, ◌<◌, ◌≤◌, ◌++◌, ◌∷◌, [], codes, map, option_to_list, IfOk, OnOk};
 ghost use Rattle.std.specs.List.{AllByRecursion};
@@ -10,11 +10,13 @@ use crate::program::{Class, Expr, Operation, Program, Reduction};
 use itoa::Buffer;
 use std::alloc::{AllocError, Global};
 
-/// The one text of a program. Linear in its bytes; memory is taken for the text alone, as it grows.
+/// Returns the text of a program, of which there is only one.
+///
+/// The time is linear in the bytes of the text. Memory is taken only for the text, as it grows.
 pub fn print(alloc: Global, program: &Program) -> Result<Vec<u8>, AllocError>
     requires { nesting (tree_of program.now.root) ≤ 64 }
     ensures text { IfOk result (λ text. text.items ≡ text_of (source_of program.now)) }
-    // So the text is read as this program, unless want of memory is answered.
+    // So `parse` reads the text as this program, unless memory is refused.
     ensures accepted { OnOk result (IsAccepted (source_of program.now)) }
 {
     let mut text = Vec::new(alloc);
@@ -31,7 +33,7 @@ pub fn print(alloc: Global, program: &Program) -> Result<Vec<u8>, AllocError>
     Ok(text)
 }
 
-/// Adds a line: a word, and the numbers after it.
+/// Appends a line: a word, and the numbers after it.
 fn push_line(text: &mut Vec<u8>, word: &[u8], numbers: &[u64]) -> Result<(), AllocError>
     ensures text { OnOk result (text.new.items ≡ text.old.items ++ line word.now numbers.now) }
     ensures fit { OnOk result (AllByRecursion (λ n. n < 2 ^ 64) numbers.now) }
@@ -44,7 +46,7 @@ fn push_line(text: &mut Vec<u8>, word: &[u8], numbers: &[u64]) -> Result<(), All
     Ok(())
 }
 
-/// Adds a space and the digits of a number.
+/// Appends a space and the digits of a number.
 fn push_number(text: &mut Vec<u8>, number: u64) -> Result<(), AllocError>
     ensures { OnOk result (text.new.items ≡ text.old.items ++ 32 ∷ numeral number) }
 {
@@ -54,7 +56,7 @@ fn push_number(text: &mut Vec<u8>, number: u64) -> Result<(), AllocError>
     Ok(())
 }
 
-/// The word that an operation begins with.
+/// Returns the word that the form of an operation begins with.
 fn word_of(operation: Operation) -> &'static [u8]
     ensures { result.now ≡ operation_word operation }
 {
@@ -70,7 +72,7 @@ fn word_of(operation: Operation) -> &'static [u8]
     }
 }
 
-/// Adds an expression.
+/// Appends an expression.
 #[cycle(expression)]
 fn push_expression(text: &mut Vec<u8>, expr: &Expr) -> Result<(), AllocError>
     ensures text { OnOk result (text.new.items ≡ text.old.items ++ spelling (tree_of expr.now)) }
@@ -99,7 +101,7 @@ fn push_expression(text: &mut Vec<u8>, expr: &Expr) -> Result<(), AllocError>
     }
 }
 
-/// Adds a space and an expression.
+/// Appends a space and an expression.
 #[cycle(expression)]
 fn push_part(text: &mut Vec<u8>, part: &Expr) -> Result<(), AllocError>
     ensures text { OnOk result (text.new.items ≡ text.old.items ++ 32 ∷ spelling (tree_of part.now)) }
@@ -110,7 +112,7 @@ fn push_part(text: &mut Vec<u8>, part: &Expr) -> Result<(), AllocError>
     Ok(())
 }
 
-/// Adds a form of a word and a number.
+/// Appends the form of a word and a number.
 fn push_leaf(text: &mut Vec<u8>, word: &[u8], number: u64) -> Result<(), AllocError>
     ensures { OnOk result (text.new.items ≡ text.old.items ++ bracketed word.now (numeral number ∷ [])) }
 {
@@ -119,7 +121,7 @@ fn push_leaf(text: &mut Vec<u8>, word: &[u8], number: u64) -> Result<(), AllocEr
     Ok(())
 }
 
-/// Adds a form of a word, a number and a part.
+/// Appends the form of a word, a number and a part.
 #[cycle(expression)]
 fn push_with_one(text: &mut Vec<u8>, word: &[u8], number: u64, a: &Expr) -> Result<(), AllocError>
     ensures text { OnOk result (text.new.items ≡ text.old.items ++ bracketed word.now (numeral number ∷ spelling (tree_of a.now) ∷ [])) }
@@ -131,7 +133,7 @@ fn push_with_one(text: &mut Vec<u8>, word: &[u8], number: u64, a: &Expr) -> Resu
     Ok(())
 }
 
-/// Adds a form of a word, a number if it has one, and two parts.
+/// Appends the form of a word, a number if it has one, and two parts.
 #[cycle(expression)]
 fn push_with_two(
     text: &mut Vec<u8>,
@@ -151,7 +153,7 @@ fn push_with_two(
     Ok(())
 }
 
-/// Adds a form of a word, a number if it has one, and three parts.
+/// Appends the form of a word, a number if it has one, and three parts.
 #[cycle(expression)]
 fn push_with_three(
     text: &mut Vec<u8>,
@@ -174,7 +176,7 @@ fn push_with_three(
     Ok(())
 }
 
-/// Adds a form of a word and four parts.
+/// Appends the form of a word and four parts.
 #[cycle(expression)]
 fn push_with_four(
     text: &mut Vec<u8>,
@@ -197,7 +199,7 @@ fn push_with_four(
     Ok(())
 }
 
-/// Adds what a form begins with: a bracket, its word, and a number if it has one.
+/// Appends the beginning of a form: a bracket, its word, and a number if it has one.
 fn push_opening(text: &mut Vec<u8>, word: &[u8], number: Option<u64>) -> Result<(), AllocError>
     ensures { OnOk result (text.new.items ≡ text.old.items ++ 40 ∷ word.now ++ after_spaces (map numeral (option_to_list number))) }
 {
@@ -209,7 +211,7 @@ fn push_opening(text: &mut Vec<u8>, word: &[u8], number: Option<u64>) -> Result<
     Ok(())
 }
 
-/// The words that a fork begins with.
+/// Returns the words that a fork begins with.
 fn fork_words(class: Class) -> &'static [u8]
     ensures { result.now ≡ codes "fork" ++ 32 ∷ class_word class }
 {
@@ -219,7 +221,7 @@ fn fork_words(class: Class) -> &'static [u8]
     }
 }
 
-/// The words that a sweep begins with.
+/// Returns the words that a sweep begins with.
 fn sweep_words(reduction: Reduction) -> &'static [u8]
     ensures { result.now ≡ codes "sweep" ++ 32 ∷ reduction_word reduction }
 {

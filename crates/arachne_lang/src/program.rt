@@ -1,4 +1,4 @@
-//! A program of the task language, and its expressions.
+//! The programs of the task language, and their expressions.
 ghost use Rattle.std.specs.Prelude.{◌≡◌, ◌↔◌, IsTrue, map};
 ghost use Rattle.std.specs.Ordering.{on};
 ghost use Rattle.std.specs.Cmp.{decided, partial_equiv_from_equiv};
@@ -8,12 +8,12 @@ ghost use Rattle.arachne_lang.specs.Same.{same_tree, same_source};
 ghost use Rattle.arachne_lang.specs.Value.{apply, operation_of, unit_of};
 ghost use Rattle.arachne_lang.specs.SameDecides.{same_tree-Decides, same_source-Decides};
 
-/// Where a forked thread may run.
+/// The cores on which a forked thread may run.
 #[derive(Clone, Copy, Debug, PartialEq, Eq)]
 pub enum Class {
-    /// On a core that it shares with others.
+    /// A core that it shares with others.
     Normal,
-    /// On a core that it has for itself.
+    /// A core that it has for itself.
     Exclusive,
 }
 
@@ -26,14 +26,14 @@ pub enum Operation {
     Min,
     Max,
     Xor,
-    /// 1 where the first is less, else 0.
+    /// 1 if the first is less, else 0.
     Lt,
-    /// 1 where both are the same, else 0.
+    /// 1 if both are the same, else 0.
     Eq,
 }
 
 impl Operation {
-    /// What it makes of two numbers.
+    /// Returns the result of the operation for two numbers.
     #[inline(always)]
     pub fn apply(self, x: u64, y: u64) -> u64
         ensures { result ≡ apply self x y }
@@ -51,7 +51,7 @@ impl Operation {
     }
 }
 
-/// What a sweep reduces its values by.
+/// The way in which a sweep reduces its values to one.
 #[derive(Clone, Copy, Debug, PartialEq, Eq)]
 pub enum Reduction {
     /// Their sum, from 0.
@@ -67,7 +67,7 @@ pub enum Reduction {
 }
 
 impl Reduction {
-    /// The operation that joins two values.
+    /// Returns the operation that combines two values.
     #[inline(always)]
     pub fn operation(self) -> Operation
         ensures { result ≡ operation_of self }
@@ -81,7 +81,7 @@ impl Reduction {
         }
     }
 
-    /// The value that a sweep starts from: joined to another value it leaves that as it is.
+    /// Returns the value that a sweep starts from, the neutral element of the operation.
     #[inline(always)]
     pub fn unit(self) -> u64
         ensures { result ≡ unit_of self }
@@ -101,32 +101,33 @@ pub enum Expr {
     Num(u64),
     /// A variable, by its place in the environment, the oldest being 0.
     Var(u64),
-    /// How many items an array has.
+    /// The number of items of an array.
     Len(u64),
-    /// An item of an array, from 0; 0 outside the array.
+    /// The item of an array at an index, from 0; the value is 0 if there is no such item.
     Item(u64, Box<Expr>),
     /// An operation of two expressions.
     Binary(Operation, Box<Expr>, Box<Expr>),
-    /// The second where the first is not 0, else the third; the other is not evaluated.
+    /// The second if the first is not 0, else the third. The other one is not evaluated.
     If(Box<Expr>, Box<Expr>, Box<Expr>),
-    /// The second, where the value of the first is the newest variable.
+    /// The second, with the value of the first as the newest variable.
     Let(Box<Expr>, Box<Expr>),
-    /// The value of the second, after that of the first was added to a ledger.
+    /// The value of the second, after the value of the first has been added to a ledger.
     Tally(u64, Box<Expr>, Box<Expr>),
     /// An expression that is evaluated while the thread holds a lock.
     Hold(u64, Box<Expr>),
-    /// A child thread, what the own thread evaluates meanwhile, and what it goes on with once the child
-    /// is joined: there the child's value and then that of the second are the newest variables.
+    /// A fork: the child's expression, the expression that the thread evaluates while the child runs, and the one that
+    /// it evaluates after the join. In the last the two newest variables are the child's value and then that of the
+    /// second.
     Fork(Class, Box<Expr>, Box<Expr>, Box<Expr>),
-    /// A range, from the first to below the second; a value to start from; and the body, where the number
-    /// and then the value so far are the newest variables.
+    /// A fold over a range, from the first to below the second; the third is the first value, the fourth the body. In
+    /// the body the two newest variables are the number and then the value so far.
     Fold(Box<Expr>, Box<Expr>, Box<Expr>, Box<Expr>),
-    /// A grain; a range, from the first expression to below the second; and the body, where the number is the
-    /// newest variable. A range that is longer than the grain is halved, and the left half is a child thread.
+    /// A sweep: its grain; a range, from the first expression to below the second; and the body, in which the number is
+    /// the newest variable. A range that is longer than the grain is halved, and the left half is a child thread.
     Sweep(Reduction, u64, Box<Expr>, Box<Expr>, Box<Expr>),
 }
 
-/// A program: read-only arrays, how many ledgers and locks it has, and its expression.
+/// A program: read-only arrays, the numbers of its ledgers and locks, and its expression.
 #[derive(Debug, Drop)]
 pub struct Program {
     pub arrays: Vec<Vec<u64>>,
@@ -136,7 +137,7 @@ pub struct Program {
 }
 
 impl Expr {
-    /// Whether both are the same expression. It stops at the first difference.
+    /// Returns whether both are the same expression. Stops at the first difference.
     fn is_same(&self, other: &Expr) -> bool
         ensures { IsTrue result ↔ (tree_of self.now ≡ tree_of other.now) }
     {
@@ -191,7 +192,7 @@ fn are_same_arrays(some: &[Vec<u64>], others: &[Vec<u64>]) -> bool
 }
 
 impl Program {
-    /// Whether both are the same program. It stops at the first difference.
+    /// Returns whether both are the same program. Stops at the first difference.
     fn is_same(&self, other: &Program) -> bool
         ensures { IsTrue result ↔ (source_of self.now ≡ source_of other.now) }
     {

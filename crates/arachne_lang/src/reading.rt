@@ -1,4 +1,4 @@
-//! Reading the text of a program.
+//! Reads the text of a program.
 
 ghost use Rattle.std.specs.Prelude.{◌≡◌, ◌⊎◌, Err, IfOk, IfErr, IsErrAnd, MatchResult};
 ghost use Rattle.arachne_lang.specs.declared.text_fault.TextFault.{TextFault as Fault};
@@ -24,22 +24,24 @@ use std::alloc::Global;
 use stop::Stop;
 use words::word;
 
-/// The deepest nesting of a program that is read.
+/// The maximum nesting of a program.
 const NESTING: u8 = 64;
 
-/// The program that the text spells, all of the text. Linear in the bytes, with no copy of them; memory is
-/// taken for the boxes and the arrays of the program alone.
+/// Returns the program that the whole text spells, or the first fault of the text.
+///
+/// The time is linear in the bytes of the text, which are not copied. Memory is taken only for the boxes and the arrays
+/// of the program.
 pub fn parse(alloc: Global, text: &[u8]) -> Result<Program, TextFault>
-    // What is read is accepted, and the text is its spelling.
+    // A program that is returned is accepted, and the text is its spelling.
     ensures accepted { IfOk result (λ program. IsAccepted (source_of program) × (text_of (source_of program) ≡ text.now)) }
-    // What is accepted is read, unless want of memory is answered.
+    // The text of an accepted program is read as that program, unless memory is refused.
     ensures every_text { (source : Source) → IsAccepted source → text_of source ≡ text.now
         → MatchResult result (λ program. source_of program ≡ source) (λ fault. fault ≡ TextFault.Memory) }
-    // Where the header is missing, that fault is the answer, even where memory is wanting.
+    // If the header is missing, that fault is returned, even if memory is refused.
     ensures no_header { ¬ StartsWith header text.now → result ≡ Err (Fault.Header 0) }
-    // A fault is the first one of the text, unless want of memory is answered.
+    // The fault that is returned is the first one of the text, or that memory was refused.
     ensures first_fault { IfErr result (λ fault. (fault ≡ TextFault.Memory) ⊎ IsFirstFault text.now fault) }
-    // A text with a first fault is refused by it, unless want of memory is answered.
+    // If the text has a first fault, that fault is returned, or that memory was refused.
     ensures every_fault { (first : Fault) → IsFirstFault text.now first → IsErrAnd result (λ fault. (fault ≡ TextFault.Memory) ⊎ (fault ≡ first)) }
 {
     let Ok(rest) = word(text, b"arachne 1\n") else {
@@ -51,7 +53,7 @@ pub fn parse(alloc: Global, text: &[u8]) -> Result<Program, TextFault>
     }
 }
 
-/// The program that stands behind the header.
+/// Returns the program whose text, without the header, this is.
 #[tactic(auto, unfolding(crate::specs::Reading::program_at, crate::specs::Reading::source_at, crate::specs::Reading::lines_at))]
 fn program(alloc: Global, text: &[u8]) -> Result<Program, Stop<'_>>
     ensures { Gives source_of result (program_at text.now) }

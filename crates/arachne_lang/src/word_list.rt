@@ -1,16 +1,16 @@
-//! Up to 6 numbers below 2^32 in 28 bytes, for thread names that need no memory.
+//! Lists of up to 6 numbers below 2^32 in 28 bytes, for thread names that need no memory.
 ghost use Rattle.std.specs.Prelude.{◌≡◌, ◌<◌, ◌≤◌, ◌^◌, [], ◌∷◌, ◌++◌, ◌↔◌, length, IfOk, IsTrue, SomeIff};
 
 use std::alloc::{AllocError, Global};
 use std::marker::Model;
 
-/// The most numbers that a list holds.
+/// The maximum length of a list.
 const ROOM: usize = 6;
 
-/// The first number that is too large for a list.
+/// The lowest number that is too large for a list.
 const TOO_LARGE: u64 = 1 << 32;
 
-/// At most 6 numbers below 2^32, which take no memory beside the list's own 28 bytes.
+/// A list of at most 6 numbers below 2^32. It takes no memory beside its own 28 bytes.
 #[derive(Debug, Drop)]
 pub struct WordList {
     len: u32,
@@ -28,7 +28,7 @@ impl Model for WordList {
 }
 
 impl WordList {
-    /// The list of no numbers.
+    /// Returns the empty list.
     pub fn empty() -> WordList
         ensures { result ≡ [] }
     {
@@ -38,7 +38,7 @@ impl WordList {
         }
     }
 
-    /// The list of these numbers, where there is room.
+    /// Returns the list of the numbers of `bytes`, or `None` if they are more than 6.
     pub fn of_bytes(bytes: &[u8]) -> Option<WordList>
         ensures { SomeIff result (length bytes.now ≤ 6) bytes.now }
     {
@@ -49,14 +49,14 @@ impl WordList {
         Some(list)
     }
 
-    /// The numbers.
+    /// Returns the numbers as a slice.
     pub fn as_slice(&self) -> &[u32]
         ensures { result.now ≡ self.now }
     {
         &self.words[..self.len as usize]
     }
 
-    /// The list with this number behind its own, where there is room and the number is below 2^32.
+    /// Returns the list with `number` appended. Returns `None` if the list is full or the number is 2^32 or more.
     pub fn with(&self, number: u64) -> Option<WordList>
         ensures { SomeIff result ((length self.now < 6) × (number < 2 ^ 32)) (self.now ++ number ∷ []) }
     {
@@ -72,7 +72,7 @@ impl WordList {
         })
     }
 
-    /// Whether it is the other list with this number behind it.
+    /// Returns whether this list is `front` with `number` appended.
     pub fn is_longer_by(&self, front: &WordList, number: u64) -> bool
         ensures { IsTrue result ↔ (self.now ≡ front.now ++ number ∷ []) }
     {
@@ -82,7 +82,7 @@ impl WordList {
         }
     }
 
-    /// The numbers, and this one behind them, whatever it is.
+    /// Returns the numbers with `number` appended, in a `Vec`, which holds a number of any size.
     pub fn widened(&self, alloc: Global, number: u64) -> Result<Vec<u64>, AllocError>
         ensures { IfOk result (λ longer. longer.items ≡ self.now ++ number ∷ []) }
     {

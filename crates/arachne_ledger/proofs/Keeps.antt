@@ -36,11 +36,11 @@ opens count words sized clear = record {
 add-reduced : (found total amount : ℕ) → found ≡ total % 2 ^ 64 → (found + amount) % 2 ^ 64 ≡ (total + amount) % 2 ^ 64
 add-reduced found total amount e = ap (λ n. (n + amount) % 2 ^ 64) e ∙ mod-add-mod total (2 ^ 64) amount
 
--- the sum of one ledger is raised, and the others stay
+-- the sum of one ledger is raised, and the others are unchanged
 raised-same : (sums : Sums) (ledger other amount : ℕ) → ledger < length sums → other ≡ ledger → get_or (raised sums ledger amount) other 0 ≡ get_or sums other 0 + amount
 raised-same sums ledger other amount inside e = get_or-set_at sums ledger other (get_or sums ledger 0 + amount) 0 e inside ∙ ap (λ k. get_or sums k 0 + amount) (sym e)
 
--- the words stay the sums
+-- the words are still the sums of the shares
 module _ (count : ℕ) (board : Board) (h : IsBalanced count board) (place weight : ℕ) (known : Known) (mine : get_elem? board.views place ≡ some (held weight known)) where
   pub keeps-add : (ledger amount : ℕ) → ledger < count → length known.sums ≡ count → IsBalanced count (after_add board place weight known ledger amount)
   keeps-add ledger amount inside long =

@@ -1,4 +1,4 @@
--- What a share's seat may do on the table that it came from.
+-- The steps that a share's seat may make on the table that it came from.
 use Rattle.std.proofs.Common.{◌≡◌, ℕ, ◌+◌, ◌%◌, ◌^◌, ◌<◌, List, length, get_or, sym, ap, ◌∙◌, subst, arith, length-set}
 use mathlib.Core.Option.{none, some}
 use lib.ListN.{get_elem?}
@@ -32,7 +32,7 @@ module _ (table : TableId) (key count : ℕ) (laid : IsLaidOut table key count) 
       subst (λ (m : Mine). Allows (IsBalanced key) table.slots id m word (λ n. n) (Reads (step table.slots word 0 0 none) m)) (sym seat.mine)
       (reads key table.slots id word ledger weight me.0.known there (long home weight me same seat))
 
-  -- what stands in a word at the end is the sum of the share that is whole
+  -- the word at the end is the sum of the whole share
   pub settled : (home : TableId) (weight : ℕ) (me : Mine) → home ≡ table → IsSeated home weight me → weight ≡ whole → (id : ℕ) (words : List ℕ) (slots : List (Unit {0})) → Final (Seen (IsBalanced key) id me.0) words slots
       → (word ledger found : ℕ) → word ≡ word_of ledger → ledger < count → get_elem? words word ≡ some found → found ≡ get_or me.0.known.sums ledger 0 % 2 ^ 64
   settled home weight me same seat all id words slots final word ledger found there inside at =
@@ -49,7 +49,7 @@ join-allowed key home away weight added me other seat seat' id from =
     subst (λ (m : Mine × Mine). Joins (IsBalanced key) id m.0.0 from m.1.0 (joined_share m.0.0 m.1.0) (spent (blank 0))) (λ i. (sym seat.mine i, sym seat'.mine i))
     (gathers key id weight me.0.known from added other.0.known)
 
--- a seat after it added
+-- a seat after an add
 pub seated-added : (home : TableId) (weight : ℕ) (before after : Mine) → IsSeated home weight before → (ledger amount : ℕ)
     → after ≡ (held before.0.weight (after_adding before.0.known ledger amount), before.1) → IsSeated home weight after
 seated-added home weight before after seat ledger amount told =
@@ -59,7 +59,7 @@ seated-added home weight before after seat ledger amount told =
       sized = ap word_of (length-set before.0.known.sums ledger (get_or before.0.known.sums ledger 0 + amount)) ∙ seat.sized;
     })
 
--- a seat after it read
+-- a seat after a read
 pub seated-told : (home : TableId) (weight : ℕ) (before after : Mine) → IsSeated home weight before → (ledger found : ℕ)
     → after ≡ (held before.0.weight (after_reading before.0.known ledger found), before.1) → IsSeated home weight after
 seated-told home weight before after seat ledger found told =
@@ -69,7 +69,7 @@ seated-told home weight before after seat ledger found told =
       sized = seat.sized;
     })
 
--- a seat after it took in another
+-- a seat after another was joined into it
 pub seated-joined : (home away : TableId) (weight added : ℕ) (me other after : Mine) → IsSeated home weight me → IsSeated away added other → away ≡ home
     → after ≡ (joined_share me.0 other.0, me.1) → IsSeated home (joined weight added) after
 seated-joined home away weight added me other after seat seat' same e =

@@ -5,7 +5,7 @@ use mathlib.Core.Option.{some, some-injective, some-ne-none}
 use lib.ListN.{get_elem?}
 use Rattle.arachne_ledger.specs.Sums.{plus}
 
--- what stands at a place is what a look-up finds
+-- the item at a place is the one that a look-up finds
 pub get_or-at : (xs : List ℕ) (i n : ℕ) → get_elem? xs i ≡ some n → get_or xs i 0 ≡ n
 get_or-at [] i n e = absurd (some-ne-none n (sym e))
 get_or-at (x ∷ xs) zero n e = some-injective x n e

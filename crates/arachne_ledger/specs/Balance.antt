@@ -1,4 +1,4 @@
--- How the words of the table stand to the sums of the shares.
+-- The balance between the words of the table and the sums of the shares.
 use Rattle.std.specs.Prelude.{◌≡◌, ℕ, ◌+◌, ◌*◌, ◌%◌, ◌^◌, ◌<◌, List, [], ◌∷◌, ◌++◌, length, slice_index, slice_set}
 use Rattle.std.specs.List.{sum_by}
 use Rattle.atomic_table.specs.Table.{State}
@@ -8,8 +8,8 @@ use Rattle.arachne_weights.specs.Weight.{whole, first_part, second_part, joined}
 use Rattle.arachne_ledger.specs.declared.share.Known.{Known}
 use Rattle.arachne_ledger.specs.Sums.{blank, after_adding, after_reading, after_joining}
 
--- Ledgers lie sixteen words apart, and sixteen words follow the place of the last, so that no two share a cache line
--- and no ledger shares one with what lies beside the table
+-- The index of a ledger's word. Ledgers lie sixteen words apart, and sixteen words follow the place of the last. So no
+-- two share a cache line, and no ledger shares one with the memory next to the table.
 abbrev pub word_of : ℕ → ℕ
 word_of ledger = 16 * (ledger + 1)
 
@@ -40,7 +40,7 @@ second_share t = held (second_part t.weight) (blank (length t.known.sums))
 abbrev pub joined_share : Token Known → Token Known → Token Known
 joined_share t u = held (joined t.weight u.weight) (after_joining t.known u.known)
 
--- what an add through the share at that place makes of the board
+-- the board after an add through the share at that place
 abbrev pub after_add : Board → ℕ → ℕ → Known → ℕ → ℕ → Board
 after_add board place weight known ledger amount = record {
   words = slice_set board.words (word_of ledger) ((slice_index board.words (word_of ledger) + amount) % 2 ^ 64);
@@ -55,7 +55,7 @@ after_split board place weight known = record {
   views = slice_set board.views place (first_share (held weight known)) ++ second_share (held weight known) ∷ [];
 }
 
--- what is left where the share at that place took in another
+-- the board after the share at that place was joined with the other, which is spent
 abbrev pub after_join : Board → ℕ → ℕ → Known → ℕ → ℕ → Known → Board
 after_join board place weight known other added others = record {
   words = board.words;
@@ -63,7 +63,7 @@ after_join board place weight known other added others = record {
   views = slice_set (slice_set board.views place (joined_share (held weight known) (held added others))) other (spent (blank 0));
 }
 
--- a reading through the share at that place changes what it read last, and nothing else
+-- the board after a read through the share at that place, which changes only the share's last reading
 abbrev pub after_read : Board → ℕ → ℕ → Known → ℕ → Board
 after_read board place weight known ledger = record {
   words = board.words;

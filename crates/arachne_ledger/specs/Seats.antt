@@ -1,4 +1,4 @@
--- What `Ledgers` and `Share` keep of their table and seat.
+-- The invariants of `Ledgers` and `Share` over their table and seat.
 use Rattle.std.specs.Prelude.{◌≡◌, ℕ, ◌^◌, ◌<◌, [], length}
 use Rattle.atomic_table.specs.Seated.{TableId}
 use Rattle.atomic_table.specs.Table.{Me}
@@ -11,7 +11,7 @@ use Rattle.arachne_ledger.specs.Balance.{word_of}
 abbrev pub Mine : Type 0
 Mine = Me (Unit {0}) (Token Known)
 
--- a table with a word for each of so many ledgers, and no slot; their number is its key
+-- a table with the words of this number of ledgers, which is its key, and with no slot
 pub record IsLaidOut (table : TableId) (key count : ℕ) : Type 0 where
   pub keyed : key ≡ count
   pub sized : word_of count ≡ table.words

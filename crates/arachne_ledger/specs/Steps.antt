@@ -1,4 +1,4 @@
--- What each step on the table tells the share that makes it.
+-- The knowledge of a share after each of its steps on the table.
 use Rattle.std.specs.Prelude.{◌≡◌, ℕ, ◌%◌, ◌^◌, ◌<◌, length, slice_index}
 use Rattle.atomic_table.specs.Table.{Step}
 use Rattle.arachne_weights.specs.Weight.{whole}
@@ -7,12 +7,12 @@ use Rattle.arachne_ledger.specs.Sums.{after_adding, after_reading}
 use Rattle.arachne_ledger.specs.Balance.{word_of}
 use Rattle.arachne_ledger.specs.Seats.{Mine}
 
--- the amount is in the share's sum for that ledger
+-- the amount was added to the share's sum for that ledger
 abbrev pub Adds : Step (Unit {0}) → Mine → ℕ → Mine → Type 0
 Adds step before found after = (ledger : ℕ) → step.word ≡ word_of ledger
     → after ≡ (held before.0.weight (after_adding before.0.known ledger step.first), before.1)
 
--- the share knows what it found in that ledger's word; a whole share finds its own sum
+-- the share knows the number that it found in that ledger's word; a whole share finds its own sum
 abbrev pub Reads : Step (Unit {0}) → Mine → ℕ → Mine → Type 0
 Reads step before found after = (ledger : ℕ) → step.word ≡ word_of ledger
     → (after ≡ (held before.0.weight (after_reading before.0.known ledger found), before.1))

@@ -1,4 +1,4 @@
--- What one share knows: a sum for each ledger, which is not reduced, and what it read last.
+-- The knowledge of one share: a sum for each ledger, which is not reduced, and its last reading.
 use Rattle.std.specs.Prelude.{ℕ, ◌+◌, List, [], ◌∷◌, replicate, slice_index, slice_set}
 use Rattle.std.specs.declared.option.Option.TheVariants.{None, Some}
 use Rattle.arachne_ledger.specs.declared.share.Known.{Known}
@@ -16,18 +16,18 @@ plus [] ys = ys
 plus (x ∷ xs) [] = x ∷ xs
 plus (x ∷ xs) (y ∷ ys) = (x + y) ∷ plus xs ys
 
--- nothing added to so many ledgers, and nothing read
+-- the knowledge of a share of this number of ledgers that has added and read nothing
 abbrev pub blank : ℕ → Known
 blank count = record { sums = replicate count 0; last_read = None }
 
--- what a share knows after an amount was added to one ledger
+-- the knowledge of a share after an amount was added to one ledger
 abbrev pub after_adding : Known → ℕ → ℕ → Known
 after_adding known ledger amount = record known { sums = raised known.sums ledger amount }
 
--- what a share knows after it found a number in the word of a ledger
+-- the knowledge of a share after it has found a number in the word of a ledger
 abbrev pub after_reading : Known → ℕ → ℕ → Known
 after_reading known ledger number = record known { last_read = Some (record { ledger = ledger; number = number }) }
 
--- what a share knows once another was joined into it
+-- the knowledge of a share after another was joined into it
 abbrev pub after_joining : Known → Known → Known
 after_joining known other = record known { sums = plus known.sums other.sums }

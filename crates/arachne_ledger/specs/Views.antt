@@ -1,4 +1,4 @@
--- What a contract sees of ledgers and shares.
+-- The view that contracts have of ledgers and shares.
 use Rattle.std.specs.Prelude.{◌≡◌, ℕ}
 use Rattle.std.specs.declared.option.Option.{Option}
 use mathlib.Core.Option.{some}
@@ -10,28 +10,28 @@ use Rattle.arachne_ledger.specs.Sums.{Sums}
 use Rattle.arachne_ledger.specs.declared.share.Reading.{Reading}
 use Rattle.arachne_ledger.specs.Balance.{Board, IsBalanced}
 
--- which table they are, and how many
+-- the table of the ledgers, and their number
 pub record LedgersView : Type 0 where
   pub table : TableId
   pub count : ℕ
 
--- the table that it came from, its part of the whole weight, for each ledger the sum of what was added through it, and
--- the number that it found last in a ledger's word
+-- the table that the share came from, its part of the whole weight, for each ledger the sum of what was added through
+-- it, and the number that it last found in a ledger's word
 pub record ShareView : Type 0 where
   pub table : TableId
   pub weight : ℕ
   pub sums : Sums
   pub last_read : Option Reading
 
--- it came from these ledgers
+-- the share came from these ledgers
 abbrev pub IsShareOf : LedgersView → ShareView → Type 0
 IsShareOf ledgers share = share.table ≡ ledgers.table
 
--- all other shares were joined into it
+-- all other shares were joined into this one
 abbrev pub IsWhole : ShareView → Type 0
 IsWhole share = share.weight ≡ whole
 
--- the rule allows a board where the share with the whole weight knows what this one knows
+-- the rule allows a board on which the share of the whole weight has this share's knowledge
 pub record IsLawfulEnd (count : ℕ) (share : ShareView) : Type 0 where
   pub board : Board
   pub balanced : IsBalanced count board

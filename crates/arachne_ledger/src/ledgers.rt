@@ -1,4 +1,4 @@
-//! The ledgers of one run, and the calls on them.
+//! Ledgers, and the calls on them.
 ghost use Rattle.std.specs.Prelude.{◌≡◌, ℕ, ◌+◌, ◌*◌, ◌%◌, ◌^◌, ◌<◌, [], map, length, replicate, vec_len, slice_index, Some, None, IfOk, IfErr};
 ghost use Rattle.arachne_weights.specs.Weight.{whole, first_part, second_part, joined};
 ghost use Rattle.arachne_ledger.specs.Sums.{raised, plus};
@@ -15,7 +15,7 @@ use std::marker::Model;
 // The words of two cache lines, since processors fetch lines in pairs.
 const SPACING: usize = 16;
 
-/// Some number of ledgers, each of which begins at 0.
+/// A number of ledgers, each of which begins at 0.
 #[derive(Drop)]
 pub struct Ledgers {
     table: Table<(), View, usize, Balanced, Global>,
@@ -33,7 +33,7 @@ impl Model for Ledgers {
     ghost invariant = { λ l. IsLaidOut l.table.shared.table_id l.table.shared.key l.count };
 }
 
-// The word of a ledger.
+// Returns the index of a ledger's word.
 fn ledger_word(ledger: usize) -> usize
     requires { word_of ledger < 2 ^ 64 }
     ensures { result ≡ word_of ledger }
@@ -41,7 +41,7 @@ fn ledger_word(ledger: usize) -> usize
     SPACING * (ledger + 1)
 }
 
-// The words of so many ledgers, each 0.
+// Returns the words of `count` ledgers, each 0.
 fn zeros(alloc: Global, count: usize) -> Result<Vec<u64>, AllocError>
     ensures { IfOk result (λ v. (vec_len v ≡ word_of count) × ((i : ℕ) → slice_index v.items i ≡ 0)) }
 {
@@ -55,7 +55,7 @@ fn zeros(alloc: Global, count: usize) -> Result<Vec<u64>, AllocError>
 }
 
 impl Ledgers {
-    /// So many ledgers, of which there may be none, and the whole share.
+    /// Creates `count` ledgers, which may be 0. Returns them and the whole share.
     pub fn new(alloc: Global, count: usize) -> Result<(Ledgers, Share), AllocError>
         ensures ledgers { IfOk result (λ r. r.0.count ≡ count) }
         ensures share { IfOk result (λ r. r.1 ≡ record { table = r.0.table; weight = whole; sums = replicate count 0; last_read = None }) }
@@ -69,14 +69,14 @@ impl Ledgers {
         Ok((Ledgers { table, count }, share))
     }
 
-    /// The number of ledgers.
+    /// Returns the number of ledgers.
     pub fn count(&self) -> usize
         ensures { result ≡ self.now.count }
     {
         self.count
     }
 
-    /// Adds to the share's sum for one ledger, and so to its word, in one step.
+    /// Adds to the share's sum for one ledger, and so to the ledger's word, in one step.
     pub fn add(&self, share: &mut Share, ledger: usize, amount: u64)
         requires own { IsShareOf self.now share.old }
         requires ledger { ledger < self.now.count }
@@ -87,8 +87,9 @@ impl Ledgers {
         shared.fetch_add::<Add>(&mut share.seat, ledger_word(ledger), amount);
     }
 
-    /// The ledger's word, which at each moment is the sum of all shares then, modulo 2^64. A whole share finds its own
-    /// sum.
+    /// Reads the ledger's word, which at each moment is the sum of all shares at that moment, modulo 2^64.
+    ///
+    /// If the share is the whole one, the result is its own sum, modulo 2^64.
     pub fn read(&self, share: &mut Share, ledger: usize) -> u64
         requires own { IsShareOf self.now share.old }
         requires ledger { ledger < self.now.count }
@@ -99,7 +100,9 @@ impl Ledgers {
         shared.load::<Read>(&mut share.seat, ledger_word(ledger))
     }
 
-    /// Halves the weight, rounded up for the first share, which keeps the sums. At weight 1 or 0 neither gets any.
+    /// Splits a share in two. The first gets half of the weight, rounded up, and the sums.
+    ///
+    /// If the weight is 1 or 0, neither share gets any weight.
     pub fn split(&self, share: Share) -> (Share, Share)
         requires { IsShareOf self.now share }
         ensures first { result.0 ≡ record share { weight = first_part share.weight } }
@@ -125,7 +128,7 @@ impl Ledgers {
         )
     }
 
-    /// Adds up weights, to at most the whole, and the sums of each ledger.
+    /// Joins two shares: adds their weights, up to the whole, and their sums for each ledger.
     pub fn join_shares(&self, share: Share, other: Share) -> Share
         requires share { IsShareOf self.now share }
         requires other { IsShareOf self.now other }
@@ -146,7 +149,9 @@ impl Ledgers {
         }
     }
 
-    /// The sum of each ledger, modulo 2^64. Where there is no memory for them, the ledgers and the share come back.
+    /// Closes the ledgers, and returns the sum of each, modulo 2^64. The share must be the whole one.
+    ///
+    /// If memory is refused, the ledgers and the share are returned.
     pub fn close(self, alloc: Global, share: Share) -> Result<Vec<u64>, (Ledgers, Share)>
         requires own { IsShareOf self share }
         requires whole { IsWhole share }

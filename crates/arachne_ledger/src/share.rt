@@ -1,4 +1,4 @@
-//! What one thread has added.
+//! Shares: the right of one thread to add to the ledgers.
 ghost use Rattle.std.specs.Prelude.{◌≡◌, ◌↔◌, IsTrue};
 ghost use Rattle.arachne_ledger.specs.Views.{IsWhole};
 
@@ -7,24 +7,24 @@ use atomic_table::Seat;
 use std::collections::LinkedList;
 use std::marker::Model;
 
-/// A number that was found in the word of a ledger.
+/// A number that was read from the word of a ledger.
 pub struct Reading {
     pub ledger: usize,
     pub number: u64,
 }
 
-/// What a share knows: its own sums, one for each ledger, which are not reduced, and its last reading.
+/// The knowledge of a share: its own sums, one for each ledger, which are not reduced, and its last reading.
 pub struct Known {
     pub sums: LinkedList<u64>,
     pub last_read: Option<Reading>,
 }
 
-/// What the table's rule sees of a share. No value of it is made.
+/// The table rule's view of a share. Only contracts use it: no value of it is made.
 pub type View = Token<Known>;
 
 /// A part of the right to all ledgers of one table, with the sums of what was added through it.
 ///
-/// It is used and joined with the ledgers that it came from. A share that is dropped takes its weight with it, so
+/// It must be used and joined with the ledgers that it came from. A share that is dropped takes its weight with it, so
 /// that no share is whole any more.
 #[derive(Drop)]
 pub struct Share {
@@ -44,7 +44,7 @@ impl Model for Share {
 }
 
 impl Share {
-    /// Whether all other shares were joined into this one.
+    /// Returns whether all other shares were joined into this one.
     pub fn is_whole(&self) -> bool
         ensures { IsTrue result ↔ IsWhole self.now }
     {

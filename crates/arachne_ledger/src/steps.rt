@@ -2,7 +2,7 @@
 use crate::share::View;
 use atomic_table::{Join, Play, Split, TableRule};
 
-/// Each word is the sum of all shares for it. The table is told how many ledgers there are.
+/// The rule that each word is the sum of all shares for it. Its key is the number of ledgers.
 pub struct Balanced;
 
 impl TableRule<(), View, usize> for Balanced {

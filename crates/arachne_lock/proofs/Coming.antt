@@ -1,4 +1,4 @@
--- A seat that was never split is the only one: so no step makes another.
+-- A seat that was never split is the only one, so no step creates another.
 use Rattle.std.proofs.Common.{◌≡◌, ⊎_elim, ℕ, zero, suc, ◌^◌, ◌<◌, List, [], ◌∷◌, ◌++◌, length, get_or, set, refl, sym, ap, ◌∙◌, subst, arith, length-set}
 use Rattle.std.specs.Prelude.{true}
 use Rattle.std.proofs.lemmas.Bool.{false≢true}
@@ -52,7 +52,7 @@ first-split (joins {seats} come i j log other at apart from) v e live more =
     (at_set seats i 0 both v t.1))
     (at_set (set seats i both) j 0 spent v e)
 
--- beside a seat that was never split there is no other
+-- there is no other seat beside one that was never split
 pub alone : (other : KnownLocks) → HaveCome (blank ∷ other ∷ []) → ⊥
 alone other come = let was = first-split come blank refl refl (omega arith) in omega (arith, was)
 
@@ -66,7 +66,7 @@ zeros-clear (suc n) (suc i) = zeros-clear n i
 abbrev fresh : Guarded
 fresh = record { lock = unused; events = [] }
 
--- the table of so many new locks
+-- the table of `locks` new locks
 module _ (locks : ℕ) where
   abbrev pub new_locks : Board
   new_locks = opening (replicate (word_of locks) 0) (replicate locks fresh) blank

@@ -1,5 +1,5 @@
--- Each call's answer makes of a sound history and of the state that it leaves a sound history and the state that that
--- leaves.
+-- After each call on a sound history and its state, the history with the call's events is sound, and the state is the
+-- one after it.
 use Rattle.std.proofs.Common.{◌≡◌, ℕ, ◌+◌, ◌%◌, ◌^◌, List, [], ◌∷◌, ◌++◌, length, refl, sym, ◌∙◌, ap, subst, append_assoc, length-append, Option, None, Some}
 use Rattle.std.specs.Prelude.{Contains, slice_get, is_some, true}
 use Rattle.std.specs.Result.{is_ok}
@@ -25,7 +25,7 @@ use Rattle.arachne_lock.specs.State.{Lock, unused, holder_of, IsLeftBy, later, h
 use Rattle.arachne_lock.specs.Deeds.{asked_events, handed_events, freed_events, withdrawn_events}
 use Rattle.arachne_lock.proofs.Histories.{replay-push, IsLawful-push, HoldsSince-quiet, HoldsSince-grant}
 
--- sound events, and the state that they leave
+-- sound events, and the state after them
 abbrev pub Leaves : List QueueEvent → Lock → Type 0
 Leaves events lock = IsSound events × IsLeftBy events lock
 
@@ -42,7 +42,7 @@ nothing-more h before now leaves same =
 abbrev holding : Option ℕ → List ℕ → Holding
 holding owner queue = record { owner = owner; queue = queue }
 
--- the count goes on with the history
+-- the count grows with the history
 count-more : (h events : List QueueEvent) (count n : ℕ) → count ≡ length h % 2 ^ 64 → length events ≡ n → later count n ≡ length (h ++ events) % 2 ^ 64
 count-more h events count n counted long =
     ap (λ (c : ℕ). (c + n) % 2 ^ 64) counted
@@ -87,7 +87,7 @@ granted-leaves h first next queue count lawful is counted =
       },
     )
 
--- where nobody owns the lock nobody waits
+-- if nobody owns the lock, nobody waits
 none-waits : (h : List QueueEvent) (owner : Option Holder) (queue : List ℕ) → IsSound h → replay h ≡ holding (holder_of owner) queue → owner ≡ None → queue ≡ []
 none-waits h owner queue sound is free =
     sym (ap (λ (x : Holding). x.queue) is) ∙ sound.never_idle (ap (λ (x : Holding). x.owner) is ∙ ap holder_of free)
@@ -95,7 +95,7 @@ none-waits h owner queue sound is free =
 ok-err : {A E : Type 0} (x : A) (e : E) → ◌≡◌ {A = Result A E} (Ok x) (Err e) → ⊥
 ok-err {A} {E} x e same = true≢false (ap (λ (r : Result A E). is_ok r) same)
 
--- the owner is somebody still after an event that changes the queue alone
+-- the lock still has an owner after an event that changes only the queue
 owner-kept : (owner : Option Holder) (queue : List ℕ) → is_some owner ≡ true → IsNeverIdle (holding (holder_of owner) queue)
 owner-kept None queue some = absurd (false≢true some)
 owner-kept (Some holder) queue some = λ idle. absurd (none-some _ (sym idle))
@@ -130,7 +130,7 @@ ask-goes-on h before now who (Err fault) leaves a = nothing-more h before now le
 
 -- ---- a free
 
--- a free while nobody waits, and one that hands the lock on
+-- a free while nobody waits, and one that grants the lock to the front
 free-leaves : (h : List QueueEvent) (owner : Option Holder) (queue : List ℕ) (count who : ℕ) → Leaves h (record { owner = owner; queue = queue; count = count }) → holder_of owner ≡ Some who
     → Leaves (h ++ handed_events who (slice_get queue 0)) (handed (record { owner = owner; queue = queue; count = count }) (slice_get queue 0))
 free-leaves h owner [] count who (sound, left) owns =

@@ -1,4 +1,4 @@
--- Histories that go on, and the places of their events.
+-- Histories that extend others, and the places of their events.
 use Rattle.std.proofs.Common.{◌≡◌, ◌≢◌, ℕ, zero, suc, ◌+◌, Bool, true, false, List, [], ◌∷◌, ◌++◌, length, refl, sym, ap, ◌∙◌, arith, append_assoc, length-append, Some, eq-eqb, ne_eqb}
 use Rattle.std.specs.Prelude.{slice_get, All, ◌==◌, ◌&&◌, if◌then◌else◌}
 use Rattle.std.proofs.lemmas.Bool.Decides.{nat_tests}
@@ -30,7 +30,7 @@ get-here : (pre : List QueueEvent) (e : QueueEvent) (events : List QueueEvent) �
 get-here [] e events = refl
 get-here (x ∷ pre) e events = get-here pre e events
 
--- each history begins with what it was
+-- each history begins with what it was before
 abbrev pub GoOn : Histories → Histories → Type 0
 GoOn before now = (lock : ℕ) → BeginsWith (now lock) (before lock)
 
@@ -42,7 +42,7 @@ pub made-more : (before now : Histories) → GoOn before now → (made : List Lo
 made-more before now more made all =
     All-weaker (StandsIn before) (StandsIn now) (λ m there. get-begins (now m.lock) (before m.lock) (more m.lock) m.at m.event there) made all
 
--- the events that are added stand at their places
+-- the events that are added are at their places
 pub stands-placed : (histories : Histories) (lock : ℕ) (pre events : List QueueEvent) (n : ℕ) → histories lock ≡ pre ++ events → n ≡ length pre
     → All (StandsIn histories) (placed lock n events)
 stands-placed histories lock pre [] n is at = All-nil (StandsIn histories)
@@ -51,7 +51,7 @@ stands-placed histories lock pre (e ∷ events) n is at =
     (ap (λ (h : List QueueEvent). slice_get h n) is ∙ ap (λ (k : ℕ). slice_get (pre ++ e ∷ events) k) at ∙ get-here pre e events)
     (stands-placed histories lock (pre ++ e ∷ []) events (n + 1) (is ∙ sym (append_assoc pre (e ∷ []) events)) (omega (arith, at, length-append pre (e ∷ []))))
 
--- how many of them are at a place of their lock, and of another
+-- the number of them that are at a place of their lock, and of another
 once-step : (k n : ℕ) → (if n == k then 1 else 0) + once_below k n ≡ once_below k (n + 1)
 once-step k n = grind (arith, nat_tests)
 

@@ -1,4 +1,4 @@
--- Each kind of step keeps the rule, and tells what it says.
+-- Each kind of step keeps the rule, and what it says of its seat is true.
 use Rattle.std.proofs.Common.{◌≡◌, ◌≢◌, ℕ, zero, suc, ◌+◌, ◌<◌, ◌≤◌, ⊎_elim, List, [], ◌∷◌, ◌++◌, length, map, get_or, set, refl, sym, ap, ◌∙◌, subst, arith, length-append, length-set, get_or-set_same, get_or-set_other, None, Some, eqb, eq-eqb, ne_eqb}
 use Rattle.std.specs.Prelude.{All, if◌then◌else◌, ◌==◌}
 use Rattle.std.proofs.lemmas.Bool.Decides.{nat_tests}
@@ -27,7 +27,7 @@ use Rattle.arachne_lock.specs.Rule.{Board, Histories, idle_known, taken_known, s
 use Rattle.arachne_lock.specs.Steps.{Mine, idle, with_guard, HasTaken, Takes, GivesBack}
 use Rattle.arachne_lock.proofs.Growing.{begins-refl, GoOn, seen-more, made-more, stands-placed, times-placed, times-elsewhere, times-append}
 
--- whether a seat has the lock's guard, and how many events it made at a place
+-- whether a seat has the lock's guard, and the number of events that it made at a place
 abbrev guard_of : ℕ → KnownLocks → ℕ
 guard_of lock v = is_of lock v.out
 
@@ -43,7 +43,7 @@ if-none lock other apart = rw (ne_eqb lock other apart) refl
 has-guard : (v : KnownLocks) (s : Sight) → v.out ≡ Some s → guard_of s.lock v ≡ 1
 has-guard v s e = ap (is_of s.lock) e ∙ if-one s.lock
 
--- a seat fits the histories as they go on, where that of the lock whose guard it has stays
+-- a seat agrees with histories that extend its own, if that of the lock whose guard it has stays
 fits-more : (before now : Histories) → GoOn before now → (v : KnownLocks) → ((s : Sight) → v.out ≡ Some s → before s.lock ≡ now s.lock) → Fits before v → Fits now v
 fits-more before now more v still f = record {
   seen = seen-more before now more v.log.seen f.seen;
@@ -51,7 +51,7 @@ fits-more before now more v still f = record {
   at_guard = λ s e. f.at_guard s e ∙ still s e;
 }
 
--- One seat made a step on a lock's guard word: its view is another, and that lock's history may have gone on
+-- One seat made a step on a lock's guard word: its view has changed, and that lock's history may have been extended.
 module _ (locks : ℕ) (s : Board) (kept : IsKept locks s) (lock : ℕ) (inside : lock < locks) (id : ℕ) (k k' : KnownLocks) (mine : get_elem? s.views id ≡ some k) where
   abbrev after_views : List KnownLocks
   after_views = set s.views id k'
@@ -62,7 +62,7 @@ module _ (locks : ℕ) (s : Board) (kept : IsKept locks s) (lock : ℕ) (inside 
   guards-after : (j : ℕ) → guards j after_views + guard_of j k ≡ guards j s.views + guard_of j k'
   guards-after j = total-set (guard_of j) s.views id k k' mine
 
-  -- where this seat has a lock's guard no other has
+  -- if this seat has a lock's guard, no other has
   no-other : (mine_out : Sight) → k.out ≡ Some mine_out → mine_out.lock < locks → (i : ℕ) (v : KnownLocks) → i ≢ id → get_elem? s.views i ≡ some v → (theirs : Sight) → v.out ≡ Some theirs → theirs.lock ≡ mine_out.lock → ⊥
   no-other mine_out e below i v apart there theirs e' same =
       let two = two-le-total (guard_of mine_out.lock) s.views id i k v mine apart there in
@@ -206,7 +206,7 @@ takes-allowed locks slots id lock l inside one s kept long at wide =
 
 -- ---- a guard is given back
 
--- the histories, of which that of one lock is another
+-- the histories after that of one lock has changed
 abbrev with_history : Histories → ℕ → List QueueEvent → Histories
 with_history histories lock h j = if j == lock then h else histories j
 

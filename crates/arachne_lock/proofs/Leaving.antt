@@ -1,4 +1,4 @@
--- In a lawful history one that has left is granted the lock only after it has asked again.
+-- In a lawful history a task that has left is granted the lock only after it has asked again.
 use Rattle.std.proofs.Common.{◌≡◌, ℕ, zero, suc, ◌<◌, Bool, true, false, ◌||◌, List, [], ◌∷◌, ◌++◌, inl, inr, refl, sym, ◌∙◌, ap, subst, arith, Some, nat_eq, eqb-true}
 use Rattle.std.specs.Prelude.{slice_get, drop, cond}
 use Rattle.std.specs.List.{list_any}
@@ -13,7 +13,7 @@ use Rattle.arachne_lock.specs.History.{IsLawfulFrom, IsLawful}
 use Rattle.arachne_lock.specs.Promises.{GrantsNoneThatLeft}
 use Rattle.arachne_lock.proofs.Waiting.{left-none}
 
--- it doesn't stand in the queue
+-- the task isn't in the queue
 abbrev IsOut : List ℕ → ℕ → Type 0
 IsOut queue who = list_any (nat_eq who) queue ≡ false
 
@@ -57,7 +57,7 @@ one-later : (event : QueueEvent) (events : List QueueEvent) (who j : ℕ) → (k
     → (k : ℕ) × (k < suc j) × (slice_get (event ∷ events) k ≡ Some (Ask who))
 one-later event events who j later = (suc later.0, omega (arith, later.1), later.2)
 
--- one that isn't in the queue asks before it is granted the lock
+-- a task that isn't in the queue asks before it is granted the lock
 grant-needs-ask : (h : Holding) (who : ℕ) (events : List QueueEvent) → IsOut h.queue who → IsLawfulFrom h events
     → (j : ℕ) → slice_get events j ≡ Some (Grant who)
     → (k : ℕ) × (k < j) × (slice_get events k ≡ Some (Ask who))

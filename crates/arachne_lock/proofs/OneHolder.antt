@@ -27,7 +27,7 @@ freed_before_grant h first (Grant who ∷ events) owned lawful (suc j) second th
 freed_before_grant h first (Free who ∷ events) owned lawful (suc j) second there =
     (zero, omega arith, cc)
 
--- Between two grants the first's thread frees.
+-- Between two grants the first task frees.
 freed_between : (h : Holding) (events : List QueueEvent) → IsLawfulFrom h events
     → (i j : ℕ) (first second : ℕ) → i < j → slice_get events i ≡ Some (Grant first) → slice_get events j ≡ Some (Grant second)
     → (k : ℕ) × (i < k) × (k < j) × (slice_get events k ≡ Some (Free first))
@@ -55,17 +55,18 @@ quiet_later event events i j asks (suc k) other after_i before_j there = asks k 
 abbrev QuietUpTo : List QueueEvent → ℕ → Type 0
 QuietUpTo events j = (k : ℕ) (event : QueueEvent) → k < j → slice_get events k ≡ Some event → IsQuiet event
 
--- one of them, and then others
+-- one of them, followed by others
 quiet_from : (events : List QueueEvent) (j : ℕ) (first : QueueEvent) → IsQuiet first → QuietUpTo events j → QuietUpTo (first ∷ events) (suc j)
 quiet_from events j first quiet asks zero event before there = subst IsQuiet (same_Some _ _ there) quiet
 quiet_from events j first quiet asks (suc k) event before there = asks k event (omega (arith, before)) there
 
--- asks and leaves behind a grant
+-- asks and leaves after a grant
 quiet_after : (events : List QueueEvent) (j : ℕ) (other : ℕ) → QuietUpTo events j → QuietBetween (Grant other ∷ events) zero (suc j)
 quiet_after events j other asks zero event above before there = absurd (omega (arith, above))
 quiet_after events j other asks (suc k) event above before there = asks k event (omega (arith, before)) there
 
--- Where a thread owns the lock after an event, the event was its grant, or an ask or a leave of another while it owned the lock.
+-- If a task owns the lock after an event, the event was its grant, or an ask or a leave of another while it owned the
+-- lock.
 owned_or_granted : (h : Holding) (event : QueueEvent) (events : List QueueEvent) (j : ℕ) (who : ℕ) → Allows h event
     → (after h event).owner ≡ Some who → QuietUpTo events j
     → ((i : ℕ) × (i < suc j) × (slice_get (event ∷ events) i ≡ Some (Grant who)) × QuietBetween (event ∷ events) i (suc j))
@@ -76,8 +77,8 @@ owned_or_granted h (Grant other) events j who allowed owned asks =
     inl (zero, omega arith, ap (λ w. Some (Grant w)) (same_Some _ _ owned), quiet_after events j other asks)
 owned_or_granted h (Free other) events j who allowed owned asks = absurd (none-some _ owned)
 
--- Where a thread frees, either its grant stands before, or it owned the lock from the start, with nothing but asks
--- and leaves since.
+-- If a task frees, either its grant comes before, or it owned the lock from the start, with only asks and leaves
+-- since.
 granted_or_owned : (h : Holding) (events : List QueueEvent) → IsLawfulFrom h events
     → (j : ℕ) (who : ℕ) → slice_get events j ≡ Some (Free who)
     → ((i : ℕ) × (i < j) × (slice_get events i ≡ Some (Grant who)) × QuietBetween events i j)

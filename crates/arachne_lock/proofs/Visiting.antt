@@ -14,7 +14,7 @@ use Rattle.arachne_lock.proofs.GoingOn.{Leaves}
 guarded-in : (lock : ℕ) (a b : Guarded) → ◌≡◌ {A = List (ℕ × Guarded)} ((lock, a) ∷ []) ((lock, b) ∷ []) → a ≡ b
 guarded-in lock a b e = ap (λ (x : List (ℕ × Guarded)). (get_or x 0 (0, a)).1) e
 
--- the guard was taken, the state that came was changed, by a call that adds these events, and the guard was given back
+-- the guard was taken, the state was changed by a call that adds these events, and the guard was given back
 module _ (lock : ℕ) (l : EventLog) {from to : TableId} (taken visited : Mine) (old new : Guarded) (events : List QueueEvent) (come : HasTaken lock l taken) (visits : Visits lock from to taken visited old new) (added : new.events ≡ events)
     (goes : (h : List QueueEvent) → Leaves h old.lock → Leaves (h ++ events) new.lock) where
   abbrev pub history : List QueueEvent

@@ -1,4 +1,4 @@
--- The set beside a queue, and a queue that one leaves.
+-- The set beside a queue, and a queue that a task leaves.
 use Rattle.std.proofs.Common.{◌≡◌, ℕ, Bool, true, false, cond, ◌||◌, List, [], ◌∷◌, ◌++◌, ◌↔◌, IsTrue, inl, inr, refl, sym, ◌∙◌, ap, eqb-true, nat_eq}
 use Rattle.std.specs.Prelude.{Contains, filter, not}
 use Rattle.std.specs.List.{list_any, IsDistinct, AllByRecursion}
@@ -11,7 +11,7 @@ use Rattle.std.proofs.lemmas.Map.Views.{Contains-from_any, list_any-from_Contain
 use Rattle.arachne_lock.specs.Law.{without}
 use Rattle.arachne_lock.specs.WaiterQueue.{Indexes}
 
--- what the set answers is whether one stands in the queue
+-- the set has a task exactly if the queue has
 pub found : (keys order : List ℕ) (who : ℕ) (result : Bool) → Indexes keys order → result ≡ list_any (nat_eq who) keys
     → IsTrue result ↔ Contains order who
 found keys order who result indexed answer =
@@ -33,7 +33,7 @@ none_found order who absent =
       | inr fails ↦ fails
     ]
 
--- one that was not in joins the end
+-- a task that was not in joins the end
 pub Indexes-push : (keys new_keys order : List ℕ) (who : ℕ) → Indexes keys order → ¬ Contains order who
     → ((q : ℕ) → list_any (nat_eq q) new_keys ≡ cond (nat_eq who q) true (list_any (nat_eq q) keys))
     → Indexes new_keys (order ++ who ∷ [])
@@ -71,13 +71,13 @@ Indexes-pop keys new_keys order front indexed updated = record {
       ];
 }
 
--- ---- one leaves, wherever it stands
+-- ---- a task leaves, wherever it is in the queue
 
 list_any-cond : (p : ℕ → Bool) (b : Bool) (x : ℕ) (xs : List ℕ) → list_any p (cond b (x ∷ xs) xs) ≡ cond b (p x || list_any p xs) (list_any p xs)
 list_any-cond p true x xs = refl
 list_any-cond p false x xs = refl
 
--- its test fails at each that is left
+-- the test for it fails at each task that is left
 left-apart : (b c : Bool) (rest : Bool) → (c ≡ b) → rest ≡ false → cond (not b) (c || rest) rest ≡ false
 left-apart true c rest same none = none
 left-apart false c rest same none = ap (λ (x : Bool). x || rest) same ∙ none
@@ -88,7 +88,7 @@ left-none who (x ∷ order) =
     list_any-cond (nat_eq who) (not (nat_eq x who)) x (without who order)
     ∙ left-apart (nat_eq x who) (nat_eq who x) (list_any (nat_eq who) (without who order)) (nat_eq_equiv.symm who x) (left-none who order)
 
--- another's test finds what it found
+-- the test for another has the same result as before
 other-kept : (b c : Bool) (rest : Bool) → (b ≡ true → c ≡ false) → cond (not b) (c || rest) rest ≡ (c || rest)
 other-kept true c rest apart = ap (λ (x : Bool). x || rest) (sym (apart refl))
 other-kept false c rest apart = refl

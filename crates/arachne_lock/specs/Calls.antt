@@ -1,4 +1,4 @@
--- What each call answers, and what the seat's log is then.
+-- The result of each call, and the seat's log after it.
 use Rattle.std.specs.Prelude.{◌≡◌, ℕ, List, Option, [], ◌++◌}
 use Rattle.std.specs.declared.result.Result.{Result}
 use Rattle.arachne_lock.specs.declared.answer.Admitted.{Admitted}
@@ -16,8 +16,9 @@ use Rattle.arachne_lock.specs.Logs.{contended_log, answered_log}
 use Rattle.arachne_lock.specs.Views.{SeatView, with_log}
 use Rattle.arachne_lock.specs.Steps.{GoesOnFrom}
 
--- A call on a lock whose history, state and answer these are: both histories are sound, the one before begins with all
--- that the seat had seen of the lock, the states are what they leave, and the seat's log tells what the call added.
+-- A call on a lock with this history and state, to which it adds these events. Both histories are sound, and the one
+-- before begins with all that the seat had seen of the lock. The states are those after the histories. The seat's log
+-- then has what the call added.
 pub record IsCallOn (lock : ℕ) (old new : SeatView) (history events : List QueueEvent) (before after : Lock) : Type 0 where
   pub sound : IsSound history
   pub begins : GoesOnFrom lock history old.log
@@ -26,7 +27,7 @@ pub record IsCallOn (lock : ℕ) (old new : SeatView) (history events : List Que
   pub left_after : IsLeftBy (history ++ events) after
   pub told : new ≡ with_log old (answered_log old.log lock history events)
 
--- a call that adds these events, and of whose states this holds
+-- a call that adds these events, and whose states before and after fulfil the relation
 abbrev pub HasCalled : ℕ → SeatView → SeatView → List QueueEvent → (Lock → Lock → Type 0) → Type 0
 HasCalled lock old new events answers = (history : List QueueEvent) × (before : Lock) × (after : Lock) × IsCallOn lock old new history events before after × answers before after
 

@@ -1,4 +1,4 @@
--- The events that an answered call adds to a lock's history.
+-- The events that a call adds to a lock's history.
 use Rattle.std.specs.Prelude.{ℕ, List, [], ◌∷◌}
 use Rattle.std.specs.declared.option.Option.{Option}
 use Rattle.std.specs.declared.option.Option.TheVariants.{None, Some}
@@ -29,7 +29,7 @@ asked_events who (Ok (Granted at)) = Ask who ∷ Grant who ∷ []
 asked_events who (Ok (Queued at)) = Ask who ∷ []
 asked_events who (Err fault) = []
 
--- a free, and the grant that follows it, if anybody waits
+-- a free, and the grant that follows it, if a task waits
 abbrev pub handed_events : ℕ → Option ℕ → List QueueEvent
 handed_events who None = Free who ∷ []
 handed_events who (Some next) = Free who ∷ Grant next ∷ []

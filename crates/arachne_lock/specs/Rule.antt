@@ -1,4 +1,4 @@
--- What words, slots and views of a set of locks show between any two steps.
+-- The rule of a set of locks: what words, slots and views show between any two steps.
 use Rattle.std.specs.Prelude.{◌≡◌, ◌≢◌, ℕ, ◌<◌, ◌≤◌, ◌==◌, true, false, if◌then◌else◌, List, [], ◌∷◌, ◌++◌, All, length, slice_index, slice_set}
 use Rattle.std.specs.List.{sum_by}
 use Rattle.std.specs.declared.option.Option.{Option}
@@ -24,7 +24,7 @@ Board = State Guarded KnownLocks
 abbrev pub Histories : Type 0
 Histories = ℕ → List QueueEvent
 
--- a seat with this out, which has done and seen that
+-- the knowledge of a seat in use, with the lock state `out` and this log
 abbrev pub known : Option Sight → EventLog → KnownLocks
 known out log = record { live = true; out = out; log = log }
 
@@ -34,20 +34,20 @@ idle_known log = known None log
 abbrev pub taken_known : Sight → EventLog → KnownLocks
 taken_known out log = known (Some out) log
 
--- what is left of a seat that was joined into another
+-- the knowledge of a seat after it was joined into another
 abbrev pub spent : KnownLocks
 spent = record { live = false; out = None; log = blank_log }
 
--- 1 where that is of the lock
+-- 1 if that is the state of this lock, and otherwise 0
 abbrev pub is_of : ℕ → Option Sight → ℕ
 is_of lock None = 0
 is_of lock (Some s) = if s.lock == lock then 1 else 0
 
--- how many seats have the lock's guard
+-- the number of seats that have the lock's guard
 abbrev pub guards : ℕ → List KnownLocks → ℕ
 guards lock views = sum_by (λ (v : KnownLocks). is_of lock v.out) views
 
--- how many events the seats have made at the lock's place
+-- the number of events that the seats have made at the lock's place
 abbrev pub made_at : ℕ → ℕ → List KnownLocks → ℕ
 made_at lock at views = sum_by (λ (v : KnownLocks). times_at lock at v.log.made) views
 
@@ -55,18 +55,18 @@ made_at lock at views = sum_by (λ (v : KnownLocks). times_at lock at v.log.made
 abbrev pub IsSeenIn : Histories → Sight → Type 0
 IsSeenIn histories s = BeginsWith (histories s.lock) s.history
 
--- what one seat has done and seen fits the histories; where it has a guard it has seen all of that lock's
+-- the log of one seat agrees with the histories; if the seat has a guard, it has seen all of that lock's history
 pub record Fits (histories : Histories) (v : KnownLocks) : Type 0 where
   pub seen : All (IsSeenIn histories) v.log.seen
   pub made : All (StandsIn histories) v.log.made
   pub at_guard : (s : Sight) → v.out ≡ Some s → s.history ≡ histories s.lock
 
--- the lock's slot is at home, with the state that this history leaves
+-- the lock's slot is at home, with the state after this history
 abbrev pub IsHome : ℕ → List QueueEvent → List (maybe.Option Guarded) → Type 0
 IsHome lock history homes = (guarded : Guarded) × (get_elem? homes lock ≡ some (some guarded)) × IsLeftBy history guarded.lock
 
--- The seats that can come about. At first there is one. Then, one after another, a seat makes a step, is split, which it
--- counts, or takes in another. A new seat stands at the end.
+-- The lists of seats that are possible. At first there is one seat. Then, one after another, a seat makes a step, is
+-- split, which it counts, or another is joined into it. A new seat is appended at the end.
 pub data HaveCome : List KnownLocks → Type 0 where
   begins : HaveCome (idle_known blank_log ∷ [])
   acts : {seats : List KnownLocks} → HaveCome seats → (i : ℕ) (out now : Option Sight) (before after : EventLog) → get_elem? seats i ≡ some (known out before) → after.splits ≡ before.splits
@@ -76,7 +76,7 @@ pub data HaveCome : List KnownLocks → Type 0 where
   joins : {seats : List KnownLocks} → HaveCome seats → (i j : ℕ) (log other : EventLog) → get_elem? seats i ≡ some (idle_known log) → j ≢ i → get_elem? seats j ≡ some (idle_known other)
       → HaveCome (slice_set (slice_set seats i (idle_known (joined_log log other))) j spent)
 
--- Each lock has one history, and each seat but the first was split off another, which counts it.
+-- The rule: each lock has one history, and each seat but the first was split off another, which counts it.
 pub record IsKept (locks : ℕ) (board : Board) : Type 0 where
   pub seats : HaveCome board.views
   pub histories : Histories
@@ -85,7 +85,7 @@ pub record IsKept (locks : ℕ) (board : Board) : Type 0 where
   pub fits : (i : ℕ) (v : KnownLocks) → get_elem? board.views i ≡ some v → Fits histories v
   -- the events of a history are those that the seats made, each once
   pub once : (lock at : ℕ) → made_at lock at board.views ≡ once_below at (length (histories lock))
-  -- a guard word is 1 where one seat has the guard, and else 0 with the lock's state at home
+  -- a guard word is 1 if one seat has the guard, and otherwise 0 with the lock's state at home
   pub guard : (lock : ℕ) → lock < locks → slice_index board.words (word_of lock) ≡ guards lock board.views
   pub one_guard : (lock : ℕ) → lock < locks → guards lock board.views ≤ 1
   pub home : (lock : ℕ) → lock < locks → slice_index board.words (word_of lock) ≡ 0 → IsHome lock (histories lock) board.homes
@@ -111,7 +111,7 @@ joined_view v u = idle_known (joined_log v.log u.log)
 abbrev pub AreFirstSlots : ℕ → List Guarded → Type 0
 AreFirstSlots locks slots = (length slots ≡ locks) × All (λ (g : Guarded). IsLeftBy [] g.lock) slots
 
--- the rule of that number of locks allows a board where a seat has done and seen this
+-- the rule of that number of locks allows a board on which a seat has this log
 pub record IsLawfulSeat (locks : ℕ) (log : EventLog) : Type 0 where
   pub board : Board
   pub kept : IsKept locks board

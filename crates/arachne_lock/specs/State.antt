@@ -1,4 +1,4 @@
--- The state of a lock, and what each call answers and makes of it.
+-- The state of a lock, and the result of each call with its effect on the state.
 use Rattle.std.specs.Prelude.{◌≡◌, ◌↔◌, ℕ, ◌+◌, ◌%◌, ◌^◌, List, [], ◌∷◌, ◌++◌, Contains, drop, length, slice_get, IsOk, IsSome, IfOk, OnErr}
 use Rattle.std.specs.declared.option.Option.{Option}
 use Rattle.std.specs.declared.option.Option.TheVariants.{None, Some}
@@ -17,7 +17,7 @@ use Rattle.arachne_lock.specs.declared.event.QueueEvent.{QueueEvent}
 use Rattle.arachne_lock.specs.Law.{Holding, IsIn, without}
 use Rattle.arachne_lock.specs.History.{replay, HoldsSince}
 
--- who owns the lock, with the number of its grant; who waits; and how many events there were, modulo 2^64
+-- the owner of the lock, with the number of its grant; the tasks that wait; and the number of events, modulo 2^64
 pub record Lock : Type 0 where
   pub owner : Option Holder
   pub queue : List ℕ
@@ -33,17 +33,17 @@ holder_of (Some holder) = Some holder.who
 abbrev pub holding_of : Lock → Holding
 holding_of lock = record { owner = holder_of lock.owner; queue = lock.queue }
 
--- the state is what these events leave
+-- the state is the one after these events
 pub record IsLeftBy (events : List QueueEvent) (lock : Lock) : Type 0 where
   pub replays : replay events ≡ holding_of lock
   pub counted : lock.count ≡ length events % 2 ^ 64
   pub since : (holder : Holder) → lock.owner ≡ Some holder → (place : ℕ) × (holder.at ≡ place % 2 ^ 64) × HoldsSince events holder.who place
 
--- the number that comes so many after this one
+-- the event number `more` after `count`, modulo 2^64
 abbrev pub later : ℕ → ℕ → ℕ
 later count more = (count + more) % 2 ^ 64
 
--- ---- an ask: granted at once where nobody owns the lock, and else at the end of the queue
+-- ---- an ask: granted at once if nobody owns the lock, and otherwise at the end of the queue
 
 abbrev pub AnswersAsk : Lock → Lock → ℕ → Admitted → Type 0
 AnswersAsk before after who (Granted at) =
@@ -57,12 +57,12 @@ AnswersAsk before after who (Queued at) =
 
 pub record IsAsked (before after : Lock) (who : ℕ) (answer : Result Admitted AskRefusal) : Type 0 where
   pub already : (answer ≡ Err AlreadyIn) ↔ IsIn (holding_of before) who
-  -- memory is wanted only where it has to wait
+  -- memory is needed only if the task must wait
   pub memory : answer ≡ Err Memory → IsSome before.owner
   pub ok : IfOk answer (AnswersAsk before after who)
   pub err : OnErr answer (after ≡ before)
 
--- ---- a free: the lock goes to the front of the queue, if anybody waits
+-- ---- a free: the lock is granted to the front of the queue, if a task waits
 
 abbrev pub handed : Lock → Option ℕ → Lock
 handed before None = record { owner = None; queue = drop 1 before.queue; count = later before.count 1 }
@@ -82,7 +82,7 @@ pub record IsFreed (before after : Lock) (who : ℕ) (answer : Result Released N
   pub ok : IfOk answer (AnswersFree before after)
   pub err : OnErr answer (after ≡ before)
 
--- ---- a withdrawal: one that waits leaves the queue; one that holds the lock is told so, and one that isn't in
+-- ---- a withdrawal: a task that waits leaves the queue; nothing changes if it holds the lock or isn't in
 
 abbrev pub IsWithdrawn : Lock → Lock → ℕ → Withdrawn → Type 0
 IsWithdrawn before after who (Left at) =
@@ -92,7 +92,7 @@ IsWithdrawn before after who (Left at) =
 IsWithdrawn before after who (Holds at) = (before.owner ≡ Some (record { who = who; at = at })) × (after ≡ before)
 IsWithdrawn before after who Outside = (¬ IsIn (holding_of before) who) × (after ≡ before)
 
--- ---- a check: the number of the grant by which it holds the lock, if it does
+-- ---- a check: the number of the grant by which the task holds the lock, if it does
 
 abbrev pub IsChecked : Lock → Lock → ℕ → Option ℕ → Type 0
 IsChecked before after who None = (¬ (holder_of before.owner ≡ Some who)) × (after ≡ before)

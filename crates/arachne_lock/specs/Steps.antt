@@ -1,4 +1,4 @@
--- What each kind of step tells the seat that makes it.
+-- The knowledge of a seat after each kind of step that it makes.
 use Rattle.std.specs.Prelude.{◌≡◌, ◌≢◌, ℕ, All, [], ◌∷◌, ◌++◌, List}
 use Rattle.atomic_table.specs.Table.{Me, Step}
 use Rattle.atomic_table.specs.Seated.{TableId}
@@ -13,7 +13,7 @@ use Rattle.arachne_lock.specs.Logs.{sight, contended_log, taken_log, given_back_
 use Rattle.arachne_lock.specs.Views.{Guarded, LocksView, word_of}
 use Rattle.arachne_lock.specs.Rule.{idle_known, taken_known, IsLawfulSeat}
 
--- a seat's view, and the slots that it has
+-- a seat's view, and the slots that are with it
 abbrev pub Mine : Type 0
 Mine = Me Guarded KnownLocks
 
@@ -21,7 +21,7 @@ Mine = Me Guarded KnownLocks
 abbrev pub idle : EventLog → Mine
 idle log = (idle_known log, [])
 
--- a seat that has the lock's guard at this history, and the slot with this in it
+-- a seat that has the lock's guard at this history, and the slot with this content
 abbrev pub with_guard : ℕ → List QueueEvent → EventLog → Guarded → Mine
 with_guard lock history log guarded = (taken_known (sight lock history) log, (lock, guarded) ∷ [])
 
@@ -29,7 +29,8 @@ with_guard lock history log guarded = (taken_known (sight lock history) log, (lo
 abbrev pub GoesOnFrom : ℕ → List QueueEvent → EventLog → Type 0
 GoesOnFrom lock history log = All (λ (s : Sight). s.lock ≡ lock → BeginsWith history s.history) log.seen
 
--- the lock's state as it came to a seat with this log
+-- the lock's state that a seat with this log has taken: it is the one after a sound history that begins with all that
+-- the seat had seen of the lock
 pub record Comes (lock : ℕ) (log : EventLog) (history : List QueueEvent) (guarded : Guarded) : Type 0 where
   pub sound : IsSound history
   pub left : IsLeftBy history guarded.lock
@@ -39,13 +40,13 @@ pub record Comes (lock : ℕ) (log : EventLog) (history : List QueueEvent) (guar
 abbrev pub HasTaken : ℕ → EventLog → Mine → Type 0
 HasTaken lock log me = (history : List QueueEvent) × (guarded : Guarded) × (me ≡ with_guard lock history (taken_log log lock history) guarded) × Comes lock log history guarded
 
--- Where the guard was at home the state came to the seat. Else the guard was found taken, and the seat is one of the
--- rule's, of as many locks as slots.
+-- If the guard was at home, the state is with the seat. Otherwise the seat has found the guard taken, and is a seat
+-- that the rule allows for as many locks as there are slots.
 abbrev pub Takes : Step Guarded → Mine → ℕ → Mine → Type 0
 Takes step before found after = (lock : ℕ) → step.word ≡ word_of lock
     → (found ≡ 0 → HasTaken lock before.0.log after) × (found ≢ 0 → (after ≡ idle (contended_log before.0.log lock)) × IsLawfulSeat step.slots (contended_log before.0.log lock))
 
--- the state goes home as it is in the seat's slot, with the events that were added, and the seat is one of the rule's
+-- the state goes home as it is in the seat's slot, with the events that were added, and the rule allows the seat
 abbrev pub GivesBack : Step Guarded → Mine → Mine → Type 0
 GivesBack step before after = (lock : ℕ) (history : List QueueEvent) (guarded : Guarded) → before ≡ with_guard lock history before.0.log guarded
     → (after ≡ idle (given_back_log before.0.log lock history guarded.events)) × IsLawfulSeat step.slots (given_back_log before.0.log lock history guarded.events)
@@ -56,22 +57,22 @@ pub record IsReturnable (lock : ℕ) (history : List QueueEvent) (me : Mine) (gu
   pub sound : IsSound (history ++ guarded.events)
   pub left : IsLeftBy (history ++ guarded.events) guarded.lock
 
--- the state, which may go home, has gone, and the seat's log tells so
+-- the state, which may go home, is at home, and the seat's log has that
 abbrev pub IsReturned : ℕ → Mine → Mine → Type 0
 IsReturned lock before after = (history : List QueueEvent) (guarded : Guarded) → IsReturnable lock history before guarded
     → after ≡ idle (given_back_log before.0.log lock history guarded.events)
 
--- within a call: the seat is of these locks, and has the lock's slot
+-- within a call: the seat belongs to these locks, and has the lock's slot
 abbrev pub HasSlot : LocksView → TableId → Mine → ℕ → Type 0
 HasSlot locks table me lock = (table ≡ locks.table) × ((guarded : Guarded) × (me.1 ≡ (lock, guarded) ∷ []))
 
--- the slot that is out with the seat was changed, and nothing else
+-- the content of the slot that is with the seat has changed, and nothing else
 pub record Visits (lock : ℕ) (home away : TableId) (before after : Mine) (old new : Guarded) : Type 0 where
   pub own : away ≡ home
   pub was : before.1 ≡ (lock, old) ∷ []
   pub view : after.0 ≡ before.0
   pub is : after.1 ≡ (lock, new) ∷ []
 
--- the state in the slot was changed by a call that answers so and adds these events
+-- the state in the slot was changed by a call that has this result and adds these events
 abbrev pub HasVisited : ℕ → TableId → TableId → Mine → Mine → (Lock → Lock → Type 0) → List QueueEvent → Type 0
 HasVisited lock home away before after answers events = (old new : Guarded) × Visits lock home away before after old new × answers old.lock new.lock × (new.events ≡ events)

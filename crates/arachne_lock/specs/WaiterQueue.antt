@@ -1,9 +1,9 @@
--- How the two halves of a wait queue hang together. Private to the crate.
+-- The invariant of a wait queue's two halves. Private to the crate.
 use Rattle.std.specs.Prelude.{◌≡◌, ℕ, nat_eq, List}
 use Rattle.std.specs.List.{list_any, IsDistinct}
 use Rattle.arachne_lock.specs.declared.waiter_queue.WaiterQueue.TheInside.{Inside}
 
--- nobody stands twice in the queue, and the set has just those that stand in it
+-- no task is twice in the queue, and the set has exactly the tasks of the queue
 pub record Indexes (keys order : List ℕ) : Type 0 where
   pub distinct : IsDistinct nat_eq order
   pub members : (who : ℕ) → list_any (nat_eq who) keys ≡ list_any (nat_eq who) order

@@ -1,32 +1,34 @@
-//! What calls on a lock return.
+//! The results of calls on a lock.
 use std::alloc::AllocError;
 use thiserror::Error;
 
-/// The answer to an ask that is let in. Numbers of events count from 0, modulo 2^64, for each lock by itself.
+/// The result of an ask that is not refused.
+///
+/// Numbers of events count from 0, modulo 2^64, for each lock by itself.
 #[derive(Clone, Copy, Debug, PartialEq, Eq)]
 pub enum Admitted {
-    /// Nobody owned the lock: it is held now.
+    /// Nobody owned the lock. The task holds it now.
     Granted {
         /// The number of the grant. Later grants of this lock have greater ones.
         at: u64,
     },
-    /// It waits at the end of the queue.
+    /// The task waits at the end of the queue.
     Queued {
         /// The number of the ask.
         at: u64,
     },
 }
 
-/// What came of one try at a lock.
+/// The result of one try at a lock.
 #[derive(Clone, Copy, Debug, PartialEq, Eq)]
 pub enum Attempt<A> {
-    /// The lock's answer.
+    /// The lock's result.
     Answered(A),
-    /// Another kernel thread was at the lock. Nothing has changed, and the call may be made again.
+    /// Another kernel thread was at the lock. Nothing has changed, and the call may be repeated.
     Contended,
 }
 
-/// Why an ask is refused.
+/// The reason why an ask is refused.
 #[derive(Clone, Copy, Debug, PartialEq, Eq, Error)]
 pub enum AskRefusal {
     #[error("it owns the lock or waits for it already")]
@@ -46,33 +48,34 @@ impl From<AllocError> for AskRefusal {
     }
 }
 
-/// The answer to the owner that frees the lock.
+/// The result of a free by the owner.
 #[derive(Clone, Copy, Debug, PartialEq, Eq)]
 pub struct Released {
-    /// Who holds the lock now, and has to be woken: the one that had waited longest, if any waited.
+    /// The number of the task that holds the lock now and must be woken: the one that had waited longest, if any
+    /// waited.
     pub next: Option<u64>,
     /// The number of the free. The grant to `next` has the next one.
     pub at: u64,
 }
 
-/// It frees a lock that it doesn't own.
+/// The error of a free by a task that doesn't own the lock.
 #[derive(Clone, Copy, Debug, PartialEq, Eq, Error)]
 #[error("it does not hold the lock")]
 pub struct NotOwner;
 
-/// The answer to one that withdraws.
+/// The result of a withdrawal.
 #[derive(Clone, Copy, Debug, PartialEq, Eq)]
 pub enum Withdrawn {
-    /// It waited, and waits no longer. The lock is not granted to it any more.
+    /// The task waited, and waits no longer. The lock is never granted to it by that ask.
     Left {
         /// The number of the leave.
         at: u64,
     },
-    /// It holds the lock, and still does: it has to free it.
+    /// The task holds the lock and still does: it must free it.
     Holds {
         /// The number of the grant.
         at: u64,
     },
-    /// It neither holds the lock nor waits for it.
+    /// The task neither holds the lock nor waits for it.
     Outside,
 }

@@ -1,4 +1,4 @@
-//! What lies in a lock's slot.
+//! The content of a lock's slot.
 ghost use Rattle.std.specs.Prelude.{◌≡◌, [], Option};
 ghost use Rattle.arachne_lock.specs.State.{unused, IsAsked, IsFreed, IsWithdrawn, IsChecked};
 ghost use Rattle.arachne_lock.specs.Deeds.{events_of, asked_events, freed_events, withdrawn_events};
@@ -10,9 +10,9 @@ use crossbeam_utils::CachePadded;
 use std::alloc::Global;
 use std::marker::Model;
 
-/// A lock's state, on cache lines of its own, and what the last call did.
+/// A lock's state, on cache lines of its own, and the effect of the last call.
 ///
-/// The latter is for proofs alone: the step that gives the guard back finds it here.
+/// The effect, 24 bytes, is only for proofs: the step that gives the guard back finds it here.
 #[derive(Drop)]
 pub struct GuardedLock {
     state: CachePadded<LockEntry>,
@@ -65,7 +65,7 @@ fn withdrawn_deed(who: u64, answer: &Withdrawn) -> LockDeed
 }
 
 impl GuardedLock {
-    /// That of a lock that nobody has asked for yet.
+    /// Creates the state of a lock that nobody has asked for yet.
     pub(crate) fn new(alloc: Global) -> Self
         ensures { result.lock ≡ unused }
     {

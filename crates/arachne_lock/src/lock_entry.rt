@@ -1,4 +1,4 @@
-//! A lock's owner, those that wait for it, and how many events there were.
+//! A lock's owner, the tasks that wait for it, and its number of events.
 ghost use Rattle.std.specs.Prelude.{◌≡◌, ◌↔◌, ◌+◌, ◌%◌, ◌^◌, IsTrue};
 
 use crate::answer::{Admitted, AskRefusal, NotOwner, Released, Withdrawn};
@@ -6,14 +6,16 @@ use crate::waiter_queue::WaiterQueue;
 use std::alloc::Global;
 use std::marker::Model;
 
-/// Who owns a lock, and the number of its grant.
+/// The owner of a lock, and the number of its grant.
 #[derive(Clone, Copy, Debug, PartialEq, Eq)]
 pub struct Holder {
     pub who: u64,
     pub at: u64,
 }
 
-/// The state of one lock. Each call takes constant time, but for a leave, which walks the queue, and growth of memory.
+/// The state of one lock.
+///
+/// Each call takes constant time, except a leave, which walks the queue, and growth of the memory.
 #[derive(Debug, Drop)]
 pub(crate) struct LockEntry {
     owner: Option<Holder>,
@@ -32,7 +34,7 @@ impl Model for LockEntry {
 impl LockEntry {
     ghost use Rattle.arachne_lock.specs.State.{unused, holder_of, later, IsAsked, IsFreed, IsWithdrawn, IsChecked};
 
-    /// A lock that nobody has asked for yet. It takes no memory.
+    /// Creates a lock that nobody has asked for yet. Takes no memory.
     pub(crate) fn new(alloc: Global) -> Self
         ensures { result ≡ unused }
     {
@@ -43,7 +45,7 @@ impl LockEntry {
         }
     }
 
-    /// Asks for the lock. Only one that has to wait takes memory.
+    /// Asks for the lock. Takes memory only if the task must wait.
     pub(crate) fn ask(&mut self, who: u64) -> Result<Admitted, AskRefusal>
         ensures { IsAsked self.old self.new who result }
     {
@@ -62,7 +64,7 @@ impl LockEntry {
         Ok(Admitted::Queued { at })
     }
 
-    /// Frees the lock, which goes to the one that has waited longest, if any waits.
+    /// Frees the lock, and grants it to the task that has waited longest, if any waits.
     pub(crate) fn free(&mut self, who: u64) -> Result<Released, NotOwner>
         ensures { IsFreed self.old self.new who result }
     {
@@ -87,7 +89,7 @@ impl LockEntry {
         Ok(Released { next, at })
     }
 
-    /// Takes one out of the queue that waits.
+    /// Removes a task that waits from the queue.
     pub(crate) fn withdraw(&mut self, who: u64) -> Withdrawn
         ensures { IsWithdrawn self.old self.new who result }
     {
@@ -103,7 +105,7 @@ impl LockEntry {
         Withdrawn::Left { at }
     }
 
-    /// The number of the grant by which it holds the lock, if it does.
+    /// Returns the number of the grant by which the task holds the lock, if it does.
     pub(crate) fn check(&self, who: u64) -> Option<u64>
         ensures { IsChecked self.now self.now who result }
     {
@@ -119,7 +121,7 @@ impl LockEntry {
         self.owner.is_some_and(|holder| holder.who == who)
     }
 
-    /// The number that comes so many after the next event's.
+    /// Returns the event number `more` after the next event's.
     fn later(&self, more: u64) -> u64
         ensures { result ≡ later self.now.count more }
     {

@@ -1,4 +1,4 @@
-//! What a kernel thread has of a set of locks.
+//! The seat of a kernel thread at a set of locks.
 use crate::guarded_lock::GuardedLock;
 use crate::view::KnownLocks;
 use atomic_table::Seat;
@@ -6,13 +6,13 @@ use std::marker::Model;
 
 /// The right to use a set of locks, with what was done through it. It has no bytes.
 ///
-/// It is used, split and joined with the locks that it came from.
+/// It must be used, split and joined with the locks that it came from.
 #[derive(Drop)]
 pub struct LockSetSeat {
     pub(crate) seat: Seat<GuardedLock, KnownLocks>,
 }
 
-// Clauses see the table that it came from and its log.
+// Contracts see the table that it came from and its log.
 impl Model for LockSetSeat {
     ghost use Rattle.std.specs.Prelude.{◌≡◌};
     ghost use Rattle.arachne_lock.specs.Views.{SeatView};

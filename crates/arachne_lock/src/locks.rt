@@ -1,4 +1,4 @@
-//! A set of locks that kernel threads share, and in whose calls none of them waits.
+//! A set of locks that kernel threads share. None of them waits in its calls.
 ghost use Rattle.std.specs.Prelude.{◌≡◌, ◌<◌, ℕ, List, MatchBool, IsFalse, IfOk, Option, [], ◌∷◌, ◌^◌, vec_len, slice_index};
 ghost use Rattle.arachne_lock.specs.declared.event.QueueEvent.{QueueEvent};
 ghost use Rattle.arachne_lock.specs.State.{IsAsked, IsFreed, IsWithdrawn, IsChecked};
@@ -18,7 +18,7 @@ use atomic_table::{Seat, Table};
 use std::alloc::{AllocError, Global};
 use std::marker::Model;
 
-/// The words of two cache lines, since processors fetch lines in pairs.
+/// The number of words of two cache lines, which processors fetch together.
 const SPACING: usize = 16;
 
 /// A guard word while the lock's state is at home.
@@ -27,19 +27,20 @@ const HOME: u64 = 0;
 /// A guard word while the lock's state is with a seat.
 const TAKEN: u64 = 1;
 
-/// Some number of locks, each a word and a slot: the word is 0 while the lock's state is at home in the slot, and 1
-/// while it is with a seat.
+/// A set of locks. Each has a word and a slot: the word is 0 while the lock's state is at home in the slot, and 1 while
+/// it is with a seat.
 ///
-/// Each kernel thread uses all of them through one seat of its own. Who asks for a lock is told apart by a number, as
-/// the name of a task. `ask`, `free`, `withdraw` and `check` try the lock's guard word once. Where it is taken they
-/// return `Contended`, and nothing has changed; else they give the answer of the lock's state.
+/// Each kernel thread uses all of them through one seat of its own. A task is identified by a number that the host
+/// chooses, such as its name or a number for each future. `ask`, `free`, `withdraw` and `check` try the lock's guard
+/// word once. If it is taken, they return `Contended`, and nothing has changed. Otherwise they return the result of the
+/// lock's state.
 #[derive(Drop)]
 pub struct Locks {
     table: Table<GuardedLock, KnownLocks, usize, LockRule, Global>,
     count: usize,
 }
 
-// Clauses see the table, and how many locks it has.
+// Contracts see the table, and the number of locks.
 impl Model for Locks {
     ghost use Rattle.arachne_lock.specs.Views.{LocksView, IsLaidOut};
 
@@ -50,7 +51,7 @@ impl Model for Locks {
     ghost invariant = { λ l. IsLaidOut l.table.shared.table_id l.table.shared.key l.count };
 }
 
-/// A lock's guard word.
+/// Returns the index of a lock's guard word.
 fn guard_word(lock: usize) -> usize
     requires { word_of lock < 2 ^ 64 }
     ensures { result ≡ word_of lock }
@@ -58,7 +59,7 @@ fn guard_word(lock: usize) -> usize
     SPACING * (lock + 1)
 }
 
-/// The words of so many locks, each 0.
+/// Returns the words of `count` locks, each 0.
 fn first_words(alloc: Global, count: usize) -> Result<Vec<u64>, AllocError>
     ensures { IfOk result (λ v. (vec_len v ≡ word_of count) × ((i : ℕ) → slice_index v.items i ≡ 0)) }
 {
@@ -71,7 +72,7 @@ fn first_words(alloc: Global, count: usize) -> Result<Vec<u64>, AllocError>
     Ok(words)
 }
 
-/// The slots of so many locks.
+/// Returns the slots of `count` locks.
 fn first_slots(alloc: Global, count: usize) -> Result<Vec<GuardedLock>, AllocError>
     ensures { IfOk result (λ slots. AreFirstSlots count slots.items) }
 {
@@ -83,7 +84,7 @@ fn first_slots(alloc: Global, count: usize) -> Result<Vec<GuardedLock>, AllocErr
 }
 
 impl Locks {
-    /// So many locks, of which there may be none, each of which nobody has asked for yet, and the first seat.
+    /// Creates `count` locks, which may be 0, and the first seat. Nobody has asked for any of them yet.
     pub fn new(alloc: Global, count: usize) -> Result<(Locks, LockSetSeat), AllocError>
         ensures count { IfOk result (λ made. made.0.count ≡ count) }
         ensures seat { IfOk result (λ made. made.1 ≡ first_seat made.0) }
@@ -96,17 +97,17 @@ impl Locks {
         Ok((Locks { table, count }, LockSetSeat { seat }))
     }
 
-    /// The number of locks.
+    /// Returns the number of locks.
     pub fn count(&self) -> usize
         ensures { result ≡ self.now.count }
     {
         self.count
     }
 
-    /// Asks for a lock. It is held at once where nobody owns it, and waited for otherwise.
+    /// Asks for a lock. The task holds it at once if nobody owns it, and waits otherwise.
     ///
-    /// One that is in already is told so. Memory is taken only where it has to wait; where it is refused nothing
-    /// changes.
+    /// Returns `AlreadyIn` if the task owns the lock or waits for it. Memory is taken only if it must wait; if memory
+    /// is refused, nothing changes.
     pub fn ask(
         &self,
         seat: &mut LockSetSeat,
@@ -126,7 +127,9 @@ impl Locks {
         Attempt::Answered(answer)
     }
 
-    /// Frees a lock, which goes to the one that has waited longest, if any waits. One that doesn't own it is told so.
+    /// Frees a lock, and grants it to the task that has waited longest, if any waits.
+    ///
+    /// Returns `NotOwner` if the task doesn't own the lock.
     pub fn free(
         &self,
         seat: &mut LockSetSeat,
@@ -146,8 +149,9 @@ impl Locks {
         Attempt::Answered(answer)
     }
 
-    /// Leaves the queue of a lock, as where a future is dropped that waits. One that was granted the lock meanwhile is
-    /// told so, and has to free it.
+    /// Leaves the queue of a lock, for example if a future that waits is dropped.
+    ///
+    /// Returns `Holds` if the task was granted the lock meanwhile: it must then free it.
     pub fn withdraw(&self, seat: &mut LockSetSeat, lock: usize, who: u64) -> Attempt<Withdrawn>
         requires { IsLockAt self.now seat.old.table lock }
         ensures own { IsSeatOf self.now seat.new }
@@ -162,7 +166,7 @@ impl Locks {
         Attempt::Answered(answer)
     }
 
-    /// The number of the grant by which it holds a lock, and `None` where it doesn't.
+    /// Returns the number of the grant by which the task holds a lock, or `None` if it doesn't.
     pub fn check(&self, seat: &mut LockSetSeat, lock: usize, who: u64) -> Attempt<Option<u64>>
         requires { IsLockAt self.now seat.old.table lock }
         ensures own { IsSeatOf self.now seat.new }
@@ -177,7 +181,7 @@ impl Locks {
         Attempt::Answered(answer)
     }
 
-    /// A seat for another kernel thread, which has seen what this one has and done nothing.
+    /// Splits off a seat for another kernel thread. It has seen what this one has, and has done nothing.
     pub fn split(&self, seat: &mut LockSetSeat) -> LockSetSeat
         requires { IsSeatOf self.now seat.old }
         ensures first { seat.new ≡ first_half seat.old }
@@ -187,7 +191,7 @@ impl Locks {
         LockSetSeat { seat: other }
     }
 
-    /// Takes in another seat, with what it has done and seen.
+    /// Joins another seat into this one, with all that it has done and seen.
     pub fn join(&self, seat: &mut LockSetSeat, other: LockSetSeat)
         requires seat { IsSeatOf self.now seat.old }
         requires other { IsSeatOf self.now other }
@@ -197,7 +201,7 @@ impl Locks {
         self.table.shared.join_seat::<Divide>(&mut seat.seat, spent);
     }
 
-    /// Tries a guard once. Won, the lock's state has come to the seat.
+    /// Tries to take a guard once. Returns whether the seat has it, and the lock's state with it.
     fn take(&self, seat: &mut Seat<GuardedLock, KnownLocks>, lock: usize) -> bool
         requires at { IsLockAt self.now seat.old.table_id lock }
         requires idle { seat.old.me ≡ idle seat.old.me.0.log }
@@ -211,7 +215,7 @@ impl Locks {
         shared.compare_exchange::<TakeGuard>(seat, guard_word(lock), HOME, TAKEN) == HOME
     }
 
-    /// Gives a guard back, and with it the lock's state.
+    /// Gives a guard back, and the lock's state with it.
     fn give_back(&self, seat: &mut Seat<GuardedLock, KnownLocks>, lock: usize)
         requires at { IsLockAt self.now seat.old.table_id lock }
         requires guarded { (history : List QueueEvent) × (guarded : Guarded) × IsReturnable lock history seat.old.me guarded }

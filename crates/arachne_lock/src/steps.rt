@@ -1,9 +1,9 @@
-//! The rule of the table, and the kinds of step on it. These types are for proofs alone.
+//! The rule of the table, and the kinds of step on it. These types are only for proofs.
 use crate::guarded_lock::GuardedLock;
 use crate::view::KnownLocks;
 use atomic_table::{Join, Play, Split, TableRule};
 
-/// Each lock has one history. The table is told how many locks there are.
+/// The rule: each lock has one history. The key of the table is the number of locks.
 pub struct LockRule;
 
 impl TableRule<GuardedLock, KnownLocks, usize> for LockRule {

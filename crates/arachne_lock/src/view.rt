@@ -1,4 +1,4 @@
-//! What a seat knows of a set of locks. These types are for proofs alone: no value of them is made.
+//! The knowledge of a seat about a set of locks. These types are only for proofs: no value of them is made.
 use crate::QueueEvent;
 use std::collections::LinkedList;
 
@@ -15,13 +15,13 @@ pub struct Sight {
     pub history: LinkedList<QueueEvent>,
 }
 
-/// One try to take a lock's guard, and what stood in its word.
+/// One try to take a lock's guard, and the number that it found in the word.
 pub struct Try {
     pub lock: usize,
     pub found: u64,
 }
 
-/// What a seat has done and seen.
+/// The log of a seat: what it has done and seen.
 pub struct EventLog {
     /// The events that it made, oldest first.
     pub made: LinkedList<LoggedEvent>,
@@ -29,13 +29,13 @@ pub struct EventLog {
     pub seen: LinkedList<Sight>,
     /// The tries that it made, the newest first.
     pub tries: LinkedList<Try>,
-    /// How often it was split, and each seat that it has taken in.
+    /// The number of splits of this seat, and of each seat that was joined into it.
     pub splits: u64,
 }
 
-/// A seat's log, and the lock whose state is out with it, if one is.
+/// A seat's log, and the lock whose state is with it, if there is one.
 pub struct KnownLocks {
-    /// It wasn't joined into another.
+    /// False once it was joined into another.
     pub live: bool,
     pub out: Option<Sight>,
     pub log: EventLog,

@@ -1,4 +1,4 @@
-//! Those that wait for a lock.
+//! The tasks that wait for a lock.
 ghost use Rattle.std.specs.Prelude.{◌≡◌, ◌↔◌, [], ◌∷◌, ◌++◌, drop, slice_get, Contains, IsTrue, OnOk, OnErr};
 ghost use Rattle.arachne_lock.specs.Law.{without};
 
@@ -6,15 +6,16 @@ use std::alloc::{AllocError, Global};
 use std::collections::{HashSet, VecDeque};
 use std::marker::Model;
 
-/// A queue in which nobody stands twice. A set of its members beside it answers whether one is in it at a cost that
-/// doesn't grow with the queue.
+/// A queue that has no task twice.
+///
+/// A set of its members is kept beside it, so the cost of `contains` doesn't grow with the queue.
 #[derive(Debug, Drop)]
 pub(crate) struct WaiterQueue {
     order: VecDeque<u64>,
     members: HashSet<u64>,
 }
 
-// Clauses see who waits, the first to come first.
+// Contracts see the tasks that wait, the first one to have asked first.
 impl Model for WaiterQueue {
     ghost use Rattle.std.specs.Prelude.{List, ℕ};
     ghost use Rattle.arachne_lock.specs.WaiterQueue.{IsIndexed};
@@ -27,7 +28,7 @@ impl Model for WaiterQueue {
 }
 
 impl WaiterQueue {
-    /// An empty one, which takes no memory.
+    /// Creates an empty queue. Takes no memory.
     pub(crate) fn new(alloc: Global) -> Self
         ensures { result ≡ [] }
     {
@@ -43,7 +44,7 @@ impl WaiterQueue {
         self.members.contains(&who)
     }
 
-    /// Adds one at the end.
+    /// Adds a task at the end.
     pub(crate) fn push(&mut self, who: u64) -> Result<(), AllocError>
         requires { ¬ Contains self.old who }
         ensures ok { OnOk result (self.new ≡ self.old ++ who ∷ []) }
@@ -55,7 +56,7 @@ impl WaiterQueue {
         Ok(())
     }
 
-    /// Takes the front out.
+    /// Removes the front and returns it.
     pub(crate) fn pop(&mut self) -> Option<u64>
         ensures front { result ≡ slice_get self.old 0 }
         ensures rest { self.new ≡ drop 1 self.old }
@@ -65,7 +66,7 @@ impl WaiterQueue {
         Some(front)
     }
 
-    /// Takes one out, wherever it stands.
+    /// Removes a task, wherever it is in the queue.
     pub(crate) fn remove(&mut self, who: u64)
         ensures { self.new ≡ without who self.old }
     {

@@ -7,20 +7,20 @@ use std::alloc::{AllocError, Global};
 use std::thread;
 use std::thread::Threads;
 
-/// How often each thread holds a lock.
+/// The number of times that each thread holds a lock.
 const ROUNDS: u64 = 10_000;
 
-/// How many calls each thread makes at most that don't bring it on.
+/// The most calls of each thread that make no progress.
 const MOST_POLLS: u64 = 100_000_000;
 
-/// Lets other kernel threads run. None where there were too many polls.
+/// Lets other kernel threads run. Returns `None` after too many polls.
 fn poll(polls_left: &mut u64) -> Option<()> {
     *polls_left = polls_left.checked_sub(1)?;
     thread::yield_now();
     Some(())
 }
 
-/// Asks for a lock, and looks until it is held. The number of the grant.
+/// Asks for a lock, and polls until it is held. Returns the number of the grant.
 fn enter(
     locks: &Locks,
     seat: &mut LockSetSeat,
@@ -47,7 +47,7 @@ fn enter(
     None
 }
 
-/// Frees a lock. None where it wasn't held.
+/// Frees a lock. Returns `None` if it wasn't held.
 fn leave(
     locks: &Locks,
     seat: &mut LockSetSeat,
@@ -67,8 +67,9 @@ fn leave(
     None
 }
 
-/// Holds each of two locks in turn, so many times as there are rounds. How often it held one, by grants whose numbers
-/// rise.
+/// Holds each of two locks in turn, `ROUNDS` times.
+///
+/// Returns the number of holds, or `None` if a call fails or a grant's number doesn't rise.
 fn hold_each(locks: &Locks, seat: &mut LockSetSeat, who: u64) -> Option<u64>
     requires own { IsSeatOf locks.now seat.old }
     ensures { IsSeatOf locks.now seat.new }
@@ -99,7 +100,7 @@ fn work(locks: &Locks, mut seat: LockSetSeat, who: u64) -> (LockSetSeat, Option<
     (seat, held)
 }
 
-/// Two threads contend for two locks. How often each held one, and how many events a lock had then.
+/// Has two threads contend for two locks. Returns the number of holds of each, and then the number of events of a lock.
 fn contend<R: Threads + Sync>(
     rt: &R,
     alloc: Global,

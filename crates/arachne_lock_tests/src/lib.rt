@@ -1,4 +1,6 @@
-//! Tests of locks for hosts, by public calls alone: what no clause says. What they test is proved without them.
+//! Tests of locks for hosts, only by public calls: behaviour that no clause states.
+//!
+//! The locks are proved without them.
 #![tactic(auto)]
 
 #[cfg(test)]

@@ -1,4 +1,4 @@
-//! One run of calls on two locks, a call a row with its answer.
+//! A sequence of calls on two locks, one row for each call with its result.
 ghost use Rattle.std.specs.Prelude.{◌<◌};
 ghost use Rattle.arachne_lock.specs.Views.{IsSeatOf, IsLockAt};
 
@@ -7,7 +7,7 @@ use arachne_lock::{
 };
 use std::alloc::AllocError;
 
-/// What is called.
+/// The call of a row.
 #[derive(Clone, Copy)]
 enum Call {
     Ask,
@@ -16,13 +16,13 @@ enum Call {
     Withdraw,
 }
 
-/// What is told, the number of the event, and who is next.
+/// The result of a call: its name, the number of the event, and the next holder.
 type Answer = (&'static str, u64, Option<u64>);
 
-/// A call on a lock by somebody, and what it answers.
+/// A row: the call, the lock, the number of the task, and the expected result.
 type Row = (Call, usize, u64, Answer);
 
-/// 7 holds lock 0, 8 and 9 wait, 8 leaves, so that 9 is next; lock 1 counts for itself.
+/// 7 holds lock 0, 8 and 9 wait, and 8 leaves, so 9 is next. Lock 1 has its own count of events.
 const ROWS: &[Row] = &[
     (Call::Ask, 0, 7, ("granted", 1, None)),
     (Call::Ask, 0, 8, ("queued", 2, None)),
@@ -75,7 +75,7 @@ fn told_check(checked: Option<u64>) -> Answer {
     }
 }
 
-/// The answer to a call. None where the lock was found taken.
+/// Returns the result of a call, or `None` if the lock was found taken.
 fn answer_to(
     locks: &Locks,
     seat: &mut LockSetSeat,
@@ -106,7 +106,7 @@ fn answer_to(
     }
 }
 
-/// The first row that is answered otherwise, if one is.
+/// Returns the first row with another result, if there is one.
 fn first_wrong(locks: &Locks, seat: &mut LockSetSeat) -> Option<usize>
     requires own { IsSeatOf locks.now seat.old }
     ensures { IsSeatOf locks.now seat.new }

@@ -1,5 +1,4 @@
-//! Locks where there is no memory: a free one is held and freed, a wanted one stays as it was for those that are
-//! refused.
+//! Locks without memory: a free lock is held and freed, and a wanted one stays as it was for each ask that is refused.
 ghost use Rattle.std.specs.Prelude.{◌≡◌, ◌<◌, IfOk};
 ghost use Rattle.arachne_lock.specs.Views.{IsSeatOf, IsLockAt};
 
@@ -7,14 +6,13 @@ use arachne_lock::{Admitted, AskRefusal, Attempt, LockSetSeat, Locks, Released, 
 use arachne_shortage::Hoard;
 use std::alloc::{AllocError, Global};
 
-/// How many bytes are given back where a growth was refused: so few that the next growth of the same call is refused
-/// too.
+/// The bytes that are given back if a growth was refused: so few that the next growth of the same call is refused too.
 const FEW: usize = 40;
 
-/// How often one asks at most.
+/// The most asks of the crowd.
 const TRIES: u64 = 100_000;
 
-/// How many wait for the lock.
+/// The number of tasks that wait for the lock.
 const CROWD: u64 = 900;
 
 /// Holds a lock that is free, and frees it.
@@ -31,8 +29,9 @@ fn is_held_and_freed(locks: &Locks, seat: &mut LockSetSeat, lock: usize) -> bool
     )
 }
 
-/// The crowd asks for a lock, each until there is memory for it. How often there was none, if the lock was as before
-/// each time.
+/// Has the crowd ask for a lock, each task until there is memory for it.
+///
+/// Returns the number of refusals, if the lock was as before each time.
 fn all_ask(locks: &Locks, seat: &mut LockSetSeat, lock: usize, hoard: &mut Hoard) -> Option<u64>
     requires { IsLockAt locks.now seat.old.table lock }
     ensures { IsSeatOf locks.now seat.new }
@@ -60,7 +59,7 @@ fn all_ask(locks: &Locks, seat: &mut LockSetSeat, lock: usize, hoard: &mut Hoard
     None
 }
 
-/// The crowd frees the lock in turn, for which no memory is wanted. How many did.
+/// Has the crowd free the lock in turn, which needs no memory. Returns the number of frees.
 fn all_free(locks: &Locks, seat: &mut LockSetSeat, lock: usize) -> u64
     requires { IsLockAt locks.now seat.old.table lock }
     ensures { IsSeatOf locks.now seat.new }
@@ -74,7 +73,7 @@ fn all_free(locks: &Locks, seat: &mut LockSetSeat, lock: usize) -> u64
     freed
 }
 
-// Under `rt try --test --fail-alloc N` the Nth allocation is refused. A call that answers so is made once more.
+// Under `rt try --test --fail-alloc N` the Nth allocation is refused. A call that fails so is repeated once.
 fn make(alloc: Global) -> Result<(Locks, LockSetSeat), AllocError>
     ensures { IfOk result (λ made. IsSeatOf made.0 made.1 × (made.0.count ≡ 1)) }
 {

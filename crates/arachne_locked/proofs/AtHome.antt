@@ -36,7 +36,7 @@ module _ {T : Type 0} (tag : T → ℕ) where
         ];
       }
 
-  -- the state of one context was changed, and what is at home there fits still
+  -- the state of one context was changed, and its value at home still fits
   pub home_kept : (w u : World) (vs : List (Option T)) (x : ℕ) (s : State) → IsHome tag w vs → u.cores ≡ w.cores → u.slots ≡ w.slots
       → ((y : ℕ) → u.state y ≡ with_at w.state x s y) → IsKeptAt tag s (get_or vs x None) → IsHome tag u vs
   home_kept w u vs x s home cores slots states kept =
@@ -84,7 +84,7 @@ module _ {T : Type 0} (tag : T → ℕ) where
   woken_kept (Ready t) o c k = absurd c
   woken_kept Spent o c k = absurd c
 
-  -- an event that leaves the values where they are
+  -- an event that leaves the values as they are
   event_home : (w : World) (e : Event) (vs : List (Option T)) → LeavesValues e → IsHome tag w vs → Allowed w e → IsHome tag (after w e) vs
   event_home w (event.Claim h x) vs l home a =
       home_kept w (after w (event.Claim h x)) vs x (Claimed h) home refl refl (λ y. refl) (subst (λ s. IsKeptAt tag s (get_or vs x None)) a.free (home.kept x a.context))
@@ -109,13 +109,13 @@ module _ {T : Type 0} (tag : T → ℕ) where
   pub made_home : (w u : World) (e : Event) (vs : List (Option T)) → LeavesValues e → IsHome tag w vs → Allowed w e → u ≡ after w e → IsHome tag u vs
   made_home w u e vs l home a is = subst (λ z. IsHome tag z vs) (sym is) (event_home w e vs l home a)
 
-  -- whatever is answered
+  -- every result keeps the values at home
   pub answered_home : (e : Event) (old new : ContextTable) (r : Result (Unit {0}) NotApplied) (vs : List (Option T)) → LeavesValues e → IsHome tag (world_of old) vs
       → Answers e old new r → OnErr r (new ≡ old) → IsHome tag (world_of new) vs
   answered_home e old new (Ok tt) vs l home a same = made_home (world_of old) (world_of new) e vs l home a.0 a.1
   answered_home e old new (Err refusal) vs l home a same = subst (λ (k : ContextTable). IsHome tag (world_of k) vs) (sym same) home
 
-  -- a thread is posted, and its value comes home
+  -- a thread is posted, and its value is at home
   pub post_home : (w u : World) (vs : List (Option T)) (h x t : ℕ) (v : T) → IsHome tag w vs → Allowed w (event.Post h x t) → u ≡ after w (event.Post h x t)
       → tag v ≡ t → IsHome tag u (set vs x (Some v))
   post_home w u vs h x t v home a e tagged =
@@ -129,7 +129,7 @@ module _ {T : Type 0} (tag : T → ℕ) where
   taken_kept h (Held k w t) r = absurd r
   taken_kept h Spent r = absurd r
 
-  -- a thread is taken, and its value goes out
+  -- a thread is taken, and its value is no longer at home
   pub take_home : (w u : World) (vs : List (Option T)) (h x : ℕ) → IsHome tag w vs → Allowed w (event.Take h x) → u ≡ after w (event.Take h x) → IsHome tag u (set vs x None)
   take_home w u vs h x home a e =
       home_set w u vs x (taken h (w.state x)) None home (ap (λ (z : World). z.cores) e) (ap (λ (z : World). z.slots) e) (λ y. ap (λ (z : World). z.state y) e) (within w vs x home a.context)
@@ -145,14 +145,14 @@ module _ {T : Type 0} (tag : T → ℕ) where
   rest_kept h r (Blocked t) v i e = absurd i
   rest_kept h r Spent v i e = absurd i
 
-  -- a thread is put back, and its value comes home
+  -- a thread is put back, and its value is at home
   pub rest_home : (w u : World) (vs : List (Option T)) (h x : ℕ) (r : Rest) (v : T) → IsHome tag w vs → Allowed w (event.Rest h x r) → tag_of (w.state x) ≡ tag v
       → u ≡ after w (event.Rest h x r) → IsHome tag u (set vs x (Some v))
   rest_home w u vs h x r v home a t e =
       home_set w u vs x (put_back r (w.state x)) (Some v) home (ap (λ (z : World). z.cores) e) (ap (λ (z : World). z.slots) e) (λ y. ap (λ (z : World). z.state y) e) (within w vs x home a.context)
       (rest_kept h r (w.state x) v a.held t)
 
-  -- what is at home where a thread is ready
+  -- if a thread is ready, its value is at home
   pub ready_some : (s : State) (o : Option T) → IsReady s → IsKeptAt tag s o → (v : T) × (o ≡ Some v)
   ready_some (Ready t) (Some v) r k = (v, refl)
   ready_some (Ready t) None r k = absurd k
@@ -162,7 +162,7 @@ module _ {T : Type 0} (tag : T → ℕ) where
   ready_some (Held h w t) o r k = absurd r
   ready_some Spent o r k = absurd r
 
--- an event that is allowed and wants no room is made
+-- an event that is allowed and needs no memory is applied
 pub plain_made : (e : Event) (old new : ContextTable) (r : NotApplied) → WantsNoRoom e → Allowed (world_of old) e → Answers e old new (Err r) → ⊥
 plain_made e old new refusal.NotAllowed l h a = a.0 h
 plain_made (event.Claim h x) old new refusal.Memory l k a = a.1

@@ -1,4 +1,4 @@
--- What is at home is what was posted and has not ended.
+-- The threads at home are those that were posted and have not ended.
 use Rattle.std.proofs.Common.{◌≡◌, ℕ, zero, suc, ◌+◌, ◌*◌, ◌<◌, ◌≤◌, inl, inr, Bool, true, false, cond, eqb, List, [], ◌∷◌, ◌++◌, map, Option, None, Some, refl, sym, ap, ◌∙◌, subst, arith, add-one}
 use Rattle.std.proofs.lemmas.Bool.{cases_eq, cases_lt, eqb-true, eq-eqb, and_parts, and_from, and_right, lt-ltb, ltb-true, false_from_ne_true, cond-false}
 use Rattle.std.proofs.lemmas.List.{append-nil, map-append}
@@ -111,7 +111,7 @@ module _ {T : Type 0} (tag : T → ℕ) (w : World) (vs : List (Option T)) where
     all = λ none t. given_is t (is_live w t) (w.given t) (w.ended t) (hits_below (w.cores * w.slots) t) (owned.live t) (counted home none t);
   }
 
--- ---- by context
+-- ---- the order of the contexts
 
 abbrev AllBelow : {T : Type 0} → ℕ → List (ThreadId × T) → Type 0
 AllBelow n [] = Unit {0}

@@ -1,4 +1,4 @@
--- How many numbers pass a test, where the test changes at one of them.
+-- The number of numbers that pass a test, if the test changes at one of them.
 use Rattle.std.proofs.Common.{◌≡◌, ℕ, zero, suc, ◌+◌, ◌*◌, ◌<◌, ◌≤◌, inl, inr, Bool, true, false, refl, sym, ap, ◌∙◌, arith}
 use Rattle.std.proofs.lemmas.Bool.{cases_eq}
 use Rattle.arachne_core.specs.Occupancy.{bit}
@@ -39,7 +39,7 @@ count_positive (suc n) x f h t = elim (cases_eq x n) [
   | inr q ↦ let rest = count_positive n x f (omega arith) t in omega (arith, rest)
 ]
 
--- the state of one context is another
+-- the state of one context has changed
 pub contexts_set : (test : State → Bool) (w u : World) (x : ℕ) → u.cores ≡ w.cores → u.slots ≡ w.slots → ((y : ℕ) → (y ≡ x → ⊥) → u.state y ≡ w.state y) → IsContext w x
     → contexts_in test u + bit (test (w.state x)) ≡ contexts_in test w + bit (test (u.state x))
 contexts_set test w u x cores slots others within =

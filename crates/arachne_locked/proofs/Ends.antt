@@ -22,12 +22,12 @@ IsClaimed (Blocked t) = ⊥
 IsClaimed (Held h w t) = ⊥
 IsClaimed Spent = ⊥
 
--- a retire of a held thread is made
+-- a retire of a held thread is applied
 pub retire_made : (old new : ContextTable) (h x : ℕ) (r : NotApplied) → HasRoom old → HoldsIn (world_of old) h x → Answers (event.Retire h x) old new (Err r) → ⊥
 retire_made old new h x refusal.NotAllowed room held a = a.0 held
 retire_made old new h x refusal.Memory room held a = retire_has_room old h x room held a.1
 
--- a release of a claimed place is made
+-- a release of a claimed place is applied
 pub release_made : (old new : ContextTable) (h x : ℕ) (r : NotApplied) → HasClaimed (world_of old) h x → Answers (event.Release h x) old new (Err r) → ⊥
 release_made old new h x refusal.NotAllowed held a = a.0 held
 release_made old new h x refusal.Memory held a = a.1
@@ -59,7 +59,7 @@ module _ (old mid : ContextTable) (h x : ℕ) (made : Answers (event.Retire h x)
       (λ y n. ap (λ (z : World). z.state y) made.1 ∙ with_at-other (world_of old).state x (if nat_lt ((world_of old).generation x) (world_of old).last then Claimed h else Spent) y n)
       made.0.context made.2 made.3 pays.0 pays.1
 
-  -- the context goes on
+  -- the context gets its next generation
 
   pub goes_on : ((world_of mid).state x ≡ Spent → ⊥) → nat_lt ((world_of old).generation x) (world_of old).last ≡ true
   goes_on n = elim (cases_Bool (nat_lt ((world_of old).generation x) (world_of old).last)) [

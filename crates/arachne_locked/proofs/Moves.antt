@@ -40,7 +40,7 @@ module _ (w : World) (h x y : ℕ) (can : CanMove w x y) where
     | inr n ↦ with_at-other moved.state y Free z n ∙ with_at-other w.state y (Claimed h) z n
   ]
 
--- as the tables show it
+-- the same facts, as tables have them
 module _ (old one two new : ContextTable) (h x y : ℕ) (can : CanMove (world_of old) x y) where
   pub allows_move : Answers (event.Claim h y) old one (Ok tt) → Allowed (world_of one) (event.Move h x y)
   allows_move a = subst (λ (z : World). Allowed z (event.Move h x y)) (sym a.1) (may_move (world_of old) h x y can)

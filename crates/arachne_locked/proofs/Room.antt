@@ -1,4 +1,4 @@
--- Each event leaves room for the posts and retires that may come.
+-- Each event leaves memory reserved for the posts and retires that may come.
 use Rattle.std.proofs.Common.{◌≡◌, ℕ, ◌+◌, ◌*◌, ◌≤◌, true, false, refl, sym, ap, ◌∙◌, subst, arith, Result, Ok, Err, Option, Some, None}
 use Rattle.std.specs.Prelude.{OnOk, OnErr, IfSome, IfNone}
 use Rattle.arachne_core.specs.Occupancy.{bit}
@@ -18,21 +18,21 @@ use Rattle.arachne_locked.specs.Calls.{IsClaim}
 use Rattle.arachne_locked.specs.Room.{contexts_in, may_post, may_end, HasRoom}
 use Rattle.arachne_locked.proofs.Counts.{count_most, count_positive, contexts_set, contexts_kept}
 
--- room for every context
+-- memory reserved for every context
 pub full_room : (k : ContextTable) → (world_of k).cores * (world_of k).slots ≤ k.posts → (world_of k).cores * (world_of k).slots ≤ k.retires → HasRoom k
 full_room k posts retires = record {
   posts = (let h = count_most ((world_of k).cores * (world_of k).slots) (λ x. may_post ((world_of k).state x)) in omega (arith, h, posts));
   retires = (let h = count_most ((world_of k).cores * (world_of k).slots) (λ x. may_end ((world_of k).state x)) in omega (arith, h, retires));
 }
 
--- more room
+-- more memory reserved
 pub grown_room : (old new : ContextTable) → HasRoom old → world_of new ≡ world_of old → old.posts ≤ new.posts → old.retires ≤ new.retires → HasRoom new
 grown_room old new room same posts retires = record {
   posts = (let h = ap (contexts_in may_post) same in let r = room.posts in omega (arith, h, r, posts));
   retires = (let h = ap (contexts_in may_end) same in let r = room.retires in omega (arith, h, r, retires));
 }
 
--- no state has changed, and no room was used
+-- no state has changed, and no reserved memory was used
 pub kept_room : (old new : ContextTable) → HasRoom old → (world_of new).cores ≡ (world_of old).cores → (world_of new).slots ≡ (world_of old).slots → ((y : ℕ) → (world_of new).state y ≡ (world_of old).state y)
     → old.posts ≤ new.posts → old.retires ≤ new.retires → HasRoom new
 kept_room old new room cores slots states posts retires = record {
@@ -40,7 +40,7 @@ kept_room old new room cores slots states posts retires = record {
   retires = (let h = contexts_kept may_end (world_of old) (world_of new) cores slots states in let r = room.retires in omega (arith, h, r, retires));
 }
 
--- one state has changed, and less room is owed by as much as was used
+-- one state has changed, and it needs less reserved memory, by as much as was used
 pub set_room : (old new : ContextTable) (x posts retires : ℕ) → HasRoom old → (world_of new).cores ≡ (world_of old).cores → (world_of new).slots ≡ (world_of old).slots
     → ((y : ℕ) → (y ≡ x → ⊥) → (world_of new).state y ≡ (world_of old).state y) → IsContext (world_of old) x
     → old.posts ≤ new.posts + posts → old.retires ≤ new.retires + retires
@@ -66,9 +66,9 @@ slots_stay w (event.OpenCore c) = refl
 slots_stay w (event.Move h x y) = refl
 slots_stay w event.Still = refl
 
--- ---- what a state owes before and after
+-- ---- the reserved memory that a state needs before and after
 
--- from one state to another, with so many posts and retires used
+-- a change from one state to another, which uses `posts` posts and `retires` retires
 abbrev pub Pays : State → ℕ → ℕ → State → Type 0
 Pays s posts retires t = (bit (may_post t) + posts ≤ bit (may_post s)) × (bit (may_end t) + retires ≤ bit (may_end s))
 
@@ -110,7 +110,7 @@ end_pays h Spent u i e p = absurd i
 
 -- ---- the events
 
--- the event is none of a claim and of a retire, which come with others in one call
+-- the event is not a claim or a retire, which come with other events in one call
 abbrev pub IsSingle : Event → Type 0
 IsSingle (event.Claim h x) = ⊥
 IsSingle (event.Alone h x) = ⊥
@@ -124,7 +124,7 @@ module _ (old new : ContextTable) (room : HasRoom old) where
   abbrev u : World
   u = world_of new
 
-  -- the context x goes to the state t
+  -- the state of context x becomes t
   set_to : (e : Event) (x posts retires : ℕ) (t : State) → u ≡ after w e → (after w e).cores ≡ w.cores → ((y : ℕ) → (after w e).state y ≡ with_at w.state x t y) → IsContext w x
       → old.posts ≤ new.posts + posts → old.retires ≤ new.retires + retires → Pays (w.state x) posts retires t → HasRoom new
   set_to e x posts retires t made cores states within p r pays =
@@ -155,7 +155,7 @@ module _ (old new : ContextTable) (room : HasRoom old) where
   event_room (event.Alone h x) l a = absurd l
   event_room (event.Retire h x) l a = absurd l
 
--- ---- answers
+-- ---- results
 
 module _ {T : Type 0} (old new : TableView T) (room : HasRoom old.table) where
   same_room : new ≡ old → HasRoom new.table
@@ -173,7 +173,7 @@ module _ {T : Type 0} (old new : TableView T) (room : HasRoom old.table) where
   taken_room h x (Some v) a same = event_room old.table new.table room (event.Take h x) tt a
   taken_room h x None a same = same_room same
 
--- a claim, with room for every context
+-- a claim, with memory reserved for every context
 pub claimed_room : (old new : ContextTable) (e : Event) → IsClaim e → Answers e old new (Ok tt)
     → (world_of old).cores * (world_of old).slots ≤ old.posts → (world_of old).cores * (world_of old).slots ≤ old.retires → HasRoom new
 claimed_room old new (event.Claim h x) l a posts retires =
@@ -191,7 +191,7 @@ claimed_room old new (event.OpenCore c) l a posts retires = absurd l
 claimed_room old new (event.Move h x y) l a posts retires = absurd l
 claimed_room old new event.Still l a posts retires = absurd l
 
--- a claim is never refused for want of memory, since it needs none
+-- a claim never fails for memory, since it needs none
 pub claim_made : (e : Event) (old new : ContextTable) (r : NotApplied) → IsClaim e → Answers e old new (Err r) → Allowed (world_of old) e → ⊥
 claim_made e old new refusal.NotAllowed l a h = a.0 h
 claim_made (event.Claim h x) old new refusal.Memory l a k = a.1
@@ -207,7 +207,7 @@ claim_made (event.OpenCore c) old new refusal.Memory l a k = absurd l
 claim_made (event.Move h x y) old new refusal.Memory l a k = absurd l
 claim_made event.Still old new refusal.Memory l a k = absurd l
 
--- ---- no want of memory
+-- ---- no call fails for memory
 
 pub post_has_room : (k : ContextTable) (h x tag : ℕ) → HasRoom k → HasClaimed (world_of k) h x → k.posts ≡ 0 → ⊥
 post_has_room k h x tag room a none =

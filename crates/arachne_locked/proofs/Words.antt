@@ -1,4 +1,4 @@
--- What the word 0 says, and where a core is seen to be free.
+-- The meaning of the word 0, and when a word shows an empty core.
 use Rattle.std.proofs.Common.{◌≡◌, ℕ, zero, suc, ◌^◌, ◌<◌, ◌⊎◌, inl, inr, Bool, true, false, List, [], ◌∷◌, length, get_or, replicate, refl, sym, ap, ◌∙◌, arith}
 use Rattle.std.specs.Prelude.{EachIndex}
 use Rattle.std.proofs.lemmas.Bool.{true≢false}
@@ -10,7 +10,7 @@ none_set : flags MASK_BITS 0 ≡ replicate MASK_BITS false
 unfolding flags
 none_set = refl
 
--- a core that is exclusive, or has an occupied index, has not the word 0
+-- the word of a core that is exclusive, or has an occupied index, is not 0
 pub in_use : (o : Occupancy) (word : ℕ) → occupancy_of word ≡ o → (o.exclusive ≡ true) ⊎ (EachIndex o.occupied (λ i. get_or o.occupied i false ≡ false) → ⊥) → word ≡ 0 → ⊥
 in_use o word reads (inl e) none = true≢false (sym e ∙ sym (ap (λ (p : Occupancy). p.exclusive) reads) ∙ ap (λ n. (occupancy_of n).exclusive) none)
 in_use o word reads (inr n) none =
@@ -24,7 +24,7 @@ none_masked (true ∷ xs) e i = absurd (omega (arith, e))
 none_masked (false ∷ xs) e zero = refl
 none_masked (false ∷ xs) e (suc i) = none_masked xs (omega (arith, e)) i
 
--- where none of the first n flags is true, and the mask has n bits, it is 0
+-- a mask of n bits of which none is set is 0
 pub all_free : (n : ℕ) (xs : List Bool) → mask_of xs < 2 ^ n → ((i : ℕ) → i < n → get_or xs i false ≡ false) → mask_of xs ≡ 0
 all_free n [] short free = refl
 all_free zero (x ∷ xs) short free = omega (arith, short)

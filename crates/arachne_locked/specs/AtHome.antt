@@ -1,4 +1,4 @@
--- The World of a table, and the values of the threads that are at rest.
+-- The World of a table, and the values of the threads at rest.
 use Rattle.std.specs.Prelude.{◌≡◌, ℕ, ◌*◌, List, length, slice_index_or, Option, None, Some}
 use Rattle.arachne_core.specs.declared.state.State.{State}
 use Rattle.arachne_core.specs.declared.state.State.TheVariants as state
@@ -8,7 +8,7 @@ use Rattle.arachne_core.specs.declared.thread_id.ThreadId.{ThreadId}
 use Rattle.arachne_core.specs.ContextTable.{ContextTable}
 use Rattle.arachne_core.specs.World.{World, IsContext, HoldsIn, tag_of}
 
--- what callers see of a table: its World, and for each context the value at home, if there is one
+-- the model of a table: its World, and for each context the value at home, if there is one
 pub record TableView (T : Type 0) : Type 0 where
   pub table : ContextTable
   pub values : List (Option T)
@@ -17,14 +17,14 @@ pub record TableView (T : Type 0) : Type 0 where
 abbrev pub value_at : {T : Type 0} → List (Option T) → ℕ → Option T
 value_at values x = slice_index_or values x None
 
--- the event is none of those by which a value comes home or goes out
+-- the event is not one that changes a value: a post, a take or a put-back
 abbrev pub LeavesValues : Event → Type 0
 LeavesValues (event.Post h x tag) = ⊥
 LeavesValues (event.Take h x) = ⊥
 LeavesValues (event.Rest h x r) = ⊥
 LeavesValues e = Unit {0}
 
--- the event wants no room, as a post and a retire do
+-- the event needs no memory: it is not a post or a retire
 abbrev pub WantsNoRoom : Event → Type 0
 WantsNoRoom (event.Post h x tag) = ⊥
 WantsNoRoom (event.Retire h x) = ⊥
@@ -37,18 +37,18 @@ pub record HoldsThread (w : World) (h : ℕ) (id : ThreadId) (tag : ℕ) : Type 
   pub tagged : tag_of (w.state id.context) ≡ tag
 
 module _ {T : Type 0} (tag : T → ℕ) where
-  -- a value with this tag
+  -- there is a value, and it has this tag
   abbrev pub IsTagged : ℕ → Option T → Type 0
   IsTagged n (Some value) = tag value ≡ n
   IsTagged n None = ⊥
 
-  -- what is at home in a context of this state: the thread's value where the thread is at rest, else nothing
+  -- the value at home in a context of this state is the thread's if the thread is at rest, and none otherwise
   abbrev pub IsKeptAt : State → Option T → Type 0
   IsKeptAt (state.Ready n) value = IsTagged n value
   IsKeptAt (state.Blocked n) value = IsTagged n value
   IsKeptAt s value = value ≡ None
 
-  -- a value is at home exactly where its context is at rest, with the tag by which the World knows its thread
+  -- a value is at home exactly if its context is at rest, with the tag by which the World knows its thread
   pub record IsHome (w : World) (values : List (Option T)) : Type 0 where
     pub contexts : length values ≡ w.cores * w.slots
     pub kept : (x : ℕ) → IsContext w x → IsKeptAt (w.state x) (value_at values x)

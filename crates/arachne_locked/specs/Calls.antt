@@ -1,4 +1,4 @@
--- What the calls of a table say of its World.
+-- The effect of a table's calls on its World.
 use Rattle.std.specs.Prelude.{◌≡◌, ◌≢◌, ℕ, ◌<◌, List, [], ◌∷◌, if◌then◌else◌, nat_lt, Bool, true, false, Option, Some, None, slice_set}
 use Rattle.arachne_core.specs.declared.place.Place.{Place}
 use Rattle.arachne_core.specs.declared.thread_id.ThreadId.{ThreadId}
@@ -30,12 +30,12 @@ use Rattle.arachne_locked.specs.declared.tokens.LockedClaim.{LockedClaim}
 use Rattle.arachne_locked.specs.declared.tokens.LockedHold.{LockedHold}
 use Rattle.arachne_locked.specs.AtHome.{value_at}
 
--- the World takes these events in order
+-- the World changes by these events, in order, each of which is allowed
 pub record Takes (old : World) (events : List Event) (new : World) : Type 0 where
   pub allowed : IsRun old events
   pub made : new ≡ after_all old events
 
--- nothing changes, and the word is that of the core, if the World has it
+-- nothing has changed, and the word is that of the core, if the World has it
 pub record IsRefusedBy (old new : World) (core word : ℕ) : Type 0 where
   pub same : new ≡ old
   pub shows : core < old.cores → ShowsCore old core (occupancy_of word)
@@ -46,7 +46,7 @@ pub record IsLowestFree (w : World) (p : Place) : Type 0 where
   pub free : w.occupied p ≡ false
   pub lowest : (i : ℕ) → i < p.index → w.occupied (record { core = p.core; index = i }) ≡ true
 
--- the context at a place is in such a state
+-- the state of the context at the place passes the test
 pub record HasAt (w : World) (p : Place) (test : State → Type 0) : Type 0 where
   pub context : ℕ
   pub within : IsContext w context
@@ -92,7 +92,7 @@ module _ {T : Type 0} where
     pub value : value_at before held.hold.id.context ≡ Some held.value
     pub out : after ≡ slice_set before held.hold.id.context None
 
-  -- nothing changes, and the word shows that no thread at the place is ready; it is that of the context there
+  -- nothing has changed, and the word shows that no thread at the place is ready: it is the word of the context there
   pub record HasNoneReady (old new : World) (before after : List (Option T)) (p : Place) (word : ℕ) : Type 0 where
     pub same : new ≡ old
     pub values : after ≡ before
@@ -104,7 +104,7 @@ module _ {T : Type 0} where
   TakesFrom w u old new h p (taken.NotReady word) = HasNoneReady w u old new p word
   TakesFrom w u old new h p (taken.Lost word) = ⊥
 
--- the events by which a thread of h ends in x: its place is free, unless the context is spent
+-- the events by which h's thread in x ends: the second one frees its place, unless the context is spent
 abbrev pub ends : World → ℕ → ℕ → List Event
 ends w h x = if nat_lt (w.generation x) w.last then event.Retire h x ∷ event.Release h x ∷ [] else event.Retire h x ∷ []
 
@@ -113,19 +113,19 @@ abbrev pub was_woken : State → Bool
 was_woken (state.Held h woken tag) = woken
 was_woken s = false
 
--- how a thread is put back that was in this state
+-- the result of putting back a thread that was in this state
 abbrev pub rests_as : Rest → State → Rested
 rests_as rest.Ready s = rested.AsAsked
 rests_as rest.Blocked s = if was_woken s then rested.WokenMeanwhile else rested.AsAsked
 
--- nothing changes, and the context's word shows that its thread is ready or was woken
+-- nothing has changed, and the context's word shows that its thread is ready or was woken
 pub record IsWoken (old new : World) (id : ThreadId) (word : ℕ) : Type 0 where
   pub same : new ≡ old
   pub context : IsContext old id.context
   pub reads : marked_of CORE_BITS word ≡ marked old id.context
   pub shows : ShowsWoken id word
 
--- nothing changes, and no thread of the id lives
+-- nothing has changed, and no live thread has the id
 pub record IsGone (old new : World) (id : ThreadId) : Type 0 where
   pub same : new ≡ old
   pub gone : IsContext old id.context → old.generation id.context ≡ id.generation → is_live_state (old.state id.context) ≡ false
@@ -138,7 +138,7 @@ Wakes w u id (woken.Lost word) = ⊥
 
 -- ---- moves
 
--- the thread at p has moved to the lowest free place of a core, through h, and p is free
+-- the thread at p has moved to the lowest free place of a core, by h, and p is free
 pub record HasMoved (old new : World) (h : ℕ) (p : Place) (to : ℕ) : Type 0 where
   pub from : ℕ
   pub target : ℕ
@@ -157,7 +157,7 @@ abbrev pub IsHeld : State → Type 0
 IsHeld (state.Held h woken tag) = Unit {0}
 IsHeld s = ⊥
 
--- a move of the thread at p: what is refused first is answered
+-- the result of a move of the thread at p: the first refusal that applies, or `Moved`
 abbrev pub Moves : World → World → ℕ → Place → ℕ → Moved → Type 0
 Moves w u h p to moved.Moved = HasMoved w u h p to
 Moves w u h p to moved.Unposted = (u ≡ w) × (IsPlace w p → HasAt w p HasNoThread)
@@ -172,7 +172,7 @@ IsClaim (event.Claim h x) = Unit {0}
 IsClaim (event.Alone h x) = Unit {0}
 IsClaim e = ⊥
 
--- the thread in x is at rest on a core that it shares, and y may be claimed on another core
+-- the thread in x is at rest on a core that is not exclusive, and y may be claimed on another core
 pub record CanMove (w : World) (x y : ℕ) : Type 0 where
   pub context : IsContext w x
   pub at_rest : IsAtRest (w.state x)

@@ -1,4 +1,4 @@
--- What is left when a table is closed.
+-- The threads that are left when a table is closed.
 use Rattle.std.specs.Prelude.{◌≡◌, ℕ, zero, suc, ◌+◌, ◌≤◌, List, [], ◌∷◌, ◌++◌, map, Option, None, Some}
 use Rattle.arachne_core.specs.declared.thread_id.ThreadId.{ThreadId}
 use Rattle.arachne_core.specs.ContextTable.{times}
@@ -11,12 +11,12 @@ abbrev pub HoldsNone : World → Type 0
 HoldsNone w = (x : ℕ) → IsContext w x → IsHeld (w.state x) → ⊥
 
 module _ {T : Type 0} where
-  -- the thread in x with its value, where one is at home
+  -- the thread in x with its value, if one is at home there
   abbrev pub one_at : World → ℕ → Option T → List (ThreadId × T)
   one_at w x None = []
   one_at w x (Some value) = (id_of w x, value) ∷ []
 
-  -- the threads in the contexts below n whose values are at home, by context
+  -- the threads in the contexts below n whose values are at home, in the order of the contexts
   abbrev pub at_rest_below : World → List (Option T) → ℕ → List (ThreadId × T)
   at_rest_below w values zero = []
   at_rest_below w values (suc n) = at_rest_below w values n ++ one_at w n (value_at values n)

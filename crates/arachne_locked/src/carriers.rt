@@ -3,7 +3,7 @@ ghost use Rattle.std.specs.Prelude.{◌≡◌, ◌≢◌, ◌+◌, ◌<◌};
 
 use std::marker::Model;
 
-/// The carriers that were given to seats. Contracts see the one that was given last.
+/// The carriers that were given to seats. Contracts see the last one.
 #[derive(Debug, Drop)]
 pub struct Carriers {
     last: u32,
@@ -18,15 +18,17 @@ impl Model for Carriers {
 }
 
 impl Carriers {
-    /// The first carrier, which is 0, is given.
+    /// Creates the carriers, of which the first one, 0, is already given.
     pub fn new() -> Self
         ensures { result ≡ 0 }
     {
         Carriers { last: 0 }
     }
 
-    /// A carrier for a seat that is split off another, whose carrier this is: a greater one than all before. Once each
-    /// number of 32 bits was given they begin anew, and the two seats differ still.
+    /// Returns a carrier for a seat that is split off the seat of carrier `other`.
+    ///
+    /// It is greater than all before, until the numbers of 32 bits are used up. Then carriers begin at 0 again, and the
+    /// two seats still have different ones.
     pub fn next(&mut self, other: u32) -> u32
         ensures last { self.new ≡ result }
         ensures apart { result ≢ other }

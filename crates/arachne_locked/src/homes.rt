@@ -16,7 +16,9 @@ use arachne_core::{
 use std::alloc::{AllocError, Global};
 use std::marker::Model;
 
-/// A World, and by context the value of each thread that is at rest.
+/// A World, and by context the value of each thread at rest.
+///
+/// Such a value is *at home*. The value of a held thread is with the seat that took it.
 #[derive(Drop)]
 pub struct Homes<T: Tagged> {
     world: World,
@@ -35,7 +37,7 @@ impl<T: Tagged> Model for Homes<T> {
 }
 
 impl<T: Tagged + Drop> Homes<T> {
-    /// A table with this many cores, each with this many places, and no thread.
+    /// Creates a table of `cores` cores with `slots` places each, and no thread.
     pub fn new(
         alloc: Global,
         cores: u8,
@@ -56,7 +58,7 @@ impl<T: Tagged + Drop> Homes<T> {
         Ok(Homes { world, values })
     }
 
-    /// The World.
+    /// Returns the World.
     pub fn world(&self) -> &World
         ensures world { result.now ≡ self.now.table }
         ensures owned_once { OwnedOnce (world_of self.now.table) }
@@ -66,21 +68,21 @@ impl<T: Tagged + Drop> Homes<T> {
         &self.world
     }
 
-    /// How many contexts there are.
+    /// Returns the number of contexts.
     pub fn contexts(&self) -> usize
         ensures { result ≡ (world_of self.now.table).cores * (world_of self.now.table).slots }
     {
         self.values.len()
     }
 
-    /// Whether the table has the context.
+    /// Returns whether the table has the context.
     pub fn has(&self, context: u32) -> bool
         ensures { IsTrue result ↔ IsContext (world_of self.now.table) context }
     {
         (context as usize) < self.values.len()
     }
 
-    /// The generation of a context.
+    /// Returns the generation of a context.
     pub fn generation(&self, context: u32) -> u64
         requires { IsContext (world_of self.now.table) context }
         ensures { result ≡ (world_of self.now.table).generation context }
@@ -88,7 +90,7 @@ impl<T: Tagged + Drop> Homes<T> {
         self.world.mark(context).generation()
     }
 
-    /// Makes room for so many more posts and retires.
+    /// Reserves memory for `posts` more posts and `retires` more retires.
     pub fn reserve(&mut self, posts: usize, retires: usize) -> Result<(), AllocError>
         ensures values { self.new.values ≡ self.old.values }
         ensures kept { self.new.table ≡ record self.old.table { posts = self.new.table.posts; retires = self.new.table.retires } }
@@ -98,7 +100,7 @@ impl<T: Tagged + Drop> Homes<T> {
         self.world.reserve(posts, retires)
     }
 
-    /// Makes an event that leaves the values where they are.
+    /// Applies an event that leaves the values as they are.
     pub fn apply(&mut self, event: Event) -> Result<(), NotApplied>
         requires { LeavesValues event }
         ensures answer { Answers event self.old.table self.new.table result }
@@ -108,7 +110,7 @@ impl<T: Tagged + Drop> Homes<T> {
         self.world.apply(event)
     }
 
-    /// Makes an event that is allowed, and wants no memory.
+    /// Applies an event that is allowed and needs no memory.
     pub fn make(&mut self, event: Event)
         requires values { LeavesValues event }
         requires memory { WantsNoRoom event }
@@ -122,7 +124,9 @@ impl<T: Tagged + Drop> Homes<T> {
         }
     }
 
-    /// Posts a thread in a context that the carrier has claimed. A value that isn't posted comes back.
+    /// Posts a thread in a context that the carrier has claimed.
+    ///
+    /// Returns the value with the error if it is not posted.
     pub fn post(&mut self, carrier: u32, context: u32, value: T) -> Result<(), (NotApplied, T)>
         ensures made { OnOk result (Answers (event.Post carrier context (T.tag_of value)) self.old.table self.new.table (Ok tt)) }
         ensures home { OnOk result (self.new.values ≡ slice_set self.old.values context (Some value)) }
@@ -145,7 +149,7 @@ impl<T: Tagged + Drop> Homes<T> {
         }
     }
 
-    /// Takes a thread that is ready.
+    /// Takes the thread in a context, if it is ready.
     pub fn take(&mut self, carrier: u32, context: u32) -> Option<T>
         ensures made { IfSome result (λ value. Answers (event.Take carrier context) self.old.table self.new.table (Ok tt)) }
         ensures value { IfSome result (λ value. value_at self.old.values context ≡ Some value) }
@@ -162,7 +166,7 @@ impl<T: Tagged + Drop> Homes<T> {
         }
     }
 
-    /// Whether the carrier holds the thread of this id and tag.
+    /// Returns whether the carrier holds the thread of this id and tag.
     pub fn holds(&self, carrier: u32, id: ThreadId, tag: u64) -> bool
         ensures { IsTrue result ↔ HoldsThread (world_of self.now.table) carrier id tag }
     {
@@ -199,7 +203,9 @@ impl<T: Tagged + Drop> Homes<T> {
 }
 
 impl<T: Tagged + Drop> Homes<T> {
-    /// The threads whose values are at home, by context. All comes back where memory is refused.
+    /// Returns the threads whose values are at home, in the order of the contexts.
+    ///
+    /// If memory is refused, the table is returned unchanged.
     pub fn close(self, alloc: Global) -> Result<Vec<(ThreadId, T)>, Self>
         ensures rest { IfOk result (λ rest. rest.items ≡ at_rest_below (world_of self.table) self.values ((world_of self.table).cores * (world_of self.table).slots)) }
         ensures handed_back { IfErr result (λ back. back ≡ self) }
@@ -227,7 +233,7 @@ impl<T: Tagged + Drop> Homes<T> {
     }
 }
 
-/// So many contexts with no value.
+/// Returns `count` entries with no value.
 fn no_values<T: Drop>(alloc: Global, count: usize) -> Result<Vec<Option<T>>, AllocError>
     ensures { IfOk result (λ values. values.items ≡ replicate count None) }
 {

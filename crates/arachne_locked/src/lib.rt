@@ -1,7 +1,7 @@
 //! A context table behind a lock.
 //!
-//! The lock has a World and the values of the threads that are at rest. Each call makes its events there, one after
-//! another, so between any two calls the World is owned once. This form is what tests compare others with.
+//! The lock protects a World and the values of the threads at rest. Each call applies its events there, one after
+//! another, so between any two calls the World is owned once. Tests compare the other form of table with this one.
 #![tactic(auto)]
 
 mod carriers;

@@ -27,7 +27,7 @@ pub struct LockedContexts<T: Tagged> {
     slots: Slots,
 }
 
-/// The word of a core, or that of a full one where the table doesn't have it.
+/// Returns the word of a core, or the word of a full core if the table doesn't have it.
 fn word_of(occ: Option<OccWord>) -> u64
     ensures { IsOccupancyWord result }
 {
@@ -38,7 +38,7 @@ fn word_of(occ: Option<OccWord>) -> u64
 }
 
 impl<T: Tagged + Drop> LockedContexts<T> {
-    /// How many places each core has.
+    /// Returns the number of places of each core.
     pub fn slots(&self) -> u8
         ensures value { result ≡ self.now.slots }
         ensures few { result ≤ SLOTS }
@@ -47,8 +47,9 @@ impl<T: Tagged + Drop> LockedContexts<T> {
     }
 }
 
-/// The word, if it shows a core of so many places to be full, else that of a full one: nothing outside a lock knows how
-/// many places a core has behind it.
+/// Returns the word if it shows a full core of `slots` places, and otherwise the word of a full core.
+///
+/// It must test the word, since proofs outside the lock don't know how many places the state behind the lock has.
 fn full_word(word: u64, slots: Slots) -> u64
     ensures { ShowsFull slots result }
 {
@@ -60,7 +61,7 @@ fn full_word(word: u64, slots: Slots) -> u64
     full_core(slots)
 }
 
-/// The same of a word that shows that no thread may be moved to the core.
+/// Returns the word if it shows a core to which no thread may be moved, and otherwise the word of a full core.
 fn no_room_word(word: u64, slots: Slots) -> u64
     ensures { ShowsNoRoom slots result }
 {
@@ -72,14 +73,14 @@ fn no_room_word(word: u64, slots: Slots) -> u64
     full_core(slots)
 }
 
-/// Whether one thread has the core alone, or none of its places is free.
+/// Returns whether the core is exclusive, or none of its places is free.
 fn has_no_place(occ: OccWord, slots: Slots) -> bool
     ensures { IsTrue result → HasNoPlace slots occ }
 {
     occ.is_exclusive() || occ.lowest_free_below(slots.count()).is_none()
 }
 
-/// The word of a core of which each place is occupied.
+/// Returns the word of a core whose places are all occupied.
 fn full_core(slots: Slots) -> u64
     ensures { ShowsFull slots result }
 {

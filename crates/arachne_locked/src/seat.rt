@@ -1,13 +1,14 @@
-//! Who steps at a locked table.
+//! The seats of a locked table.
 ghost use Rattle.std.specs.Prelude.{◌≡◌};
 ghost use Rattle.arachne_locked.specs.Seats.{one_more, one_fewer};
 
 use arachne_weights::Weight;
 use std::marker::Model;
 
-/// Who steps at a locked table. The state behind the lock knows it by its carrier.
+/// A seat of a locked table. The state behind the lock knows it by its carrier.
 ///
-/// Contracts see its carrier, its weight, and how many claims and threads it has out. The count stays at 2^32 - 1.
+/// Contracts see its carrier, its weight, and how many claims and threads are out with it. A count of 2^32 - 1 no
+/// longer changes.
 #[derive(Debug, Drop)]
 pub struct LockedSeat {
     pub(crate) carrier: u32,
@@ -24,7 +25,7 @@ impl Model for LockedSeat {
 }
 
 impl LockedSeat {
-    /// The seat has a claim or a thread more.
+    /// Counts one more claim or thread that is out.
     pub(crate) fn gain(&mut self)
         ensures { self.new ≡ record self.old { out = one_more self.old.out } }
     {
@@ -33,7 +34,7 @@ impl LockedSeat {
         }
     }
 
-    /// The seat has spent a claim or a thread.
+    /// Counts one claim or thread as spent.
     pub(crate) fn spend(&mut self)
         ensures { self.new ≡ record self.old { out = one_fewer self.old.out } }
     {

@@ -1,11 +1,12 @@
-//! How many places each core of a table has.
+//! The number of places of each core.
 ghost use Rattle.std.specs.Prelude.{◌≡◌, ◌≤◌};
 
 use arachne_core::SLOTS;
 use std::marker::Model;
 
-/// How many places each core of a table has, as whoever has the table knows it outside the lock. A contract sees it as
-/// a number.
+/// The number of places of each core, known outside the lock.
+///
+/// Contracts see it as a number.
 #[derive(Clone, Copy, Debug)]
 pub struct Slots {
     count: u8,

@@ -1,4 +1,4 @@
-//! What lies behind the lock of a locked table.
+//! The state behind the lock of a locked table.
 ghost use Rattle.std.specs.Prelude.{◌≡◌, ◌≢◌, ◌*◌, ◌<◌, ◌≤◌, ◌↔◌, ℕ, [], ◌∷◌, Ok, IfOk, OnOk, OnErr, IfErr, IfSome, IfNone, MatchBool, IsTrue, true, false, Some, slice_set};
 ghost use Rattle.arachne_core.specs.ContextTable.{world_of, ShowsCore, IsVacantFrom, Answers, marked};
 ghost use Rattle.arachne_core.specs.World.{Allowed, IsContext, IsPlace, HasClaimed, HoldsIn, IsAtRest, id_of};
@@ -21,7 +21,7 @@ use arachne_core::{
 use std::alloc::{AllocError, Global};
 use std::marker::Model;
 
-/// The World and the values at home, with room for each post and each end of a thread that may come.
+/// A World and its values at home, with memory reserved for each post and each end of a thread that may come.
 #[derive(Drop)]
 pub struct TableState<T: Tagged> {
     homes: Homes<T>,
@@ -38,7 +38,7 @@ impl<T: Tagged> Model for TableState<T> {
     ghost invariant = { λ s. HasRoom s.homes.table };
 }
 
-/// The word of a core that isn't there, where each core has so many places: it is full.
+/// Returns the word of a full core of `slots` places, for a core that the table doesn't have.
 pub fn no_core(slots: u8) -> OccWord
     requires { slots ≤ SLOTS }
     ensures open { result.closed ≡ false }
@@ -49,7 +49,7 @@ pub fn no_core(slots: u8) -> OccWord
 }
 
 impl<T: Tagged + Drop> TableState<T> {
-    /// A table with this many cores, each with this many places, and no thread.
+    /// Creates a table of `cores` cores with `slots` places each, and no thread.
     pub fn new(
         alloc: Global,
         cores: u8,
@@ -71,8 +71,8 @@ impl<T: Tagged + Drop> TableState<T> {
         Ok(TableState { homes })
     }
 
-    /// Tells whoever has a table that its World is owned once, and that a value is at home exactly where its context is
-    /// at rest. Nothing is done.
+    /// Does nothing. Its contract says that the World is owned once, and that a value is at home exactly if its context
+    /// is at rest.
     pub fn is_owned_once(&self)
         ensures owned_once { OwnedOnce (world_of self.now.table) }
         ensures home { IsHome T.tag_of (world_of self.now.table) self.now.values }
@@ -88,7 +88,7 @@ impl<T: Tagged + Drop> TableState<T> {
         core < self.homes.world().cores()
     }
 
-    /// How many places each core has.
+    /// Returns the number of places of each core.
     fn slots(&self) -> u8
         ensures value { result ≡ (world_of self.now.table).slots }
         ensures some { 1 ≤ result }
@@ -97,7 +97,7 @@ impl<T: Tagged + Drop> TableState<T> {
         self.homes.world().slots()
     }
 
-    /// The occupancy of a core, if the table has it.
+    /// Returns the occupancy of a core, if the table has it.
     pub fn look(&self, core: u8) -> Option<OccWord>
         ensures some { IfSome result (λ occ. (core < (world_of self.now.table).cores) × ShowsCore (world_of self.now.table) core occ) }
         ensures beyond { IfSome result (λ occ. IsVacantFrom (world_of self.now.table).slots occ) }
@@ -109,7 +109,7 @@ impl<T: Tagged + Drop> TableState<T> {
         Some(self.homes.world().occ(core))
     }
 
-    /// What the mark word of a context says, if the table has it.
+    /// Returns the mark word of a context, if the table has it.
     pub fn look_mark(&self, context: u32) -> Option<MarkWord>
         ensures some { IfSome result (λ mark. IsContext (world_of self.now.table) context × (mark ≡ marked (world_of self.now.table) context)) }
         ensures none { IfNone result (IsContext (world_of self.now.table) context → ⊥) }
@@ -120,7 +120,7 @@ impl<T: Tagged + Drop> TableState<T> {
         Some(self.homes.world().mark(context))
     }
 
-    /// Whether a core is closed and has no occupied place.
+    /// Returns whether a core is closed and has no occupied place.
     pub fn is_drained(&self, core: u8) -> bool
         ensures { IsTrue result ↔ IsDrained (world_of self.now.table) core }
     {
@@ -132,7 +132,7 @@ impl<T: Tagged + Drop> TableState<T> {
 
     // ---- claims
 
-    /// Makes room for what may be posted, and claims a context.
+    /// Claims a context, after memory is reserved for the thread that may be posted there.
     fn claim_context(&mut self, claim: Event) -> Result<(), AllocError>
         requires claim { IsClaim claim }
         requires allowed { Allowed (world_of self.old.table) claim }
@@ -172,7 +172,7 @@ impl<T: Tagged + Drop> TableState<T> {
         Ok(Claimed::Place(LockedClaim { context, place }))
     }
 
-    /// Claims the whole of an empty core.
+    /// Claims an empty core for one thread.
     pub fn claim_alone(
         &mut self,
         carrier: u32,
@@ -198,7 +198,9 @@ impl<T: Tagged + Drop> TableState<T> {
         Ok(Claimed::Place(LockedClaim { context, place }))
     }
 
-    /// Frees a claimed place. A claim that the table doesn't know comes back.
+    /// Frees a claimed place.
+    ///
+    /// Returns the claim as an error if the table doesn't know it.
     pub fn give_back(&mut self, carrier: u32, claim: LockedClaim) -> Result<(), LockedClaim>
         ensures ok { OnOk result (Takes (world_of self.old.table) (event.Release carrier claim.context ∷ []) (world_of self.new.table)) }
         ensures values { self.new.values ≡ self.old.values }
@@ -214,8 +216,9 @@ impl<T: Tagged + Drop> TableState<T> {
 
     // ---- threads
 
-    /// Posts a thread at a claimed place, which wants no memory. Where the table doesn't know the claim, both come
-    /// back.
+    /// Posts a thread at a claimed place. Needs no memory.
+    ///
+    /// Returns the claim and the value as an error if the table doesn't know the claim.
     pub fn post(
         &mut self,
         carrier: u32,
@@ -264,7 +267,9 @@ impl<T: Tagged + Drop> TableState<T> {
         }
     }
 
-    /// Puts a thread back. One that the table doesn't know by id and tag comes back.
+    /// Puts a thread back.
+    ///
+    /// Returns the thread as an error if the table doesn't know it by its id and tag.
     pub fn put_back(
         &mut self,
         carrier: u32,
@@ -286,7 +291,9 @@ impl<T: Tagged + Drop> TableState<T> {
         Ok(rested)
     }
 
-    /// Ends a thread, which wants no memory. One that the table doesn't know by id and tag comes back.
+    /// Ends a thread. Needs no memory.
+    ///
+    /// Returns the thread as an error if the table doesn't know it by its id and tag.
     pub fn finish(
         &mut self,
         carrier: u32,
@@ -326,7 +333,7 @@ impl<T: Tagged + Drop> TableState<T> {
         }
     }
 
-    /// Wakes the thread of an id.
+    /// Wakes the thread of this id.
     pub fn wake(&mut self, id: ThreadId) -> Woken
         ensures answer { Wakes (world_of self.old.table) (world_of self.new.table) id result }
         ensures values { self.new.values ≡ self.old.values }
@@ -348,7 +355,7 @@ impl<T: Tagged + Drop> TableState<T> {
 
     // ---- cores
 
-    /// Closes a core, if the table has it. Its occupancy from before.
+    /// Closes a core, if the table has it. Returns its occupancy from before.
     pub fn close_core(&mut self, core: u8) -> Option<OccWord>
         ensures some { IfSome result (λ occ. ShowsCore (world_of self.old.table) core occ × Takes (world_of self.old.table) (event.CloseCore core ∷ []) (world_of self.new.table)) }
         ensures none { IfNone result ((core < (world_of self.old.table).cores → ⊥) × (self.new ≡ self.old)) }
@@ -361,7 +368,7 @@ impl<T: Tagged + Drop> TableState<T> {
         }
     }
 
-    /// Opens a core, if the table has it. Its occupancy from before.
+    /// Opens a core, if the table has it. Returns its occupancy from before.
     pub fn open_core(&mut self, core: u8) -> Option<OccWord>
         ensures some { IfSome result (λ occ. ShowsCore (world_of self.old.table) core occ × Takes (world_of self.old.table) (event.OpenCore core ∷ []) (world_of self.new.table)) }
         ensures none { IfNone result ((core < (world_of self.old.table).cores → ⊥) × (self.new ≡ self.old)) }
@@ -398,7 +405,7 @@ impl<T: Tagged + Drop> TableState<T> {
         self.move_to(carrier, from, place, to)
     }
 
-    /// Moves a thread at rest, which shares its core.
+    /// Moves a thread at rest, whose core is not exclusive.
     fn move_to(&mut self, carrier: u32, from: u32, place: Place, to: u8) -> Moved
         requires within { IsContext (world_of self.old.table) from }
         requires at { (world_of self.old.table).at from ≡ place }
@@ -448,7 +455,9 @@ impl<T: Tagged + Drop> TableState<T> {
 
     // ---- the end
 
-    /// The threads whose values are at home, by context. The table comes back where memory is refused.
+    /// Returns the threads whose values are at home, in the order of the contexts.
+    ///
+    /// If memory is refused, the table is returned unchanged.
     pub fn close(self, alloc: Global) -> Result<Vec<(ThreadId, T)>, Self>
         ensures rest { IfOk result (λ rest. rest.items ≡ at_rest_below (world_of self.table) self.values ((world_of self.table).cores * (world_of self.table).slots)) }
         ensures accounted { IfOk result (λ rest. IsAccounted T.tag_of (world_of self.table) rest.items) }
@@ -464,7 +473,7 @@ impl<T: Tagged + Drop> TableState<T> {
     }
 }
 
-/// How a thread rests that was held in this state.
+/// Returns the result of putting back a thread that was held in this state.
 fn rested(rest: Rest, state: State) -> Rested
     ensures { result ≡ rests_as rest state }
 {
@@ -474,7 +483,7 @@ fn rested(rest: Rest, state: State) -> Rested
     }
 }
 
-/// Whether the context is spent.
+/// Returns whether the context is spent.
 fn is_spent(state: State) -> bool
     ensures { IsTrue result ↔ (state ≡ State.Spent) }
 {

@@ -1,4 +1,4 @@
-//! What a seat has of a locked table until it spends it.
+//! The claims and holds that a seat has until it spends them.
 
 use arachne_contexts::{Identified, Placed};
 use arachne_core::{Place, ThreadId};
@@ -10,7 +10,7 @@ pub struct LockedClaim {
     pub(crate) place: Place,
 }
 
-/// What a thread that a seat holds is known by.
+/// The handle of a thread that a seat holds.
 #[derive(Debug, Drop)]
 pub struct LockedHold {
     pub(crate) id: ThreadId,

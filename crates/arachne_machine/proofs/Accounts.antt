@@ -34,7 +34,7 @@ after-sequence name x y a =
     (sym (append_assoc a.lines (x.lines name (length a.children)) (y.lines name (length a.children + length x.children)))
     ∙ ap (λ n. (a.lines ++ x.lines name (length a.children)) ++ y.lines name n) (sym (length-append a.children x.children)))
 
--- a fork, what is done meanwhile, and the join
+-- a fork, the effects that the thread has while the child runs, and the join
 pub after-forked : (locks : ℕ) (name : List ℕ) (task : Child) (child during : Effects) (a : Account) →
     after name (forked locks task child during) a ≡ with_join locks name (length a.children) child (after name during (with_fork task a))
 unfolding after with_fork with_join

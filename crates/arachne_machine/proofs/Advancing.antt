@@ -1,4 +1,4 @@
--- What callers see of an advance.
+-- The view that callers have of an advance.
 use Rattle.std.proofs.Common.{ℕ, ◌+◌, List, [], ◌∷◌, ◌++◌, Option, None, Some, inl, inr, ◌≡◌, refl, ap, sym, ◌∙◌, arith}
 use Rattle.std.specs.Prelude.{max}
 use Rattle.std.proofs.lemmas.Bool.{cases_lt}
@@ -46,7 +46,7 @@ advanced_seen n old new (Some (pause.Tallies ledger amount)) h = (same_thread h.
 advanced_seen n old new (Some pause.Ended) h =
     (same_thread h.0.made old new h.0.goes, sym h.3 ∙ h.4, h.4, h.1, h.2, h.5, within_seen 1 n old new h.0)
 
--- a sound thread's pause names what is there
+-- the lock or ledger that a sound thread's pause names exists
 pub within_seen_sound : (t : Strand) (account : Account) → IsSound t account → IsChecked (source_of t.program.now) → PausesWithin (suspended t)
 within_seen_sound t account s checked = pauses_within t (s.faultless checked)
 
@@ -98,7 +98,7 @@ next_event source name fs env (Ended value) = (_, refl)
 pub trace_next : (t : Strand) → IsNext (pending_of t.control) (trace_left t)
 trace_next t = next_event (source_of t.program.now) t.own.name t.frames t.environment t.control
 
--- a thread that has ended has nothing left
+-- a thread that has ended has no step left
 ended_left : (source : Source) (name : List ℕ) (fs : List Frame) (env : List ℕ) (k : Control) → pending_of k ≡ Some pause.Ended →
     begun_work source name k env + resume_work source name (frames_left k fs) (begun source name k env) ≡ 0
 ended_left source name fs env (Begin expr) e = cc

@@ -79,7 +79,7 @@ answers_free old new lock value is b =
     answers_by old new (pause.Frees lock) (Frees lock value) (Give value) is b (λ fs. refl) (λ fs. refl) refl tt
     (record { ending = refl; account = λ a any. refl; work = omega arith; trace = refl; faultless = λ held h. (tt, tt) })
 
--- What callers see of it.
+-- the view that callers have of the answered thread
 pub answered_thread : (p : Pending) (old new : Strand) → Goes 0 (At p ∷ []) old new → SameThread (suspended old) (suspended new)
 answered_thread p old new g = record {
   program = ap (λ p. p.now) g.program;
@@ -91,7 +91,7 @@ answered_thread p old new g = record {
   below = g.below;
 }
 
--- The others wait for it as before.
+-- The other threads wait for it as before.
 await_same : (a b : Suspended) (parents : List Suspended) → b.program ≡ a.program → b.name ≡ a.name → b.label ≡ a.label → Await a parents → Await b parents
 await_same a b [] program name label h = tt
 await_same a b (parent ∷ parents) program name label h = (
@@ -151,7 +151,7 @@ kept_answered old new placed p kept none l g =
       ended = going new none;
     }
 
--- a change of what comes next alone
+-- only the next action has changed
 pub turns_top : (old new : State) (k : Control) → Turns old new k → old.level.start ≤ length old.frames.items → LeavesOthers old new × Becomes (top old) (top new) (top old).environment (top old).frames k
 turns_top old new k c le =
     let same : Changes old new old.environment.items (old.frames.items ++ []) k = record {
@@ -178,13 +178,13 @@ turns_top old new k c le =
       },
     )
 
--- what is so once a pause is answered
+-- the facts after a pause was answered
 pub record IsPast (old new : State) (placed : List (Box State)) : Type 0 where
   pub kept : IsKept new placed
   pub seen : SeenAnswered (nested old placed) (nested new placed)
   pub pending : pending_of new.control ≡ None
 
--- the frames of the innermost begin within those that there are
+-- the frames of the innermost thread begin within those of the state
 start_within : (t : State) (placed : List (Box State)) → IsKept t placed → t.level.start ≤ length t.frames.items
 start_within t placed kept = outer_start (reverse t.parents.items) t.level.start t.level.place (length t.frames.items) (length t.lines) kept.sound.fits
 
@@ -237,7 +237,7 @@ free_past old new placed lock value kept is turns =
           ∙ ap (λ x. lock ∷ (lock_freed x ++ releases (top new).frames)) (sym on.1.control_is),
     )
 
--- a thread in whose place no other is
+-- a thread in whose place no other runs
 pub kept_alone : (t : State) (placed : List (Box State)) → IsSoundChild t → placed ≡ [] → IsKept t placed
 kept_alone t placed h none =
     let parents = ap (map suspended) (alone_waiting t h.alone) in
@@ -248,7 +248,7 @@ kept_alone t placed h none =
       ended = λ e. h.alone;
     })
 
--- What it brings in the end is what its name means.
+-- The outcome of the thread is the one that the program has for its name.
 pub ended_means : (t : State) (v : ℕ) → IsSoundState t → t.parents.items ≡ [] → t.control ≡ Ended v →
     IsOfItsName (record { program = t.program.now; name = t.own.name; value = v; sums = t.sums.items; lines = own_line t.own ∷ t.lines })
 ended_means t v s none ended =

@@ -1,4 +1,4 @@
--- A child comes back to run in its parent's place.
+-- A child is handed back to run in its parent's place.
 use Rattle.std.proofs.Common.{◌≡◌, ◌+◌, List, [], ◌∷◌, ◌++◌, None, Some, Option, refl, ap, sym, ◌∙◌, subst, arith}
 use Rattle.std.specs.Prelude.{map, reverse, All}
 use Rattle.std.specs.Global.{Box}
@@ -28,7 +28,7 @@ use Rattle.arachne_machine.proofs.Taking.{taken}
 use Rattle.arachne_machine.proofs.Lasting.{same_kept, same_seen}
 use Rattle.arachne_machine.proofs.Handed.{all_one, kept_sound, looks_nested, looks_sound, newest_seen, work_seen}
 
--- A thread by itself has another label.
+-- A thread by itself has got another label.
 pub record Relabelled (t u : State) (label : Label) : Type 0 where
   pub sound : IsSoundState u
   pub seen : suspended (top u) ≡ record (suspended (top t)) { label = label }
@@ -65,11 +65,11 @@ label_given t label s none =
       work = copy_work (relabelled label (top t)) (top u) copy;
     }
 
--- What callers see of a thread by itself.
+-- The view that callers have of a thread by itself.
 pub alone_seen : (t : State) (ps : List (Box State)) → t.parents.items ≡ [] → whole (nested t ps) ≡ suspended (top t)
 alone_seen t ps none = whole_seen t ps ∙ ap (λ ts. suspended (last_of (top t) ts)) (alone_waiting t none)
 
--- and its lines
+-- the lines of such a thread
 pub lines_alone : (t : State) → t.parents.items ≡ [] → ◌≡◌ {A = List ThreadLine} (own_line_of (suspended (top t)) ∷ (top t).below) (own_line t.own ∷ t.lines)
 lines_alone t none =
     ap (λ ps.
@@ -80,7 +80,7 @@ lines_alone t none =
 pub source_seen : (t child : State) (ps cps : List (Box State)) → MayBePlaced (nested t ps) (nested child cps) → source_of child.program.now ≡ source_of t.program.now
 source_seen t child ps cps may = ap source_of (sym (program_seen child cps)) ∙ may.same_source ∙ ap source_of (program_seen t ps)
 
--- Those that were handed back to the child are handed back with it.
+-- The children that were handed back to the child are handed back with it.
 seen_both : (ps qs : List (Box State)) → seen_children (ps ++ qs) ≡ seen_children qs ++ seen_children ps
 seen_both ps qs = ap (map seen_child) (reverse-append ps qs) ∙ map-append seen_child (reverse qs) (reverse ps)
 
@@ -92,7 +92,7 @@ works_both : (xs ys : List Placed) → works_placed (xs ++ ys) ≡ works_placed 
 works_both [] ys = omega arith
 works_both (x ∷ xs) ys = omega (arith, works_both xs ys)
 
--- They are sound, and may run here.
+-- All these children are sound, and may run here.
 record Together (t : State) (ps cps : List (Box State)) : Type 0 where
   children : All (λ c. IsSoundState c.value) (ps ++ cps)
   placed : ArePlaced (source_of t.program.now) (seen_children (ps ++ cps))
@@ -111,7 +111,7 @@ together t old child ps cps kept kept_c source program =
       work = omega (arith, ap works_placed seen, works_both (seen_children cps) (seen_children ps));
     }
 
--- It is handed back at its fork.
+-- The child is handed back at its fork.
 pub record HandedBack (old child new : State) (ps cps qs : List (Box State)) : Type 0 where
   pub kept : IsKept new qs
   pub whole : SameWhole (nested old ps) (nested new qs)
@@ -171,7 +171,7 @@ handed_back old child new ps cps qs box kept kept_c may forks turns is pushed =
       );
     }
 
--- It is awaited, and goes on here.
+-- The child is awaited, and goes on here.
 pub record BegunHere (old child new : State) (ps cps : List (Box State)) : Type 0 where
   pub kept : IsKept new (ps ++ cps)
   pub whole : SameWhole (nested old ps) (nested new (ps ++ cps))
@@ -197,7 +197,7 @@ begun_here old child new ps cps kept kept_c may joins of_child takes =
       work = omega (arith, t.work, both.work, work_seen new (ps ++ cps), work_seen old ps, work_seen child cps);
     }
 
--- Memory was refused: the child is as it was.
+-- Memory was refused, and the child is unchanged.
 pub record AsItWas (child back : State) (cps : List (Box State)) : Type 0 where
   pub kept : IsKept back cps
   pub seen : nested back cps ≡ nested child cps
@@ -211,7 +211,7 @@ as_it_was child back cps kept l =
       seen = looks_nested child back l looks cps;
     }
 
--- What callers see of a child that came back.
+-- The view that callers have of a child that was handed back.
 pub record PlacedHere (old child new : State) (ps cps qs : List (Box State)) : Type 0 where
   pub kept : IsKept new qs
   pub whole : SameWhole (nested old ps) (nested new qs)
@@ -244,7 +244,7 @@ pub placed_seen : (old child new : State) (ps cps qs : List (Box State)) → IsK
     IsPlacing (pending_of old.control) → IsTakenBack old ps child cps new qs → PlacedHere old child new ps cps qs
 placed_seen old child new ps cps qs kept kept_c may placing taken = placed_by old child new ps cps qs (pending_of old.control) kept kept_c may refl placing taken
 
--- And of one that was refused.
+-- The view that callers have of a child that was refused.
 pub record Returned (old child new back : State) (ps cps qs rs : List (Box State)) : Type 0 where
   pub kept : IsKept new qs
   pub seen : nested new qs ≡ nested old ps

@@ -1,4 +1,4 @@
--- Threads that differ in their label, or in the program whose text they share.
+-- Threads that differ only in their label, or in the program, of which they have equal texts.
 use Rattle.std.proofs.Common.{◌≡◌, length, ℕ, List, [], ◌∷◌, ◌++◌, refl, ap, sym, ◌∙◌, arith}
 use Rattle.std.specs.Prelude.{map}
 use Rattle.arachne_lang.specs.Program.{source_of}
@@ -43,7 +43,7 @@ here_sound t label account s = record {
   keeps = s.keeps;
 }
 
--- Two threads that differ at most in their program, whose text is one.
+-- Two threads that differ at most in their program, of which they have equal texts.
 pub record IsCopy (t u : Strand) : Type 0 where
   pub source : source_of u.program.now ≡ source_of t.program.now
   pub own : u.own ≡ t.own
@@ -103,7 +103,7 @@ copy_trace t u c =
     ∙ ap (λ x. trace_by (source_of t.program.now) t.own.name x u.frames u.environment) c.control ∙ ap (λ x. trace_by (source_of t.program.now) t.own.name t.control x u.environment) c.frames
     ∙ ap (λ x. trace_by (source_of t.program.now) t.own.name t.control t.frames x) c.environment
 
--- what callers see of it
+-- the view that callers have of a copy
 pub copy_seen : (t u : Strand) → IsCopy t u → suspended u ≡ record (suspended t) { program = u.program.now }
 copy_seen t u c =
     let all : Suspended → Suspended = λ s. s in

@@ -33,7 +33,7 @@ use Rattle.arachne_machine.proofs.Nesting.{label_seen, name_seen, program_seen}
 use Rattle.arachne_machine.proofs.Answering.{going, nested_same}
 use Rattle.arachne_machine.proofs.Going.{line_in}
 
--- What is so of a state and what callers see of it once an answer has counted.
+-- The state, and the view that callers have of it, after an answer has counted a hold or an amount.
 pub record Counted (old new : State) (placed : List (Box State)) : Type 0 where
   pub kept : IsKept new placed
   pub whole : SameWhole (nested old placed) (nested new placed)
@@ -94,7 +94,7 @@ counted_by old new placed answered effects kept pending children lines c program
       trace = (answered, pending, sym c.trace);
     }
 
--- Where a hold is counted: in the own line of the outermost, or in the line at its place.
+-- The hold is counted among the outermost thread's own data, or in the line at the thread's place.
 record HoldCounted (ps : List Parent) (old new : Own) (lines written : List ThreadLine) (place lock : ℕ) : Type 0 where
   own_name : new.name ≡ old.name
   own_label : new.label ≡ old.label
@@ -137,7 +137,7 @@ hold_counted (p ∷ ps) old new lines written place lock there h =
           ap (λ l. by new l) before ∙ ap (λ o. by o (take place lines)) h.0;
     }
 
--- What an answer that counts leaves: all but the thread's own, the lines, the sums and what comes next.
+-- An answer that counts changes at most the thread's own data, the lines, the sums and the next action.
 record KeepsRest (old new : State) : Type 0 where
   program : new.program ≡ old.program
   parents : new.parents.items ≡ old.parents.items
@@ -155,7 +155,7 @@ with_body old counted new body is h = record {
   environment = ap (λ s. s.environment.items) is ∙ h.environment;
 }
 
--- the same of the innermost
+-- the innermost thread after such an answer
 top_rest : (old new : State) → KeepsRest old new → (top new).own.name ≡ (top old).own.name → (top new).own.label ≡ (top old).own.label → (top new).below ≡ (top old).below →
     LeavesRest (top old) (top new)
 top_rest old new h name label below = record {

@@ -1,4 +1,4 @@
--- What has no fault stays without one.
+-- A thread without fault stays without fault.
 use Rattle.std.proofs.Common.{◌≡◌, ◌≤◌, ◌<◌, ℕ, ◌+◌, Bool, true, false, List, [], ◌∷◌, ◌++◌, length, Option, None, Some, Ok, Err, Result, refl, ap, sym, subst, arith, rules, length-append}
 use Rattle.std.specs.Prelude.{nat_lt, if◌then◌else◌}
 use Rattle.std.proofs.lemmas.List.{nil_from_length}
@@ -43,7 +43,7 @@ none_judged source false false h = absurd (refused fault.OverLimit h)
 pub checked_root : (source : Source) → IsChecked source → IsFaultless source false source.root
 checked_root source h = (0, none_judged source (nat_lt 64 (nesting source.root)) (is_within_limits source) h)
 
--- what a test without fault says
+-- the test is true if it gives no fault
 pub unless_none : (holds : Bool) (f : NodeFault) → unless holds f ≡ None → holds ≡ true
 unless_none true f h = refl
 unless_none false f h = absurd (some_fault f h)
@@ -74,7 +74,7 @@ pub append-faultless : (source : Source) (held : Bool) (fs gs : List Frame) → 
 append-faultless source held [] gs p q = q
 append-faultless source held (f ∷ fs) gs (one, more) q = (one, append-faultless source (held_over held f) fs gs more q)
 
--- The newest frames and what comes next go without fault, whatever is below them; so do they all.
+-- If the newest frames and the next action have no fault, whatever is below them, then the whole thread has none.
 pub faultless_above : (source : Source) (fs gs gs' : List Frame) (k k' : Control) →
     ((held : Bool) → GoesWithoutFault source held gs k → GoesWithoutFault source held gs' k') →
     GoesWithoutFault source false (fs ++ gs) k → GoesWithoutFault source false (fs ++ gs') k'
@@ -85,7 +85,7 @@ faultless_above source fs gs gs' k k' keeps (frames, next) =
       subst (λ held. IsFaultlessNext source held k') (sym (held_by-append false fs gs')) now.1,
     )
 
--- how many locks may still be asked for
+-- the number of locks that may still be requested
 abbrev room : Bool → ℕ
 room true = 0
 room false = 1

@@ -63,7 +63,7 @@ pub releases-append : (fs gs : List Frame) → releases (fs ++ gs) ≡ releases 
 releases-append [] gs = sym (append-nil (releases gs))
 releases-append (f ∷ fs) gs = ap (λ l. l ++ lock_of f) (releases-append fs gs) ∙ append_assoc (releases gs) (releases fs) (lock_of f)
 
--- No frame takes away a child that was made.
+-- No frame removes a child that was forked.
 pub record Grows (old new : List Child) : Type 0 where
   pub more : List Child
   pub is : new ≡ old ++ more

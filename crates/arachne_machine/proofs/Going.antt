@@ -1,4 +1,4 @@
--- What the steps of one thread do to a state.
+-- The changes that the steps of one thread make to its state.
 use Rattle.std.proofs.Common.{◌≡◌, ◌≤◌, ◌<◌, ℕ, ◌+◌, ◌^◌, List, [], ◌∷◌, ◌++◌, length, length-append, None, Some, inl, inr, refl, ap, sym, subst, ◌∙◌, arith, take, drop}
 use Rattle.std.specs.Prelude.{false, reverse}
 use Rattle.std.specs.Borrow.{Bor}
@@ -45,7 +45,7 @@ use Rattle.arachne_machine.proofs.Outlooks.{as_it_is}
 use Rattle.arachne_machine.proofs.Soundness.{sound_new, goes_nowhere, locks_unchanged, sound_child}
 use Rattle.arachne_machine.proofs.Renewing.{begins_new, begins_task, begins_faultless}
 
--- a change that takes no frame away
+-- a change that takes off no frame
 as_pushed : (old new : State) (env : List ℕ) (k : Control) → Changes old new env old.frames.items k → Changes old new env (old.frames.items ++ []) k
 as_pushed old new env k c = record {
   program = c.program;
@@ -59,7 +59,7 @@ as_pushed old new env k c = record {
   control_is = c.control_is;
 }
 
--- what changes in the innermost where no frame does
+-- the change in the innermost thread if the frames are unchanged
 pub top_same : (old new : State) (env : List ℕ) (k : Control) → Changes old new env old.frames.items k → old.level.start ≤ length old.frames.items → Becomes (top old) (top new) env (top old).frames k
 top_same old new env k c le =
     let b = top_becomes old new env [] k (as_pushed old new env k c) le in
@@ -79,7 +79,7 @@ leaves_same old new env k c le = changes_leave old new env [] k (as_pushed old n
 pub start_same : (old new : State) (env : List ℕ) (k : Control) → Changes old new env old.frames.items k → old.level.start ≤ length old.frames.items → new.level.start ≤ length new.frames.items
 start_same old new env k c le = omega (arith, le, ap (λ x. x.start) c.level, ap length c.frames_are)
 
--- what comes next of the innermost is no other's
+-- only the innermost thread's next action has changed
 pub leaves_seen : (old new : State) (p : Progress) → LeavesOthers old (seen_in p new) → LeavesOthers old new
 leaves_seen old new (part.Value value) l = record { program = l.program; own = l.own; lines = l.lines; sums = l.sums; parents = l.parents; start = l.start; place = l.place; frames = l.frames; more = l.more }
 leaves_seen old new (part.Begin expr) l = record { program = l.program; own = l.own; lines = l.lines; sums = l.sums; parents = l.parents; start = l.start; place = l.place; frames = l.frames; more = l.more }
@@ -94,7 +94,7 @@ seen_leaves old new part.Goes l = l
 seen_leaves old new part.Stops l = l
 seen_leaves old new (part.Forks class child) l = l
 
--- one after another
+-- two changes of the innermost thread, one after the other
 pub leaves_on : (a b c : State) → LeavesOthers a b → LeavesOthers b c → LeavesOthers a c
 leaves_on a b c l m = record {
   program = m.program ∙ l.program;
@@ -108,7 +108,7 @@ leaves_on a b c l m = record {
   more = omega (arith, m.more, l.start);
 }
 
--- The newest frame was taken from the innermost.
+-- The newest frame was taken off the innermost thread.
 pub leaves_popped : (before popped new : State) (f : Frame) → IsPoppedIn f before popped → popped.level.start ≤ length popped.frames.items → LeavesOthers popped new → LeavesOthers before new
 leaves_popped before popped new f pop le l =
     let off = changes_leave popped before popped.environment.items (f ∷ []) popped.control pop le in
@@ -155,7 +155,7 @@ sweeps_leave old new reduction next end body so_far f le = elim (cases_lt next e
   | inr ge ↦ leaves_same old new _ _ (f.done ge) le
 ]
 
--- Where the frames of the innermost begin, and where its line is.
+-- The place at which the frames of the innermost thread begin, and the place of its line.
 pub start_in : (t : State) → IsSoundState t → t.level.start ≤ length t.frames.items
 start_in t s = outer_start (reverse t.parents.items) t.level.start t.level.place (length t.frames.items) (length t.lines) s.fits
 
@@ -173,7 +173,7 @@ forks_same old new l forks alone =
     let new_last = ap (λ ts. (last_of (top new) ts).forks) (alone_waiting new (l.parents ∙ alone.parents)) in
     new_last ∙ forks ∙ sym old_last
 
--- Steps of the innermost are the state's.
+-- Steps of the innermost thread are steps of the state.
 pub runs_made : {Q : Type 0} → (had left beside : ℕ) (old new : State) → IsSoundState old → LeavesOthers old new → Makes had left beside (top old) (top new) → RunsOn Q had left beside old new
 runs_made had left beside old new s l m = record {
   made = m.made;
@@ -200,7 +200,7 @@ runs_nothing had a b s same running =
       places_none = λ q alone. forks_same a b (leaves_same a b _ _ same le) t.forks alone;
     }
 
--- further steps after those that were made
+-- more steps after those that were made
 pub runs_more : {Q : Type 0} → (had some left beside : ℕ) (a b c : State) → RunsOn Q had some 0 a b → RunsOn Q some left beside b c → RunsOn Q had left beside a c
 runs_more had some left beside a b c p q = record {
   made = p.made + q.made;
@@ -227,7 +227,7 @@ comes_more had some left a b (part.Forks class child) c m r = record {
   sums = r.sums;
 }
 
--- A step, with those that were made with it, is one of those that were left.
+-- A step, with the steps that were made in it, is one of those that were left.
 pub runs_next : {Q : Type 0} → (had some left : ℕ) (a b c : State) → RunsOn Q had (some + 1) 0 a b → RunsOn Q some left 1 b c → RunsOn Q had left 0 a c
 runs_next had some left a b c m n = record {
   made = m.made + n.made;
@@ -238,7 +238,7 @@ runs_next had some left a b c m n = record {
   places_none = λ x alone. n.places_none x (m.runs.by_itself alone (m.places_none x alone)).alone ∙ m.places_none x alone;
 }
 
--- The innermost pauses.
+-- The innermost thread pauses.
 pub comes_stop : {Q : Type 0} → (had : ℕ) (a c : State) (next : Pending) → IsSoundState a → pending_of a.control ≡ None → LeavesOthers a c → (next ≡ pause.Ended → c.parents.items ≡ []) →
     (next ≡ pause.Joins → HasRoom c) → AfterSteps 1 (top a) (Some next) (top c) → Comes Q had had a part.Stops c
 comes_stop had a c next s running l ended room stops = (
@@ -256,7 +256,7 @@ comes_stop had a c next s running l ended room stops = (
 pub not_ended : (c : State) (next : Pending) → IsNotEnd next → next ≡ pause.Ended → c.parents.items ≡ []
 not_ended c next h e = absurd (subst IsNotEnd e h)
 
--- What comes of a step of the innermost by itself comes of the state.
+-- The result of a step of the innermost thread by itself is the result for the state.
 pub comes_of : (Q : Type 0) → (had left : ℕ) (a : State) (p : Progress) (c : State) → IsSoundState a → pending_of a.control ≡ None → LeavesOthers a c → OnStops p (HasRoom c) → Reaches had left (top a) p (top c) → Comes Q had left a p c
 comes_of Q had left a (part.Value value) c s running l room r = runs_made had left 0 a (giving_in c value) s (seen_leaves a c (part.Value value) l) r
 comes_of Q had left a (part.Begin expr) c s running l room r = runs_made had left 1 a (beginning_in c expr) s (seen_leaves a c (part.Begin expr) l) r
@@ -265,7 +265,7 @@ comes_of Q had left a part.Stops c s running l room r =
     subst (λ n. Comes Q had n a part.Stops c) (sym r.0) (comes_stop had a c r.1.0 s running l (not_ended c r.1.0 r.1.1) (λ e. room) r.1.2)
 comes_of Q had left a (part.Forks class child) c s running l room r = absurd r
 
--- A frame was handed a value, which is the innermost's.
+-- A value was handed to a frame of the innermost thread.
 pub comes_popped : (Q : Type 0) → (had left : ℕ) (before popped new : State) (f : Frame) (v : ℕ) (p : Progress) → IsSoundState before → IsPoppedIn f before (giving_in popped v) →
     popped.level.start ≤ length popped.frames.items → LeavesOthers popped new → OnStops p (HasRoom new) →
     ((t : Strand) → IsPopped f t (giving (top popped) v) → Reaches had left t p (top new)) → Comes Q had left before p new
@@ -274,7 +274,7 @@ comes_popped Q had left before popped new f v p s pop le l room made =
     let from : LeavesOthers m new = record { program = l.program; own = l.own; lines = l.lines; sums = l.sums; parents = l.parents; start = l.start; place = l.place; frames = l.frames; more = l.more } in
     comes_of Q had left before p new s (ap pending_of pop.control_is) (leaves_popped before m new f pop le from) room (made (top before) (top_popped before m f pop le))
 
--- A fork of the innermost.
+-- A fork of the innermost thread.
 pub counts_top : (old new : State) (f : Frame) (k : Control) → CountsFork old new f k → old.level.start ≤ length old.frames.items → PushesFork (top old) (top new) f k
 counts_top old new f k c le = record {
   program = c.program;
@@ -396,7 +396,7 @@ comes_fork had old new child class begins f k s running beginning c spawned give
       sums = spawned.sums;
     }
 
--- The number of a fork fits.
+-- The number of the next fork stays in range.
 pub number_fits : (t : State) → IsSoundState t → fork_awaited t.control ≡ [] → length t.frames.items < 2 ^ 63 → t.level.forks + 1 < 2 ^ 64
 number_fits t s none small =
     let numbered = s.sound.2.numbered in
@@ -430,7 +430,7 @@ goes_first (Begin expr) h = refl
 goes_first (Cover stretch) h = refl
 goes_first _ h = absurd h
 
--- what comes next alone is given
+-- only the next action is replaced
 pub begins_as : (old new : State) (number : ℕ) (awaits begins other : Control) → BeginsHere old new number awaits begins → BeginsHere old (record new { control = other }) number awaits other
 begins_as old new number awaits begins other b = record {
   program = b.program;
@@ -452,7 +452,7 @@ begins_as old new number awaits begins other b = record {
 awaiting_becomes : (t : State) (v : ℕ) (k : Control) → Becomes (giving (top t) v) (awaiting_in t k) (giving (top t) v).environment (giving (top t) v).frames k
 awaiting_becomes t v k = record { program = refl; own = refl; below = refl; forks = refl; environment_is = refl; frames_are = refl; control_is = refl }
 
--- A thread that a child waits in is not by itself.
+-- A thread in whose place a child runs is not by itself.
 cons_none : (n : ℕ) (ns : List ℕ) → ◌≡◌ {A = List ℕ} (n ∷ ns) [] → ⊥
 cons_none n ns e = cc
 
@@ -554,7 +554,7 @@ comes_join Q old new v had left (part.Forks class child) s long h = absurd h
 not_joins : pause.Ended ≡ pause.Joins → ⊥
 not_joins e = cc
 
--- The outermost has ended.
+-- The outermost thread has ended.
 pub comes_end : {Q : Type 0} → (had v : ℕ) (old new : State) → IsSoundState (giving_in old v) → old.parents.items ≡ [] → length old.frames.items ≤ old.level.start → Turns old new (Ended v) →
     Comes Q had had (giving_in old v) part.Stops new
 comes_end had v old new s none over turns =
@@ -576,7 +576,7 @@ comes_end had v old new s none over turns =
     comes_stop had from new pause.Ended s refl (leaves_same from new _ _ changed le) (λ e. turns.parents ∙ none) (λ e. absurd (not_joins e))
     (ends (top from) (top from) (top new) v (as_it_is (top from)) refl empty (top_same from new _ _ changed le))
 
--- What comes next before a step does not matter to it.
+-- The next action before a step has no influence on it.
 pub leaves_begun : (t : State) (e : Bor Expr) → IsSoundState (beginning_in t e) → LeavesOthers (beginning_in t e) t
 leaves_begun t e s = record { program = refl; own = refl; lines = refl; sums = refl; parents = refl; start = refl; place = refl; frames = refl; more = start_in (beginning_in t e) s }
 

@@ -1,4 +1,4 @@
--- How a thread goes over tallies that are made as it comes to them.
+-- Advances over tallies that are made as the thread comes to them.
 use Rattle.std.proofs.Common.{◌≡◌, ◌≤◌, ℕ, ◌+◌, ◌-◌, [], ◌∷◌, None, refl, ap, sym, ◌∙◌, subst, arith}
 use Rattle.std.specs.Prelude.{◌==◌, if◌then◌else◌}
 use Rattle.arachne_lang.specs.Value.{wrapped}
@@ -41,7 +41,7 @@ spent_on had left next (pauses.Frees lock) fewer s = omega (arith, s, fewer)
 spent_on had left next (pauses.Tallies ledger amount) fewer s = omega (arith, s, fewer)
 spent_on had left next pauses.Ended fewer s = omega (arith, s, fewer)
 
--- It has come so far, and goes on.
+-- The thread has gone on over some tallies, and goes on.
 pub record Gone (had left : ℕ) (old now : Nested) (due now_due : Dues) : Type 0 where
   pub gone : HasGone had left old now due now_due
   pub same : SameWhole old now
@@ -58,7 +58,7 @@ gone_nothing had t due going = record {
   fewer = omega arith;
 }
 
--- It has come to a tally, which is made.
+-- The thread comes to a tally, which is made.
 pub gone_on : (had left next : ℕ) (old now mid new : Nested) (due now_due new_due : Dues) (ledger amount : ℕ) → Gone had left old now due now_due →
     IsAdvance left next now (pause_at (pending_in mid)) mid → IsTallied ledger amount mid new → GainsAt now_due ledger amount new_due → Gone had next old new due new_due
 gone_on had left next old now mid new due now_due new_due ledger amount g a t d =
@@ -75,7 +75,7 @@ gone_on had left next old now mid new due now_due new_due ledger amount g a t d 
       fewer = omega (arith, g.fewer, a'.spent);
     }
 
--- It pauses.
+-- The thread pauses.
 pub record PausedOver (had next : ℕ) (old : Nested) (gives : Pause) (new : Nested) (due new_due : Dues) : Type 0 where
   pub over : AdvancesOver had next old gives new due new_due
   pub moves : Moves had old gives new
@@ -119,7 +119,7 @@ nothing_more t going =
 pub gone_all : (had : ℕ) (old now : Nested) (due now_due : Dues) → Gone had 0 old now due now_due → PausedOver had 0 old pauses.Budget now due now_due
 gone_all had old now due now_due g = gone_paused had 0 0 old now pauses.Budget now due now_due g (nothing_more now g.going)
 
--- It is refused memory.
+-- The thread is refused memory.
 pub record RefusedFar (had next : ℕ) (old new : Nested) (due new_due : Dues) : Type 0 where
   pub over : RefusedOver had next old new due new_due
   pub same : SameWhole old new

@@ -1,4 +1,4 @@
--- A sweep that is split in halves comes to the same.
+-- A sweep that is split in halves has the same result.
 use Rattle.std.proofs.Common.{◌≡◌, ◌≤◌, ◌<◌, ℕ, zero, suc, ◌+◌, ◌-◌, ◌*◌, ◌/◌, ◌^◌, List, [], ◌∷◌, ◌++◌, true, false, inl, inr, refl, ap, sym, ◌∙◌, arith, rules}
 use Rattle.std.specs.Prelude.{min, max, nat_le, if◌then◌else◌}
 use Rattle.std.specs.Int.Bits.{xor_assoc, xor_zero_r}
@@ -39,7 +39,7 @@ wrapped_once x = ap wrapped (omega arith) ∙ mod-mod x (2 ^ 64)
 times_one : (x : ℕ) → wrapped (wrapped x * 1) ≡ wrapped x
 times_one x = ap wrapped (omega arith) ∙ mod-mod x (2 ^ 64)
 
--- what so many turns make from the unit is not changed by it
+-- the result of k iterations from the unit is unchanged if it is combined with the unit
 unit_right : (r : Reduction) (step : ℕ → ℕ) (k : ℕ) →
     apply (operation_of r) (turns (λ j so_far. apply (operation_of r) so_far (step j)) k (unit_of r)) (unit_of r)
     ≡ turns (λ j so_far. apply (operation_of r) so_far (step j)) k (unit_of r)
@@ -51,7 +51,7 @@ unit_right Parity step k = xor_zero_r (turns (λ j s. apply (operation_of Parity
 unit_right Least step k = min-eq_left (least_bounded step k)
 unit_right Greatest step k = max-zero (turns (λ j s. apply (operation_of Greatest) s (step j)) k 0)
 
--- turns from a value on are the value and the turns from the unit on
+-- the result of iterations from a value on is that value combined with the result from the unit on
 turns_apart : (r : Reduction) (step : ℕ → ℕ) (k x : ℕ) → apply (operation_of r) x (unit_of r) ≡ x →
     turns (λ j so_far. apply (operation_of r) so_far (step j)) k x
     ≡ apply (operation_of r) x (turns (λ j so_far. apply (operation_of r) so_far (step j)) k (unit_of r))
@@ -82,7 +82,7 @@ value_split arrays r grain body env first m n le =
     (fun_ext (λ j. fun_ext (λ s. ap (λ i. apply (operation_of r) s (V i)) (sym (add_assoc first m j)))))
     ∙ turns_apart r (λ j. V (first + m + j)) (n - m) left (unit_right r (λ j. V (first + j)) m)
 
--- What is so by halves. The fuel does not matter, if it is enough.
+-- The recursion by halves. The fuel has no influence, if it is enough.
 fits : (n fuel : ℕ) → 2 ≤ n → n ≤ suc fuel → (n / 2 ≤ fuel) × (n - n / 2 ≤ fuel)
 fits n fuel two le = (omega arith, omega arith)
 

@@ -40,7 +40,7 @@ use Rattle.arachne_machine.proofs.Going.{runs_nothing, as_is}
 use Rattle.arachne_machine.proofs.Lasting.{stopped_pending, same_kept, same_seen}
 use Rattle.arachne_machine.proofs.Taking.{taken, unstepped}
 
--- A state whose parents none are, as callers see it.
+-- A state without waiting threads, as callers see it.
 cons_seen : (s : Suspended) (ss : List Suspended) → s ∷ ss ≡ [] → ⊥
 cons_seen s ss e = cc
 
@@ -142,7 +142,7 @@ looks_sound old new s l =
       waits = waits;
     }
 
--- what callers see of it
+-- the view that callers have of such a state
 pub looks_nested : (old new : State) → LooksSame old new → Looks old new → (ps : List (Box State)) → nested new ps ≡ nested old ps
 looks_nested old new l looks ps =
     ap (λ t. record (nested new ps) { running = suspended t }) looks.top_is
@@ -167,7 +167,7 @@ all_one P x p (suc k) d lt = absurd (omega (arith, lt))
 abbrev Sound : Box State → Type 0
 Sound child = IsSoundState child.value
 
--- Those that wait are of one program, and each awaits the one before it.
+-- The threads that wait are of one program, and each awaits the one before it.
 joins_then : (k : Control) (n : ℕ) → fork_awaited k ≡ n ∷ [] → pending_of k ≡ Some pause.Joins
 joins_then (Awaits number during next) n e = refl
 joins_then (AwaitsHalf number right reduction) n e = refl
@@ -233,7 +233,7 @@ newest_of t ps qs child kept is =
       rest = placed.1;
     }
 
--- It is taken up.
+-- The newest child is taken up.
 pub record Up (old : State) (ps : List (Box State)) (child : Box State) (new : State) (qs : List (Box State)) : Type 0 where
   pub kept : IsKept new qs
   pub work : work_in (nested new qs) ≡ work_in (nested old ps)
@@ -252,7 +252,7 @@ taken_up old new ps qs child kept is joins of_child takes =
       pending = ap pending_of takes.control_is ∙ n.placed.not_paused;
     }
 
--- Memory was refused, and it stands before the step in which it came to await that child.
+-- Memory was refused, and the thread stands before the step in which it began to await that child.
 pub record Back (old : State) (ps : List (Box State)) (new : State) (qs : List (Box State)) : Type 0 where
   pub kept : IsKept new qs
   pub program : new.program ≡ old.program
@@ -282,7 +282,7 @@ stood_back old new ps qs kept b =
       pending = u.pending;
     }
 
--- Not the newest child is awaited.
+-- The awaited child is not the newest.
 elsewhere_at : (t : State) (qs cs : List (Box State)) → reverse qs ≡ cs →
     ((rest : List (Box State)) (child : Box State) → qs ≡ rest ++ child ∷ [] → awaited (suspended (top t)) ≢ Some child.value.own.name) →
     AwaitsElsewhere (suspended (top t)) (map seen_child cs)
@@ -320,7 +320,7 @@ all_fit t qs kept = λ k d lt.
 same_next : (a b : Pending) → ◌≡◌ {A = Option Pending} (Some a) (Some b) → a ≡ b
 same_next a b e = cc
 
--- A pause keeps the state.
+-- A state that pauses is still kept.
 pub record Paused (last new : State) (qs : List (Box State)) : Type 0 where
   pub kept : IsKept new qs
   pub work : work_in (nested new qs) + 1 ≡ work_in (nested last qs)
@@ -399,7 +399,7 @@ went_on had some most left a b c ps qs w r less =
           );
     }
 
--- The same, where as many are left as there were.
+-- As before, if as many steps are left as there were.
 pub went_all : {Q : Type 0} → (had some left : ℕ) (a b c : State) (ps qs : List (Box State)) → Went Q had some a ps b qs → RunsOn Q some left 0 b c → Went Q had left a ps c qs
 went_all {Q} had some left a b c ps qs w r =
     let all : some + w.made ≡ had = w.counted in
@@ -409,7 +409,7 @@ some_child : (qs : List (Box State)) (child : Box State) → qs ++ child ∷ [] 
 some_child [] child e = cc
 some_child (q ∷ qs) child e = cc
 
--- The innermost came to await the newest child, which goes on in its place.
+-- The innermost thread began to await the newest child, which goes on in its place.
 pub went_up : {Q : Type 0} → (had some left : ℕ) (a b c d : State) (ps qs rs : List (Box State)) (child : Box State) → Went Q had some a ps b qs → (beside : ℕ) → some ≡ beside + 1 →
     RunsToPause Q beside left b pause.Joins c → qs ≡ rs ++ child ∷ [] → awaited (suspended (top c)) ≡ Some child.value.own.name → TakesIn c child.value d → pending_of c.control ≡ Some pause.Joins →
     Went Q had left a ps d rs
@@ -454,7 +454,7 @@ advanced_kept had some left a b c ps qs None w r = (went_all had some left a b c
 advanced_kept had some left a b c ps qs (Some next) w r =
     (paused r.2.last c qs next (went_on had some r.0 left a b r.2.last ps qs w r.2.runs (omega (arith, r.1))).kept r.2.leaves r.2.ended r.2.stops).kept
 
--- It pauses, or has made all steps.
+-- The thread pauses, or has made all steps.
 pub went_paused : (Q : Type 0) → (had some left : ℕ) (a b c : State) (ps qs : List (Box State)) (next : Option Pending) → Went Q had some a ps b qs → Advances Q some left b None next c → next ≡ pending_of c.control →
     (pending_of c.control ≡ Some pause.Joins → (rest : List (Box State)) (child : Box State) → qs ≡ rest ++ child ∷ [] → awaited (suspended (top c)) ≢ Some child.value.own.name) →
     AdvancesWith Q had left a ps None next c qs

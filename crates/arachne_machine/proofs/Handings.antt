@@ -1,4 +1,4 @@
--- What hands a value on leaves what it comes to as it was.
+-- A step that hands a value on doesn't change the result of the thread.
 use Rattle.std.proofs.Common.{◌≡◌, ◌≢◌, ◌≤◌, ◌<◌, ℕ, ◌+◌, ◌-◌, List, [], ◌∷◌, ◌++◌, length, length-append, None, Some, inl, inr, refl, ap, sym, ◌∙◌, arith, subst, append_assoc, take, Bool, true, false, rules}
 use Rattle.std.specs.Prelude.{slice_index, ◌==◌, if◌then◌else◌, max}
 use Rattle.std.specs.Borrow.{Bor}
@@ -31,7 +31,7 @@ use Rattle.arachne_machine.proofs.Halves.{effects_whole, work_whole, trace_whole
 use Rattle.arachne_machine.proofs.Ranges.{folded-turn, folded-done, folded_effects-turn, folded_effects-done, folded_work-turn, folded_work-done, folded_trace-turn, folded_trace-done, swept-turn, swept-done, swept_effects-turn, swept_effects-done, swept_work-turn, swept_work-done, swept_trace-turn, swept_trace-done}
 use Rattle.arachne_machine.proofs.Outlooks.{KeepsTop, StepOutlook, Step, at_of, work_at, steps_by, goes_on_by, framed_as, reshaped, later, alone, as_giving, given_off}
 
--- The frame that a value is handed to is taken away, and the thread goes on: with this to do next, or with a new frame.
+-- The frame to which a value is handed is taken off, and the thread goes on with this next action, or with a new frame.
 pub hands_on : (steps : ℕ) (before mid new : Strand) (v : ℕ) (f : Frame) (k' : Control) → IsPopped f before mid → mid.control ≡ Give v →
     Becomes mid new mid.environment mid.frames k' → ((fs : List Frame) → frames_left k' fs ≡ fs) →
     [] ++ forks_of (f ∷ []) ≡ [] → fork_awaited k' ++ [] ≡ [] → lock_freed k' ++ [] ≡ [] ++ releases (f ∷ []) → pending_of k' ≡ None →
@@ -68,7 +68,7 @@ hands_to_stop before mid new v f k' popped gives b left forks here keep same =
     (given_off before mid v f popped gives)
     (alone mid new env k' b) refl (left (fs ++ [])) forks here keep same
 
--- Single frames.
+-- Frames that need no pause and no iteration.
 pub hand_index : (before mid new : Strand) (v a w : ℕ) → IsPopped (Index a) before mid → mid.control ≡ Give v →
     w ≡ slice_index (array_at (source_of mid.program.now).arrays a) v → Becomes mid new mid.environment mid.frames (Give w) → AfterSteps 0 before None new
 hand_index before mid new v a w popped gives is b =
@@ -151,7 +151,7 @@ hand_restore before mid new v n popped gives b =
 pub once : (old new : Strand) → Goes 1 [] old new → GoesWithin 1 1 old new
 once old new g = record { made = 1; at_least = omega arith; at_most = omega arith; goes = g }
 
--- Stops.
+-- Frames at which the thread pauses.
 pub hand_amount : (before mid new : Strand) (v ledger : ℕ) (body : Bor Expr) → IsPopped (Amount ledger body) before mid → mid.control ≡ Give v →
     Becomes mid new mid.environment mid.frames (Tallies ledger v body) → AfterSteps 1 before (Some (pause.Tallies ledger v)) new
 hand_amount before mid new v ledger body popped gives b =
@@ -229,7 +229,7 @@ without-one env x =
     let long : length (env ++ x ∷ []) - 1 ≡ length env = omega (arith, length-append env (x ∷ [])) in
     ap (λ n. take n (env ++ x ∷ [])) long ∙ take-append_seam env (x ∷ [])
 
--- A turn of a fold that has a value so far, or its end.
+-- A fold with a value so far begins an iteration, or ends.
 fold_turn : (source : Source) (name env : List ℕ) (v next end : ℕ) (body : Bor Expr) → next < end →
     StepOutlook 1 source name (Give v) (FoldStart next end body ∷ []) env (Begin body) (FoldTurn (next + 1) end body ∷ []) (with_newest (with_newest env next) v)
 fold_turn source name env v next end body lt =
@@ -288,7 +288,7 @@ fold_giving t new v next end body so_far turns = record {
   done = λ le. as_giving t new v _ _ _ (turns.done le);
 }
 
--- The same in the midst of a fold, once the two newest variables were dropped.
+-- A fold goes on after one of its iterations, whose two variables were dropped.
 pub hand_fold_turn : (before mid outer new : Strand) (v next end : ℕ) (body : Bor Expr) (k : Control) → IsPopped (FoldTurn next end body) before mid → mid.control ≡ Give v →
     Becomes mid outer (without_newest 2 mid.environment) mid.frames k →
     TurnsFold outer new next end body v → AfterSteps 1 before None new
@@ -332,7 +332,7 @@ hand_sweep_start before mid new v reduction grain first body popped gives b =
     (λ fs. refl) refl refl refl refl
     (record { ending = refl; account = λ a any. refl; work = omega arith; trace = ap (with_steps 1) (append-nil _); faultless = λ held h. (tt, h.0.0) })
 
--- What a sweep that has a value so far comes to is what these frames and this come to.
+-- A sweep with a value so far has the same result as these frames with this next action.
 record Sweeps (source : Source) (name : List ℕ) (env : List ℕ) (reduction : Reduction) (next end x : ℕ) (body : Tree) (k' : Control) (gs' : List Frame) (env' : List ℕ) : Type 0 where
   pub ending : resume source name gs' (begun source name k' env') ≡ record { env = env; value = swept source.arrays reduction body env next (end - next) x }
   pub account : (a : Account) →
@@ -383,7 +383,7 @@ sweep_on source name env less v so_far reduction next end body k' gs' env' is s 
     let s' = subst (λ e. Sweeps source name e reduction next end (apply (operation_of reduction) so_far v) (tree_of body.now) k' gs' env') is s in
     record { ending = s'.ending; account = λ a any. s'.account a; work = omega (arith, s'.work); trace = ap (with_steps 1) s'.trace; faultless = λ held h. s'.faultless held h.0.0 }
 
--- In the midst of a sweep, once its newest variable was dropped.
+-- A sweep goes on after one of its iterations, whose variable was dropped.
 pub hand_sweep_turn : (before mid outer new : Strand) (v : ℕ) (reduction : Reduction) (next end so_far w : ℕ) (body : Bor Expr) (k : Control) → IsPopped (SweepTurn reduction next end so_far body) before mid → mid.control ≡ Give v →
     Becomes mid outer (without_newest 1 mid.environment) mid.frames k → w ≡ apply (operation_of reduction) so_far v →
     TurnsSweep outer new reduction next end body w → AfterSteps 1 before None new

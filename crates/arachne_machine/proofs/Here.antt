@@ -1,4 +1,4 @@
--- A child that is to run here begins, and is joined.
+-- A child that will run here begins, and is joined.
 use Rattle.std.proofs.Common.{◌≡◌, ℕ, List, [], ◌∷◌, ◌++◌, false, Some, refl, ap, subst, sym, ◌∙◌, arith}
 use Rattle.std.specs.Borrow.{Bor}
 use Rattle.std.proofs.lemmas.List.{append-nil}
@@ -74,7 +74,7 @@ awaits_join before mid new v number child next popped gives b =
     (λ h. (record { task = Evaluate (tree_of child.now) env; has_task = h.1.0; environment = refl }, tt))
     (record { ending = refl; account = λ a any. refl; work = omega arith; trace = ap (with_steps 1) (append-nil _); faultless = λ held h. (tt, (h.0.0.0, h.0.0.2)) })
 
--- its child is that of the program
+-- the task of its child is that of the program
 pub join_task : (before mid : Strand) (v number : ℕ) (child next : Bor Expr) → IsPopped (JoinHere number child next) before mid → mid.control ≡ Give v → KeepsForks before →
     task_of (source_of mid.program.now) (mid.own.name ++ number ∷ []) ≡ Some (Evaluate (tree_of child.now) mid.environment)
 join_task before mid v number child next popped gives h = (kept_top before mid v (JoinHere number child next) popped gives h).1.0
@@ -94,7 +94,7 @@ pub half_task : (before mid : Strand) (v number : ℕ) (left : Stretch) → IsPo
     task_of (source_of mid.program.now) (mid.own.name ++ number ∷ []) ≡ Some (stretch_task left mid.environment)
 half_task before mid v number left popped gives h = (kept_top before mid v (MergeHere number left) popped gives h).1.0
 
--- what a frame begins is without fault where the thread is
+-- the expression that a frame begins has no fault if the thread has none
 freed_top : (before mid : Strand) (v : ℕ) (f : Frame) → IsPopped f before mid → mid.control ≡ Give v → IsWithoutFault before →
     IsFaultlessFrame (source_of mid.program.now) (held_by false mid.frames) f
 freed_top before mid v f popped gives h =

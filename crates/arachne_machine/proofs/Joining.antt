@@ -118,7 +118,7 @@ joins_half old new outcome n right w reduction awaits is_name program own forks 
       faultless = λ held h. (tt, tt);
     })
 
--- numbers that were written over as many
+-- a list whose items were all overwritten has the items that were written
 pub written-back : (xs items : List ℕ) (n : ℕ) → n ≡ length items → length xs ≡ length items → take n (xs ++ drop (length xs) items) ≡ xs
 written-back xs items n is same =
     ap (λ k. take n (xs ++ drop k items)) same ∙ ap (λ l. take n (xs ++ l)) (drop-length items) ∙ ap (take n) (append-nil xs) ∙ ap (λ k. take k xs) (is ∙ sym same) ∙ take-length xs
@@ -130,7 +130,7 @@ awaited_child t n k name is_control one is_awaited =
     ap (λ l. option_map (λ number. t.own.name ++ number ∷ []) (slice_get (l ++ forks_of t.frames) 0)) (sym (ap fork_awaited is_control ∙ one)) ∙ is_awaited in
     cc
 
--- What an answer that counts leaves as it was.
+-- All else that an answer that counts leaves unchanged.
 pub record LeavesRest (old new : Strand) : Type 0 where
   pub program : new.program ≡ old.program
   pub name : new.own.name ≡ old.own.name
@@ -140,7 +140,7 @@ pub record LeavesRest (old new : Strand) : Type 0 where
   pub frames : new.frames ≡ old.frames
   pub environment : new.environment ≡ old.environment
 
--- An answer that counts, and goes on.
+-- A pause is answered by counting, and the thread goes on.
 counts_by : (old new : Strand) (answered : Pending) (effects : Effects) (k k' : Control) → old.control ≡ k → new.control ≡ k' → LeavesRest old new →
     ((n : ℕ) (own : ℕ → ℕ) → old.own.holds ≡ tabulated n own → new.own.holds ≡ tabulated n (λ lock. own lock + effects.holds lock)) →
     LeavesFrames k → LeavesFrames k' →

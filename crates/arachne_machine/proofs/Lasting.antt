@@ -1,4 +1,4 @@
--- What stays as it is: after refused memory, at a pause, and where nothing has changed but room.
+-- Facts that stay true: after refused memory, at a pause, and if nothing has changed but capacities.
 use Rattle.std.proofs.Common.{◌≡◌, ℕ, ◌+◌, List, [], ◌∷◌, Option, None, Some, inl, inr, refl, ap, sym, subst, ◌∙◌, arith}
 use Rattle.std.specs.Prelude.{◌==◌, true, false, map, reverse, Result, Ok, Err, IfOk, OnErr, OnOk}
 use Rattle.std.specs.Borrow.{Bor}
@@ -34,7 +34,7 @@ on_value part.Goes A a = tt
 on_value part.Stops A a = tt
 on_value (part.Forks class child) A a = tt
 
--- The innermost that waits awaits a child that runs here.
+-- The innermost of the threads that wait awaits a child that runs here.
 parent_of : (t : State) (ps : List Parent) → reverse t.parents.items ≡ ps → IsSoundState t → (t.parents.items ≡ [] → ⊥) → HasParent t
 parent_of t [] e s some = absurd (some (sym (reverse-reverse t.parents.items) ∙ ap reverse e))
 parent_of t (q ∷ qs) e s some =
@@ -82,7 +82,7 @@ pub err_then : {X E A B : Type 0} (r : Result X E) → OnErr r A → (A → B) �
 err_then (Ok x) h f = tt
 err_then (Err e) h f = f h
 
--- what is next is the same where nothing has changed
+-- the next action is the same if nothing has changed but capacities
 pub current_same : (begins : Option (Bor Expr)) (a b : State) → IsSame a b → IsSame (current_in begins a) (current_in begins b)
 current_same None a b same = same
 current_same (Some expr) a b same = record {
@@ -106,7 +106,7 @@ pub current_running : (begins : Option (Bor Expr)) (t : State) → (begins ≡ N
 current_running None t h = left_running t.control (h refl)
 current_running (Some expr) t h = refl
 
--- Memory was refused in the next step, of which some were made.
+-- Memory was refused in the next step, after a part of it was made.
 pub refused_next : {Q : Type 0} → (had some left : ℕ) (a b c : State) → RunsOn Q had (some + 1) 0 a b → RunsOn Q some left 0 b c → RunsOn Q had (left + 1) 0 a c
 refused_next had some left a b c m r = record {
   made = m.made + r.made;
@@ -193,7 +193,7 @@ no_stop (part.Forks class child) A h = tt
 pub ask_is_no_join : (lock : ℕ) → pause.Asks lock ≡ pause.Joins → ⊥
 ask_is_no_join lock e = cc
 
--- A state in which nothing has changed but room looks the same.
+-- A state in which nothing has changed but capacities looks the same.
 pub same_seen : (old new : State) (placed : List (Box State)) → IsSoundState old → IsSame old new → nested new placed ≡ nested old placed
 same_seen old new placed s same =
     let le = start_in old s in
@@ -222,12 +222,12 @@ pub ok_map : {X E A B : Type 0} (r : Result X E) → OnOk r A → (A → B) → 
 ok_map (Ok x) h f = f h
 ok_map (Err e) h f = tt
 
--- what is so of a known outcome of a part of a step
+-- a property of the result of a part of a step, if the result is known
 pub ok_known : {X E A : Type 0} (r : Result X E) (x : X) (P : X → Type 0) → IfOk r (λ p. p ≡ x) → OnOk r A → (A → P x) → IfOk r P
 ok_known (Ok p) x P is a f = subst P (sym is) (f a)
 ok_known (Err e) x P is a f = tt
 
--- and of a fork
+-- such a property of a fork
 fork_known : {A : Type 0} (p : Progress) (class : Class) (S : State → Type 0) (P : Progress → Type 0) → IsForkOf p class S → A → ((child : Box State) → A → S child.value → P (part.Forks class child)) → P p
 fork_known (part.Forks given child) class S P is a f = subst (λ k. P (part.Forks k child)) (sym is.0) (f child a is.1)
 fork_known (part.Value value) class S P is a f = absurd is

@@ -1,4 +1,4 @@
--- The threads of a state that wait are left as they are, or one more or one fewer waits.
+-- The threads of a state that wait: they are unchanged, or one more or one fewer waits.
 use Rattle.std.proofs.Common.{◌≡◌, ◌≤◌, ◌<◌, ℕ, ◌+◌, List, [], ◌∷◌, ◌++◌, append_assoc, length, length-append, false, Some, refl, ap, sym, ◌∙◌, subst, arith, take, drop}
 use Rattle.std.specs.Prelude.{reverse}
 use Rattle.std.specs.Borrow.{Bor}
@@ -41,8 +41,8 @@ use Rattle.arachne_machine.proofs.Renewing.{begins_new, begins_faultless}
 use Rattle.arachne_machine.specs.Faultless.{IsFaultlessNext, IsWithoutFault}
 use Rattle.arachne_machine.specs.Work.{task_work}
 
--- The threads that wait depend on the frames below those of the one that they wait for, and on the lines before its
--- own.
+-- The threads that wait depend only on the frames below those of the one that they wait for, and on the lines before
+-- its own.
 pub waiting_frames : (program : Bor Program) (own : Own) (parents : List Parent) (lines : List ThreadLine) (frames frames' : List Frame) (start place : ℕ) (env : Environment) →
     take start frames' ≡ take start frames → waiting program own parents lines frames' start place env ≡ waiting program own parents lines frames start place env
 waiting_frames program own [] lines frames frames' start place env e = refl
@@ -59,7 +59,7 @@ waiting_lines program own (parent ∷ parents) lines lines' frames start place e
     let t = strand_at program own parents l parent.level env (take start frames) parent.control in
     t ∷ waiting program own parents l (take start frames) parent.level.start parent.level.place (ending t).env) e
 
--- A step of the innermost thread leaves the others as they are.
+-- A step of the innermost thread changes no other thread.
 pub leaves_waiting : (old new : State) → LeavesOthers old new → (ending (top new)).env ≡ (ending (top old)).env → waiting_in new ≡ waiting_in old
 leaves_waiting old new l env =
     let by = waiting new.program new.own (reverse new.parents.items) new.lines new.frames.items in
@@ -72,7 +72,7 @@ leaves_waiting old new l env =
     ∙ ap (λ x. waiting new.program x (reverse old.parents.items) old.lines old.frames.items old.level.start old.level.place (ending (top old)).env) l.own
     ∙ ap (λ x. waiting x old.own (reverse old.parents.items) old.lines old.frames.items old.level.start old.level.place (ending (top old)).env) l.program
 
--- Where the innermost is another one that is sound with as large sums, all are sound.
+-- If another sound thread with the same sums is the innermost, all threads are sound.
 pub resound : (t u : Strand) (ts : List Strand) (sums : ℕ → ℕ) → AreSound (t ∷ ts) sums →
     ((account : Account) → IsSound t account → (new : Account) × IsSound u new × ((ledger : ℕ) → new.sums ledger ≡ account.sums ledger)) → AreSound (u ∷ ts) sums
 resound t u ts sums h f =
@@ -104,7 +104,7 @@ fits_same old new l h =
     (subst (λ x. Fits (reverse old.parents.items) old.level.start x (length new.frames.items) (length old.lines)) (sym l.place)
     (fits_by (reverse old.parents.items) old.level.start old.level.place (length old.frames.items) (length old.lines) (length new.frames.items) (λ h. l.more) h))))
 
--- So is the state after a step of the innermost.
+-- The state is sound after a step of the innermost thread.
 pub sound_top : (old new : State) → IsSoundState old → LeavesOthers old new → (ending (top new)).env ≡ (ending (top old)).env → (top new).own ≡ (top old).own →
     ((account : Account) → IsSound (top old) account → (other : Account) × IsSound (top new) other × ((ledger : ℕ) → other.sums ledger ≡ account.sums ledger)) → IsSoundState new
 sound_top old new s l env own f =
@@ -118,7 +118,7 @@ sound_top old new s l env own f =
       few = omega (arith, s.few, ap length l.lines);
     }
 
--- What changes above the frames of the others changes the innermost alone.
+-- A change above the frames of the other threads changes only the innermost thread.
 pub top_becomes : (old new : State) (env : Environment) (gs : List Frame) (k : Control) → Changes old new env (old.frames.items ++ gs) k → old.level.start ≤ length old.frames.items →
     Becomes (top old) (top new) env ((top old).frames ++ gs) k
 top_becomes old new env gs k c le = record {
@@ -158,7 +158,7 @@ last_more : (t u : Strand) (ts : List Strand) → t.forks ≤ u.forks → (last_
 last_more t u [] e = e
 last_more t u (p ∷ ps) e = omega arith
 
--- Steps of the innermost are the state's.
+-- Steps of the innermost thread are steps of the state.
 pub runs_top : (n : ℕ) (old new : State) → IsSoundState old → LeavesOthers old new → Goes n [] (top old) (top new) → locks_of (top new) ≡ locks_of (top old) → Runs n old new
 runs_top n old new s l g locks =
     let env = ap (λ e. e.env) g.ending in
@@ -210,7 +210,7 @@ forked_alone old new l env forks alone e =
     let new_last = ap (λ ts. (last_of (top new) ts).forks) (alone_waiting new (l.parents ∙ alone.parents)) in
     omega (arith, forks, e, old_last, new_last)
 
--- A child that is to run here was forked.
+-- A child was forked that will run here.
 pub runs_places : (old new : State) (made : Child) → IsSoundState old → LeavesOthers old new → PlacesChild 1 (top old) (top new) made → Runs 1 old new
 runs_places old new made s l placed =
     let g = placed.forked in
@@ -235,7 +235,7 @@ runs_places old new made s l placed =
       by_itself = λ alone e. absurd (forked_alone old new l env g.forks alone e);
     }
 
--- The threads that wait once a child began here: the one that awaits it, and those that waited before.
+-- The threads that wait once a child has begun here: its parent, and those that waited before.
 reverse-snoc : (ps : List Parent) (p : Parent) → reverse (ps ++ p ∷ []) ≡ p ∷ reverse ps
 reverse-snoc ps p = reverse-append ps (p ∷ [])
 
@@ -281,7 +281,7 @@ begun_top old new number awaits begins b =
       control_is = b.control_is;
     }
 
--- those that waited before
+-- the threads that waited before
 waiting_before : (old before : State) → LeavesOthers old before → (env : Environment) →
     waiting before.program before.own (reverse before.parents.items) before.lines before.frames.items before.level.start before.level.place env
     ≡ waiting old.program old.own (reverse old.parents.items) old.lines old.frames.items old.level.start old.level.place env
@@ -317,8 +317,7 @@ fits_begun before old new number awaits begins l le b h =
     (subst (λ v. Fits (q ∷ reverse old.parents.items) v.start v.place (length new.frames.items) (length new.lines)) (sym b.level)
     (omega (arith, ap length b.frames), omega (arith, ap length b.lines, length-append old.lines (b.line ∷ [])), below))
 
--- A child that is to run here begins, and the thread that it was forked by awaits it. It was the newest frame of that
--- one.
+-- A child that will run here begins, and its parent awaits it. The parent's newest frame was that of the child.
 pub runs_begins : (before old new : State) (f : Frame) (number handed : ℕ) (awaits begins : Control) → IsSoundState before → old.level.start ≤ length old.frames.items →
     Changes old before old.environment.items (old.frames.items ++ f ∷ []) old.control → (b : BeginsHere old new number awaits begins) → IsBeginning begins →
     AwaitsHere number handed (top before) (awaiting_in old awaits) → handed ≡ task_work (source_of old.program.now).arrays (task_begun begins old.environment.items) →
@@ -368,12 +367,12 @@ runs_begins before old new f number handed awaits begins s le popped b beginning
       by_itself = λ alone e. absurd (none_here_yet number (here_of parent) (sym awaiting.here ∙ alone.here));
     }
 
--- A child that ran here has ended, and the innermost of those that wait goes on.
+-- A child that ran here has ended, and the innermost of the threads that wait goes on.
 abbrev pub parent_in : State → State → Parent → Strand
 parent_in old new q =
     strand_at old.program old.own (reverse new.parents.items) (take old.level.place old.lines) q.level old.environment.items (take old.level.start old.frames.items) q.control
 
--- those that wait still
+-- the threads that still wait
 abbrev pub rest_in : State → State → Parent → List Strand
 rest_in old new q =
     waiting old.program old.own (reverse new.parents.items) (take old.level.place old.lines) (take old.level.start old.frames.items) q.level.start q.level.place
@@ -401,7 +400,7 @@ joined_waiting old new q e env =
     let t = strand_at old.program old.own (reverse new.parents.items) (take old.level.place old.lines) q.level x (take old.level.start old.frames.items) q.control in
     t ∷ waiting old.program old.own (reverse new.parents.items) (take old.level.place old.lines) (take old.level.start old.frames.items) q.level.start q.level.place (ending t).env) env
 
--- its own line stays where it is
+-- the parent's line stays at its place
 owned_before : (own : Own) (ps : List Parent) (lines : List ThreadLine) (start place from frames : ℕ) → Fits ps from place start frames →
     owned_at own ps lines place ≡ owned_at own ps (take frames lines) place
 owned_before own [] lines start place from frames h = refl
@@ -410,7 +409,7 @@ owned_before own (p ∷ ps) lines start place from frames h = ap owned_of (sym (
 split_at : (lines : List ThreadLine) (n : ℕ) → n < length lines → lines ≡ take n lines ++ (line_at lines n ∷ drop (n + 1) lines)
 split_at lines n lt = sym (take-append-drop n lines) ∙ ap (λ l. take n lines ++ l) (drop_more lines n _ lt)
 
--- and the lines below it are more
+-- the lines below the parent are more
 below_before : (ps : List Parent) (lines : List ThreadLine) (start place from frames : ℕ) → Fits ps from place start frames → frames < length lines →
     below_at ps lines place ≡ below_at ps (take frames lines) place ++ (line_at lines frames ∷ drop (frames + 1) lines)
 below_before [] lines start place from frames h lt = split_at lines frames lt
@@ -424,7 +423,7 @@ take-take n m l le lm =
     let long : length (take m l) ≡ m = length-take-le m l lm in
     sym (take-append-le n (take m l) (drop m l) (omega (arith, le, long))) ∙ ap (take n) (take-append-drop m l)
 
--- those that wait still are as they were
+-- the threads that still wait are unchanged
 still_waiting : (program : Bor Program) (own : Own) (ps : List Parent) (lines : List ThreadLine) (frames gs : List Frame) (start place s p : ℕ) (env : Environment) →
     Fits ps start place s p → s ≡ length frames → p < length lines →
     waiting program own ps lines (frames ++ gs) start place env ≡ waiting program own ps (take p lines) (take s frames) start place env
@@ -434,7 +433,7 @@ still_waiting program own (q ∷ ps) lines frames gs start place s p env h long 
     (take-append-le start frames gs (omega (arith, h.0, long)) ∙ sym (take-take start s frames h.0 (omega (arith, long))))
     ∙ waiting_lines program own (q ∷ ps) (take p lines) lines (take s frames) start place env (sym (take-take place p lines (omega (arith, h.1)) (omega (arith, lt))))
 
--- The child's line is at its place, and those below it are behind that.
+-- The child's line is at its place, and the lines below the child are behind it.
 child_lines : (old : State) (q : Parent) (qs : List Parent) → reverse old.parents.items ≡ q ∷ qs →
     ◌≡◌ {A = List ThreadLine} (own_line_of (suspended (top old)) ∷ (top old).below) (line_at old.lines old.level.place ∷ drop (old.level.place + 1) old.lines)
 child_lines old q qs e =
@@ -443,7 +442,7 @@ child_lines old q qs e =
     let line : ThreadLine = record { name = own.name; tag = own.label.tag; holds = own.holds; ran = own.label.ran } in
     line ∷ below_at ps old.lines old.level.place) e
 
--- what the child that has ended brings
+-- the outcome of the child that has ended
 abbrev pub brought_by : State → ℕ → Account → Finished
 brought_by old v account = record {
   program = old.program.now;
@@ -460,7 +459,7 @@ joined_sums t n a ledger =
     let source = source_of t.program.now in
     ap (λ f. f ledger) (with_join-sums source.locks t.own.name n (task_effects source.arrays source.locks (child_task source t.own.name n)) a)
 
--- what the parent and the thread that it goes on as have in common
+-- the parts that the parent and the thread as which it goes on have in common
 pub record IsResumed (parent new : Strand) (variables : List ℕ) (gs : List Frame) (control : Control) : Type 0 where
   pub program : new.program ≡ parent.program
   pub own : new.own ≡ parent.own
@@ -499,12 +498,12 @@ pub some_parent : (ps : List Parent) (q : Parent) → ps ++ q ∷ [] ≡ [] → 
 some_parent [] q e = cc
 some_parent (p ∷ ps) q e = cc
 
--- there are no more lines below a thread than there are
+-- the lines below a thread are at most those of the state
 pub below_few : (ps : List Parent) (lines : List ThreadLine) (s place from p : ℕ) (below : List ThreadLine) → below ≡ below_at ps lines place → length below ≤ length lines
 below_few [] lines s place from p below e = omega (arith, ap length e)
 below_few (q ∷ ps) lines s place from p below e = omega (arith, ap length e, ap length (take-append-drop (place + 1) lines), length-append (take (place + 1) lines) (drop (place + 1) lines))
 
--- the state's other parts are as they were
+-- the other parts of the state are unchanged
 waiting_joined : (old new : State) (variables : List ℕ) (gs : List Frame) (control : Control) → (j : JoinsHere old new variables gs control) → (env : Environment) →
     waiting new.program new.own (reverse new.parents.items) new.lines new.frames.items new.level.start new.level.place env
     ≡ waiting old.program old.own (reverse new.parents.items) old.lines (old.frames.items ++ gs) j.parent.level.start j.parent.level.place env
@@ -600,7 +599,7 @@ runs_joins old new v variables gs control s gives long j joins =
       by_itself = λ alone e. absurd (some_parent new.parents.items q (sym j.parents ∙ alone.parents));
     }
 
--- A join, and then a change of what comes next alone.
+-- A join, and then a change of only the next action.
 joins_on : (old mid new : State) (variables : List ℕ) (gs : List Frame) (k k' : Control) → (j : JoinsHere old mid variables gs k) →
     Changes mid new mid.environment.items mid.frames.items k' → JoinsHere old new variables gs k'
 joins_on old mid new variables gs k k' j c = record {
@@ -639,7 +638,7 @@ runs_join_begins old new v number during next s gives long j awaits =
     joins_fork parent (top new) outcome n during next (awaits ∙ ap (λ m. Awaits m during next) same) named resumed.program resumed.own resumed.forks resumed.control_is resumed.frames
     (resumed.environment ∙ ap (λ x. old.environment.items ++ x ∷ during ∷ []) (sym value) ∙ sym (append_assoc old.environment.items (outcome.value ∷ []) (during ∷ []))) gains)
 
--- the same of a left half
+-- the end of a child that has a left half
 pub runs_join_half : (old new : State) (v number right : ℕ) (reduction : Reduction) → IsSoundState old → old.control ≡ Give v → length old.frames.items ≡ old.level.start →
     (j : JoinsHere old new [] [] (Give (apply (operation_of reduction) v right))) → j.parent.control ≡ AwaitsHalf number right reduction → Runs 1 old new
 runs_join_half old new v number right reduction s gives long j awaits =

@@ -85,7 +85,7 @@ works_marked : (ts : List Strand) → works_left (marked_strands ts) ≡ works_l
 works_marked [] = refl
 works_marked (t ∷ ts) = omega (arith, work_marked t ts, works_marked ts)
 
--- The state is as sound, and callers see the mark.
+-- The marked state is as sound, and callers see the mark.
 pub record Marked (t : State) : Type 0 where
   pub sound : IsSoundState (here_state t)
   pub seen : suspended (top (here_state t)) ≡ marked (suspended (top t)) (map suspended (waiting_in t))

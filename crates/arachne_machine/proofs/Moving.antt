@@ -1,4 +1,4 @@
--- The threads of a state come behind those of another.
+-- The threads of a state are added behind those of another.
 use Rattle.std.proofs.Common.{◌≡◌, ◌≢◌, ◌≤◌, ◌<◌, ◌^◌, append_assoc, get_or, length, length-append, ℕ, ◌+◌, true, false, List, [], ◌∷◌, ◌++◌, refl, ap, sym, ◌∙◌, subst, arith, take, drop}
 use Rattle.std.specs.Prelude.{zero, suc, Bool, IsTrue, map, reverse}
 use Rattle.std.specs.Borrow.{Bor}
@@ -22,7 +22,7 @@ use Rattle.arachne_machine.specs.Runs.{last_of, works_left}
 use Rattle.arachne_machine.specs.Nested.{of_program}
 use Rattle.arachne_machine.proofs.Copies.{IsCopy, copy_ending, copy_seen, copy_sound, copy_work}
 
--- as a thread of this program
+-- the thread as one of this program
 abbrev pub under : Bor Program → Strand → Strand
 under program t = record t { program = program }
 
@@ -43,7 +43,7 @@ programs_waiting program own (p ∷ ps) lines frames start place env = (
 pub copy_under : (program : Bor Program) (t : Strand) → source_of program.now ≡ source_of t.program.now → IsCopy t (under program t)
 copy_under program t source = record { source = source; own = refl; below = refl; forks = refl; environment = refl; frames = refl; control = refl }
 
--- What comes behind one line of a list.
+-- The lines behind one line of a list.
 long : (before : List ThreadLine) (x : ThreadLine) → length (before ++ x ∷ []) ≡ length before + 1
 long before x = length-append before (x ∷ [])
 
@@ -65,7 +65,7 @@ take_behind before lines x n =
 seam_line : (xs ys : List ThreadLine) (x : ThreadLine) → line_at (xs ++ x ∷ ys) (length xs) ≡ x
 seam_line xs ys x = ap (λ n. line_at (xs ++ x ∷ ys) n) (omega arith) ∙ get_or-append-add xs (x ∷ ys) 0 _
 
--- its own line is in its place
+-- its own line is at its place
 owned_moved : (own' own : Own) (q : Parent) (qs ps : List Parent) (before lines : List ThreadLine) (start place : ℕ) →
     owned_at own' (moved_parents start (length before) ps ++ q ∷ qs) (before ++ own_line own ∷ lines) (moved_place (length before) ps place) ≡ owned_at own ps lines place
 owned_moved own' own q qs [] before lines start place = ap owned_of (seam_line before lines (own_line own))
@@ -89,7 +89,7 @@ moved_strand program' program own' own q qs ps before lines under_it frames leve
     ∙ ap (λ b. by (owned_at own ps lines level.place) b (drop (length under_it + level.start) (under_it ++ frames))) (below_moved own q qs ps before lines (length under_it) level.place)
     ∙ ap (λ f. by (owned_at own ps lines level.place) (below_at ps lines level.place) f) (drop-append-add under_it frames level.start)
 
--- Those that wait, and behind them those of the other state.
+-- The threads that wait, and behind them those of the other state.
 pub moved_waiting : (program' program : Bor Program) (own' own : Own) (q : Parent) (qs : List Parent) (before : List ThreadLine) (under_it : List Frame) (left : Environment) → source_of program'.now ≡ source_of program.now →
     (ps : List Parent) (lines : List ThreadLine) (frames : List Frame) (start place most many : ℕ) (t : Strand) → Fits ps start place most many →
     (ending (last_of t (waiting program own ps lines frames start place (ending t).env))).env ≡ left →
@@ -118,7 +118,7 @@ moved_waiting program' program own' own q qs before under_it left source (p ∷ 
     ∙ ap (λ e. under program' v ∷ waiting program' own' rs all (under_it ++ take start frames) level.start level.place e.env) (copy_ending v (under program' v) (copy_under program' v source))
     ∙ ap (λ ts. under program' v ∷ ts) (moved_waiting program' program own' own q qs before under_it left source ps (take place lines) (take start frames) p.level.start p.level.place start place v fits.2 end)
 
--- All are sound, and the sums are theirs.
+-- All threads are sound, and the sums are theirs.
 with_sums : (us : List Strand) (b c : ℕ → ℕ) → ((ledger : ℕ) → c ledger ≡ b ledger) → AreSound us b → AreSound us c
 with_sums [] b c e h = λ ledger. e ledger ∙ h ledger
 with_sums (u ∷ us) b c e h = (h.0, h.1, h.2, h.3, λ ledger. e ledger ∙ h.4 ledger)
@@ -171,7 +171,7 @@ works_moved program' program source [] us p = omega arith
 works_moved program' program source (t ∷ ts) us p =
     omega (arith, copy_work t (under program' t) (copy_under program' t (source ∙ ap (λ x. source_of x.now) (sym p.0))), works_moved program' program source ts us p.1)
 
--- What a level that comes behind others is, by whether it is the outermost.
+-- A level that is moved behind others, if it is the outermost and if not.
 some_parent : (p : Parent) (ps : List Parent) → ◌≡◌ {A = List Parent} (p ∷ ps) [] → ⊥
 some_parent p ps e = cc
 
@@ -183,7 +183,7 @@ moved_is start place [] level result false none some f g = absurd (some refl ref
 moved_is start place (p ∷ ps) level result true none some f g = absurd (some_parent p ps (none refl))
 moved_is start place (p ∷ ps) level result false none some f g = g refl
 
--- One of those that wait, the outermost first.
+-- One of the threads that wait, the outermost first.
 pub parent_at : (xs : List Parent) (i : ℕ) (d : Parent) → i < length xs → reverse xs ≡ reverse (drop (i + 1) xs) ++ (get_or xs i d ∷ reverse (take i xs))
 parent_at xs i d lt =
     let p = get_or xs i d in
@@ -216,7 +216,7 @@ pub positive : (i : ℕ) → i ≢ 0 → 0 < i
 positive zero h = absurd (h refl)
 positive (suc n) h = omega arith
 
--- The bounds of one of them.
+-- The bounds of one of the levels.
 pub record Bounded (start place : ℕ) (xs : List Parent) (i : ℕ) (p : Parent) : Type 0 where
   pub start_fits : start + p.level.start < 2 ^ 64
   pub place_fits : 0 < i → place + 1 + p.level.place < 2 ^ 64

@@ -1,4 +1,4 @@
--- A state as callers see it.
+-- The view that callers have of a state.
 use Rattle.std.proofs.Common.{◌≡◌, ◌+◌, List, [], ◌∷◌, refl, ap, sym, ◌∙◌, take}
 use Rattle.std.specs.Prelude.{map, reverse}
 use Rattle.std.specs.Borrow.{Bor}
@@ -24,7 +24,7 @@ use Rattle.arachne_machine.specs.Faultless.{PausesWithin}
 use Rattle.arachne_machine.specs.Kept.{nested}
 use Rattle.arachne_machine.proofs.Advancing.{within_seen_sound}
 
--- The outermost of those that callers see is that of the state.
+-- The outermost thread that callers see is that of the state.
 pub outermost_seen : (t : Strand) (ts : List Strand) → outermost (suspended t) (map suspended ts) ≡ suspended (last_of t ts)
 outermost_seen t [] = refl
 outermost_seen t (p ∷ ps) = outermost_seen p ps
@@ -69,7 +69,7 @@ name_seen t placed = ap (λ s. s.name) (whole_seen t placed) ∙ ap (λ o. o.nam
 pub program_seen : (t : State) (placed : List (Box State)) → (whole (nested t placed)).program ≡ t.program.now
 program_seen t placed = ap (λ s. s.program) (whole_seen t placed) ∙ ap (λ p. p.now) (outermost_program t)
 
--- the outermost goes by the program and its own line
+-- the outermost thread depends only on the program and its own data
 pub same_whole : (old new : State) (placed others : List (Box State)) → new.program ≡ old.program → new.own ≡ old.own → SameWhole (nested old placed) (nested new others)
 same_whole old new placed others program own = record {
   program = program_seen new others ∙ ap (λ p. p.now) program ∙ sym (program_seen old placed);
@@ -77,7 +77,7 @@ same_whole old new placed others program own = record {
   label = label_seen new others ∙ ap (λ o. o.label) own ∙ sym (label_seen old placed);
 }
 
--- what the innermost's pause names is there
+-- the lock or ledger that the innermost thread's pause names exists
 pub pauses_seen : (t : State) → IsSoundState t → IsChecked (source_of t.program.now) → PausesWithin (suspended (top t))
 pauses_seen t s checked = within_seen_sound (top t) s.sound.0 s.sound.2 checked
 

@@ -1,4 +1,4 @@
--- What begins an expression leaves what it comes to as it was.
+-- A step that begins an expression doesn't change the result of the thread.
 use Rattle.std.proofs.Common.{◌≡◌, ℕ, ◌+◌, ◌-◌, List, [], ◌∷◌, ◌++◌, length, None, refl, ap, sym, ◌∙◌, arith, subst}
 use Rattle.std.proofs.lemmas.List.{append-nil}
 use Rattle.std.specs.Prelude.{slice_index, nat_lt, ◌==◌, if◌then◌else◌, Bool}
@@ -32,7 +32,7 @@ use Rattle.arachne_machine.proofs.Frames.{with_steps-add}
 use Rattle.arachne_machine.proofs.Purity.{binary_pure, leaf_pure, leaf_work}
 use Rattle.arachne_machine.proofs.Outlooks.{StepOutlook, Step, steps_by, as_it_is, framed_as, alone, none_here, none_kept, nothing_first}
 
--- An expression of this tree comes to the same in so many steps, by these frames and this to do next.
+-- After this many steps of an expression these frames and this next action have the result of the expression.
 pub record Opens (steps : ℕ) (source : Source) (name : List ℕ) (tree : Tree) (env : List ℕ) (k' : Control) (gs' : List Frame) : Type 0 where
   pub ending : resume source name gs' (begun source name k' env) ≡ record { env = env; value = value_of source.arrays tree env }
   pub account : (a : Account) →
@@ -51,7 +51,7 @@ opened steps source name expr env k' gs' o = record {
   faultless = λ held h. o.faultless held h.1;
 }
 
--- so it goes in a thread
+-- such steps of a thread
 pub begins_by : (steps : ℕ) (old new : Strand) (expr : Bor Expr) (tree : Tree) (k' : Control) (gs' : List Frame) → old.control ≡ Begin expr → tree_of expr.now ≡ tree →
     Becomes old new old.environment (old.frames ++ gs') k' →
     ((fs : List Frame) → frames_left k' fs ≡ fs) →
@@ -107,7 +107,7 @@ open_binary source name env operation left right = record {
       (((h.0, parts.1), tt), (h.0, parts.0));
 }
 
--- where the left side is a leaf, and where both are
+-- an operation whose left side is a leaf, and one whose both sides are
 leaf_traced : (source : Source) (t : Tree) (env : List ℕ) → IsLeaf t → trace_of source.arrays t env ≡ event.Step ∷ []
 leaf_traced source t env leaf = (leaf_pure source t env leaf).trace ∙ ap (λ n. with_steps n []) (leaf_work source.arrays t env leaf)
 
@@ -128,7 +128,7 @@ open_right source name env operation left right leaf =
           ((tt, tt), (h.0, parts.1));
     }
 
--- what is pure comes to its value at once
+-- a pure expression has its value at once
 pub open_pure : (source : Source) (name : List ℕ) (env : List ℕ) (t : Tree) (steps : ℕ) → IsPure source t env → steps + 1 ≡ work_of source.arrays t env →
     Opens steps source name t env (Give (value_of source.arrays t env)) []
 open_pure source name env t steps pure counted = record {
@@ -245,7 +245,7 @@ open_sweep source name env reduction grain from to body =
           (((judged.0, (h.0, bounds.1), (h.0 + 1, parts.1)), tt), (h.0, bounds.0));
     }
 
--- An operation is begun with its left side, which is a leaf, and with both.
+-- An operation is begun with its left side, if that is a leaf, or with both sides.
 pub begins_right : (old new : Strand) (expr first second : Bor Expr) (operation : Operation) (x : ℕ) → old.control ≡ Begin expr →
     tree_of expr.now ≡ Binary operation (tree_of first.now) (tree_of second.now) → IsLeaf (tree_of first.now) →
     x ≡ value_of (source_of old.program.now).arrays (tree_of first.now) old.environment →

@@ -1,4 +1,4 @@
--- What the newest frames and what comes next come to, and so the whole thread.
+-- The result of the newest frames and the next action, and so of the whole thread.
 use Rattle.std.proofs.Common.{◌≡◌, ℕ, ◌+◌, Bool, false, List, [], ◌∷◌, ◌++◌, None, refl, subst, ap, sym, ◌∙◌, arith, append_assoc}
 use Rattle.std.proofs.lemmas.List.{append-nil}
 use Rattle.std.specs.Borrow.{Bor}
@@ -19,8 +19,9 @@ use Rattle.arachne_machine.specs.Steps.{Becomes, Goes, AfterSteps, IsPopped, pen
 use Rattle.arachne_machine.proofs.Faultlessness.{faultless_above}
 use Rattle.arachne_machine.proofs.Frames.{resume-append, resume_account-append, resume_work-append, resume_trace-append, with_steps-append, forks_of-append, forks_here-append, releases-append}
 
--- From what comes next, the newest frames and the environment to the new ones the end is the same, if the accounts that
--- fit are taken like this, and these pauses are answered. So many of the steps that were left are handed to a child.
+-- The next action, the newest frames and the environment are replaced, and the result at the end is the same. `taken`
+-- maps the accounts that fit to those after the replacement, and `answered` are the pauses that were answered. `handed`
+-- of the steps that were left now belong to a child.
 pub record SameOutlook (steps handed : ℕ) (answered : List Event) (fits : Account → Type 0) (taken : Account → Account) (source : Source) (name : List ℕ) (k : Control) (gs : List Frame) (env : List ℕ) (k' : Control) (gs' : List Frame) (env' : List ℕ) : Type 0 where
   pub ending : resume source name gs' (begun source name k' env') ≡ resume source name gs (begun source name k env)
   pub account : (a : Account) → fits a →
@@ -34,7 +35,7 @@ pub record SameOutlook (steps handed : ℕ) (answered : List Event) (fits : Acco
       ≡ begun_trace source name k env ++ resume_trace source name gs (begun source name k env)
   pub faultless : (held : Bool) → GoesWithoutFault source held gs k → GoesWithoutFault source held gs' k'
 
--- the parts of a thread that its end depends on
+-- the parts of a thread on which its result depends
 pub record IsAt (source : Source) (name : List ℕ) (k : Control) (fs : List Frame) (env : List ℕ) (t : Strand) : Type 0 where
   pub source_is : source_of t.program.now ≡ source
   pub name_is : t.own.name ≡ name
@@ -42,11 +43,11 @@ pub record IsAt (source : Source) (name : List ℕ) (k : Control) (fs : List Fra
   pub frames_are : t.frames ≡ fs
   pub environment_is : t.environment ≡ env
 
--- the thread itself, with what it does next
+-- the thread itself, with its next action
 pub at_itself : (old : Strand) (k : Control) → old.control ≡ k → IsAt (source_of old.program.now) old.own.name k (old.frames ++ []) old.environment old
 at_itself old k is_k = record { source_is = refl; name_is = refl; control_is = is_k; frames_are = sym (append-nil old.frames); environment_is = refl }
 
--- the frames that there are stay below what this control does next
+-- with this next action all frames are still to come, as the thread has not ended
 abbrev pub LeavesFrames : Control → Type 0
 LeavesFrames k = (fs : List Frame) → frames_left k fs ≡ fs
 
@@ -77,7 +78,7 @@ work_at source name k fs env t at =
     ∙ ap (λ x. begun_work source name k t.environment + resume_work source name (frames_left k x) (begun source name k t.environment)) at.frames_are
     ∙ ap (λ x. begun_work source name k x + resume_work source name (frames_left k fs) (begun source name k x)) at.environment_is
 
--- the trace of what comes next and the newest frames, and that of the frames below
+-- the trace of the next action and the newest frames, and that of the frames below
 abbrev pub trace_by : Source → List ℕ → Control → List Frame → List Frame → List ℕ → List Event
 trace_by source name k fs gs env =
     let s = begun source name k env in
@@ -104,7 +105,7 @@ trace_at source name k fs gs env t at left =
     ∙ ap (λ l. b ++ l ++ At pause.Ended ∷ []) (resume_trace-append source name fs gs s)
     ∙ in_two b (resume_trace source name gs s) (resume_trace source name fs (resume source name gs s)) (At pause.Ended ∷ [])
 
--- what goes without fault there, and the thread
+-- a thread has no fault if these parts have none
 pub faultless_at : (source : Source) (name : List ℕ) (k : Control) (fs : List Frame) (env : List ℕ) (t : Strand) → IsAt source name k fs env t →
     IsWithoutFault t → GoesWithoutFault source false fs k
 faultless_at source name k fs env t at h =
@@ -117,7 +118,7 @@ at_faultless source name k fs env t at h =
     subst (λ x. GoesWithoutFault x false t.frames t.control) (sym at.source_is)
     (subst (λ x. GoesWithoutFault source false x t.control) (sym at.frames_are) (subst (GoesWithoutFault source false fs) (sym at.control_is) h))
 
--- The forks that the newest frames and what comes next join are those of the program.
+-- The forks that the newest frames and the next action join are those of the program.
 abbrev pub KeepsTop : Source → List ℕ → Control → List Frame → List ℕ → Type 0
 KeepsTop source name k gs env = AwaitsFork source name k env × KeepForks source name gs (begun source name k env)
 
@@ -177,7 +178,7 @@ at_keeps source name k fs gs env t at left h =
     there_keeps source name k (fs ++ gs) env t at
     (h.0, subst (λ l. KeepForks source name l s) (sym left) (append-keeps source name fs gs s h.1 h.2))
 
--- Without forks there is nothing to keep.
+-- If there are no forks, there is nothing to show.
 cons_nil : (x : ℕ) (xs : List ℕ) → ◌≡◌ {A = List ℕ} (x ∷ xs) [] → ⊥
 cons_nil x xs e = cc
 
@@ -236,7 +237,7 @@ locks_at source name k fs gs env t at =
     ap (λ x. lock_freed x ++ releases t.frames) at.control_is ∙ ap (λ x. lock_freed k ++ releases x) at.frames_are
     ∙ ap (λ x. lock_freed k ++ x) (releases-append fs gs) ∙ sym (append_assoc (lock_freed k) (releases gs) (releases fs))
 
--- So two threads that are at these parts come to the same.
+-- So two threads with these parts have the same result.
 pub record SameEnd (steps handed : ℕ) (answered : List Event) (fits : Account → Type 0) (taken : Account → Account) (old new : Strand) : Type 0 where
   pub ending : ending new ≡ ending old
   pub account : (a : Account) → fits a → account_at_end new (taken a) ≡ account_at_end old a
@@ -299,7 +300,7 @@ Any a = Unit {0}
 abbrev pub itself : Account → Account
 itself a = a
 
--- An outlook of so many steps of its own.
+-- The replacement by this many steps of the thread itself.
 abbrev pub StepOutlook : ℕ → Source → List ℕ → Control → List Frame → List ℕ → Control → List Frame → List ℕ → Type 0
 StepOutlook steps source name k gs env k' gs' env' = SameOutlook steps 0 [] Any itself source name k gs env k' gs' env'
 
@@ -312,7 +313,7 @@ at_of mid t k fs env b = record {
   environment_is = b.environment_is;
 }
 
--- a step of a thread, the frames below these being as before
+-- a step of a thread, with unchanged frames below these
 pub record Step (steps : ℕ) (k k' : Control) (fs gs gs' : List Frame) (old new : Strand) : Type 0 where
   pub goes : Goes steps [] old new
   pub pending : pending_of new.control ≡ pending_of k'
@@ -363,7 +364,7 @@ goes_on_by steps mid old new k k' fs gs gs' env env' b b' left left' none none' 
     (λ h. none_kept (source_of mid.program.now) mid.own.name k' gs' env' none') same in
     (s.goes, s.pending ∙ pending, s.locks ∙ ap (λ l. l ++ releases fs) locks ∙ sym s.old_locks)
 
--- a thread is what it is
+-- a thread is the same as itself
 pub as_it_is : (t : Strand) → Becomes t t t.environment t.frames t.control
 as_it_is t = record { program = refl; own = refl; below = refl; forks = refl; environment_is = refl; frames_are = refl; control_is = refl }
 
@@ -381,11 +382,11 @@ reshaped mid t env env' fs fs' k k' b d e f = record {
 pub framed_as : (mid t : Strand) (env : List ℕ) (fs fs' : List Frame) (k k' : Control) → Becomes mid t env fs k → fs ≡ fs' → k ≡ k' → Becomes mid t env fs' k'
 framed_as mid t env fs fs' k k' b e f = reshaped mid t env env fs fs' k k' b refl e f
 
--- where the newest frame was taken away, what there was is what is left with that frame
+-- if the newest frame was taken off, the thread was the one that is left, with that frame
 pub given_off : (before mid : Strand) (v : ℕ) (f : Frame) → IsPopped f before mid → mid.control ≡ Give v → Becomes mid before mid.environment (mid.frames ++ f ∷ []) (Give v)
 given_off before mid v f popped gives = framed_as mid before mid.environment (mid.frames ++ f ∷ []) (mid.frames ++ f ∷ []) mid.control (Give v) popped refl gives
 
--- what it is to hand on does not matter to what it becomes
+-- the value to hand on before a change has no influence on its result
 pub as_giving : (t new : Strand) (v : ℕ) (env : List ℕ) (fs : List Frame) (k : Control) → Becomes t new env fs k → Becomes (giving t v) new env fs k
 as_giving t new v env fs k b = record {
   program = b.program;
@@ -397,7 +398,7 @@ as_giving t new v env fs k b = record {
   control_is = b.control_is;
 }
 
--- nor does what comes next before
+-- the next action before a change has no influence on its result
 pub as_beginning : (t new : Strand) (e : Bor Expr) (env : List ℕ) (fs : List Frame) (k : Control) → Becomes t new env fs k → Becomes (beginning t e) new env fs k
 as_beginning t new e env fs k b = record {
   program = b.program;
@@ -421,7 +422,7 @@ begins_with t new e env fs k b = record {
   control_is = refl;
 }
 
--- and its control alone is new
+-- only the control is new
 pub given_from : (t : Strand) (v : ℕ) (k k' : Control) → k ≡ k' → Becomes (giving t v) (record t { control = k }) t.environment t.frames k'
 given_from t v k k' e = record { program = refl; own = refl; below = refl; forks = refl; environment_is = refl; frames_are = refl; control_is = e }
 
@@ -437,10 +438,10 @@ later mid outer new env env' fs fs' k k' b c = record {
   control_is = c.control_is;
 }
 
--- a thread at which nothing is taken apart
+-- a thread of which no frame is taken off
 pub alone : (mid t : Strand) (env : List ℕ) (k : Control) → Becomes mid t env mid.frames k → Becomes mid t env (mid.frames ++ []) k
 alone mid t env k b = framed_as mid t env mid.frames (mid.frames ++ []) k k b (sym (append-nil mid.frames)) refl
 
--- a thread whose control alone is new
+-- a thread of which only the control is new
 pub given : (t : Strand) (k k' : Control) → k ≡ k' → Becomes t (record t { control = k }) t.environment t.frames k'
 given t k k' e = record { program = refl; own = refl; below = refl; forks = refl; environment_is = refl; frames_are = refl; control_is = e }

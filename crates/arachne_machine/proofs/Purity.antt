@@ -1,4 +1,4 @@
--- What is pure, and what it is worth.
+-- Pure expressions, and their values.
 use Rattle.std.proofs.Common.{◌≡◌, ℕ, suc, ◌+◌, List, [], ◌∷◌, ◌++◌, length, Bool, true, false, refl, ap, sym, ◌∙◌, subst, arith}
 use Rattle.std.specs.Prelude.{◌==◌, if◌then◌else◌, slice_index, Option, None, Some, IfSome}
 use Rattle.arachne_lang.specs.declared.program.Operation.{Operation}
@@ -40,7 +40,7 @@ binary_pure source env operation a b p q =
       trace = steps_both (trace_of A a env) (trace_of A b env) (work_of A a env) (work_of A b env) p.trace q.trace;
     }
 
--- Each form that is worth its value.
+-- The forms that may be pure.
 pub worth_number : (source : Source) (env : List ℕ) (n had : ℕ) → IsWorth source (Number n) env n had had
 worth_number source env n had = record { pure = record { effects = refl; trace = refl }; value_is = refl; steps = refl }
 
@@ -76,7 +76,7 @@ of_chosen : {X : Type 0} (f : Tree → X) (c : Bool) (s t : Tree) → f (if c th
 of_chosen f true s t = refl
 of_chosen f false s t = refl
 
--- A choice is worth what its part is worth that is chosen.
+-- The value of a choice is that of the part that is chosen.
 pub worth_choice : (source : Source) (env env' : List ℕ) (t condition first second : Tree) (c : Bool) (x value had rest mid left : ℕ) →
     t ≡ Choose condition first second → rest + 2 ≡ had → env' ≡ env → IsWorth source condition env x rest mid → (x == 0) ≡ c →
     IsWorth source (if c then second else first) env' value mid left → IsWorth source t env value had left

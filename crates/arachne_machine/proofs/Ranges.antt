@@ -1,4 +1,4 @@
--- The first of some turns, and those after it.
+-- The first of some iterations, and those after it.
 use Rattle.std.proofs.Common.{◌≡◌, ◌≤◌, ◌<◌, ℕ, zero, suc, ◌+◌, ◌-◌, List, [], ◌++◌, refl, ap, sym, ◌∙◌, arith, append_assoc}
 use Rattle.std.proofs.lemmas.List.{append-nil}
 use Rattle.std.proofs.Math.Path.{fun_ext}
@@ -70,7 +70,7 @@ folded-turn arrays body env next end v lt =
 pub folded-done : (arrays : List (List ℕ)) (body : Tree) (env : Environment) (next end v : ℕ) → end ≤ next → folded arrays body env next (end - next) v ≡ v
 folded-done arrays body env next end v le = ap (λ n. folded arrays body env next n v) (none_left next end le)
 
--- what a turn does, by its number and the value so far
+-- the effects, steps or trace of an iteration, by its number and the value so far
 shifted : {X : Type 0} (G : ℕ → ℕ → X) (arrays : List (List ℕ)) (body : Tree) (env : Environment) (from v : ℕ) →
     ◌≡◌ {A = ℕ → X} (λ j. G (from + suc j) (folded arrays body env from (suc j) v))
     (λ j. G (from + 1 + j) (folded arrays body env (from + 1) j (fold_step arrays body env from v)))

@@ -34,7 +34,7 @@ use Rattle.arachne_machine.proofs.Nesting.{same_whole}
 use Rattle.arachne_machine.proofs.Answering.{going, nested_same}
 use Rattle.arachne_machine.proofs.Going.{line_in, start_in}
 
--- Lines behind all others leave each thread's own where it is, and come below the innermost.
+-- Lines that are appended change no thread's own line, and are below the innermost thread.
 pub appended_own : (own : Own) (ps : List Parent) (lines more : List ThreadLine) (place : ℕ) → IsLineOf ps place (length lines) → owned_at own ps (lines ++ more) place ≡ owned_at own ps lines place
 appended_own own [] lines more place there = refl
 appended_own own (p ∷ ps) lines more place there = ap owned_of (get_or_append_left lines more _ place there)
@@ -50,7 +50,7 @@ appended_waits program own (p ∷ ps) lines more frames frames' start place env 
     waiting_frames program own (p ∷ ps) (lines ++ more) frames frames' start place env same
     ∙ waiting_lines program own (p ∷ ps) lines (lines ++ more) frames start place env (take-append-le place lines more (omega (arith, there)))
 
--- the innermost's own, and what is below it
+-- the innermost thread's own line, and those below it
 own_joined : (old new : State) (outcome : Finished) → HasLine old → JoinsOutcome old outcome new → (top new).own ≡ (top old).own
 own_joined old new outcome there j =
     let ps = reverse old.parents.items in
@@ -98,7 +98,7 @@ fits_more : (ps : List Parent) (start place frames lines frames' lines' : ℕ) �
 fits_more [] start place frames lines frames' lines' f l h = h
 fits_more (p ∷ ps) start place frames lines frames' lines' f l h = (omega (arith, h.0, f), omega (arith, h.1, l), h.2)
 
--- What is so of a state and what callers see of it then.
+-- The state, and the view that callers have of it, after the join.
 pub record Rejoined (old new : State) (placed : List (Box State)) (outcome : Finished) : Type 0 where
   pub kept : IsKept new placed
   pub whole : SameWhole (nested old placed) (nested new placed)

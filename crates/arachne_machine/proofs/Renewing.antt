@@ -28,7 +28,8 @@ begins_at program own k env t r = record {
   environment_is = r.environment_is;
 }
 
--- What is so of such a thread by what it begins with: what that comes to; it awaits, frees and has forked nothing.
+-- A thread that has not begun, given its next action: its result is that of the action; it awaits and releases nothing,
+-- and has no forks.
 begins_by : (program : Bor Program) (own : Owned) (k : Control) (env : Environment) (t : Strand) →
     own.holds ≡ tabulated program.now.locks (λ lock. 0) → HasNotBegun program own k env t →
     fork_awaited k ≡ [] → lock_freed k ≡ [] → pending_of k ≡ None → frames_left k [] ≡ [] →

@@ -1,4 +1,4 @@
--- What callers see of an advance.
+-- The view that callers have of an advance.
 use Rattle.std.proofs.Common.{◌≡◌, ◌-◌, ◌≤◌, ℕ, ◌+◌, List, [], ◌∷◌, ◌++◌, None, Some, Option, refl, ap, sym, ◌∙◌, subst, arith}
 use Rattle.std.specs.Prelude.{map, option_map, slice_get}
 use Rattle.std.specs.Global.{Box}
@@ -29,11 +29,11 @@ use Rattle.arachne_machine.proofs.Nesting.{pauses_seen, program_seen, same_whole
 use Rattle.arachne_machine.proofs.Lasting.{stopped_pending}
 use Rattle.arachne_machine.proofs.Handed.{kept_sound, none_parents, none_placed, paused}
 
--- one that is alone stays so
+-- a thread in whose place no other runs stays so
 all_alone : {Q : Type 0} → {had left : ℕ} → {old new : State} → {ps qs : List (Box State)} → Went Q had left old ps new qs → IsAlone (nested old ps) → (qs ≡ []) × RunsOn Q had left 0 old new
 all_alone w alone = w.by_itself (none_placed _ alone.1)
 
--- What callers see of it.
+-- The view that callers have of an advance, given the pause that it returns.
 pub record Shown (Q : Type 0) (had left : ℕ) (old : State) (ps : List (Box State)) (gives : Pause) (new : State) (qs : List (Box State)) : Type 0 where
   pub kept : IsKept new qs
   pub moves : Moves had (nested old ps) gives (nested new qs)

@@ -56,7 +56,7 @@ goes_on_within m least most a b c p q = record {
   goes = goes_on m q.made (m + q.made) a b c p q.goes refl;
 }
 
--- no fewer, and no more
+-- at least and at most this many steps
 pub within_more : (least most more : ℕ) (a b : Strand) → GoesWithin least most a b → most ≤ more → GoesWithin least more a b
 within_more least most more a b w le = record { made = w.made; at_least = w.at_least; at_most = omega (arith, w.at_most, le); goes = w.goes }
 
@@ -90,7 +90,7 @@ forks_after m n k handed answered here a b c made p locks q le =
       };
     }
 
--- a child that was made then
+-- a child that was forked after some steps
 pub gives_after : (m n k : ℕ) (a b c child : Strand) (made : Child) → Goes m [] a b → locks_of b ≡ locks_of a → GivesChild n b c child made → m + n ≤ k → GivesChild k a c child made
 gives_after m n k a b c child made p locks q le =
     let new1 = subst (λ x. IsNew x (b.own.name ++ b.forks ∷ []) untagged made.task child) (ap (λ g. g.now) p.program) q.fresh in
@@ -102,7 +102,7 @@ gives_after m n k a b c child made p locks q le =
       faultless = λ h. q.faultless (p.faultless h);
     }
 
--- so it is where the thread stops
+-- a pause after some steps
 pub goes_then_stops : (m n k : ℕ) (a b c : Strand) (next : Pending) → Goes m [] a b → locks_of b ≡ locks_of a → AfterSteps n b (Some next) c → m + n ≤ k → AfterSteps k a (Some next) c
 goes_then_stops m n k a b c pause.Forks p l q le = q
 goes_then_stops m n k a b c pause.Joins p l q le = (within_more 1 (m + n) k a c (goes_on_within m 1 n a b c p q.0) le, q.1, q.2 ∙ l)
@@ -132,7 +132,7 @@ sound_new program name label task t new has faultless =
       keeps = new.keeps;
     }
 
--- A thread whose end is the same as that of a sound one, with this account, is sound.
+-- A thread with this account is sound, if it has the same result as a sound one.
 pub record SameSound (old new : Strand) (account account' : Account) : Type 0 where
   pub program : source_of new.program.now ≡ source_of old.program.now
   pub name : new.own.name ≡ old.own.name
@@ -164,7 +164,7 @@ sound_same old new account account' s g =
       keeps = g.keeps s.keeps;
     }
 
--- one that has its own as before, and comes to the same, stays sound
+-- a thread with the same data of its own, and the same result, stays sound
 sound_stays : (old new : Strand) (account : Account) → IsSound old account → new.program ≡ old.program → new.own ≡ old.own → new.below ≡ old.below → new.forks ≡ old.forks →
     unjoined_of new ≡ unjoined_of old → ending new ≡ ending old → ((a : Account) → account_at_end new a ≡ account_at_end old a) → (IsWithoutFault old → IsWithoutFault new) →
     (KeepsForks old → KeepsForks new) → IsSound new account
@@ -184,7 +184,7 @@ sound_stays old new account s program own below forks unjoined ends counts fault
 pub sound_goes : (n : ℕ) (answered : List Event) (old new : Strand) (account : Account) → IsSound old account → Goes n answered old new → IsSound new account
 sound_goes n answered old new account s g = sound_stays old new account s g.program g.own g.below g.forks g.unjoined g.ending g.account g.faultless g.keeps
 
--- so is one that awaits a child that runs here
+-- a thread stays sound that awaits a child in its place
 pub sound_awaits : (number handed : ℕ) (old new : Strand) (account : Account) → IsSound old account → AwaitsHere number handed old new → IsSound new account
 sound_awaits number handed old new account s g = sound_stays old new account s g.program g.own g.below g.forks g.unjoined g.ending g.account g.faultless g.keeps
 
@@ -255,7 +255,7 @@ none_some m h = cc
 same_some : (x y : Meaning) → Some x ≡ Some y → x ≡ y
 same_some x y h = cc
 
--- what an outcome's name and meaning say of its task
+-- the task that an outcome's name and meaning determine
 pub outcome_task : (source : Source) (name : List ℕ) (m : Meaning) → outcome_of source name ≡ Some m →
     (t : Task) × (task_of source name ≡ Some t) × (meaning_as source name t ≡ m)
 outcome_task source name m h =
@@ -281,7 +281,7 @@ with_join-lines : (locks : ℕ) (name : List ℕ) (n : ℕ) (e : Effects) (a : A
 unfolding with_join
 with_join-lines locks name n e a = refl
 
--- the outcome is what the awaited child means
+-- the outcome is the meaning of the awaited child
 join_means : (old new : Strand) (outcome : Finished) → IsOfItsName outcome → source_of outcome.program ≡ source_of old.program.now → (j : Joins old outcome new) →
     meaning_as (source_of old.program.now) (old.own.name ++ j.number ∷ []) (child_task (source_of old.program.now) old.own.name j.number) ≡ meaning_in outcome
 join_means old new outcome of_name same_source j =
@@ -292,7 +292,7 @@ join_means old new outcome of_name same_source j =
     let found = outcome_task source name (meaning_in outcome) here in
     ap (meaning_as source name) (child_task-found source old.own.name j.number found.0 found.1) ∙ found.2
 
--- the join keeps what the thread comes to
+-- the join doesn't change the result of the thread
 pub join_keeps : (old new : Strand) (outcome : Finished) → IsOfItsName outcome → source_of outcome.program ≡ source_of old.program.now →
     (j : Joins old outcome new) → KeepsOverJoin old new j.number
 join_keeps old new outcome of_name same_source j = j.keeps (sym (ap (λ m. m.value) (join_means old new outcome of_name same_source j)))
@@ -358,12 +358,12 @@ same_meaning v v' t t' l l' p q r =
     let h : List Line → Meaning = λ x. record { value = v'; totals = t'; threads = x } in
     ap f p ∙ ap g q ∙ ap h r
 
--- A thread that comes to this value at once, and has no more to do.
+-- A thread that has this value at once, and no more to do.
 pub record IsOver (t : Strand) (value : ℕ) (account : Account) : Type 0 where
   pub value_is : (ending t).value ≡ value
   pub account_is : account_at_end t account ≡ account
 
--- What such a sound thread brings is what its name means.
+-- The outcome of such a sound thread is the one that the program has for its name.
 pub over_means : (t : Strand) (v : ℕ) (account : Account) → IsSound t account → IsOver t v account →
     outcome_of (source_of t.program.now) t.own.name
     ≡ Some (record { value = v; totals = tabulated (source_of t.program.now).ledgers account.sums; threads = map named_holds (own_line_of (suspended t) ∷ t.below) })
@@ -387,7 +387,7 @@ over_means t v account s over =
     (sym value) (sym sums)
     (ap (λ h. line h ∷ effects.lines name 0) (sym holds) ∙ ap (λ l. line t.own.holds ∷ l) (sym below)))
 
--- what it has added to each ledger is what its task adds
+-- it has added to each ledger the amount that its task adds
 pub over_sums : (t : Strand) (v : ℕ) (account : Account) (s : IsSound t account) → IsOver t v account → (ledger : ℕ) →
     account.sums ledger ≡ (task_effects (source_of t.program.now).arrays (source_of t.program.now).locks s.task).sums ledger
 over_sums t v account s over ledger =
@@ -436,7 +436,7 @@ counted_seen old new answered effects g = record {
   below = g.below;
 }
 
--- What callers see of these steps.
+-- The view that callers have of these steps.
 pub same_thread : (n : ℕ) (old new : Strand) → Goes n [] old new → SameThread (suspended old) (suspended new)
 same_thread n old new g = record {
   program = ap (λ p. p.now) g.program;
@@ -509,7 +509,7 @@ abbrev IsJoins : Pending → Type 0
 IsJoins pause.Joins = Unit {0}
 IsJoins _ = ⊥
 
--- a thread that awaits a child shows whose outcome it awaits
+-- a thread that awaits a child shows which one it awaits
 awaits_some : (k : Control) (name frames : List ℕ) → pending_of k ≡ Some pause.Joins →
     IsSome (option_map (λ number. name ++ number ∷ []) (slice_get (fork_awaited k ++ frames) 0))
 awaits_some (Awaits number during next) name frames h = search rules
@@ -546,7 +546,7 @@ joined_seen old new outcome of_name same_source j =
       trace = sym (join_keeps old new outcome of_name same_source j).trace;
     }
 
--- a thread in which nothing has changed but room looks the same
+-- a thread in which nothing has changed but capacities looks the same
 pub unchanged_seen : (old new : Strand) → IsUnchanged old new → suspended new ≡ suspended old
 unchanged_seen old new u = cc
 
@@ -574,6 +574,6 @@ goes_nowhere old new u =
       keeps = there_keeps source name k fs env new at;
     }
 
--- nor have its locks
+-- and has the same locks
 pub locks_unchanged : (old new : Strand) → IsUnchanged old new → locks_of new ≡ locks_of old
 locks_unchanged old new u = ap (λ x. lock_freed x ++ releases new.frames) u.control_is ∙ ap (λ x. lock_freed old.control ++ releases x) u.frames_are

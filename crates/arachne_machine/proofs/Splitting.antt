@@ -1,4 +1,4 @@
--- A fork leaves what the thread comes to as it was, if the child is the one of its number.
+-- A fork doesn't change the result of the thread, if the child is the one of the fork's number.
 use Rattle.std.proofs.Common.{◌≡◌, ◌<◌, ℕ, ◌+◌, ◌-◌, ◌/◌, List, [], ◌∷◌, ◌++◌, length, Bool, false, Some, refl, ap, sym, ◌∙◌, subst, arith, append_assoc}
 use Rattle.std.specs.Prelude.{unwrap_or, max}
 use Rattle.std.specs.Borrow.{Bor}
@@ -32,28 +32,28 @@ use Rattle.arachne_machine.proofs.Halves.{value_split, effects_split, work_split
 use Rattle.arachne_machine.proofs.Faultlessness.{no_faults-append, within_none}
 use Rattle.arachne_machine.proofs.Outlooks.{KeepsTop, SameOutlook, IsAt, LeavesFrames, at_itself, account_at, faultless_at, unjoined_at, here_at, locks_at, same_end}
 
--- the task of a child that is there
+-- the task of a child that exists
 pub child_task-found : (source : Source) (name : List ℕ) (n : ℕ) (task : Task) → task_of source (name ++ n ∷ []) ≡ Some task → child_task source name n ≡ task
 unfolding child_task
 child_task-found source name n task h = ap (λ o. unwrap_or o (Evaluate (Number 0) [])) h
 
--- the accounts in which so many forks were made
+-- the accounts with this number of forks
 abbrev pub HasForked : ℕ → Account → Type 0
 HasForked n a = length a.children ≡ n
 
--- The child's steps are another state's, and the fork is a pause; or they are this one's, and it is none.
+-- The child's steps are another state's, and the fork is a pause; or they are this state's, and the fork is no pause.
 abbrev pub ForkOutlook : Source → List ℕ → ℕ → ℕ → List Event → Child → Control → List ℕ → Control → Frame → Type 0
 ForkOutlook source name n handed answered made k env k' f = SameOutlook 1 handed answered (HasForked n) (with_fork made) source name k [] env k' (f ∷ []) env
 
--- This is the next of the children that are still to come.
+-- This is the next of the children that are still to be forked.
 abbrev pub ForksNext : Source → List ℕ → Child → Control → List ℕ → Type 0
 ForksNext source name made k env = (a : Account) → (rest : List Child) × ((begun_account source name k env a).children ≡ a.children ++ made ∷ rest)
 
--- the child of this class that begins like this
+-- the child of this class that begins with this action
 abbrev pub made_as : Class → Control → List ℕ → Child
 made_as class begins env = record { class = class; task = task_begun begins env }
 
--- where its program has such a child, the thread keeps what it has with this control and this frame
+-- if the program has such a child, the thread has the same result with this control and this frame
 abbrev pub KeepsItsFork : Strand → Control → Control → Frame → Type 0
 KeepsItsFork old begins k' f = task_of (source_of old.program.now) (old.own.name ++ old.forks ∷ []) ≡ Some (task_begun begins old.environment) →
     KeepsTop (source_of old.program.now) old.own.name k' (f ∷ []) old.environment
@@ -61,7 +61,7 @@ KeepsItsFork old begins k' f = task_of (source_of old.program.now) (old.own.name
 abbrev pub HasNext : Class → Strand → Control → Control → Type 0
 HasNext class old begins k = ForksNext (source_of old.program.now) old.own.name (made_as class begins old.environment) k old.environment
 
--- by the program, the child's task is what it begins with
+-- the child's task in the program is the one that it begins with
 abbrev pub FindsTask : Strand → Control → Type 0
 FindsTask old begins = child_task (source_of old.program.now) old.own.name old.forks ≡ task_begun begins old.environment
 
@@ -199,7 +199,7 @@ fork_outlook source name env n expr child during next class h found =
           (((parts.0, parts.3), tt), (parts.0, parts.2));
     }
 
--- The child of one that is no pause stays here.
+-- A fork that is no pause keeps its child here.
 fork_here_outlook : (source : Source) (name env : List ℕ) (n : ℕ) (expr child during next : Bor Expr) (class : Class) →
     IsFork expr class child during next → child_task source name n ≡ Evaluate (tree_of child.now) env →
     ForkOutlook source name n 0 (At pause.Forks ∷ []) (record { class = class; task = Evaluate (tree_of child.now) env }) (Begin expr) env (Begin during) (JoinHere n child next)
@@ -262,7 +262,7 @@ places_fork old new expr first during next class begins h pushed =
       pending = ap pending_of pushed.control_is;
     }
 
--- where a part of a sweep is split
+-- the middle at which a part of a sweep is split
 abbrev pub halfway : Stretch → ℕ
 halfway stretch = stretch.first + (stretch.end - stretch.first) / 2
 

@@ -23,21 +23,21 @@ reaches_once had left a part.Goes t one goes = (record { made = 1; fewer = omega
 reaches_once had left a part.Stops t one goes = absurd one
 reaches_once had left a (part.Forks class child) t one goes = absurd one
 
--- after which an expression is begun
+-- one step, after which an expression is begun
 pub reaches_part : (had : ℕ) (a : Strand) (p : Progress) (c : Strand) (e : Bor Expr) → p ≡ part.Begin e → AfterSteps 1 a None (beginning c e) → Reaches had had a p c
 reaches_part had a p c e is goes = subst (λ x. Reaches had had a x c) (sym is) (record { made = 1; fewer = omega arith; counted = omega arith; goes = goes })
 
--- the same, by what is equal to that
+-- the same for equal states and expressions
 pub part_begun : (had : ℕ) (a s c : Strand) (p q e : Bor Expr) → s ≡ c → p ≡ q → q ≡ e → AfterSteps 1 a None (beginning c e) → Makes had had 1 a (beginning s p)
 part_begun had a s c p q e same is also goes =
     subst (λ x. Makes had had 1 a (beginning x p)) (sym same) (subst (λ y. Makes had had 1 a (beginning c y)) (sym (is ∙ also))
     (record { made = 1; fewer = omega arith; counted = omega arith; goes = goes }))
 
--- and one at which it pauses
+-- a step at which the thread pauses
 pub reaches_stop : (had : ℕ) (a : Strand) (next : Pending) (c : Strand) → IsNotEnd next → AfterSteps 1 a (Some next) c → Reaches had had a part.Stops c
 reaches_stop had a next c on stops = (refl, (next, on, stops))
 
--- what follows of a value, if there is one
+-- a consequence for a value, if there is one
 pub ok_then : {X E : Type 0} (r : Result X E) (P Q : X → Type 0) → IfOk r P → ((x : X) → P x → Q x) → IfOk r Q
 ok_then (Ok x) P Q h f = f x h
 ok_then (Err e) P Q h f = tt

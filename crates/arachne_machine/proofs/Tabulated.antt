@@ -19,7 +19,7 @@ pub tabulated-zeros : (n : ℕ) → replicate n 0 ≡ tabulated n (λ k. 0)
 tabulated-zeros zero = refl
 tabulated-zeros (suc n) = ap (λ k. replicate k 0) (sym (add-one n)) ∙ replicate_next n 0 ∙ ap (λ xs. xs ++ 0 ∷ []) (tabulated-zeros n)
 
--- only what stands in the table matters
+-- only the values within the table matter
 pub tabulated-same : (n : ℕ) (f g : ℕ → ℕ) → ((k : ℕ) → f k ≡ g k) → tabulated n f ≡ tabulated n g
 tabulated-same zero f g h = refl
 tabulated-same (suc n) f g h = ap (λ xs. xs ++ wrapped (f n) ∷ []) (tabulated-same n f g h) ∙ ap (λ x. tabulated n g ++ wrapped x ∷ []) (h n)
@@ -51,7 +51,7 @@ tabulated-sum n f g xs e h =
 pub tabulated-kept : (n : ℕ) (f : ℕ → ℕ) (xs : List ℕ) → xs ≡ tabulated n f → xs ≡ tabulated n (λ k. f k + 0)
 tabulated-kept n f xs e = e ∙ tabulated-same n f (λ k. f k + 0) (λ k. omega arith)
 
--- what is added at a place of the table, and nothing elsewhere
+-- an amount that is added at one place of the table
 same_place : (place amount k x : ℕ) → k ≡ place → x + (if k == place then amount else 0) ≡ x + amount
 same_place place amount k x e =
     elim (eqb_tells k place) [
@@ -102,7 +102,7 @@ tabulated-beyond (suc n) f place amount le =
     ap (λ xs. xs ++ wrapped (f n) ∷ []) (tabulated-beyond n f place amount (omega arith))
     ∙ ap (λ x. tabulated n g ++ wrapped x ∷ []) (sym (other_place place amount n (f n) apart))
 
--- what callers see of it: the number at a place is raised
+-- the view that callers have of it: the number at a place is raised
 pub raised_is : (n : ℕ) (f : ℕ → ℕ) (place amount : ℕ) (xs ys : List ℕ) → xs ≡ tabulated n f → ys ≡ tabulated n (λ k. f k + (if k == place then amount else 0)) →
     ys ≡ raised xs place amount
 raised_is n f place amount xs ys ex ey =

@@ -74,7 +74,7 @@ same_environment : (t : Strand) (name : List ℕ) (task : Task) → AwaitsTask t
 same_environment t name task a has =
     ap environment_of (same_task task a.forked.task (sym has ∙ ap (task_of (source_of t.program.now)) a.named ∙ a.forked.has_task)) ∙ a.forked.environment
 
--- What is so of the state then.
+-- The state after the child was taken in.
 pub record Taken (old child new : State) : Type 0 where
   pub sound : IsSoundState new
   pub seen : suspended (top new) ≡ of_program old.program.now (marked (suspended (top child)) (map suspended (waiting_in child)))
@@ -82,7 +82,7 @@ pub record Taken (old child new : State) : Type 0 where
   pub sums : new.sums.items ≡ added old.sums.items child.sums.items
   pub work : work_in_state new ≡ work_in_state old + work_in_state child
 
--- where the threads are
+-- the places of the threads' frames and lines
 record Placement (old child new : State) : Type 0 where
   top_is : top new ≡ under old.program (top child)
   waits : waiting_in new ≡ map (under old.program) (waiting_in child) ++ top old ∷ waiting_in old
@@ -188,7 +188,7 @@ taken old child new s c source joins of_child t =
       work = omega (arith, ap works_left everyone, works_moved p u.program (sym source) us (top old ∷ waiting_in old) programs, m.work);
     }
 
--- The thread stands before the step in which it came to await a child.
+-- The thread stands before the step in which it began to await a child.
 pub record Unstepped (old new : State) : Type 0 where
   pub sound : IsSoundState new
   pub leaves : LeavesOthers old new
@@ -247,7 +247,7 @@ unstepped_by old new f v s changed step faultless keeps =
       pending = ap pending_of changed.control_is;
     }
 
--- what has no fault, and whose forks are the program's, with one frame more
+-- a thread with one frame more has no fault, and its forks are the program's
 with_frame : (source : Source) (name : List ℕ) (t u : Strand) (f : Frame) (v : ℕ) (k : Control) → IsAt source name k t.frames t.environment t → IsAt source name (Give v) (t.frames ++ f ∷ []) t.environment u →
     frames_left k t.frames ≡ t.frames → (IsFaultlessNext source (held_by false t.frames) k → IsFaultlessFrame source (held_by false t.frames) f) → IsWithoutFault t → IsWithoutFault u
 with_frame source name t u f v k at at' left one h =
@@ -255,7 +255,7 @@ with_frame source name t u f v k at at' left one h =
     at_faultless source name (Give v) (t.frames ++ f ∷ []) t.environment u at'
     (append-faultless source false t.frames (f ∷ []) was.0 (one was.1, tt), tt)
 
--- the thread that stands there, with that frame
+-- the thread before that step, with that frame
 at_frame : (t u : Strand) (f : Frame) (v : ℕ) → Becomes t u t.environment (t.frames ++ f ∷ []) (Give v) → IsAt (source_of t.program.now) t.own.name (Give v) (t.frames ++ f ∷ []) t.environment u
 at_frame t u f v b = record {
   source_is = ap (λ p. source_of p.now) b.program;

@@ -1,4 +1,4 @@
--- Turns that are made at once.
+-- Iterations that are made at once.
 use Rattle.std.proofs.Common.{◌≡◌, ◌≤◌, ◌<◌, ℕ, ◌+◌, ◌-◌, List, [], ◌∷◌, ◌++◌, None, refl, ap, sym, subst, ◌∙◌, arith}
 use Rattle.std.specs.Borrow.{Bor}
 use Rattle.arachne_lang.specs.declared.program.Expr.{Expr}
@@ -23,7 +23,7 @@ use Rattle.arachne_machine.proofs.Soundness.{goes_on}
 after_steps : (m n k : ℕ) (a b c : Strand) → k ≡ m + n → AfterSteps m a None b → AfterSteps n b None c → AfterSteps k a None c
 after_steps m n k a b c is p q = (goes_on m n k a b c p.0 q.0 is, q.1, q.2 ∙ p.2)
 
--- one step that was not counted among those that are left
+-- one step that was not subtracted from those that are left
 pub makes_once : (had : ℕ) (a b : Strand) → AfterSteps 1 a None b → Makes had had 1 a b
 makes_once had a b goes = record { made = 1; fewer = omega arith; counted = omega arith; goes = goes }
 
@@ -35,7 +35,7 @@ makes_more had left rest n a b c m goes counted = record {
   goes = after_steps m.made n (m.made + n) a b c refl m.goes goes;
 }
 
--- A value that is known once a body of these variables was begun.
+-- The value of a body with these variables is known at once.
 body_is_worth : (begun : Strand) (body : Bor Expr) (value had left : ℕ) → begun.control ≡ Begin body → left ≤ had →
     IsWorth (source_of begun.program.now) (tree_of body.now) begun.environment value had left → AfterSteps (had - left) begun None (giving begun value)
 body_is_worth begun body value had left begins le w =
@@ -65,7 +65,7 @@ same_then a b c p q = record {
   control_is = q.control_is ∙ p.control_is;
 }
 
--- what one comes to that has as much
+-- the end of a fold or a sweep, for a thread with the same data
 done_of_same : (t u on : Strand) (k : Control) → IsUnchanged t u → Becomes u on u.environment u.frames k → Becomes t on t.environment t.frames k
 done_of_same t u on k same b = record {
   program = b.program ∙ same.program;
@@ -162,7 +162,7 @@ sweep_of_same t u on reduction next end so_far body same turns = record {
   done = λ le. done_of_same t u on (Give so_far) same (turns.done le);
 }
 
--- What was come to is what a step makes of it: the value is handed on in a further one.
+-- A step was begun that gives a value, and a further step hands it on.
 pub reaches_on : (had mid left : ℕ) (a : Strand) (p : Progress) (t : State) → IsOneStep mid left p t → Makes had mid 1 a (top (seen_in p t)) → Reaches had left a p (top t)
 reaches_on had mid left a (part.Value value) t one m = record { made = m.made; fewer = omega (arith, m.fewer, one); counted = omega (arith, m.counted, one); goes = m.goes }
 reaches_on had mid left a (part.Begin expr) t one m = subst (λ n. Makes had n 1 a (top (seen_in (part.Begin expr) t))) (sym one) m

@@ -1,4 +1,4 @@
--- Turns keep how threads wait for each other.
+-- Turns keep the order in which threads wait for each other.
 use Rattle.std.proofs.Common.{◌≡◌, ◌<◌, ℕ, List, [], ◌∷◌, ◌++◌, length, map, reverse, None, Some, refl, ap, sym, ◌∙◌, subst, arith}
 use Rattle.std.specs.Prelude.{slice_get, option_map, IsSome}
 use Rattle.std.proofs.lemmas.List.{length-map, length-reverse, reverse-append}
@@ -79,7 +79,7 @@ first_of : (l : List ℕ) (name : List ℕ) → IsSome (option_map (λ number. n
 first_of [] name h = absurd (not_some h)
 first_of (n ∷ others) name h = (n, others, refl)
 
--- what a thread that joins needs, and how it goes on
+-- the needs of a thread that joins, and its state after the join
 pub record IsReady (program : Program) (mid : Suspended) (threads : List Nested) (outcome : Finished) (keys : List (Program × List ℕ)) : Type 0 where
   pub of_program : outcome.program ≡ program
   pub of_child : awaited mid ≡ Some outcome.name
@@ -116,7 +116,7 @@ ready program old mid threads outcome keys same some (newest, waits) =
           );
     }
 
--- a thread has ended, and its outcome lies ready
+-- a thread has ended, and its outcome waits to be joined
 pub rests_end : (program : Program) (old : Nested) (mid : Suspended) (threads : List Nested) (end : Program) (name : List ℕ) (keys : List (Program × List ℕ)) →
     SameThread old.running mid → mid.unjoined ≡ [] → end ≡ mid.program → name ≡ mid.name →
     Rests program (old ∷ threads) keys → Rests program threads ((end, name) ∷ keys)
@@ -141,7 +141,7 @@ rests_end program old mid (thread ∷ threads) end name keys same none is_progra
       waits.1,
     )
 
--- the root alone
+-- only the root
 pub rests_root : (program : Program) (tag : ℕ) (thread : Nested) → IsAlone thread → IsFresh program [] tag thread.running → Rests program (thread ∷ []) []
 rests_root program tag thread alone fresh = (
   record {
@@ -154,14 +154,14 @@ rests_root program tag thread alone fresh = (
   (fresh.has_name, refl),
 )
 
--- an answer leaves a thread by itself
+-- an answer leaves no other thread in the thread's place
 pub alone_on : (old new : Nested) → IsAlone old → new.parents ≡ old.parents → new.placed ≡ old.placed → new.running.here ≡ old.running.here → IsAlone new
 alone_on old new alone parents placed here = (parents ∙ alone.0, placed ∙ alone.1, here ∙ alone.2)
 
 pub pushed : {A : Type 0} → (xs ys : List A) (x : A) → ys ≡ xs ++ x ∷ [] → reverse ys ≡ x ∷ reverse xs
 pushed xs ys x e = ap reverse e ∙ reverse-append xs (x ∷ [])
 
--- an outcome lies ready where a thread joins
+-- if a thread joins, an outcome is ready
 pub some_outcome : (program : Program) (old : Nested) (mid : Suspended) (threads : List Nested) (outcomes : List Finished) → SameThread old.running mid → IsSome (awaited mid) →
     Rests program (old ∷ threads) (map key (reverse outcomes)) → 0 < length outcomes
 some_outcome program old mid threads outcomes same some (newest, waits) =
@@ -170,7 +170,7 @@ some_outcome program old mid threads outcomes same some (newest, waits) =
     brought_same program old.running mid (map key (reverse outcomes)) newest.rest same newest.brought ∙ ap (λ l. childs_keys program mid.name l ++ newest.rest) first.2 in
     omega (arith, ap length brought, length-map (reverse outcomes) key, length-reverse outcomes)
 
--- and the root's lies ready in the end
+-- at the end the root's outcome is ready
 pub root_outcome : (program : Program) (outcomes : List Finished) → Rests program [] (map key (reverse outcomes)) → 0 < length outcomes
 root_outcome program outcomes h = omega (arith, ap length h, length-map (reverse outcomes) key, length-reverse outcomes)
 

@@ -52,18 +52,18 @@ hold_under_a_binding : trace_of [] (Bind (Number 4) (Hold 0 (Bind (Tally 0 (Vari
     ≡ with_steps 3 (At (Asks 0) ∷ with_steps 3 (At (Tallies 0 4) ∷ with_steps 3 (At (Tallies 1 7) ∷ Step ∷ At (Frees 0) ∷ Step ∷ [])))
 hold_under_a_binding = refl
 
--- The child's tally is the child's; what is done meanwhile comes before the join, and what knows the child's value
--- after it.
+-- The child's tally is in the child's trace. The tally made while the child runs comes before the join, and the tally
+-- of the child's value after it.
 meanwhile : trace_of [] (Fork Exclusive (Tally 0 (Number 1) (Number 4)) (Tally 1 (Number 2) (Number 0)) (Tally 2 (Variable 0) (Number 0))) []
     ≡ Step ∷ At Forks ∷ with_steps 2 (At (Tallies 1 2) ∷ Step ∷ At Joins ∷ with_steps 2 (At (Tallies 2 4) ∷ Step ∷ []))
 meanwhile = refl
 
--- what is done meanwhile forks too
+-- a second fork while the first child runs
 nested : trace_of [] (Fork Normal (Number 1) (Fork Normal (Number 2) (Number 3) (Number 4)) (Number 5)) []
     ≡ Step ∷ At Forks ∷ Step ∷ At Forks ∷ Step ∷ At Joins ∷ Step ∷ At Joins ∷ Step ∷ []
 nested = refl
 
--- each turn of a fold knows its number and the value of the turn before
+-- the body of each iteration of a fold has its number and the value of the iteration before
 turns : trace_of [] (Fold (Tally 2 (Number 0) (Number 3)) (Number 5) (Number 1) (Tally 0 (Variable 0) (Tally 1 (Variable 1) (Binary Add (Variable 0) (Variable 1))))) []
     ≡ with_steps 3 (At (Tallies 2 0) ∷ with_steps 5 (At (Tallies 0 3) ∷ with_steps 2 (At (Tallies 1 1)
     ∷ with_steps 5 (At (Tallies 0 4) ∷ with_steps 2 (At (Tallies 1 4) ∷ with_steps 4 [])))))

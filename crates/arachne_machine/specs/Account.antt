@@ -1,14 +1,14 @@
--- What a thread has done so far beside its value.
+-- The effects of a thread so far, beside its value.
 use Rattle.std.specs.Prelude.{ℕ, ◌+◌, List, [], ◌∷◌, ◌++◌, length}
 use Rattle.arachne_lang.specs.declared.meaning.Line.{Line}
 use Rattle.arachne_lang.specs.Effects.{Child, Effects, line_of}
 
 pub record Account : Type 0 where
-  -- for each ledger, all that was added to it, by the joined children too
+  -- for each ledger, the sum of all that was added to it, by the joined children too
   pub sums : ℕ → ℕ
-  -- for each lock, how often the thread held it
+  -- for each lock, the number of times that the thread has held it
   pub holds : ℕ → ℕ
-  -- what it has forked, in order
+  -- the children that it has forked, in order
   pub children : List Child
   -- the lines of the threads below it, as far as they were joined
   pub lines : List Line
@@ -25,11 +25,11 @@ after name effects account = record {
   lines = account.lines ++ effects.lines name (length account.children);
 }
 
--- after a fork
+-- the account after a fork
 unfoldable pub with_fork : Child → Account → Account
 with_fork child account = record account { children = account.children ++ child ∷ [] }
 
--- after the join of the child of this number, which had these effects
+-- the account after the join of the child of this number, which had these effects
 unfoldable pub with_join : ℕ → List ℕ → ℕ → Effects → Account → Account
 with_join locks name number child account = record {
   sums = λ ledger. account.sums ledger + child.sums ledger;

@@ -1,4 +1,4 @@
--- What a suspended thread will come to.
+-- The result that a suspended thread will have.
 use Rattle.std.specs.Prelude.{◌≡◌, ℕ, ◌+◌, ◌-◌, ◌==◌, if◌then◌else◌, List, [], ◌∷◌, ◌++◌, Some, unwrap_or, take, length, slice_index}
 use Rattle.arachne_lang.specs.declared.program.Operation.{Operation}
 use Rattle.arachne_lang.specs.Tree.{Tree, Source, Number}
@@ -23,16 +23,16 @@ pub record Status : Type 0 where
   pub env : Environment
   pub value : ℕ
 
--- the task of the child of this number; one that does nothing where there is no such child
+-- the task of the child of this number; if there is no such child, a task that does nothing
 unfoldable pub child_task : Source → List ℕ → ℕ → Task
 child_task source name number = unwrap_or (task_of source (name ++ number ∷ [])) (Evaluate (Number 0) [])
 
--- the environment once the child of this number was joined
+-- the environment after the child of this number was joined
 abbrev pub joined_env : Source → List ℕ → ℕ → Status → Environment
 joined_env source name number s =
     with_newest (with_newest s.env (task_value source.arrays (child_task source name number))) s.value
 
--- what an expression leaves that is begun after that join
+-- the result of an expression that is begun after that join
 abbrev pub status_after_join : Source → List ℕ → ℕ → Tree → Status → Status
 status_after_join source name number next s =
     record { env = s.env; value = value_of source.arrays next (joined_env source name number s) }
@@ -42,12 +42,12 @@ abbrev pub account_joined : Source → List ℕ → ℕ → Account → Account
 account_joined source name number account =
     with_join source.locks name number (task_effects source.arrays source.locks (child_task source name number)) account
 
--- and after that expression too
+-- the account after that join and that expression
 abbrev pub account_after_join : Source → List ℕ → ℕ → Tree → Status → Account → Account
 account_after_join source name number next s account =
     after name (effects_of source.arrays source.locks next (joined_env source name number s)) (account_joined source name number account)
 
--- what the halves of a sweep make once the left one was joined
+-- the result of the two halves of a sweep, after the left one was joined
 abbrev pub status_merged : Source → List ℕ → ℕ → Operation → Status → Status
 status_merged source name number operation s =
     record { env = s.env; value = apply operation (task_value source.arrays (child_task source name number)) s.value }
@@ -56,11 +56,11 @@ status_merged source name number operation s =
 abbrev pub stretch_task : Stretch → Environment → Task
 stretch_task stretch env = Reduce stretch.reduction stretch.grain (tree_of stretch.body.now) env stretch.first (stretch.end - stretch.first)
 
--- without so many of the newest variables
+-- the environment without its n newest variables
 abbrev pub without_newest : ℕ → Environment → Environment
 without_newest n env = take (length env - n) env
 
--- what a frame makes of what came before it
+-- the result of a frame, given the result of what came before it
 abbrev pub unwind : Source → List ℕ → Frame → Status → Status
 unwind source name (Index a) s = record { env = s.env; value = slice_index (array_at source.arrays a) s.value }
 unwind source name (Right operation right) s =
@@ -107,7 +107,7 @@ unwind source name (SweepTurn reduction next end so_far body) s = record {
 }
 unwind source name (Restore n) s = record { env = take n s.env; value = s.value }
 
--- and of the account
+-- the account after a frame, given the account before it
 abbrev pub accounted : Source → List ℕ → Frame → Status → Account → Account
 accounted source name (Right operation right) s account =
     after name (effects_of source.arrays source.locks (tree_of right.now) s.env) account
@@ -148,7 +148,7 @@ accounted source name (Apply operation left) s account = account
 accounted source name (Release lock) s account = account
 accounted source name (Restore n) s account = account
 
--- the steps that a frame takes beside the one in which a value is handed to it
+-- the steps that a frame takes after the one in which a value is handed to it
 abbrev pub frame_work : Source → List ℕ → Frame → Status → ℕ
 frame_work source name (Index a) s = 0
 frame_work source name (Right operation right) s = work_of source.arrays (tree_of right.now) s.env
@@ -182,7 +182,7 @@ frame_work source name (SweepTurn reduction next end so_far body) s =
     swept_work source.arrays (tree_of body.now) (without_newest 1 s.env) next (end - next) + 1
 frame_work source name (Restore n) s = 0
 
--- the trace of a frame behind the step in which a value is handed to it
+-- the trace of a frame after the step in which a value is handed to it
 abbrev pub frame_trace : Source → List ℕ → Frame → Status → List Event
 frame_trace source name (Index a) s = []
 frame_trace source name (Right operation right) s = trace_of source.arrays (tree_of right.now) s.env
@@ -215,7 +215,7 @@ frame_trace source name (SweepTurn reduction next end so_far body) s =
     swept_trace source.arrays (tree_of body.now) (without_newest 1 s.env) next (end - next) ++ Step ∷ []
 frame_trace source name (Restore n) s = []
 
--- the same for all frames, the newest of which is the last
+-- the result of all these frames, the newest of which is the last; their account, steps and trace follow
 abbrev pub resume : Source → List ℕ → List Frame → Status → Status
 resume source name [] s = s
 resume source name (frame ∷ frames) s = unwind source name frame (resume source name frames s)
@@ -233,7 +233,7 @@ abbrev pub resume_trace : Source → List ℕ → List Frame → Status → List
 resume_trace source name [] s = []
 resume_trace source name (frame ∷ frames) s = resume_trace source name frames s ++ frame_trace source name frame (resume source name frames s)
 
--- the forks among frames, the newest first
+-- the forks whose children these frames join, the newest first
 abbrev pub fork_of : Frame → List ℕ
 fork_of (Join number next) = number ∷ []
 fork_of (Merge number reduction) = number ∷ []
@@ -245,7 +245,7 @@ abbrev pub forks_of : List Frame → List ℕ
 forks_of [] = []
 forks_of (frame ∷ frames) = forks_of frames ++ fork_of frame
 
--- those among them whose children will run here
+-- those of them whose children will run here
 abbrev pub fork_here : Frame → List ℕ
 fork_here (JoinHere number child next) = number ∷ []
 fork_here (MergeHere number left) = number ∷ []
@@ -260,13 +260,13 @@ abbrev pub environment_of : Task → Environment
 environment_of (Evaluate tree env) = env
 environment_of (Reduce reduction grain body env first n) = env
 
--- The child of this number is that of the program, and was forked in this environment.
+-- The program has a child of this number, which is forked in this environment.
 pub record IsForkedIn (source : Source) (name : List ℕ) (number : ℕ) (env : Environment) : Type 0 where
   pub task : Task
   pub has_task : task_of source (name ++ number ∷ []) ≡ Some task
   pub environment : environment_of task ≡ env
 
--- The child that a frame joins was forked in the environment that the frame is left with, and one that is to run here
+-- The child that a frame joins was forked in the environment that the frame is left with. A child that will run here
 -- has its task.
 abbrev pub KeepsFork : Source → List ℕ → Frame → Status → Type 0
 KeepsFork source name (Join number next) s = IsForkedIn source name number s.env
@@ -279,13 +279,13 @@ abbrev pub KeepForks : Source → List ℕ → List Frame → Status → Type 0
 KeepForks source name [] s = Unit {0}
 KeepForks source name (frame ∷ frames) s = KeepsFork source name frame (resume source name frames s) × KeepForks source name frames s
 
--- So was the one that is awaited.
+-- The awaited child was forked in this environment.
 abbrev pub AwaitsFork : Source → List ℕ → Control → Environment → Type 0
 AwaitsFork source name (Awaits number during next) env = IsForkedIn source name number env
 AwaitsFork source name (AwaitsHalf number right reduction) env = IsForkedIn source name number env
 AwaitsFork source name _ env = Unit {0}
 
--- the locks that are freed by frames, the newest first
+-- the locks that these frames release, the newest first
 abbrev pub lock_of : Frame → List ℕ
 lock_of (Release lock) = lock ∷ []
 lock_of _ = []
@@ -294,7 +294,7 @@ abbrev pub releases : List Frame → List ℕ
 releases [] = []
 releases (frame ∷ frames) = releases frames ++ lock_of frame
 
--- what a thread does next, up to the newest frame
+-- the result of a thread's next action, up to the newest frame; its account follows
 abbrev pub begun : Source → List ℕ → Control → Environment → Status
 begun source name (Begin expr) env = record { env = env; value = value_of source.arrays (tree_of expr.now) env }
 begun source name (Give value) env = record { env = env; value = value }
@@ -330,7 +330,7 @@ begun_account source name (Tallies ledger amount body) env account =
     after name (effects_of source.arrays source.locks (tree_of body.now) env) (after name (tallied ledger amount) account)
 begun_account source name (Ended value) env account = account
 
--- the steps of what a thread does next; a value that only has to be handed on takes one
+-- the steps of a thread's next action; a value that only has to be handed on takes one
 abbrev pub begun_work : Source → List ℕ → Control → Environment → ℕ
 begun_work source name (Begin expr) env = work_of source.arrays (tree_of expr.now) env
 begun_work source name (Give value) env = 1
@@ -345,7 +345,7 @@ begun_work source name (Frees lock value) env = 1
 begun_work source name (Tallies ledger amount body) env = work_of source.arrays (tree_of body.now) env
 begun_work source name (Ended value) env = 0
 
--- the trace of what a thread does next, from the pause that is not answered on
+-- the trace of a thread's next action, from the pending pause on
 abbrev pub begun_trace : Source → List ℕ → Control → Environment → List Event
 begun_trace source name (Begin expr) env = trace_of source.arrays (tree_of expr.now) env
 begun_trace source name (Give value) env = Step ∷ []
@@ -366,17 +366,17 @@ fork_awaited (Awaits number during next) = number ∷ []
 fork_awaited (AwaitsHalf number right reduction) = number ∷ []
 fork_awaited _ = []
 
--- the lock that is to be freed now
+-- the lock that is released now
 abbrev pub lock_freed : Control → List ℕ
 lock_freed (Frees lock value) = lock ∷ []
 lock_freed _ = []
 
--- the frames that are still to come: none once the thread has ended
+-- the frames that are left: none once the thread has ended
 abbrev pub frames_left : Control → List Frame → List Frame
 frames_left (Ended value) frames = []
 frames_left _ frames = frames
 
--- what the thread ends with
+-- the environment and the value with which the thread ends
 abbrev pub ending : Strand → Status
 ending t =
     let source = source_of t.program.now in
@@ -396,7 +396,7 @@ work_left t =
     begun_work source t.own.name t.control t.environment
     + resume_work source t.own.name (frames_left t.control t.frames) (begun source t.own.name t.control t.environment)
 
--- what is left of its trace; at the last it has ended
+-- the rest of its trace, whose last event is its end
 abbrev pub trace_left : Strand → List Event
 trace_left t =
     let source = source_of t.program.now in
@@ -408,7 +408,7 @@ trace_left t =
 abbrev pub unjoined_of : Strand → List ℕ
 unjoined_of t = fork_awaited t.control ++ forks_of t.frames
 
--- the locks that it has asked for and not freed, the newest first
+-- the locks that it has requested and not released, the newest first
 abbrev pub locks_of : Strand → List ℕ
 locks_of t = lock_freed t.control ++ releases t.frames
 

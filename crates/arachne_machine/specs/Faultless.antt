@@ -1,5 +1,5 @@
--- What is so of the threads of a checked program: nothing that they will begin has a fault, and they hold at most one
--- lock.
+-- The properties of the threads of a checked program: nothing that they will begin has a fault, and they hold at most
+-- one lock.
 use Rattle.std.specs.Prelude.{◌≡◌, ◌≤◌, ◌<◌, ℕ, Bool, true, false, List, [], ◌∷◌, length, Option, None, Some}
 use Rattle.arachne_lang.specs.Tree.{Tree, Source}
 use Rattle.arachne_lang.specs.Program.{source_of, tree_of}
@@ -22,7 +22,7 @@ NoFaults (node ∷ nodes) = (node ≡ None) × NoFaults nodes
 abbrev pub IsFaultless : Source → Bool → Tree → Type 0
 IsFaultless source held tree = (bound : ℕ) × NoFaults (node_faults source held bound tree)
 
--- nor has what a frame begins; forks and their joins are made while no lock is held
+-- Nothing that the frame begins has a fault, and it forks or joins only while no lock is held.
 abbrev pub IsFaultlessFrame : Source → Bool → Frame → Type 0
 IsFaultlessFrame source held (Index a) = Unit {0}
 IsFaultlessFrame source held (Right operation right) = IsFaultless source held (tree_of right.now)
@@ -47,7 +47,7 @@ IsFaultlessFrame source held (SweepStart reduction grain from body) = (held ≡ 
 IsFaultlessFrame source held (SweepTurn reduction next end so_far body) = IsFaultless source held (tree_of body.now)
 IsFaultlessFrame source held (Restore n) = Unit {0}
 
--- nor has what comes next
+-- Nothing that the next action begins has a fault.
 abbrev pub IsFaultlessNext : Source → Bool → Control → Type 0
 IsFaultlessNext source held (Begin expr) = IsFaultless source held (tree_of expr.now)
 IsFaultlessNext source held (Give value) = Unit {0}
@@ -61,7 +61,7 @@ IsFaultlessNext source held (Frees lock value) = (held ≡ false) × (lock < sou
 IsFaultlessNext source held (Tallies ledger amount body) = (ledger < source.ledgers) × IsFaultless source held (tree_of body.now)
 IsFaultlessNext source held (Ended value) = Unit {0}
 
--- whether a lock is held above a frame, and above frames, the newest of which is the last
+-- a lock is held above this frame; `held` is true if one is held below it
 abbrev pub held_over : Bool → Frame → Bool
 held_over held (Release lock) = true
 held_over held _ = held
@@ -74,14 +74,14 @@ abbrev pub AreFaultless : Source → Bool → List Frame → Type 0
 AreFaultless source held [] = Unit {0}
 AreFaultless source held (frame ∷ frames) = IsFaultlessFrame source held frame × AreFaultless source (held_over held frame) frames
 
--- frames, and what comes next
+-- these frames and the next action have no fault
 abbrev pub GoesWithoutFault : Source → Bool → List Frame → Control → Type 0
 GoesWithoutFault source held frames control = AreFaultless source held frames × IsFaultlessNext source (held_by held frames) control
 
 abbrev pub IsWithoutFault : Strand → Type 0
 IsWithoutFault t = GoesWithoutFault (source_of t.program.now) false t.frames t.control
 
--- What a pause names is there, and no lock is held where a child is forked or awaited.
+-- The lock or ledger that a pause names exists, and no lock is held while a child is forked or awaited.
 abbrev pub NamesWhatIsThere : Source → List ℕ → Option Pending → Type 0
 NamesWhatIsThere source locks (Some pause.Forks) = locks ≡ []
 NamesWhatIsThere source locks (Some pause.Joins) = locks ≡ []
@@ -90,7 +90,7 @@ NamesWhatIsThere source locks (Some (pause.Frees lock)) = lock < source.locks
 NamesWhatIsThere source locks (Some (pause.Tallies ledger amount)) = ledger < source.ledgers
 NamesWhatIsThere source locks _ = Unit {0}
 
--- and at most one lock is asked for and not freed
+-- The lock or ledger of the pending pause exists, and at most one lock is requested and not released.
 pub record PausesWithin (thread : Suspended) : Type 0 where
   pub names : NamesWhatIsThere (source_of thread.program) thread.locks thread.pending
   pub one_lock : length thread.locks ≤ 1

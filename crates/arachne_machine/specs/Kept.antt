@@ -1,4 +1,4 @@
--- A thread as callers see it, with what is so of it between two calls.
+-- A thread as callers see it, and its invariant between two calls.
 use Rattle.std.specs.Prelude.{◌≡◌, ◌≢◌, ◌≤◌, ℕ, ◌+◌, Bool, true, false, List, [], ◌∷◌, ◌++◌, map, reverse, All, Option, None, Some, Result, Ok, Err}
 use Rattle.std.specs.Global.{Box}
 use Rattle.arachne_machine.specs.declared.line.Ran.TheVariants as ways
@@ -19,7 +19,7 @@ use Rattle.arachne_machine.specs.Sound.{IsSoundState}
 abbrev pub seen_child : Box State → Placed
 seen_child child = record { running = suspended (top child.value); parents = map suspended (waiting_in child.value) }
 
--- a state with the children that were handed back to it, the newest of which is the last
+-- the view of a state with the children that were handed back to it, the newest of which is the last
 abbrev pub nested : State → List (Box State) → Nested
 nested t placed = record {
   running = suspended (top t);
@@ -28,7 +28,7 @@ nested t placed = record {
   sums = t.sums.items;
 }
 
--- a child in whose place no other is
+-- a sound child in whose place no other thread runs
 pub record IsSoundChild (t : State) : Type 0 where
   pub sound : IsSoundState t
   pub alone : t.parents.items ≡ []
@@ -37,15 +37,15 @@ pub record IsKept (t : State) (placed : List (Box State)) : Type 0 where
   pub sound : IsSoundState t
   pub children : All (λ child. IsSoundState child.value) placed
   pub nested_is : IsNested (nested t placed)
-  -- a thread that others wait for does not rest once it has ended
+  -- if the innermost thread has ended, no other waits for it
   pub ended : pending_of t.control ≡ Some pause.Ended → t.parents.items ≡ []
 
--- what callers see of children that were handed back, the newest first
+-- the view of children that were handed back, the newest first
 abbrev pub seen_children : List (Box State) → List Placed
 seen_children placed = map seen_child (reverse placed)
 
--- So many steps were left and so many are, and no thread pauses. Where no child was handed back it is so of the state
--- by itself.
+-- The threads have made `had - left` steps, and none has paused. If no child was handed back, the state has done so by
+-- itself.
 pub record Went (Q : Type 0) (had left : ℕ) (old : State) (ps : List (Box State)) (new : State) (qs : List (Box State)) : Type 0 where
   pub made : ℕ
   pub fewer : left ≤ had
@@ -58,7 +58,7 @@ pub record Went (Q : Type 0) (had left : ℕ) (old : State) (ps : List (Box Stat
   pub rest : IsRest (seen_children ps) (seen_children qs)
   pub by_itself : ps ≡ [] → (qs ≡ []) × RunsOn Q had left 0 old new
 
--- The same, and then the innermost pauses so in one step more.
+-- Like `Went`, and then the innermost thread has paused in this way, in one more step.
 pub record WentToPause (Q : Type 0) (had left : ℕ) (old : State) (ps : List (Box State)) (next : Pending) (new : State) (qs : List (Box State)) : Type 0 where
   pub last : State
   pub went : Went Q had left old ps last qs
@@ -67,7 +67,7 @@ pub record WentToPause (Q : Type 0) (had left : ℕ) (old : State) (ps : List (B
   pub ended : next ≡ pause.Ended → new.parents.items ≡ []
   pub elsewhere : next ≡ pause.Joins → AwaitsElsewhere (suspended (top new)) (seen_children qs)
 
--- The same, and then the innermost forks this child in one step more.
+-- Like `Went`, and then the innermost thread has forked this child, in one more step.
 pub record WentToFork (Q : Type 0) (had left : ℕ) (old : State) (ps : List (Box State)) (class : Class) (child new : State) (qs : List (Box State)) : Type 0 where
   pub last : State
   pub went : Went Q had left old ps last qs
@@ -77,13 +77,14 @@ pub record WentToFork (Q : Type 0) (had left : ℕ) (old : State) (ps : List (Bo
   pub alone : child.parents.items ≡ []
   pub sums : child.sums.items ≡ tabulated last.program.now.ledgers (λ ledger. 0)
 
--- What comes of an advance, by the child that it gives and the pause that is not answered.
+-- The result of an advance, given the child that was forked and the pending pause.
 abbrev pub AdvancesWith : Type 0 → ℕ → ℕ → State → List (Box State) → Option (Class × Box State) → Option Pending → State → List (Box State) → Type 0
 AdvancesWith Q had left old ps None None new qs = Went Q had left old ps new qs × (left ≡ 0)
 AdvancesWith Q had left old ps None (Some next) new qs = (beside : ℕ) × (had ≡ beside + 1) × WentToPause Q beside left old ps next new qs
 AdvancesWith Q had left old ps (Some forked) pending new qs = (beside : ℕ) × (had ≡ beside + 1) × WentToFork Q beside left old ps forked.0 forked.1.value new qs
 
--- The innermost awaits the newest of these children, which goes on in its place; or it awaits none, or another.
+-- If true: the innermost thread awaited the newest of these children, which goes on in its place. If false: it awaits
+-- no child, or another.
 abbrev pub TakesUp : Bool → State → List (Box State) → State → List (Box State) → Type 0
 TakesUp true old ps new qs =
     (child : Box State) × (ps ≡ qs ++ child ∷ []) × (pending_of old.control ≡ Some pause.Joins) × (awaited (suspended (top old)) ≡ Some child.value.own.name) × TakesIn old child.value new
@@ -91,7 +92,7 @@ TakesUp false old ps new qs =
     (new ≡ old) × (qs ≡ ps)
     × (pending_of old.control ≡ Some pause.Joins → (rest : List (Box State)) (child : Box State) → ps ≡ rest ++ child ∷ [] → awaited (suspended (top old)) ≢ Some child.value.own.name)
 
--- Memory was refused: it stands before the step in which it came to await the newest of these children.
+-- Memory was refused. The thread stands before the step in which it began to await the newest of these children.
 pub record StandsBack (old : State) (ps : List (Box State)) (new : State) (qs : List (Box State)) : Type 0 where
   pub joins : pending_of old.control ≡ Some pause.Joins
   pub rest : List (Box State)
@@ -104,8 +105,8 @@ pub record StandsBack (old : State) (ps : List (Box State)) (new : State) (qs : 
   pub same : IsSame old mid
   pub stands : StandsBefore mid.control mid new
 
--- A child that comes back waits at its fork behind those that were handed back to it; or, where it is awaited, it goes
--- on, and those are the newest.
+-- A child was taken back. At its fork it waits, and begins before the children that were handed back to it. If it is
+-- awaited, it goes on at once, and those are the newest.
 pub record IsTakenBack (old : State) (ps : List (Box State)) (child : State) (cps : List (Box State)) (new : State) (qs : List (Box State)) : Type 0 where
   pub of_child : awaited (suspended (top old)) ≡ Some child.own.name
   pub at_fork : pending_of old.control ≡ Some pause.Forks →
@@ -113,7 +114,7 @@ pub record IsTakenBack (old : State) (ps : List (Box State)) (child : State) (cp
       × (qs ≡ ps ++ cps ++ box ∷ []) × Turns old new (after_fork old.control)
   pub at_join : pending_of old.control ≡ Some pause.Joins → (qs ≡ ps ++ cps) × TakesIn old child new
 
--- It was refused, and nothing has changed but room.
+-- The child was refused and is returned. Nothing has changed but capacities.
 pub record IsReturned (old : State) (ps : List (Box State)) (child : State) (cps : List (Box State)) (new : State) (qs rs : List (Box State)) (back : State) : Type 0 where
   pub same : IsSame old new
   pub placed : qs ≡ ps

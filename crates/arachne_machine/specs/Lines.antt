@@ -1,4 +1,4 @@
--- The lines of threads as they are kept until a run is over.
+-- The lines of threads in the form in which they are kept until a run is over.
 use Rattle.std.specs.Prelude.{◌≡◌, ◌≤◌, ◌<◌, ℕ, ◌+◌, ◌^◌, ◌==◌, if◌then◌else◌, List, [], ◌∷◌, ◌++◌, get_or, length, set}
 use Rattle.arachne_lang.specs.Effects.{tabulated}
 use Rattle.std.specs.Global.{Vec}
@@ -9,18 +9,18 @@ abbrev pub lines_in : List (Vec ThreadLine) → List ThreadLine
 lines_in [] = []
 lines_in (list ∷ lists) = list.items ++ lines_in lists
 
--- so many lines are in these lists, and with those in the last one there are few enough to be counted
+-- these lists have `count` lines, and together with those of the last list they are fewer than 2 ^ 63
 pub record IsCounted (earlier : List (Vec ThreadLine)) (count last : ℕ) : Type 0 where
   pub counted : count ≡ length (lines_in earlier)
   pub few : count + last < 2 ^ 63
 
--- these lines are behind all others, and there is at least one more
+-- these lines were appended, and there is at least one of them
 pub record Gains (old lines new : List ThreadLine) : Type 0 where
   pub lines_are : new ≡ old ++ lines
   pub more : length old + 1 ≤ length new
   pub few : length new < 2 ^ 63
 
--- its thread has held this lock once more
+-- the thread of this line has held this lock once more
 pub record HoldsOnceMore (old new : ThreadLine) (lock : ℕ) : Type 0 where
   pub name : new.name ≡ old.name
   pub tag : new.tag ≡ old.tag

@@ -1,4 +1,4 @@
--- What callers see of a thread with the threads that run in its place.
+-- The view that callers have of a thread with the threads that run in its place.
 use Rattle.std.specs.Prelude.{◌≡◌, ◌≢◌, ◌≤◌, ℕ, ◌+◌, List, [], ◌∷◌, ◌++◌, map, Option, None, Some}
 use Rattle.arachne_lang.specs.declared.program.Program.{Program}
 use Rattle.arachne_lang.specs.declared.program.Class.{Class}
@@ -22,16 +22,16 @@ pub record Placed : Type 0 where
 pub record Nested : Type 0 where
   -- the innermost thread, which goes on next
   pub running : Suspended
-  -- Each of these awaits the one before it, and the first the innermost thread. The last is the one in whose place all
-  -- the others run.
+  -- The threads that wait: each awaits the one before it, and the first awaits the innermost thread. The others all run
+  -- in the place of the last.
   pub parents : List Suspended
   -- the children that were handed back to run here and are not awaited yet, the newest first
   pub placed : List Placed
-  -- for each ledger, what all that have begun here and the threads that they have joined have added to it, modulo 2 ^
-  -- 64
+  -- for each ledger, the sum of what the threads that have begun here, and those that they have joined, have added to
+  -- it, modulo 2 ^ 64
   pub sums : List ℕ
 
--- a thread in whose place no other is
+-- a thread in whose place no other runs
 abbrev pub alone : Suspended → List ℕ → Nested
 alone thread sums = record { running = thread; parents = []; placed = []; sums = sums }
 
@@ -47,7 +47,7 @@ outermost thread (parent ∷ parents) = outermost parent parents
 abbrev pub whole : Nested → Suspended
 whole t = outermost t.running t.parents
 
--- The pause that is not answered is the innermost thread's.
+-- The pending pause: the one that is not answered yet. It is the innermost thread's.
 abbrev pub pending_in : Nested → Option Pending
 pending_in t = t.running.pending
 
@@ -63,22 +63,22 @@ works_placed (child ∷ children) = child.running.work + works child.parents + w
 abbrev pub work_in : Nested → ℕ
 work_in t = t.running.work + works t.parents + works_placed t.placed
 
--- one number is less than another by at least so many, and at most so many
+-- one number is less than another by at least `least` and at most `most`
 pub record FallsBy (least most from to : ℕ) : Type 0 where
   pub made : ℕ
   pub at_least : least ≤ made
   pub at_most : made ≤ most
   pub left : to + made ≡ from
 
--- with another tag
+-- the thread with another tag
 abbrev pub with_tag : ℕ → Suspended → Suspended
 with_tag tag thread = record thread { label = record thread.label { tag = tag } }
 
--- as one that runs in its parent's place
+-- the thread as one that runs in its parent's place
 abbrev pub in_place_of : Suspended → Suspended
 in_place_of thread = record thread { label = record thread.label { ran = ways.InPlace } }
 
--- The outermost of a thread and those that wait for it is marked so, and the others are as they were.
+-- The thread, marked as running in its parent's place if it is the outermost of itself and these parents.
 abbrev pub marked : Suspended → List Suspended → Suspended
 marked thread [] = in_place_of thread
 marked thread (parent ∷ parents) = thread
@@ -87,11 +87,11 @@ abbrev pub marked_parents : List Suspended → List Suspended
 marked_parents [] = []
 marked_parents (parent ∷ parents) = marked parent parents ∷ marked_parents parents
 
--- as a thread of this program
+-- the thread as one of this program
 abbrev pub of_program : Program → Suspended → Suspended
 of_program program thread = record thread { program = program }
 
--- as one for which a place was found while it waited
+-- the thread as one for which a place was found while it waited
 abbrev pub spilled_of : Suspended → Suspended
 spilled_of thread = record thread { label = record thread.label { ran = ways.Spill } }
 
@@ -121,11 +121,11 @@ pub record IsNested (t : Nested) : Type 0 where
   pub awaiting : Await t.running t.parents
   pub waiting : ArePlaced (source_of t.running.program) t.placed
 
--- Of these children the newest have begun, and the others are left.
+-- The newest of these children have begun, and the others are left.
 abbrev pub IsRest : List Placed → List Placed → Type 0
 IsRest old new = (begun : List Placed) × (old ≡ begun ++ new)
 
--- What a thread awaits is not the newest child that was placed here.
+-- The thread awaits no child, or another than the newest that was placed here.
 abbrev pub AwaitsElsewhere : Suspended → List Placed → Type 0
 AwaitsElsewhere thread [] = Unit {0}
 AwaitsElsewhere thread (child ∷ children) = awaited thread ≢ Some (outermost child.running child.parents).name
@@ -136,15 +136,15 @@ pub record SameWhole (old new : Nested) : Type 0 where
   pub name : (whole new).name ≡ (whole old).name
   pub label : (whole new).label ≡ (whole old).label
 
--- The child is the one that the innermost thread has just forked, of an equal program, has no pause that is not
--- answered, and no other thread is in its place.
+-- The child is the one that the innermost thread has just forked. It is of an equal program, has no pending pause, and
+-- no other thread runs in its place.
 pub record IsChildOf (t child : Nested) : Type 0 where
   pub awaits : awaited t.running ≡ Some (whole child).name
   pub same_source : source_of (whole child).program ≡ source_of (whole t).program
   pub not_paused : pending_in child ≡ None
   pub alone : IsAlone child
 
--- The child may run in the thread's place: it is of an equal program, and has no pause that is not answered.
+-- The child may run in the thread's place: it is of an equal program, and has no pending pause.
 pub record MayBePlaced (t child : Nested) : Type 0 where
   pub same_source : source_of (whole child).program ≡ source_of (whole t).program
   pub not_paused : pending_in child ≡ None
@@ -155,12 +155,12 @@ IsPlacing (Some pause.Forks) = Unit {0}
 IsPlacing (Some pause.Joins) = Unit {0}
 IsPlacing _ = ⊥
 
--- a child with those in its place, which is to run in its parent's
+-- a child that will run in its parent's place, with the threads that run in its own
 abbrev pub placed_of : Nested → Placed
 placed_of child = record { running = marked child.running child.parents; parents = marked_parents child.parents }
 
--- The innermost thread goes on with what is done meanwhile, and the child is placed. Those that were placed in the
--- child come behind it.
+-- The innermost thread goes on with what it evaluates while the child runs, and the child is placed. Children that were
+-- placed in the child come behind it.
 pub record PlacesAtFork (old child new : Nested) : Type 0 where
   pub same : SameThread old.running new.running
   pub sums : new.sums ≡ old.sums
@@ -170,8 +170,8 @@ pub record PlacesAtFork (old child new : Nested) : Type 0 where
   pub placed : new.placed ≡ placed_of child ∷ (child.placed ++ old.placed)
   pub trace : IsAnswered old.running new.running
 
--- The child goes on in the place of the innermost thread, which awaits it, with those in its own place, as threads of
--- its program. Those that were placed in the child are the newest.
+-- The thread after an awaited child has begun in the place of the innermost thread, with the threads that run in the
+-- child's place, as threads of the same program. Children that were placed in the child are the newest.
 abbrev pub begun_in : Nested → Nested → Nested
 begun_in t child = record {
   running = of_program t.running.program (marked child.running child.parents);
@@ -193,7 +193,7 @@ pub record IsForked (class : Class) (thread : Suspended) (child : Nested) : Type
   pub childs_work : (whole child).work ≡ task_work (source_of thread.program).arrays task
   pub childs_trace : (whole child).trace ≡ task_trace (source_of thread.program).arrays task ++ At pause.Ended ∷ []
 
--- at least one step was made and at most so many, and this pause is not answered
+-- At least one step was made and at most `budget`, and this pause is pending.
 pub record Stops (budget : ℕ) (old new : Nested) (next : Pending) : Type 0 where
   pub same : SameWhole old new
   pub pending : pending_in new ≡ Some next

@@ -1,4 +1,4 @@
--- What a thread brings in the end.
+-- The outcome of a thread.
 use Rattle.std.specs.Prelude.{◌≡◌, ℕ, List, ◌∷◌, map, Option, Some, option_map}
 use Rattle.arachne_lang.specs.declared.program.Program.{Program}
 use Rattle.arachne_lang.specs.declared.meaning.Line.{Line}
@@ -10,7 +10,7 @@ use Rattle.arachne_lang.specs.Meaning.{task_of}
 use Rattle.arachne_machine.specs.declared.line.ThreadLine.{ThreadLine}
 use Rattle.arachne_machine.specs.declared.contents.Contents.{Contents}
 
--- What a task means as the task of the thread of this name: its value, its sum for each ledger, and the thread's line
+-- The meaning of a task as that of the thread of this name: its value, its sum for each ledger, and the thread's line
 -- before the lines of the threads below it.
 abbrev pub meaning_as : Source → List ℕ → Task → Meaning
 meaning_as program name task =
@@ -21,11 +21,11 @@ meaning_as program name task =
       threads = line_of program.locks name effects ∷ effects.lines name 0;
     }
 
--- What the thread of this name brings, if the program has such a thread. For the root it is what the program means.
+-- The outcome of the thread of this name, if the program has such a thread. That of the root is the program's meaning.
 abbrev pub outcome_of : Source → List ℕ → Option Meaning
 outcome_of program name = option_map (meaning_as program name) (task_of program name)
 
--- what callers see of an outcome; the thread's own line is the first
+-- the view that callers have of an outcome; the thread's own line is the first
 pub record Finished : Type 0 where
   pub program : Program
   pub name : List ℕ
@@ -41,11 +41,11 @@ named_holds line = record { name = line.name; holds = line.holds }
 abbrev pub meaning_in : Finished → Meaning
 meaning_in outcome = record { value = outcome.value; totals = outcome.sums; threads = map named_holds outcome.lines }
 
--- it is what the thread of its name brings
+-- it is the outcome of the thread of its name
 abbrev pub IsOfItsName : Finished → Type 0
 IsOfItsName outcome = outcome_of (source_of outcome.program) outcome.name ≡ Some (meaning_in outcome)
 
--- what callers see of an outcome of this program with these contents
+-- the view that callers have of an outcome of this program with these contents
 abbrev pub finished : Program → Contents → Finished
 finished program contents =
     record { program = program; name = contents.own.name; value = contents.value; sums = contents.sums.items; lines = contents.own ∷ contents.below }

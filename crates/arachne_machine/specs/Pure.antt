@@ -12,12 +12,13 @@ IsLeaf (Number n) = Unit {0}
 IsLeaf (Variable k) = Unit {0}
 IsLeaf _ = ⊥
 
--- With these variables it has no effects, and its trace is as many steps as its work.
+-- With these variables the expression has no effects, and its trace consists only of its steps.
 pub record IsPure (source : Source) (tree : Tree) (env : Environment) : Type 0 where
   pub effects : effects_of source.arrays source.locks tree env ≡ nothing
   pub trace : trace_of source.arrays tree env ≡ with_steps (work_of source.arrays tree env) []
 
--- It is pure and has this value, and so many of the steps that were left beside its own are left then.
+-- The expression is pure and has this value. Beside its first step `had` steps were left before it, and `left` are left
+-- after it.
 pub record IsWorth (source : Source) (tree : Tree) (env : Environment) (value had left : ℕ) : Type 0 where
   pub pure : IsPure source tree env
   pub value_is : value ≡ value_of source.arrays tree env

@@ -1,4 +1,4 @@
--- A thread is sound if it will end in the outcome of its name, and goes without fault in a checked program.
+-- Sound threads: those that will end with the outcome of their name, and without fault in a checked program.
 use Rattle.std.specs.Prelude.{◌≡◌, ◌<◌, ◌^◌, ℕ, ◌+◌, List, [], ◌∷◌, ◌++◌, length, map, reverse, Some}
 use Rattle.arachne_lang.specs.Program.{source_of}
 use Rattle.arachne_lang.specs.Effects.{Task, task_value, task_effects, tabulated}
@@ -13,8 +13,8 @@ use Rattle.arachne_machine.specs.Faultless.{IsWithoutFault}
 use Rattle.arachne_machine.specs.Strands.{Strand, Fits}
 use Rattle.arachne_machine.specs.Steps.{IsNumbered, top, waiting_in}
 
--- With what it has done so far it comes to its task: the children made so far, then those still to come, are the task's
--- children, and so it is with sums, holds and lines.
+-- The thread, with what it has done so far, will have done its task in the end. The children that it has forked and
+-- those that it will still fork are the task's children; and the same is true of sums, holds and lines.
 pub record IsSound (t : Strand) (account : Account) : Type 0 where
   pub task : Task
   pub has_task : task_of (source_of t.program.now) t.own.name ≡ Some task
@@ -22,7 +22,7 @@ pub record IsSound (t : Strand) (account : Account) : Type 0 where
   pub lines : map named_holds t.below ≡ account.lines
   pub forks : t.forks ≡ length account.children
   pub value : (ending t).value ≡ task_value (source_of t.program.now).arrays task
-  -- it leaves the environment that it began in
+  -- it leaves the environment in which it began
   pub environment : (ending t).env ≡ environment_of task
   pub whole : account_at_end t account ≡ after t.own.name (task_effects (source_of t.program.now).arrays (source_of t.program.now).locks task) untouched
   pub numbered : IsNumbered t
@@ -40,14 +40,14 @@ abbrev pub RunFor : Strand → List Strand → Type 0
 RunFor child [] = Unit {0}
 RunFor child (parent ∷ parents) = IsRunningFor child parent × RunFor parent parents
 
--- All of these are sound, and these are the sums of what they have added to each ledger.
+-- All these threads are sound, and these are the sums of what they have added to each ledger.
 abbrev pub AreSound : List Strand → (ℕ → ℕ) → Type 0
 AreSound [] sums = (ledger : ℕ) → sums ledger ≡ 0
 AreSound (t ∷ ts) sums =
     (account : Account) × (others : ℕ → ℕ) × IsSound t account × AreSound ts others × ((ledger : ℕ) → sums ledger ≡ account.sums ledger + others ledger)
 
--- A state is sound if all its threads are, each but the innermost awaits the one that runs in its place, and the sums
--- are theirs.
+-- A state is sound if all its threads are sound, each but the innermost awaits the one that runs in its place, and the
+-- sums are those of its threads.
 pub record IsSoundState (t : State) : Type 0 where
   pub sums_of : ℕ → ℕ
   pub sums : t.sums.items ≡ tabulated (source_of t.program.now).ledgers sums_of

@@ -1,4 +1,4 @@
--- What the steps of a thread do.
+-- The changes that a thread's steps make to it.
 use Rattle.std.specs.Prelude.{◌≡◌, ◌≤◌, ◌<◌, ℕ, ◌+◌, ◌^◌, false, List, [], ◌∷◌, ◌++◌, length, reverse, take, vec_len, vec_capacity, Option, None, Some}
 use Rattle.arachne_lang.specs.declared.program.Program.{Program}
 use Rattle.arachne_lang.specs.declared.program.Class.{Class}
@@ -34,7 +34,7 @@ use Rattle.arachne_machine.specs.Trace.{Event, At, with_steps, task_trace}
 use Rattle.arachne_machine.specs.Faultless.{IsFaultlessNext, IsWithoutFault}
 use Rattle.arachne_machine.specs.Ending.{child_task, stretch_task, account_joined, ending, account_at_end, work_left, trace_left, unjoined_of, here_of, locks_of, fork_awaited, environment_of, KeepsForks}
 
--- the pause that is not answered
+-- the pending pause: the one that is not answered yet
 abbrev pub pending_of : Control → Option Pending
 pending_of (Begin expr) = None
 pending_of (Give value) = None
@@ -48,7 +48,7 @@ pending_of (Frees lock value) = Some (pause.Frees lock)
 pending_of (Tallies ledger amount body) = Some (pause.Tallies ledger amount)
 pending_of (Ended value) = Some pause.Ended
 
--- what callers see
+-- the view that callers have of a thread
 abbrev pub suspended : Strand → Suspended
 suspended t = record {
   program = t.program.now;
@@ -65,17 +65,17 @@ suspended t = record {
   trace = trace_left t;
 }
 
--- A fork's number fits, since each fork that was joined has its line, and each other one its frame.
+-- The number of the next fork stays in range: each fork that was joined has its line, and each other one its frame.
 abbrev pub IsNumbered : Strand → Type 0
 IsNumbered t = (t.forks ≤ length t.below + length (unjoined_of t)) × (length t.below < 2 ^ 63)
 
--- a thread may begin like this
+-- a thread may begin with this action
 abbrev pub IsBeginning : Control → Type 0
 IsBeginning (Begin expr) = Unit {0}
 IsBeginning (Cover stretch) = Unit {0}
 IsBeginning _ = ⊥
 
--- the task of a thread that begins now
+-- the task of a thread that begins with this action
 abbrev pub task_begun : Control → Environment → Task
 task_begun (Begin expr) env = Evaluate (tree_of expr.now) env
 task_begun (Cover stretch) env = stretch_task stretch env
@@ -85,8 +85,8 @@ task_begun _ env = Evaluate (Number 0) env
 abbrev pub top : State → Strand
 top t = strand_at t.program t.own (reverse t.parents.items) t.lines t.level t.environment.items t.frames.items t.control
 
--- Those that wait, the innermost first, where the frames and the lines of the one that they wait for begin there, and
--- it leaves this environment: each goes on in what the one that runs in its place leaves.
+-- The threads that wait, the innermost first. The frames and the lines of the one that they wait for begin at `start`
+-- and `place`, and it leaves the environment `env`. Each goes on in the environment that the one in its place leaves.
 abbrev pub waiting : Bor Program → Own → List Parent → List ThreadLine → List Frame → ℕ → ℕ → Environment → List Strand
 waiting program own [] lines frames start place env = []
 waiting program own (parent ∷ parents) lines frames start place env =
@@ -97,7 +97,7 @@ abbrev pub waiting_in : State → List Strand
 waiting_in t =
     waiting t.program t.own (reverse t.parents.items) t.lines t.frames.items t.level.start t.level.place (ending (top t)).env
 
--- the environment, all frames and what comes next are now these; the rest is as before, but room
+-- The environment, all frames and the next action are now these. All else but capacities is unchanged.
 pub record Changes (old new : State) (environment : Environment) (frames : List Frame) (control : Control) : Type 0 where
   pub program : new.program ≡ old.program
   pub own : new.own ≡ old.own
@@ -109,7 +109,7 @@ pub record Changes (old new : State) (environment : Environment) (frames : List 
   pub frames_are : new.frames.items ≡ frames
   pub control_is : new.control ≡ control
 
--- the innermost thread's line is there
+-- the innermost thread's line exists
 abbrev pub IsLineOf : List Parent → ℕ → ℕ → Type 0
 IsLineOf [] place lines = Unit {0}
 IsLineOf (parent ∷ parents) place lines = place < lines
@@ -117,19 +117,19 @@ IsLineOf (parent ∷ parents) place lines = place < lines
 abbrev pub HasLine : State → Type 0
 HasLine t = IsLineOf (reverse t.parents.items) t.level.place (length t.lines)
 
--- nothing has changed but room
+-- nothing has changed but capacities
 abbrev pub IsSame : State → State → Type 0
 IsSame old new = Changes old new old.environment.items old.frames.items old.control
 
--- there is one frame more
+-- one frame was pushed
 abbrev pub Pushes : State → State → Frame → Type 0
 Pushes old new frame = Changes old new old.environment.items (old.frames.items ++ frame ∷ []) old.control
 
--- what comes next has changed
+-- only the next action has changed
 abbrev pub Turns : State → State → Control → Type 0
 Turns old new control = Changes old new old.environment.items old.frames.items control
 
--- The innermost thread has made a fork: there is one frame more, and this is next.
+-- The innermost thread has made a fork: it has this frame more, and this next action.
 pub record CountsFork (old new : State) (frame : Frame) (control : Control) : Type 0 where
   pub program : new.program ≡ old.program
   pub own : new.own ≡ old.own
@@ -141,7 +141,7 @@ pub record CountsFork (old new : State) (frame : Frame) (control : Control) : Ty
   pub frames : new.frames.items ≡ old.frames.items ++ frame ∷ []
   pub control_is : new.control ≡ control
 
--- The innermost thread alone has changed.
+-- Only the innermost thread has changed.
 pub record LeavesOthers (old new : State) : Type 0 where
   pub program : new.program ≡ old.program
   pub own : new.own ≡ old.own
@@ -153,7 +153,7 @@ pub record LeavesOthers (old new : State) : Type 0 where
   pub frames : take old.level.start new.frames.items ≡ take old.level.start old.frames.items
   pub more : old.level.start ≤ length new.frames.items
 
--- The environment, the frames and what comes next are now these; the rest is as before.
+-- The environment, the frames and the next action are now these. All else is unchanged.
 pub record Becomes (old new : Strand) (environment : Environment) (frames : List Frame) (control : Control) : Type 0 where
   pub program : new.program ≡ old.program
   pub own : new.own ≡ old.own
@@ -167,28 +167,29 @@ pub record Becomes (old new : Strand) (environment : Environment) (frames : List
 abbrev pub IsUnchanged : Strand → Strand → Type 0
 IsUnchanged old new = Becomes old new old.environment old.frames old.control
 
--- a part is begun, with a frame for what comes after it
+-- a part was begun, with a frame for what comes after it
 abbrev pub Enters : Strand → Strand → Frame → Control → Type 0
 Enters old new frame control = Becomes old new old.environment (old.frames ++ frame ∷ []) control
 
--- The first has this newest frame, and the second is without it.
+-- The first thread has this newest frame, and the second is the same without it.
 abbrev pub IsPopped : Frame → Strand → Strand → Type 0
 IsPopped frame before popped = Becomes popped before popped.environment (popped.frames ++ frame ∷ []) popped.control
 
--- A fold that has this value so far goes on from a number to below an end: with a turn, or not at all.
+-- A fold over the numbers from `next` to below `end`, whose value so far is this, goes on: it begins an iteration, or
+-- ends.
 pub record TurnsFold (old new : Strand) (next end : ℕ) (body : Bor Expr) (so_far : ℕ) : Type 0 where
   pub turn : next < end →
       Becomes old new (with_newest (with_newest old.environment next) so_far) (old.frames ++ FoldTurn (next + 1) end body ∷ []) (Begin body)
   pub done : end ≤ next → Becomes old new old.environment old.frames (Give so_far)
 
--- and so does a sweep
+-- A sweep goes on in the same way.
 pub record TurnsSweep (old new : Strand) (reduction : Reduction) (next end : ℕ) (body : Bor Expr) (so_far : ℕ) : Type 0 where
   pub turn : next < end →
       Becomes old new (with_newest old.environment next) (old.frames ++ SweepTurn reduction (next + 1) end so_far body ∷ []) (Begin body)
   pub done : end ≤ next → Becomes old new old.environment old.frames (Give so_far)
 
--- So many steps made neither forks nor joins, and what the thread comes to is the same. Behind them these pauses were
--- answered.
+-- The thread has made this many steps, without a fork or a join, and its result is unchanged. The pauses `answered`,
+-- which followed, have been answered.
 pub record Goes (steps : ℕ) (answered : List Event) (old new : Strand) : Type 0 where
   pub program : new.program ≡ old.program
   pub own : new.own ≡ old.own
@@ -203,14 +204,14 @@ pub record Goes (steps : ℕ) (answered : List Event) (old new : Strand) : Type 
   pub faultless : IsWithoutFault old → IsWithoutFault new
   pub keeps : KeepsForks old → KeepsForks new
 
--- at least so many such steps were made, and at most so many
+-- at least `least` such steps were made, and at most `most`, and no pause was answered
 pub record GoesWithin (least most : ℕ) (old new : Strand) : Type 0 where
   pub made : ℕ
   pub at_least : least ≤ made
   pub at_most : made ≤ most
   pub goes : Goes made [] old new
 
--- it has not begun, is by itself, and has these as its own
+-- the state of a thread that has not begun, with no other in its place, and with these data of its own
 pub record IsRenewed (program : Bor Program) (own : Own) (sums : List ℕ) (control : Control) (environment : Environment) (t : State) : Type 0 where
   pub program_is : t.program ≡ program
   pub own_is : t.own ≡ own
@@ -222,7 +223,7 @@ pub record IsRenewed (program : Bor Program) (own : Own) (sums : List ℕ) (cont
   pub frames : t.frames.items ≡ []
   pub control_is : t.control ≡ control
 
--- a thread that begins like this has not begun
+-- the thread has not begun, and has these data
 pub record HasNotBegun (program : Bor Program) (own : Owned) (control : Control) (environment : Environment) (t : Strand) : Type 0 where
   pub program_is : t.program ≡ program
   pub own_is : t.own ≡ own
@@ -236,7 +237,7 @@ pub record HasNotBegun (program : Bor Program) (own : Owned) (control : Control)
 abbrev pub untagged : Label
 untagged = record { tag = 0; ran = ways.Slot }
 
--- a child of the innermost thread's next fork, in a state of its own, that begins like this
+-- a child of the innermost thread's next fork, in a state of its own, that begins with `begins`
 pub record IsSpawned (old : State) (begins : Control) (child : State) : Type 0 where
   pub renewed : IsRenewed old.program child.own child.sums.items begins old.environment.items child
   pub named : child.own.name ≡ (top old).own.name ++ old.level.forks ∷ []
@@ -244,7 +245,7 @@ pub record IsSpawned (old : State) (begins : Control) (child : State) : Type 0 w
   pub holds : child.own.holds.items ≡ tabulated old.program.now.locks (λ lock. 0)
   pub sums : child.sums.items ≡ tabulated old.program.now.ledgers (λ ledger. 0)
 
--- a child of this class was forked, of which this is so
+-- a child of this class was forked, and has the property P
 abbrev pub IsForkOf : Progress → Class → (State → Type 0) → Type 0
 IsForkOf (part.Forks given child) class P = (given ≡ class) × P child.value
 IsForkOf _ class P = ⊥
@@ -268,8 +269,8 @@ pub record IsNew (program : Program) (name : List ℕ) (label : Label) (task : T
   pub keeps : KeepsForks t
   pub account : account_at_end t untouched ≡ after name (task_effects (source_of program).arrays program.locks task) untouched
 
--- The thread comes to the same, if the child is counted with it until the join, at least one step and at most so many
--- having been made. So many of its steps are another state's.
+-- The result of the thread is unchanged, if the child is counted with it until the join. It has made at least one step
+-- and at most `steps`, and `handed` of its steps now belong to another state.
 pub record KeepsOverFork (steps handed : ℕ) (answered : List Event) (old new : Strand) (made : Child) : Type 0 where
   pub ending : ending new ≡ ending old
   pub account : (account : Account) → length account.children ≡ old.forks → account_at_end new (with_fork made account) ≡ account_at_end old account
@@ -281,9 +282,9 @@ pub record KeepsOverFork (steps handed : ℕ) (answered : List Event) (old new :
   pub faultless : IsWithoutFault old → IsWithoutFault new
   pub keeps : KeepsForks old → KeepsForks new
 
--- At most so many steps were made, the last of which made a fork. What the thread comes to is the same, if the child is
--- the one of the fork's number, and the fork is one of those that were still to come. The child is to run here, or it
--- is not.
+-- The thread has made at most `steps` steps, the last of which was a fork. Its result is unchanged, if the child is the
+-- one that the program has for the fork's number. The fork was one of those that it still had to make. `here` has the
+-- fork's number if the child will run here.
 pub record GoesToFork (steps handed : ℕ) (answered : List Event) (here : List ℕ) (old new : Strand) (made : Child) : Type 0 where
   pub program : new.program ≡ old.program
   pub own : new.own ≡ old.own
@@ -307,7 +308,8 @@ pub record PlacesChild (steps : ℕ) (old new : Strand) (made : Child) : Type 0 
   pub forked : GoesToFork steps 0 (At pause.Forks ∷ []) (old.forks ∷ []) old new made
   pub pending : pending_of new.control ≡ None
 
--- What is so after so many steps, or once the thread has paused in one of them, at the latest in the last, for no fork.
+-- The result of this many steps without a fork. The thread has made all of them; or it has paused in one of them, at
+-- the latest in the last.
 abbrev pub AfterSteps : ℕ → Strand → Option Pending → Strand → Type 0
 AfterSteps steps old None new = Goes steps [] old new × (pending_of new.control ≡ None) × (locks_of new ≡ locks_of old)
 AfterSteps steps old (Some pause.Forks) new = ⊥
@@ -337,29 +339,29 @@ IsLeftOver (Give value) = Unit {0}
 IsLeftOver (Cover stretch) = Unit {0}
 IsLeftOver _ = ⊥
 
--- The steps that were made are those that are not left any more, and so many beside them; the thread has not paused.
+-- The thread has made `had - left` steps, and `beside` more, and has not paused.
 pub record Makes (had left beside : ℕ) (old new : Strand) : Type 0 where
   pub made : ℕ
   pub fewer : left ≤ had
   pub counted : left + made ≡ had + beside
   pub goes : AfterSteps made old None new
 
--- The first comes to where a fold of the second goes on from this number with this value so far, and so many steps are
--- left then.
+-- The first thread comes to the point at which a fold of the second goes on from this number with this value so far,
+-- with `left` steps left.
 abbrev pub ComesToFold : Strand → Strand → ℕ → ℕ → ℕ → ℕ → Bor Expr → ℕ → Type 0
 ComesToFold before t had left next end body so_far = (on : Strand) → TurnsFold t on next end body so_far → Makes had left 1 before on
 
--- and where a sweep does
+-- The first thread comes to the point at which a sweep of the second goes on.
 abbrev pub ComesToSweep : Strand → Strand → ℕ → ℕ → Reduction → ℕ → ℕ → Bor Expr → ℕ → Type 0
 ComesToSweep before t had left reduction next end body so_far = (on : Strand) → TurnsSweep t on reduction next end body so_far → Makes had left 1 before on
 
--- a pause with more to come
+-- the pause is not the thread's end
 abbrev pub IsNotEnd : Pending → Type 0
 IsNotEnd pause.Ended = ⊥
 IsNotEnd _ = Unit {0}
 
--- What comes of a step of a thread by itself, with those that were left beside it before and after: a value that is to
--- be handed on in the step, or what is next once it is made.
+-- The result of a part of a step of one thread. Beside this step, `had` steps were left before it, and `left` after it.
+-- It is a value that the same step has to hand on, or the next action once the step has been made.
 abbrev pub Reaches : ℕ → ℕ → Strand → Progress → Strand → Type 0
 Reaches had left old (part.Value value) new = Makes had left 0 old (giving new value)
 Reaches had left old (part.Begin expr) new = Makes had left 1 old (beginning new expr)
@@ -371,7 +373,7 @@ abbrev pub OnStops : Progress → Type 0 → Type 0
 OnStops part.Stops A = A
 OnStops _ A = Unit {0}
 
--- there is room for a frame
+-- there is room for one more frame
 abbrev pub HasRoom : State → Type 0
 HasRoom t = vec_len t.frames + 1 ≤ vec_capacity t.frames
 
@@ -379,7 +381,7 @@ abbrev pub OnValue : Progress → Type 0 → Type 0
 OnValue (part.Value value) A = A
 OnValue _ A = Unit {0}
 
--- a fork was made: the thread has this newest frame and this to do next
+-- the thread has made a fork, and has this newest frame and this next action
 pub record PushesFork (old new : Strand) (frame : Frame) (control : Control) : Type 0 where
   pub program : new.program ≡ old.program
   pub own : new.own ≡ old.own
@@ -389,15 +391,15 @@ pub record PushesFork (old new : Strand) (frame : Frame) (control : Control) : T
   pub frames : new.frames ≡ old.frames ++ frame ∷ []
   pub control_is : new.control ≡ control
 
--- and a child was made that begins like this
+-- the thread has made a fork, and its child begins with `begins`
 pub record SpawnsChild (old new child : Strand) (begins : Control) (frame : Frame) (control : Control) : Type 0 where
   pub pushed : PushesFork old new frame control
   pub fresh : IsNew old.program.now (old.own.name ++ old.forks ∷ []) untagged (task_begun begins old.environment) child
   pub begun : task_begun child.control child.environment ≡ task_begun begins old.environment
   pub faultless : IsFaultlessNext (source_of old.program.now) false begins → IsWithoutFault child
 
--- A value was handed to the frame of a child that is to run here: it is awaited now, and its steps are its own from now
--- on.
+-- A value was handed to the frame of a child that will run here. The child is awaited now, and its `handed` steps are
+-- no longer counted as its parent's.
 pub record AwaitsHere (number handed : ℕ) (old new : Strand) : Type 0 where
   pub program : new.program ≡ old.program
   pub own : new.own ≡ old.own
@@ -415,7 +417,7 @@ pub record AwaitsHere (number handed : ℕ) (old new : Strand) : Type 0 where
   pub faultless : IsWithoutFault old → IsWithoutFault new
   pub keeps : KeepsForks old → KeepsForks new
 
--- The thread comes to the same, now that the child of this number is counted.
+-- The result of the thread is unchanged, now that the child of this number is counted.
 pub record KeepsOverJoin (old new : Strand) (number : ℕ) : Type 0 where
   pub ending : ending new ≡ ending old
   pub account : (account : Account) → account_at_end new (account_joined (source_of old.program.now) old.own.name number account) ≡ account_at_end old account
@@ -424,7 +426,7 @@ pub record KeepsOverJoin (old new : Strand) (number : ℕ) : Type 0 where
   pub faultless : IsWithoutFault old → IsWithoutFault new
   pub keeps : KeepsForks old → KeepsForks new
 
--- The awaited child was joined. What the thread comes to is the same, if the child brought the value of its task.
+-- The awaited child was joined. The result of the thread is unchanged, if the child has brought the value of its task.
 pub record Joins (old : Strand) (outcome : Finished) (new : Strand) : Type 0 where
   pub program : new.program ≡ old.program
   pub own : new.own ≡ old.own
@@ -438,8 +440,8 @@ pub record Joins (old : Strand) (outcome : Finished) (new : Strand) : Type 0 whe
   pub below : Gains old.below outcome.lines new.below
   pub keeps : outcome.value ≡ task_value (source_of old.program.now).arrays (child_task (source_of old.program.now) old.own.name number) → KeepsOverJoin old new number
 
--- This pause was answered: the thread has counted these effects of its own, which are neither forks nor lines, and goes
--- on.
+-- This pause was answered, and the thread goes on. These effects, which are neither forks nor lines, were added to its
+-- account.
 pub record Counts (answered : Pending) (effects : Effects) (old new : Strand) : Type 0 where
   pub program : new.program ≡ old.program
   pub name : new.own.name ≡ old.own.name
@@ -458,7 +460,7 @@ pub record Counts (answered : Pending) (effects : Effects) (old new : Strand) : 
   pub faultless : IsWithoutFault old → IsWithoutFault new
   pub keeps : KeepsForks old → KeepsForks new
 
--- a frame of a fold or a sweep
+-- a frame at which a fold or a sweep begins
 abbrev pub IsOfRange : Frame → Type 0
 IsOfRange (FoldTo to first body) = Unit {0}
 IsOfRange (FoldFirst from first body) = Unit {0}
@@ -467,7 +469,7 @@ IsOfRange (SweepTo reduction grain to body) = Unit {0}
 IsOfRange (SweepStart reduction grain from body) = Unit {0}
 IsOfRange _ = ⊥
 
--- such a frame, or one at which the thread pauses
+-- a frame at which a fold or a sweep begins, or at which the thread pauses
 abbrev pub IsPauseOrRange : Frame → Type 0
 IsPauseOrRange (Amount ledger body) = Unit {0}
 IsPauseOrRange (Release lock) = Unit {0}

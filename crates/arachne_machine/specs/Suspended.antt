@@ -1,4 +1,4 @@
--- What callers see of a thread between two calls.
+-- The view that callers have of a thread between two calls.
 use Rattle.std.specs.Prelude.{◌≡◌, ◌≤◌, ℕ, ◌+◌, List, [], ◌∷◌, ◌++◌, length, get_or, set, Option, None, Some, option_map, slice_get}
 use Rattle.arachne_lang.specs.Value.{wrapped}
 use Rattle.arachne_lang.specs.Effects.{Task, tabulated}
@@ -18,26 +18,26 @@ use Rattle.arachne_machine.specs.Trace.{Event, Step, At, with_steps, task_trace}
 pub record Suspended : Type 0 where
   pub program : Program
   pub name : List ℕ
-  -- its tag, and where it runs
+  -- its tag, and the place at which it runs
   pub label : Label
-  -- how many threads it has forked
+  -- the number of threads that it has forked
   pub forks : ℕ
   -- the numbers of its forks that are not joined, the newest first
   pub unjoined : List ℕ
   -- those of them whose children will run in its place, and have not begun
   pub here : List ℕ
-  -- the locks that it has asked for and not freed, the newest first
+  -- the locks that it has requested and not released, the newest first
   pub locks : List ℕ
-  -- the pause that is not answered
+  -- the pending pause: the one that is not answered yet
   pub pending : Option Pending
-  -- for each lock, how often it was granted, modulo 2 ^ 64
+  -- for each lock, the number of times that it was granted, modulo 2 ^ 64
   pub holds : List ℕ
   -- the lines of the threads below it, as far as they were joined
   pub below : List ThreadLine
   -- the steps that it and the threads that it will fork have left
   pub work : ℕ
-  -- its steps and pauses from now on, in order: the first is the pause that is not answered or, where there is none, a
-  -- step, and the last is its end
+  -- its steps and pauses from now on, in order: the first is the pending pause or, if there is none, a step, and the
+  -- last is its end
   pub trace : List Event
 
 -- the name of the child that a join awaits: that of the newest fork that is not joined
@@ -48,15 +48,15 @@ awaited thread = option_map (λ number. thread.name ++ number ∷ []) (slice_get
 abbrev pub own_line_of : Suspended → ThreadLine
 own_line_of thread = record { name = thread.name; tag = thread.label.tag; holds = thread.holds; ran = thread.label.ran }
 
--- the numbers with the one at this place raised by an amount, modulo 2 ^ 64; nothing where there is none
+-- the numbers with the one at this place raised by an amount, modulo 2 ^ 64; unchanged if there is no such place
 abbrev pub raised : List ℕ → ℕ → ℕ → List ℕ
 raised numbers place amount = set numbers place (wrapped (get_or numbers place 0 + amount))
 
--- number by number the sum, modulo 2 ^ 64
+-- the sums of both lists, number by number, modulo 2 ^ 64
 abbrev pub added : List ℕ → List ℕ → List ℕ
 added numbers others = tabulated (length numbers) (λ place. get_or numbers place 0 + get_or others place 0)
 
--- the pauses at which a lock is asked for or freed, or something is added to a ledger
+-- the pause is a request for a lock; the releases of locks and the tallies follow
 abbrev pub IsAsk : Option Pending → Type 0
 IsAsk (Some (pause.Asks lock)) = Unit {0}
 IsAsk _ = ⊥
@@ -69,12 +69,12 @@ abbrev pub IsTally : Option Pending → Type 0
 IsTally (Some (pause.Tallies ledger amount)) = Unit {0}
 IsTally _ = ⊥
 
--- the pause that is not answered comes first or, where there is none, a step
+-- the pending pause comes first or, if there is none, a step
 abbrev pub IsNext : Option Pending → List Event → Type 0
 IsNext None trace = (others : List Event) × (trace ≡ Step ∷ others)
 IsNext (Some next) trace = (others : List Event) × (trace ≡ At next ∷ others)
 
--- the pause that was not answered is past
+-- the pending pause was answered
 abbrev pub IsAnswered : Suspended → Suspended → Type 0
 IsAnswered old new = (answered : Pending) × (old.pending ≡ Some answered) × (old.trace ≡ At answered ∷ new.trace)
 
@@ -88,7 +88,7 @@ pub record SameThread (old new : Suspended) : Type 0 where
   pub here : new.here ≡ old.here
   pub below : new.below ≡ old.below
 
--- at least so many steps were made, and at most so many, and nothing else
+-- at least `least` steps were made and at most `most`, and nothing else was done
 pub record MakesSteps (least most : ℕ) (old new : Suspended) : Type 0 where
   pub made : ℕ
   pub at_least : least ≤ made
@@ -96,7 +96,7 @@ pub record MakesSteps (least most : ℕ) (old new : Suspended) : Type 0 where
   pub work : new.work + made ≡ old.work
   pub trace : old.trace ≡ with_steps made new.trace
 
--- a thread of this name and tag that has not begun, and not in its parent's place
+-- a thread of this name and tag that has not begun, at a place of its own
 pub record IsFresh (program : Program) (name : List ℕ) (tag : ℕ) (thread : Suspended) : Type 0 where
   pub same_program : thread.program ≡ program
   pub has_name : thread.name ≡ name
@@ -109,8 +109,9 @@ pub record IsFresh (program : Program) (name : List ℕ) (tag : ℕ) (thread : S
   pub none_below : thread.below ≡ []
   pub not_paused : thread.pending ≡ None
 
--- In at most so many steps it has forked this child, whose name is its own followed by the number of the fork, and
--- whose class and task are those that the program gives to that fork. The child's steps were among its own.
+-- In at most `budget` steps the thread has forked this child. The child's name is its own followed by the number of the
+-- fork, and the child's class and task are those that the program gives to that fork. The child's steps were counted
+-- among the thread's own.
 pub record Forked (budget : ℕ) (class : Class) (old new child : Suspended) : Type 0 where
   pub program : new.program ≡ old.program
   pub name : new.name ≡ old.name
@@ -132,7 +133,7 @@ pub record Forked (budget : ℕ) (class : Class) (old new child : Suspended) : T
   pub work : new.work + child.work + made ≡ old.work
   pub trace : old.trace ≡ with_steps made new.trace
 
--- It has joined this outcome, which is that of the child that it awaited.
+-- The thread has joined this outcome, which is that of the child that it awaited.
 pub record Joined (old : Suspended) (outcome : Finished) (new : Suspended) : Type 0 where
   pub of_child : awaited old ≡ Some outcome.name
   pub program : new.program ≡ old.program

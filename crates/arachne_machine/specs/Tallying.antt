@@ -1,4 +1,4 @@
--- What an advance does, and one over tallies that are made as the thread comes to them.
+-- The result of an advance, and of one that goes on over tallies which are made as the thread comes to them.
 use Rattle.std.specs.Prelude.{◌≡◌, ℕ, ◌+◌, ◌-◌, ◌==◌, if◌then◌else◌, List, [], ◌∷◌, None, Some}
 use Rattle.arachne_lang.specs.Value.{wrapped}
 use Rattle.arachne_lang.specs.Program.{source_of}
@@ -10,24 +10,24 @@ use Rattle.arachne_machine.specs.Suspended.{IsAnswered, SameThread, raised}
 use Rattle.arachne_machine.specs.Nested.{FallsBy, IsAlone, IsRest, Nested, SameWhole, pending_in, whole, work_in}
 use Rattle.arachne_machine.specs.Advance.{AdvancedAlone, AwaitsAt, IsCharged, IsSpentAt, Moves, PausesAt, PlacesNone, RefusedAlone}
 
--- what is due to each ledger
+-- the amount that is due to each ledger
 abbrev pub Dues : Type 0
 Dues = ℕ → ℕ
 
--- an amount is due to this ledger as well, modulo 2 ^ 64, and nothing else
+-- this amount more is due to this ledger, modulo 2 ^ 64, and all else is unchanged
 abbrev pub GainsAt : Dues → ℕ → ℕ → Dues → Type 0
 GainsAt old ledger amount new = (other : ℕ) → new other ≡ wrapped (old other + (if other == ledger then amount else 0))
 
--- a ledger and what is added to it
+-- a ledger and the amount that is added to it
 abbrev pub Tally : Type 0
 Tally = ℕ × ℕ
 
--- what is due once these tallies are, the newest of which is the first
+-- the amounts that are due after these tallies, the newest of which is the first
 abbrev pub due_after : Dues → List Tally → ℕ → ℕ
 due_after due [] ledger = due ledger
 due_after due (tally ∷ earlier) ledger = wrapped (due_after due earlier ledger + (if ledger == tally.0 then tally.1 else 0))
 
--- What an advance does to a thread, by the pause that it gives. So many steps were left and so many are.
+-- The result of an advance, given the pause that it returns and the steps that were left before and after.
 pub record IsAdvance (had left : ℕ) (old : Nested) (gives : Pause) (new : Nested) : Type 0 where
   pub moves : Moves had old gives new
   pub spent : IsSpentAt gives had left
@@ -38,7 +38,7 @@ pub record IsAdvance (had left : ℕ) (old : Nested) (gives : Pause) (new : Nest
   pub rest : IsRest old.placed new.placed
   pub sums : old.placed ≡ [] → new.sums ≡ old.sums
 
--- It was refused memory.
+-- An advance was refused memory.
 pub record IsRefusedAdvance (had left : ℕ) (old new : Nested) : Type 0 where
   pub same : SameWhole old new
   pub work : FallsBy 0 (had - 1) (work_in old) (work_in new)
@@ -47,7 +47,7 @@ pub record IsRefusedAdvance (had left : ℕ) (old new : Nested) : Type 0 where
   pub rest : IsRest old.placed new.placed
   pub alone : IsAlone old → (whole new).forks ≡ (whole old).forks → RefusedAlone had old new
 
--- The thread has paused at this tally. It is counted once, and the thread goes on.
+-- The thread had paused at this tally. The tally was made once, and the thread goes on.
 pub record IsTallied (ledger amount : ℕ) (old new : Nested) : Type 0 where
   pub paused : pending_in old ≡ Some (pause.Tallies ledger amount)
   pub same_whole : SameWhole old new
@@ -67,20 +67,20 @@ GoesOver (tally ∷ earlier) had left old new =
     (before : ℕ) × (mid paused : Nested) × GoesOver earlier had before old mid
     × IsAdvance before left mid (pauses.Tallies tally.0 tally.1) paused × IsTallied tally.0 tally.1 paused new
 
--- It has come so far over some tallies, each of which is due.
+-- The thread has gone over some tallies, each of which is due now.
 pub record HasGone (had left : ℕ) (old new : Nested) (due new_due : Dues) : Type 0 where
   pub tallies : List Tally
   pub goes : GoesOver tallies had left old new
   pub due_now : (ledger : ℕ) → new_due ledger ≡ due_after due tallies ledger
 
--- It has come over some tallies, each of which is due, and then has paused so in one advance more.
+-- The thread has gone over some tallies, each of which is due now, and one more advance has returned this pause.
 pub record AdvancesOver (had left : ℕ) (old : Nested) (gives : Pause) (new : Nested) (due new_due : Dues) : Type 0 where
   pub before : ℕ
   pub mid : Nested
   pub gone : HasGone had before old mid due new_due
   pub last : IsAdvance before left mid gives new
 
--- The same, but the last advance was refused memory.
+-- The thread has gone over some tallies, each of which is due now, and one more advance was refused memory.
 pub record RefusedOver (had left : ℕ) (old new : Nested) (due new_due : Dues) : Type 0 where
   pub before : ℕ
   pub mid : Nested

@@ -7,31 +7,31 @@ use Rattle.arachne_machine.specs.declared.pause.Pending.{Pending}
 use Rattle.arachne_machine.specs.declared.pause.Pending.TheVariants.{Forks, Joins, Asks, Frees, Tallies}
 use Rattle.arachne_lang.specs.Parts.{by_halves}
 
--- what a thread does that others can tell
+-- an event of a thread that others can observe
 pub data Event : Type 0 where
   Step : Event
   At : Pending → Event
 
--- so many steps, and then these events
+-- n steps, and then these events
 abbrev pub with_steps : ℕ → List Event → List Event
 with_steps zero events = events
 with_steps (suc n) events = Step ∷ with_steps n events
 
--- the events of 0, of 1, and so on, so many
+-- the events of the first n iterations, from that of 0 on
 abbrev pub in_turn : (ℕ → List Event) → ℕ → List Event
 in_turn events zero = []
 in_turn events (suc j) = in_turn events j ++ events j
 
--- The trace of n numbers of a sweep from a first one on, with that of each number. Where it is split, the left half is
--- another thread's.
+-- The trace of n numbers of a sweep from `first` on, given the trace of each number. If the part is split, the left
+-- half is in another thread's trace.
 abbrev pub trace_of_part : (ℕ → List Event) → ℕ → ℕ → ℕ → List Event
 trace_of_part turn grain first n =
     by_halves (λ from k. Step ∷ (in_turn (λ j. turn (from + j)) k ++ Step ∷ []))
     (λ from k left right. Step ∷ At Forks ∷ (right ++ At Joins ∷ Step ∷ [])) grain n first n
 
 -- The trace of the thread that evaluates an expression. A step begins a node, or a part of a sweep, and hands on the
--- value that is known then. What a fold or a part of a sweep comes to, the value of a hold's body, and what two halves
--- make is handed on in a step of its own.
+-- value if it is known then. A step of its own hands on the result of a fold, of a part of a sweep or of two halves, or
+-- the value of a hold's body.
 abbrev pub trace_of : List (List ℕ) → Tree → Environment → List Event
 trace_of arrays (Number n) env = Step ∷ []
 trace_of arrays (Variable k) env = Step ∷ []

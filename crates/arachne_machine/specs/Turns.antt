@@ -1,4 +1,4 @@
--- So many turns of a fold or a sweep, from a number on.
+-- The iterations of a fold or a sweep over n numbers, from a number on.
 use Rattle.std.specs.Prelude.{ℕ, ◌+◌, List}
 use Rattle.arachne_lang.specs.declared.program.Reduction.{Reduction}
 use Rattle.arachne_lang.specs.Tree.{Tree}
@@ -7,7 +7,7 @@ use Rattle.arachne_lang.specs.Effects.{Effects, turns_effects, effects_of}
 use Rattle.arachne_machine.specs.Work.{total, work_of}
 use Rattle.arachne_machine.specs.Trace.{Event, in_turn, trace_of}
 
--- a fold's turns, from a value on
+-- the value of a fold's iterations from a value on; their effects, steps and trace follow
 abbrev pub folded : List (List ℕ) → Tree → Environment → ℕ → ℕ → ℕ → ℕ
 folded arrays body env from n value = turns (λ j so_far. value_of arrays body (with_newest (with_newest env (from + j)) so_far)) n value
 
@@ -23,7 +23,7 @@ abbrev pub folded_trace : List (List ℕ) → Tree → Environment → ℕ → �
 folded_trace arrays body env from n value =
     in_turn (λ j. trace_of arrays body (with_newest (with_newest env (from + j)) (folded arrays body env from j value))) n
 
--- a sweep's turns, where it is not split
+-- the value of the iterations of a sweep that is not split; their effects, steps and trace follow
 abbrev pub swept : List (List ℕ) → Reduction → Tree → Environment → ℕ → ℕ → ℕ → ℕ
 swept arrays reduction body env from n value =
     turns (λ j so_far. apply (operation_of reduction) so_far (value_of arrays body (with_newest env (from + j)))) n value

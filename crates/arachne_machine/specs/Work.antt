@@ -1,22 +1,23 @@
--- How many steps an expression takes, the steps of the threads that it forks among them.
+-- The number of steps that an expression takes, with those of the threads that it forks.
 use Rattle.std.specs.Prelude.{ℕ, zero, suc, ◌+◌, ◌-◌, ◌==◌, if◌then◌else◌, List}
 use Rattle.arachne_lang.specs.Tree.{Tree, Number, Variable, Length, Item, Binary, Choose, Bind, Tally, Hold, Fork, Fold, Sweep}
 use Rattle.arachne_lang.specs.Value.{Environment, with_newest, value_of, turns}
 use Rattle.arachne_lang.specs.Effects.{Task, Evaluate, Reduce}
 use Rattle.arachne_lang.specs.Parts.{by_halves}
 
--- the sum of f of 0, of 1, and so on, so many
+-- the sum of the first n values of f, from f of 0 on
 abbrev pub total : (ℕ → ℕ) → ℕ → ℕ
 total f zero = 0
 total f (suc j) = total f j + f j
 
--- The steps of n numbers of a sweep from a first one on, with those of each number. A part that is not split is begun,
--- and hands its value on; each split is made, and hands on what its halves come to.
+-- The steps of n numbers of a sweep from `first` on, given those of each number. A part that is not split takes a step
+-- to begin, and one to hand its value on. A part that is split takes one for the split, and one to hand on the result
+-- of its halves.
 abbrev pub work_of_part : (ℕ → ℕ) → ℕ → ℕ → ℕ → ℕ
 work_of_part turn grain first n = by_halves (λ from k. total (λ j. turn (from + j)) k + 2) (λ from k left right. left + right + 2) grain n first n
 
--- A step begins a node, or a part of a sweep, and hands on the value that is known then. What a fold or a part of a
--- sweep comes to, the value of a hold's body, and what two halves make is handed on in a step of its own.
+-- The steps of an expression. A step begins a node, or a part of a sweep, and hands on the value if it is known then. A
+-- step of its own hands on the result of a fold, of a part of a sweep or of two halves, or the value of a hold's body.
 abbrev pub work_of : List (List ℕ) → Tree → Environment → ℕ
 work_of arrays (Number n) env = 1
 work_of arrays (Variable k) env = 1

@@ -1,4 +1,4 @@
-//! Runs all threads of a program in turn on one kernel thread.
+//! Runs all threads of a program on one kernel thread, in turn.
 ghost use Rattle.std.specs.Prelude.{[], ◌≡◌, ◌+◌, ◌∷◌, ◌≤◌, ◌<◌, List, map, reverse, sum_by, None, Some, IfOk, OnOk};
 ghost use Rattle.arachne_lang.specs.Program.{source_of};
 ghost use Rattle.arachne_lang.specs.Meaning.{meaning_of};
@@ -16,9 +16,11 @@ use crate::thread::Thread;
 use arachne_lang::{Line, Meaning, Program, Sequence};
 use std::alloc::{AllocError, Global};
 
-/// What a program means, found by its threads in turn on this one kernel thread: all are in one list, of
-/// which the newest goes on, for so many steps at a time, but at least one. A lock that it asks for is granted
-/// at once, and it goes on until it frees it, since nothing is forked meanwhile in a checked program.
+/// Returns the meaning of a program, which runs on the calling kernel thread.
+///
+/// All threads are in one list. The newest one runs for at most `budget` steps at a time; a budget of 0 counts as 1. A
+/// lock that it asks for is granted at once, and it runs on until it releases the lock, since no thread of a checked
+/// program forks while it holds one.
 pub fn run_alone(alloc: Global, program: &Program, budget: u32) -> Result<Meaning, AllocError>
     ensures { IfOk result (λ meaning. meaning ≡ meaning_of (source_of program.now)) }
 {
@@ -27,7 +29,7 @@ pub fn run_alone(alloc: Global, program: &Program, budget: u32) -> Result<Meanin
     meaning(alloc, outcome)
 }
 
-/// The outcome of a root thread, which runs with all threads below it.
+/// Runs a root thread with all threads below it, and returns its outcome.
 fn run_all<'p>(alloc: Global, root: Thread<'p>, budget: u32) -> Result<DetachedOutcome, AllocError>
     requires some { 1 ≤ budget }
     requires rests { Rests root.running.program (root ∷ []) [] }
@@ -43,19 +45,21 @@ fn run_all<'p>(alloc: Global, root: Thread<'p>, budget: u32) -> Result<DetachedO
     Ok(outcomes.pop().unwrap())
 }
 
-/// What comes of a turn.
+/// The result of a turn.
 #[derive(Drop)]
 enum Turn<'p> {
     /// The thread goes on.
     Goes,
-    /// It has forked this child, which goes on first.
+    /// The thread has forked this child, which runs first.
     Forks(Thread<'p>),
-    /// It has ended.
+    /// The thread has ended.
     Ends,
 }
 
-/// A turn of the newest thread, which is given apart from the list. An outcome lies ready until its parent
-/// joins it. The outcomes that were brought last are those of the newest thread's children, and so on.
+/// Gives a turn to the newest thread, which is not in the list.
+///
+/// An outcome is kept until the parent joins it. The newest outcomes are those of the newest thread's children, then
+/// come those of the next thread's children, and so on.
 fn take_turn<'p>(
     threads: &mut Vec<Thread<'p>>,
     outcomes: &mut Vec<DetachedOutcome>,
@@ -87,7 +91,7 @@ fn take_turn<'p>(
     }
 }
 
-/// The newest thread goes on for so many steps, and is answered, unless it has ended.
+/// Advances the newest thread by at most `budget` steps and answers its pause, unless it has ended.
 fn go_on<'p>(
     thread: &mut Thread<'p>,
     outcomes: &mut Vec<DetachedOutcome>,
@@ -132,7 +136,7 @@ fn go_on<'p>(
     }
 }
 
-/// The meaning that an outcome has.
+/// Returns the meaning that an outcome has.
 fn meaning(alloc: Global, outcome: DetachedOutcome) -> Result<Meaning, AllocError>
     ensures means { IfOk result (λ meaning. meaning ≡ meaning_in outcome) }
     ensures of_its_name { IsOfItsName outcome }
@@ -151,7 +155,7 @@ fn meaning(alloc: Global, outcome: DetachedOutcome) -> Result<Meaning, AllocErro
     })
 }
 
-/// The name and the holds of a line.
+/// Returns the name and the holds of a line.
 fn line_of_thread(line: ThreadLine) -> Line
     ensures { result ≡ named_holds line }
 {

@@ -1,9 +1,9 @@
-//! The answers to a pause that need no outcome of a child.
+//! The answers to pauses that need no outcome of a child.
 use crate::frame::Control;
 use crate::state::State;
 use crate::tables::add_at;
 
-/// The answers to pauses that need no outcome. They take no memory.
+/// The answers to pauses that need no outcome of a child. They take no memory.
 impl<'p> State<'p> {
     ghost use Rattle.std.specs.Prelude.{◌≡◌, ℕ, Some};
     ghost use Rattle.std.specs.Borrow.{Bor};
@@ -15,7 +15,8 @@ impl<'p> State<'p> {
     ghost use Rattle.arachne_machine.specs.Steps.{HasLine, Turns, pending_of};
     ghost use Rattle.arachne_machine.specs.Runs.{CountsHold, CountsTally, after_fork};
 
-    /// The child was taken: goes on with what is done meanwhile.
+    /// Answers a fork whose child was taken. The thread goes on with the expression that it evaluates while the child
+    /// runs.
     pub fn forked(&mut self)
         requires { pending_of self.old.control ≡ Some pause.Forks }
         ensures { Turns self.old self.new (after_fork self.old.control) }
@@ -27,7 +28,7 @@ impl<'p> State<'p> {
         }
     }
 
-    /// It holds the lock that it asked for, and goes on.
+    /// Answers a request for a lock, which the thread holds now.
     pub fn granted(&mut self)
         requires asks { IsAsk (pending_of self.old.control) }
         requires line { HasLine self.old }
@@ -41,7 +42,7 @@ impl<'p> State<'p> {
         self.control = Control::Begin(body);
     }
 
-    /// Counts that it held this lock once more.
+    /// Counts that the innermost thread has held this lock once more.
     fn count_hold(&mut self, lock: u64)
         requires { HasLine self.old }
         ensures { CountsHold self.old self.new lock }
@@ -53,7 +54,7 @@ impl<'p> State<'p> {
         }
     }
 
-    /// It has freed the lock, and goes on.
+    /// Answers the release of a lock, which the thread no longer holds.
     pub fn freed(&mut self)
         requires { IsFree (pending_of self.old.control) }
         ensures { (lock value : ℕ) × (self.old.control ≡ control.Frees lock value) × Turns self.old self.new (control.Give value) }
@@ -64,7 +65,7 @@ impl<'p> State<'p> {
         self.control = Control::Give(value);
     }
 
-    /// The amount was added to the ledger: adds it to the own sums, and goes on.
+    /// Answers a tally whose amount was added to the ledger, and adds it to the thread's own sums.
     pub fn tallied(&mut self)
         requires { IsTally (pending_of self.old.control) }
         ensures { (ledger amount : ℕ) × (body : Bor Expr) × (counted : TheState) × (self.old.control ≡ control.Tallies ledger amount body) × CountsTally self.old counted ledger amount
@@ -82,7 +83,7 @@ impl<'p> State<'p> {
         self.control = Control::Begin(body);
     }
 
-    /// Adds an amount to its own sum for this ledger.
+    /// Adds an amount to the thread's own sum for this ledger.
     fn count_tally(&mut self, ledger: u64, amount: u64)
         ensures { CountsTally self.old self.new ledger amount }
     {

@@ -7,7 +7,7 @@ use crate::state::{Progress, State};
 use arachne_lang::{Expr, Operation};
 use std::alloc::AllocError;
 
-/// How an expression is begun.
+/// The steps that begin an expression.
 impl<'p> State<'p> {
     ghost use Rattle.std.specs.Prelude.{true, ◌≡◌, ◌≤◌, ◌∷◌, ◌++◌, [], length, slice_index, IfOk, IfSome, OnOk, OnErr};
     ghost use Rattle.std.specs.Borrow.{Bor};
@@ -23,7 +23,7 @@ impl<'p> State<'p> {
     ghost use Rattle.arachne_machine.specs.Steps.{beginning, Changes, IsSame, LeavesOthers, OnStops, Pushes, Reaches, top};
     ghost use Rattle.arachne_machine.specs.Runs.{beginning_in, Comes};
 
-    /// Begins this expression. Where its value is known at once nothing else has changed.
+    /// Begins this expression. If its value is known at once, it is returned, and nothing else has changed.
     #[inline(always)]
     pub fn begin<P: Placing>(
         &mut self,
@@ -66,7 +66,8 @@ impl<'p> State<'p> {
         }
     }
 
-    /// Begins an operation. Sides that are numbers or variables are begun with it, each by a step, where two are left.
+    /// Begins an operation. If two steps are left, sides that are numbers or variables are evaluated with it, by a step
+    /// each.
     #[inline(always)]
     fn operate(
         &mut self,
@@ -97,7 +98,7 @@ impl<'p> State<'p> {
         self.enter(Frame::Right(operation, second), first)
     }
 
-    /// The value of a number or a variable.
+    /// Returns the value of a number or a variable, and `None` for any other expression.
     #[inline(always)]
     fn leaf(&self, expr: &Expr) -> Option<u64>
         ensures leaf { IfSome result (λ _. IsLeaf (tree_of expr.now)) }
@@ -110,7 +111,7 @@ impl<'p> State<'p> {
         }
     }
 
-    /// Begins a part of an expression; the frame says what comes after it.
+    /// Begins a part of an expression. `frame` says what comes after the part.
     #[inline(always)]
     fn enter(&mut self, frame: Frame<'p>, part: &'p Expr) -> Result<Progress<'p>, AllocError>
         ensures begins { IfOk result (λ begun. begun ≡ ways.Begin part.entry) }
@@ -121,7 +122,7 @@ impl<'p> State<'p> {
         Ok(Progress::Begin(part))
     }
 
-    /// Asks for a lock. It is freed once the value of the expression is known.
+    /// Asks for a lock, which is released once the value of `body` is known.
     #[inline(always)]
     fn ask(&mut self, lock: u64, body: &'p Expr) -> Result<Progress<'p>, AllocError>
         ensures stops { IfOk result (λ asked. asked ≡ ways.Stops) }

@@ -1,4 +1,4 @@
-//! What an outcome brings beside its program.
+//! The contents of an outcome, without its program.
 ghost use Rattle.std.specs.Prelude.{◌≡◌, ◌∷◌, IfOk, OnErr};
 
 use crate::line::ThreadLine;
@@ -8,26 +8,28 @@ use arachne_lang::Sequence;
 use std::alloc::{AllocError, Global};
 use std::mem::replace;
 
-/// What an outcome brings beside its program. Of a [`crate::DetachedOutcome`] it lies in a box that was there before
-/// the thread ended, and only that box is moved from the thread that ends to the one that joins it.
+/// The contents of an outcome, without its program.
+///
+/// Those of a [`crate::DetachedOutcome`] are in a box that exists before the thread ends. Only that box is moved from
+/// the thread that ends to the one that joins it.
 #[derive(Debug, Drop)]
 pub struct Contents {
     pub(crate) value: u64,
-    /// For each ledger the sum, modulo 2^64.
+    /// For each ledger, the sum, modulo 2^64.
     pub(crate) sums: Vec<u64>,
     /// The thread's own line.
     pub(crate) own: ThreadLine,
-    /// The lines below it.
+    /// The lines of the threads below it.
     pub(crate) below: Lines,
 }
 
 impl Contents {
-    /// A box in which nothing is yet.
+    /// Creates a box with vacant contents.
     pub fn new(alloc: Global) -> Result<Box<Contents>, AllocError> {
         Ok(Box::new(alloc, Contents::vacant(alloc))?)
     }
 
-    /// That of no thread. It allocates nothing.
+    /// Returns contents of no thread. Takes no memory.
     fn vacant(alloc: Global) -> Contents {
         Contents {
             value: 0,
@@ -37,8 +39,9 @@ impl Contents {
         }
     }
 
-    /// The value, the sums and the lines, of which nothing is left. It takes memory for a list of the lists of
-    /// lines; where that is refused nothing has changed.
+    /// Takes out the value, the sums and the lines.
+    ///
+    /// Takes memory for a list of the lists of lines. If that is refused, nothing has changed.
     pub(crate) fn take_parts(&mut self) -> Result<OutcomeParts, AllocError>
         ensures value { IfOk result (λ parts. parts.value ≡ self.old.value) }
         ensures sums { IfOk result (λ parts. parts.sums ≡ self.old.sums.items) }

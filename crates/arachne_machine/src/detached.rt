@@ -8,11 +8,12 @@ use arachne_lang::{Program, Sequence};
 use std::marker::Model;
 use std::snapshot::Snapshot;
 
-/// An outcome in a box, without a reference to its program. Contracts see the program still, and what they see of it is
-/// as with `Outcome`.
+/// An outcome in a box, without a reference to its program.
+///
+/// Contracts still see the program, and see the same of it as of an `Outcome`.
 #[derive(Drop)]
 pub struct DetachedOutcome {
-    /// It has no bytes.
+    /// Takes no bytes: only contracts see it.
     pub(crate) program: Snapshot<Program>,
     pub(crate) contents: Box<Contents>,
 }
@@ -33,8 +34,9 @@ impl Model for DetachedOutcome {
 }
 
 impl DetachedOutcome {
-    /// Returns the value, the sums and the lines. It takes memory for a list of the lists of lines; if that is refused,
-    /// the outcome is the error.
+    /// Returns the value, the sums and the lines.
+    ///
+    /// Takes memory for a list of the lists of lines. If that is refused, the outcome is the error.
     pub fn into_parts(self) -> Result<OutcomeParts, DetachedOutcome>
         ensures value { IfOk result (λ parts. parts.value ≡ self.value) }
         ensures sums { IfOk result (λ parts. parts.sums ≡ self.sums) }

@@ -19,7 +19,7 @@ impl<'p> State<'p> {
     ghost use Rattle.arachne_machine.specs.Runs.{Comes};
     ghost use Rattle.arachne_machine.specs.Steps.{CountsFork, HasLine, IsForkOf, IsSame, IsSpawned};
 
-    /// A new child of this class, whose number is the fork's. The thread goes on with what it does meanwhile.
+    /// Forks a child of this class, whose number is that of the fork. The thread goes on with `during`.
     pub fn fork(
         &mut self,
         class: Class,
@@ -44,7 +44,7 @@ impl<'p> State<'p> {
         )
     }
 
-    /// A fork whose child will run here.
+    /// Makes a fork whose child will run in this place.
     #[inline(always)]
     pub fn fork_here(
         &mut self,
@@ -68,7 +68,7 @@ impl<'p> State<'p> {
         Ok(Progress::Begin(during))
     }
 
-    /// A new child of this class that begins like this, the thread's new frame, and what it does next.
+    /// Forks a child of this class that begins with `begins`. The thread gets the frame, and goes on with `next`.
     fn spawn(
         &mut self,
         class: Class,
@@ -100,7 +100,7 @@ impl<'p> State<'p> {
         Ok(Progress::Forks(class, state))
     }
 
-    /// Begins a part of a sweep: where it is longer than the grain, its left half is forked.
+    /// Begins a part of a sweep. If it is longer than the grain, its left half is forked.
     #[inline(always)]
     pub fn cover<P: Placing>(
         &mut self,
@@ -136,7 +136,7 @@ impl<'p> State<'p> {
         ))
     }
 
-    /// A new child for what is left of this middle. The thread goes on with what is right of it.
+    /// Forks a child for the numbers of a part of a sweep below `middle`. The thread goes on with the others.
     fn halve(
         &mut self,
         stretch: Stretch<'p>,
@@ -170,7 +170,8 @@ impl<'p> State<'p> {
         )
     }
 
-    /// A split whose left half will run here, as a child. The thread goes on with what is right of the middle.
+    /// Splits a part of a sweep, whose left half will run in this place, as a child. The thread goes on with the right
+    /// half.
     #[inline(always)]
     fn halve_here(&mut self, stretch: Stretch<'p>, middle: u64) -> Result<Progress<'p>, AllocError>
         requires number { self.old.level.forks + 1 < 2 ^ 64 }

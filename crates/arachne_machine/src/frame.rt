@@ -1,7 +1,7 @@
-//! What a thread does next, and the frames that say what comes after it.
+//! The next action of a thread, and the frames that say what comes after it.
 use arachne_lang::{Expr, Operation, Reduction};
 
-/// A part of a sweep: the numbers from a first one to below an end.
+/// A part of a sweep: the numbers from `first` to below `end`.
 #[derive(Clone, Copy)]
 pub struct Stretch<'p> {
     pub reduction: Reduction,
@@ -11,7 +11,7 @@ pub struct Stretch<'p> {
     pub body: &'p Expr,
 }
 
-/// What a thread does next.
+/// The next action of a thread.
 #[derive(Clone, Copy)]
 pub enum Control<'p> {
     /// It begins an expression.
@@ -20,18 +20,18 @@ pub enum Control<'p> {
     Give(u64),
     /// It begins a part of a sweep.
     Cover(Stretch<'p>),
-    /// It has forked a child, and begins this expression once the child was taken.
+    /// It has forked a child, and begins this expression once the child has been taken.
     Forked(&'p Expr),
-    /// It has forked the left half of a part of a sweep, and begins the right half once the child was taken.
+    /// It has forked the left half of a part of a sweep, and begins the right half once the child has been taken.
     Halved(Stretch<'p>),
-    /// It awaits the outcome of its child of this number, with the value of what it did meanwhile, and goes
-    /// on with this expression.
+    /// It awaits the outcome of its child of this number, and goes on with the expression `after`. `during` is the
+    /// value of the expression that it has evaluated meanwhile.
     Awaits {
         number: u64,
         during: u64,
         after: &'p Expr,
     },
-    /// It awaits the value of the left half of a part of a sweep, with that of the right half.
+    /// It awaits the value of the left half of a part of a sweep. `right` is the value of the right half.
     AwaitsHalf {
         number: u64,
         right: u64,
@@ -42,7 +42,7 @@ pub enum Control<'p> {
         lock: u64,
         body: &'p Expr,
     },
-    /// It frees a lock, and then hands this value on.
+    /// It releases a lock, and then hands this value on.
     Frees {
         lock: u64,
         value: u64,
@@ -57,62 +57,63 @@ pub enum Control<'p> {
     Ended(u64),
 }
 
-/// What is left to do once a value is known.
+/// The action that follows once a value is known.
 #[derive(Clone, Copy)]
 pub enum Frame<'p> {
     /// The value is an index into this array.
     Index(u64),
-    /// The value is the left one of an operation, whose right expression is this one.
+    /// The value is the left operand of an operation, whose right operand is this expression.
     Right(Operation, &'p Expr),
-    /// The value is the right one of an operation, whose left one is this number.
+    /// The value is the right operand of an operation, whose left operand is this number.
     Apply(Operation, u64),
-    /// The first expression is next where the value is not 0, else the second.
+    /// The first expression is next if the value is not 0, else the second.
     Branch(&'p Expr, &'p Expr),
     /// The value is the newest variable of this expression.
     Extend(&'p Expr),
     /// The value is an amount for this ledger, and the expression is next.
     Amount(u64, &'p Expr),
-    /// This lock is freed.
+    /// This lock is released, and the value handed on.
     Release(u64),
-    /// The child of this number is joined, and this expression goes on.
+    /// The child of this number is joined, and this expression is next.
     Join {
         number: u64,
         after: &'p Expr,
     },
-    /// The value is that of the right half of a part of a sweep; the child of this number brings the left one.
+    /// The value is that of the right half of a part of a sweep. The child of this number has the left half.
     Merge {
         number: u64,
         reduction: Reduction,
     },
-    /// The child of this number begins here, and once it has ended this expression goes on.
+    /// The child of this number begins in this place. Once it has ended, the expression `after` is next.
     JoinHere {
         number: u64,
         child: &'p Expr,
         after: &'p Expr,
     },
-    /// The value is that of the right half of a part of a sweep; the child of this number begins the left one here.
+    /// The value is that of the right half of a part of a sweep. The child of this number begins the left half in this
+    /// place.
     MergeHere {
         number: u64,
         left: Stretch<'p>,
     },
-    /// The value is a fold's first number; then come its end, its first value and its body.
+    /// The value is a fold's first number. The fold's end, its first value and its body follow.
     FoldTo(&'p Expr, &'p Expr, &'p Expr),
-    /// The value is the end of a fold from this number on; then come its first value and its body.
+    /// The value is the end of a fold from this number on. The fold's first value and its body follow.
     FoldFirst(u64, &'p Expr, &'p Expr),
-    /// The value is the first one of a fold from a number to below another, with this body.
+    /// The value is the first value of a fold from the first number to below the second, with this body.
     FoldStart(u64, u64, &'p Expr),
-    /// The value is what a turn of a fold has made. The two newest variables are that turn's.
+    /// The value is the result of an iteration of a fold. The two newest variables are those of that iteration.
     FoldTurn {
         next: u64,
         end: u64,
         body: &'p Expr,
     },
-    /// The value is a sweep's first number; then come its end and its body.
+    /// The value is a sweep's first number. The sweep's end and its body follow.
     SweepTo(Reduction, u64, &'p Expr, &'p Expr),
     /// The value is the end of a sweep from this number on, with this body.
     SweepStart(Reduction, u64, u64, &'p Expr),
-    /// The value is that of a number of a sweep, and is reduced with the one so far. The newest variable is
-    /// that number.
+    /// The value is that of a number of a sweep, and is reduced with the value so far. The newest variable is that
+    /// number.
     SweepTurn {
         reduction: Reduction,
         next: u64,
@@ -120,6 +121,6 @@ pub enum Frame<'p> {
         so_far: u64,
         body: &'p Expr,
     },
-    /// The environment gets back this length.
+    /// The environment is truncated to this length, and the value handed on.
     Restore(usize),
 }

@@ -6,7 +6,7 @@ use crate::state::{Progress, State};
 use arachne_lang::Expr;
 use std::alloc::AllocError;
 
-/// How a value is handed on.
+/// The steps that hand a value on.
 impl<'p> State<'p> {
     ghost use Rattle.std.specs.Prelude.{true, ◌≡◌, ◌+◌, ◌<◌, ◌≤◌, ◌++◌, ◌∷◌, [], length, slice_index, vec_len, vec_capacity, IfOk, IsErr, OnOk, OnErr};
     ghost use Rattle.arachne_lang.specs.Program.{source_of};
@@ -21,8 +21,10 @@ impl<'p> State<'p> {
     ghost use Rattle.arachne_machine.specs.Runs.{Comes, FoldsOn, HandsResult, IsOneStep, IsPoppedIn, RunsOn, SweepsOn, giving_in, seen_in};
     ghost use Rattle.arachne_machine.specs.declared.state.Progress.TheVariants as ways;
 
-    /// Hands a value on from frame to frame, and from a child that ran here to its parent, until one of them says what
-    /// comes next, or none is left. Where memory is refused the value is still to be handed on.
+    /// Hands a value on from frame to frame until one of them says what is next, or none is left.
+    ///
+    /// A value of a child that ran in this place goes on to its parent. If memory is refused, the value is still to be
+    /// handed on.
     #[inline(always)]
     pub fn give<P: Placing>(
         &mut self,
@@ -47,8 +49,8 @@ impl<'p> State<'p> {
         }
     }
 
-    /// Hands a value to the newest frame of the innermost thread. Where it has none it has ended, and its parent goes
-    /// on.
+    /// Hands a value to the newest frame of the innermost thread. If it has no frame, the thread has ended, and its
+    /// parent goes on.
     #[inline(always)]
     fn hand_newest<P: Placing>(
         &mut self,
@@ -78,7 +80,7 @@ impl<'p> State<'p> {
         self.join_here(value, left)
     }
 
-    /// Memory was refused: the value is still to be handed on.
+    /// Notes that the value is still to be handed on, as memory was refused.
     #[cold]
     #[inline(never)]
     pub fn refused(&mut self, value: u64) -> Result<Progress<'p>, AllocError>
@@ -89,7 +91,7 @@ impl<'p> State<'p> {
         Err(AllocError)
     }
 
-    /// Room for what a value begins.
+    /// Reserves the room for the variables and the frame that a value begins.
     pub fn reserve_turn(&mut self) -> Result<(), AllocError>
         ensures same { IsSame self.old self.new }
         ensures environment { OnOk result (vec_len self.new.environment + 2 ≤ vec_capacity self.new.environment) }
@@ -99,7 +101,8 @@ impl<'p> State<'p> {
         self.frames.try_reserve(1)
     }
 
-    /// Hands a value to this frame, which was the newest. Where memory is refused it is that again.
+    /// Hands a value to this frame, which was the newest and was taken off. If memory is refused, it is the newest
+    /// again.
     #[inline(always)]
     fn hand<P: Placing>(
         &mut self,
@@ -154,7 +157,7 @@ impl<'p> State<'p> {
         }
     }
 
-    /// It stands before the step in which this value was handed to this frame.
+    /// Goes back to before the step in which this value was handed to this frame.
     #[cold]
     #[inline(never)]
     fn stand_before(&mut self, frame: Frame<'p>, value: u64)
@@ -165,7 +168,7 @@ impl<'p> State<'p> {
         self.control = Control::Give(value);
     }
 
-    /// The same for a frame that begins no child.
+    /// Hands a value to a frame that begins no child.
     #[inline(always)]
     fn hand_within(&mut self, frame: Frame<'p>, value: u64, left: &mut u32) -> Progress<'p>
         requires within { IsWithin frame }
@@ -211,7 +214,7 @@ impl<'p> State<'p> {
         }
     }
 
-    /// The same for a frame at which the thread pauses, or the beginning of a fold or a sweep.
+    /// Hands a value to a frame at which the thread pauses, or at which a fold or a sweep begins.
     #[inline(always)]
     fn hand_on(&mut self, frame: Frame<'p>, value: u64, left: &mut u32) -> Progress<'p>
         requires later { IsPauseOrRange frame }
@@ -258,7 +261,7 @@ impl<'p> State<'p> {
         }
     }
 
-    /// The same for the beginning of a fold or a sweep.
+    /// Hands a value to a frame at which a fold or a sweep begins.
     #[inline(always)]
     fn hand_to_range(&mut self, frame: Frame<'p>, value: u64, left: &mut u32) -> Progress<'p>
         requires range { IsOfRange frame }
@@ -295,7 +298,8 @@ impl<'p> State<'p> {
         }
     }
 
-    /// Begins an expression after a frame was taken away; this frame says what comes after it.
+    /// Begins an expression after a frame was taken off. `frame` takes its room, and says what comes after the
+    /// expression.
     #[inline(always)]
     pub fn go_on(&mut self, frame: Frame<'p>, part: &'p Expr) -> Progress<'p>
         requires { vec_len self.old.frames + 1 ≤ vec_capacity self.old.frames }
@@ -306,7 +310,7 @@ impl<'p> State<'p> {
         Progress::Begin(part)
     }
 
-    /// Begins an expression with a newest variable.
+    /// Begins an expression with this value as the newest variable.
     #[inline(always)]
     fn extend(&mut self, value: u64, body: &'p Expr) -> Progress<'p>
         requires environment { vec_len self.old.environment + 1 ≤ vec_capacity self.old.environment }
@@ -321,8 +325,8 @@ impl<'p> State<'p> {
         Progress::Begin(body)
     }
 
-    /// What a fold, a part of a sweep or two halves come to, which is handed on by a step of its own: at once where one
-    /// is left.
+    /// Hands on the result of a fold, of a part of a sweep or of two halves, which is a step of its own. It is made at
+    /// once if a step is left.
     #[inline(always)]
     pub fn hand_result(&mut self, value: u64, left: &mut u32) -> Progress<'p>
         ensures same { Changes self.old (seen_in result self.new) self.old.environment.items self.old.frames.items (control.Give value) }
@@ -339,7 +343,7 @@ impl<'p> State<'p> {
         Progress::Value(value)
     }
 
-    /// Drops so many of the newest variables.
+    /// Drops the `count` newest variables.
     #[inline(always)]
     fn drop_newest(&mut self, count: usize)
         requires environment { vec_len self.old.environment + 2 ≤ vec_capacity self.old.environment }

@@ -10,10 +10,10 @@ use arachne_lang::{Name, Sequence};
 use std::alloc::AllocError;
 use std::mem::swap;
 
-/// Why an outcome was not joined.
+/// The reason why an outcome was not joined.
 #[derive(Clone, Copy)]
 pub enum Unjoined {
-    /// It is not that of the child that is awaited.
+    /// It is not the outcome of the awaited child.
     Foreign,
     /// Memory was refused.
     Memory,
@@ -34,7 +34,7 @@ impl<'p> State<'p> {
     ghost use Rattle.arachne_machine.specs.Outcome.{finished};
     ghost use Rattle.arachne_machine.specs.declared.join.Unjoined.TheVariants.{Foreign};
 
-    /// Whether the innermost thread awaits the child of this name.
+    /// Returns whether the innermost thread awaits the child of this name.
     pub fn awaits(&self, name: &Name) -> bool
         requires joins { pending_of self.now.control ≡ Some pause.Joins }
         requires line { HasLine self.now }
@@ -48,8 +48,9 @@ impl<'p> State<'p> {
         }
     }
 
-    /// The child of this number begins here, and the innermost thread awaits it. Where memory is refused nothing has
-    /// changed but room.
+    /// Begins the child of this number in this place. The innermost thread awaits it.
+    ///
+    /// If memory is refused, nothing has changed but capacities.
     #[inline(always)]
     pub fn begin_here<P: Placing>(
         &mut self,
@@ -76,8 +77,8 @@ impl<'p> State<'p> {
         Ok(())
     }
 
-    /// The innermost thread waits, and one whose line is at this place, and that has forked so many, goes on here.
-    /// There is room.
+    /// Makes the innermost thread wait for one that goes on in this place. That one has its line at `place`, and has
+    /// forked `forks` threads. There must be room for one more parent.
     #[inline(always)]
     fn descend(&mut self, awaits: Control<'p>, place: usize, forks: u64)
         requires { vec_len self.old.parents + 1 ≤ vec_capacity self.old.parents }
@@ -95,8 +96,9 @@ impl<'p> State<'p> {
         };
     }
 
-    /// The child that is awaited goes on here, with those that run in its place. Where memory is refused nothing has
-    /// changed but room.
+    /// Takes in the awaited child, which goes on in this place, with the threads that run in its own.
+    ///
+    /// If memory is refused, nothing has changed but capacities.
     pub fn take_in(&mut self, child: &mut State<'p>) -> Result<(), AllocError>
         requires { FitsInto self.old child.old }
         ensures ok { OnOk result (TakesIn self.old child.old self.new) }
@@ -125,8 +127,8 @@ impl<'p> State<'p> {
         Ok(())
     }
 
-    /// The innermost thread waits, and the levels of a child's threads come behind its frames and, from this place on,
-    /// its lines. There is room.
+    /// Makes the innermost thread wait for a child, and takes over the levels of the child's threads. Their frames come
+    /// behind those that are here, and their lines are from `place` on. There must be room for the parents.
     #[inline(always)]
     fn take_levels(&mut self, child: &State<'p>, place: usize)
         requires room { vec_len self.old.parents + vec_len child.now.parents + 1 ≤ vec_capacity self.old.parents }
@@ -144,8 +146,9 @@ impl<'p> State<'p> {
         self.level = child.level.moved(child.parents.is_empty(), start, place);
     }
 
-    /// The child that ran here has ended with this value: its parent joins it, and goes on. Where memory is refused the
-    /// value is still to be handed on.
+    /// Ends the child that has run in this place: its parent joins it, with this value, and goes on.
+    ///
+    /// If memory is refused, the value is still to be handed on.
     #[inline(always)]
     pub fn join_here(&mut self, value: u64, left: &mut u32) -> Result<Progress<'p>, AllocError>
         requires parent { HasParent self.old }
@@ -178,7 +181,7 @@ impl<'p> State<'p> {
         }
     }
 
-    /// The child's value, and the one of what was done meanwhile, become the newest variables. There is room.
+    /// Makes the child's value, and then that of `during`, the newest variables. There must be room.
     #[inline(always)]
     fn bind_joined(&mut self, value: u64, during: u64)
         requires environment { vec_len self.old.environment + 2 ≤ vec_capacity self.old.environment }
@@ -192,8 +195,9 @@ impl<'p> State<'p> {
         self.frames.push_reserved(Frame::Restore(length));
     }
 
-    /// Joins what an outcome brings, where it is that of the child that is awaited. Where it answers an error nothing
-    /// has changed but room.
+    /// Joins an outcome with these contents, if it is that of the awaited child.
+    ///
+    /// After an error nothing has changed but capacities.
     pub fn join(&mut self, contents: &mut Contents) -> Result<(), Unjoined>
         requires joins { pending_of self.old.control ≡ Some pause.Joins }
         requires line { HasLine self.old }
@@ -216,7 +220,7 @@ impl<'p> State<'p> {
         Ok(())
     }
 
-    /// The lines come behind these, and the sums are added. Where memory is refused nothing has changed but room.
+    /// Appends the lines, and adds the sums. If memory is refused, nothing has changed but capacities.
     #[inline(always)]
     fn take_contents(&mut self, contents: &mut Contents) -> Result<(), AllocError>
         requires sums { length contents.old.sums.items ≡ length self.old.sums.items }
@@ -235,7 +239,7 @@ impl<'p> State<'p> {
         Ok(())
     }
 
-    /// Goes on once the child that is awaited was joined, which ended with this value. There is room.
+    /// Goes on after the awaited child, which has ended with this value, was joined. There must be room.
     #[inline(always)]
     fn resume_joined(&mut self, value: u64)
         requires joins { pending_of self.old.control ≡ Some pause.Joins }
@@ -260,7 +264,7 @@ impl<'p> State<'p> {
         }
     }
 
-    /// It stands before the step in which it came to await a child.
+    /// Goes back to before the step in which the thread began to await a child.
     pub fn stand_before_join(&mut self)
         requires joins { pending_of self.old.control ≡ Some pause.Joins }
         requires room { HasRoom self.old }

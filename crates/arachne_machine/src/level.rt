@@ -1,22 +1,22 @@
-//! Where a thread is in a state that others may share, and who waits for it.
+//! The part of a state that belongs to one of its threads, and the threads that wait.
 ghost use Rattle.std.specs.Prelude.{◌≡◌, ◌+◌, ◌≤◌, ◌<◌, ◌^◌, ℕ, ◌++◌, false, length, reverse, vec_len, vec_capacity, IsTrue};
 ghost use Rattle.arachne_machine.specs.Strands.{Fits, moved_parents};
 
 use crate::frame::Control;
 
-/// Where a thread is in a state, in which others may run in its place.
+/// The part of a state that belongs to one of the threads that run in its place.
 #[derive(Clone, Copy)]
 pub struct Level {
-    /// How many frames there are below its own.
+    /// The number of frames below its own.
     pub start: usize,
-    /// How many threads it has forked.
+    /// The number of threads that it has forked.
     pub forks: u64,
-    /// Where its line is among those below the outermost thread, which has its own apart.
+    /// The place of its line among those below the outermost thread, whose own line is apart.
     pub place: usize,
 }
 
 impl Level {
-    /// That of the outermost thread.
+    /// Returns the level of the outermost thread.
     pub fn outermost() -> Level
         ensures { result ≡ record { start = 0; forks = 0; place = 0 } }
     {
@@ -27,8 +27,9 @@ impl Level {
         }
     }
 
-    /// The same where this many frames come before its own. The line of the outermost thread, which lay apart, is at
-    /// this place then, and those of the others are behind it.
+    /// Returns the level with `start` more frames before its own.
+    ///
+    /// The line of the outermost thread, which was apart, is at `place` then, and those of the others are behind it.
     #[inline(always)]
     pub fn moved(self, outermost: bool, start: usize, place: usize) -> Level
         requires start { start + self.start < 2 ^ 64 }
@@ -53,12 +54,13 @@ impl Level {
 #[derive(Clone, Copy)]
 pub struct Parent<'p> {
     pub level: Level,
-    /// What it awaits, and what it does then.
+    /// The child that it awaits, and its action after the join.
     pub control: Control<'p>,
 }
 
-/// Those that wait in another state, the outermost first, wait behind these, where this many frames come before theirs,
-/// and their lines are from this place on. There is room.
+/// Adds the threads that wait in another state, the outermost first, behind these.
+///
+/// `start` frames come before theirs, and their lines are from `place` on. There must be room for them.
 pub fn move_parents<'p>(
     parents: &mut Vec<Parent<'p>>,
     others: &[Parent<'p>],

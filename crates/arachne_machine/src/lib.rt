@@ -1,4 +1,4 @@
-//! Threads of a task program that are advanced by steps, cut anywhere, and joined by name.
+//! Threads of a task program that advance by steps, can be cut anywhere, and are joined by name.
 #![tactic(auto)]
 
 mod alone;

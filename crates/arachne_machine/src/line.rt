@@ -1,4 +1,4 @@
-//! What is known of a thread that has ended.
+//! The record of a thread that has ended.
 ghost use Rattle.std.specs.Prelude.{◌≡◌};
 ghost use Rattle.arachne_machine.specs.Lines.{HoldsOnceMore};
 
@@ -7,7 +7,7 @@ use arachne_lang::{Name, Sequence};
 use std::alloc::Global;
 use std::mem::replace;
 
-/// Where a thread ran.
+/// The place at which a thread ran.
 #[derive(Clone, Copy, Debug, PartialEq, Eq)]
 pub enum Ran {
     /// At a place that its fork found.
@@ -18,29 +18,29 @@ pub enum Ran {
     InPlace,
 }
 
-/// What is told of a thread beside what it does.
+/// The tag of a thread, and the place at which it runs.
 #[derive(Clone, Copy)]
 pub struct Label {
-    /// The tag that it runs under.
+    /// The tag under which it runs.
     pub tag: u64,
-    /// Where it runs.
+    /// The place at which it runs.
     pub ran: Ran,
 }
 
-/// What is known of a thread once it has ended.
+/// The record of a thread that has ended.
 #[derive(Debug, Drop)]
 pub struct ThreadLine {
     pub name: Name,
-    /// The tag that it ran under.
+    /// The tag under which it ran.
     pub tag: u64,
-    /// For each lock how often it held it, modulo 2^64.
+    /// For each lock, the number of times that it held it, modulo 2^64.
     pub holds: Sequence<u64>,
-    /// Where it ran.
+    /// The place at which it ran.
     pub ran: Ran,
 }
 
 impl ThreadLine {
-    /// That of no thread. It allocates nothing.
+    /// Returns a line of no thread. Takes no memory.
     #[inline(always)]
     pub(crate) fn vacant(alloc: Global) -> ThreadLine {
         ThreadLine {
@@ -51,7 +51,7 @@ impl ThreadLine {
         }
     }
 
-    /// Taken out, and that of no thread is left.
+    /// Takes the line out, and leaves a vacant one.
     #[inline(always)]
     pub(crate) fn take(&mut self, alloc: Global) -> ThreadLine
         ensures { result ≡ self.old }
@@ -59,7 +59,7 @@ impl ThreadLine {
         replace(self, ThreadLine::vacant(alloc))
     }
 
-    /// Counts that it held this lock once more.
+    /// Counts that the thread has held this lock once more.
     pub(crate) fn count_hold(&mut self, alloc: Global, lock: u64)
         ensures { HoldsOnceMore self.old self.new lock }
     {

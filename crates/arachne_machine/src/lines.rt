@@ -1,4 +1,4 @@
-//! The lines of threads in order, of which many are moved at most once.
+//! The lines of threads in order, in a form in which large numbers of them are moved at most once.
 ghost use Rattle.std.specs.Prelude.{◌≡◌, ◌+◌, ◌-◌, ◌≤◌, ◌<◌, ◌^◌, List, [], ◌∷◌, ◌++◌, get_or, length, vec_len, vec_capacity, IfOk, IfErr, OnOk, OnErr};
 ghost use Rattle.arachne_machine.specs.declared.line.ThreadLine.{ThreadLine};
 ghost use Rattle.arachne_machine.specs.Lines.{CountsHoldAt, lines_in};
@@ -9,19 +9,19 @@ use std::alloc::{AllocError, Global};
 use std::marker::Model;
 use std::mem::replace;
 
-/// How many lines at most are moved behind others. More stay in a list of their own.
+/// The maximum number of lines that are moved behind others. More than these stay in a list of their own.
 const MOST_MOVED: usize = 1000;
 
-/// How many lines there are at most.
+/// The maximum number of lines.
 const MOST: usize = usize::MAX / 2;
 
-/// The lines of threads, in order, in few lists, so that many of them are moved once only, when they are complete.
+/// The lines of threads, in order, in few lists. So a large number of lines is moved only once, when they are complete.
 #[derive(Debug, Drop)]
 pub struct Lines {
     earlier: Vec<Vec<ThreadLine>>,
-    /// How many are in the earlier lists.
+    /// The number of lines in the earlier lists.
     count: usize,
-    /// The list that further lines come to.
+    /// The list to which further lines are appended.
     last: Vec<ThreadLine>,
 }
 
@@ -38,7 +38,7 @@ impl Model for Lines {
 }
 
 impl Lines {
-    /// None. It allocates nothing.
+    /// Returns an empty list. Takes no memory.
     pub fn new(alloc: Global) -> Lines
         ensures { result ≡ [] }
     {
@@ -49,7 +49,7 @@ impl Lines {
         }
     }
 
-    /// How many there are.
+    /// Returns the number of lines.
     #[inline(always)]
     pub fn len(&self) -> usize
         ensures length { result ≡ length self.now }
@@ -58,7 +58,7 @@ impl Lines {
         self.count + self.last.len()
     }
 
-    /// One more. Where memory is refused it is lost.
+    /// Appends a line. If memory is refused, the line is lost.
     #[inline(always)]
     pub fn push(&mut self, line: ThreadLine) -> Result<(), AllocError>
         ensures ok { OnOk result (self.new ≡ self.old ++ line ∷ []) }
@@ -72,7 +72,7 @@ impl Lines {
         Ok(())
     }
 
-    /// The line at this place.
+    /// Returns the line at this place.
     #[inline(always)]
     pub fn at(&self, place: usize) -> &ThreadLine
         requires { place < length self.now }
@@ -84,7 +84,7 @@ impl Lines {
         line_in(&self.earlier, place)
     }
 
-    /// Counts that the thread whose line is at this place held this lock once more.
+    /// Counts that the thread whose line is at this place has held this lock once more.
     pub fn count_hold(&mut self, alloc: Global, place: usize, lock: u64)
         requires { place < length self.old }
         ensures { CountsHoldAt self.old self.new place lock }
@@ -97,8 +97,8 @@ impl Lines {
         }
     }
 
-    /// This line, and behind it those below it, which are moved here. Where memory is refused nothing has changed but
-    /// room.
+    /// Moves the line `own` here, and behind it the lines `below`. If memory is refused, nothing has changed but
+    /// capacities.
     pub fn append(
         &mut self,
         alloc: Global,
@@ -124,7 +124,8 @@ impl Lines {
         Ok(())
     }
 
-    /// The same, with no line moved but the first.
+    /// Moves the line `own` and the lines `below` here, like `append`. The lists of `below` are taken as they are, so
+    /// none of their lines is moved.
     #[cold]
     #[inline(never)]
     fn append_many(
@@ -152,7 +153,8 @@ impl Lines {
         Ok(())
     }
 
-    /// Takes this line, and behind it the others, in their lists. Where memory is refused nothing has changed.
+    /// Takes all lines, behind the line `own`, in the lists in which they are. If memory is refused, nothing has
+    /// changed.
     pub fn complete(
         &mut self,
         alloc: Global,
@@ -174,7 +176,7 @@ impl Lines {
     }
 }
 
-/// The line at this place in these lists.
+/// Returns the line at this place in these lists.
 #[cold]
 #[inline(never)]
 fn line_in(lists: &Vec<Vec<ThreadLine>>, place: usize) -> &ThreadLine
@@ -190,7 +192,7 @@ fn line_in(lists: &Vec<Vec<ThreadLine>>, place: usize) -> &ThreadLine
     &lists[at][left]
 }
 
-/// Counts a hold at this place in these lists.
+/// Counts a hold for the line at this place in these lists.
 #[cold]
 #[inline(never)]
 fn count_hold_in(alloc: Global, lists: &mut Vec<Vec<ThreadLine>>, place: usize, lock: u64)

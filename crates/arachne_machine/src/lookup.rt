@@ -1,11 +1,11 @@
-//! What variables and arrays give, 0 where there is nothing.
+//! The values of variables and arrays, which are 0 if there is none.
 ghost use Rattle.std.specs.Prelude.{◌≡◌, length, slice_index};
 ghost use Rattle.arachne_lang.specs.Program.{source_of};
 ghost use Rattle.arachne_lang.specs.Value.{array_at};
 
 use arachne_lang::Program;
 
-/// The value of a variable.
+/// Returns the value of a variable, or 0 if there is no such variable.
 #[inline(always)]
 pub fn variable_in(environment: &[u64], variable: u64) -> u64
     ensures { result ≡ slice_index environment.now variable }
@@ -16,7 +16,7 @@ pub fn variable_in(environment: &[u64], variable: u64) -> u64
     }
 }
 
-/// How many items an array has.
+/// Returns the number of items of an array, or 0 if there is no such array.
 #[inline(always)]
 pub fn length_in(program: &Program, array: u64) -> u64
     ensures { result ≡ length (array_at (source_of program.now).arrays array) }
@@ -27,7 +27,7 @@ pub fn length_in(program: &Program, array: u64) -> u64
     }
 }
 
-/// An item of an array.
+/// Returns an item of an array, or 0 if there is no such item.
 #[inline(always)]
 pub fn item_in(program: &Program, array: u64, index: u64) -> u64
     ensures { result ≡ slice_index (array_at (source_of program.now).arrays array) index }

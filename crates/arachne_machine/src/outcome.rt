@@ -1,4 +1,4 @@
-//! What a thread brings in the end: its value, its ledger sums and its lines.
+//! The outcome of a thread: its value, its ledger sums and its lines.
 ghost use Rattle.std.specs.Prelude.{◌≡◌, ◌∷◌, IfOk, IfErr};
 ghost use Rattle.arachne_machine.specs.Outcome.{IsOfItsName};
 
@@ -7,8 +7,8 @@ use crate::thread_lines::ThreadLines;
 use arachne_lang::{Name, Program, Sequence};
 use std::marker::Model;
 
-/// What a thread brings in the end: its value, the ledger sums, and the lines of itself and of all threads
-/// below it. It is what the program means for the thread of its name.
+/// The outcome of a thread that has ended: its value, the ledger sums, and the lines of itself and of all threads below
+/// it. It is the one that the program's meaning has for the thread of that name.
 #[derive(Debug, Drop)]
 pub struct Outcome<'p> {
     pub(crate) program: &'p Program,
@@ -30,32 +30,32 @@ impl<'p> Model for Outcome<'p> {
     ghost invariant = { λ o. IsOfItsName (finished o.program.now o.contents) };
 }
 
-/// An outcome taken apart.
+/// The parts of an outcome.
 #[derive(Debug, Drop)]
 pub struct OutcomeParts {
     pub value: u64,
-    /// For each ledger its sum, modulo 2^64.
+    /// For each ledger, its sum, modulo 2^64.
     pub sums: Sequence<u64>,
-    /// The own line, then those below.
+    /// The thread's own line, then those of the threads below it.
     pub lines: ThreadLines,
 }
 
 impl<'p> Outcome<'p> {
-    /// The program.
+    /// Returns the program.
     pub fn program(&self) -> &'p Program
         ensures { result.now ≡ self.now.program }
     {
         self.program
     }
 
-    /// The thread's name.
+    /// Returns the thread's name.
     pub fn name(&self) -> &Name
         ensures { result.now ≡ self.now.name }
     {
         &self.contents.own.name
     }
 
-    /// The value.
+    /// Returns the thread's value.
     pub fn value(&self) -> u64
         ensures value { result ≡ self.now.value }
         ensures of_its_name { IsOfItsName self.now }
@@ -63,8 +63,9 @@ impl<'p> Outcome<'p> {
         self.contents.value
     }
 
-    /// Returns the value, the sums and the lines. It takes memory for a list of the lists of lines; if that is refused,
-    /// the outcome is the error.
+    /// Returns the value, the sums and the lines.
+    ///
+    /// Takes memory for a list of the lists of lines. If that is refused, the outcome is the error.
     pub fn into_parts(self) -> Result<OutcomeParts, Outcome<'p>>
         ensures value { IfOk result (λ parts. parts.value ≡ self.entry.value) }
         ensures sums { IfOk result (λ parts. parts.sums ≡ self.entry.sums) }

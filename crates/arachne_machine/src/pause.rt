@@ -1,25 +1,25 @@
-//! Why a thread pauses, and which pauses are not answered.
+//! The reasons why a thread pauses, and the pauses that are pending.
 use crate::thread::Thread;
 use arachne_lang::Class;
 use std::fmt;
 use thiserror::Error;
 
-/// Why a thread paused.
+/// The reason why a thread has paused.
 #[derive(Drop)]
 pub enum Pause<'p> {
-    /// The budget is used up: advance it again.
+    /// The budget is used up. Advance the thread again.
     Budget,
-    /// It forks a child of this class: give the child away and answer `forked`, or hand it to `in_place`.
+    /// It forks a child of this class. Give the child away and answer `forked`, or hand it to `in_place`.
     Forks(Class, Thread<'p>),
-    /// It awaits the outcome of a child: answer `joined`, or hand the child to `in_place`.
+    /// It awaits the outcome of a child. Answer `joined`, or hand the child to `in_place`.
     Joins,
-    /// It asks for this lock: answer `granted` once it has it.
+    /// It asks for this lock. Answer `granted` once it has it.
     Asks(u64),
-    /// It frees this lock: answer `freed`.
+    /// It releases this lock. Answer `freed`.
     Frees(u64),
-    /// It adds to this ledger this amount: answer `tallied`.
+    /// It adds this amount to this ledger. Answer `tallied`.
     Tallies(u64, u64),
-    /// It has ended: `finish` it.
+    /// It has ended. Call `finish`.
     Ended,
 }
 
@@ -28,19 +28,19 @@ pub enum Pause<'p> {
 pub enum Pending {
     Forks,
     Joins,
-    /// Of this lock.
+    /// The lock's number.
     Asks(u64),
-    /// Of this lock.
+    /// The lock's number.
     Frees(u64),
-    /// A ledger and an amount.
+    /// The ledger's number, and the amount.
     Tallies(u64, u64),
     Ended,
 }
 
-/// Why an outcome was not joined. It comes back.
+/// The reason why an outcome was not joined. The outcome is returned with it.
 #[derive(Drop, Error)]
 pub enum NotJoined<O> {
-    /// It is not that of the child that is awaited.
+    /// It is not the outcome of the awaited child.
     #[error("the outcome of another thread")]
     Foreign(O),
     /// Memory was refused.
@@ -48,7 +48,7 @@ pub enum NotJoined<O> {
     Memory(O),
 }
 
-/// Says why, without the outcome.
+/// Writes only the reason, without the outcome.
 impl<O> fmt::Debug for NotJoined<O> {
     fn fmt<W: fmt::Write>(&self, f: &mut fmt::Formatter<W>) -> fmt::Result {
         match self {
@@ -58,10 +58,10 @@ impl<O> fmt::Debug for NotJoined<O> {
     }
 }
 
-/// Why a child was not placed. It comes back.
+/// The reason why a child was not placed. The child is returned with it.
 #[derive(Drop, Error)]
 pub enum NotPlaced<'p> {
-    /// It is not the child that is awaited.
+    /// It is not the awaited child.
     #[error("another thread")]
     Foreign(Thread<'p>),
     /// Memory was refused.
@@ -69,7 +69,7 @@ pub enum NotPlaced<'p> {
     Memory(Thread<'p>),
 }
 
-/// Says why, without the child.
+/// Writes only the reason, without the child.
 impl<'p> fmt::Debug for NotPlaced<'p> {
     fn fmt<W: fmt::Write>(&self, f: &mut fmt::Formatter<W>) -> fmt::Result {
         match self {

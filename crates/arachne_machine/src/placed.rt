@@ -7,16 +7,16 @@ use crate::state::State;
 use arachne_lang::Class;
 use std::alloc::AllocError;
 
-/// A child that was not placed.
+/// A child that was not placed, with the reason.
 #[derive(Drop)]
 pub enum Unplaced<'p> {
-    /// Another one is awaited.
+    /// It is not the awaited child.
     Foreign(Box<State<'p>>),
     /// Memory was refused.
     Memory(Box<State<'p>>),
 }
 
-/// How a thread goes on with the children that were handed back to it, the newest of which is the last.
+/// The steps of a thread with the children that were handed back to it. The newest is the last.
 impl<'p> State<'p> {
     ghost use Rattle.std.specs.Prelude.{◌≡◌, ◌≤◌, None, Some, true, All, IfOk, OnOk, OnErr};
     ghost use Rattle.arachne_machine.specs.declared.pause.Pending.TheVariants as pause;
@@ -26,9 +26,11 @@ impl<'p> State<'p> {
     ghost use Rattle.arachne_machine.specs.Suspended.{awaited};
     ghost use Rattle.arachne_machine.specs.Kept.{AdvancesWith, IsKept, Places, StandsBack, TakesUp, Went};
 
-    /// Goes on for at most as many steps as are left, until it pauses. Where the innermost thread comes to await the
-    /// newest of these children, that one goes on in its place. Gives the child where it pauses for a fork. Where
-    /// memory is refused it stands before the refused step, which is still left.
+    /// Advances by at most `left` steps, until the thread pauses, and subtracts the steps that were made from `left`.
+    ///
+    /// If the innermost thread comes to await the newest of these children, that child goes on in its place. Returns
+    /// the child if the thread pauses for a fork. If memory is refused, the thread stands before the step that was
+    /// refused, which is not subtracted.
     pub fn advance_with<P: Placing>(
         &mut self,
         placed: &mut Vec<Box<State<'p>>>,
@@ -42,7 +44,8 @@ impl<'p> State<'p> {
         ensures err { OnErr result (Went (P.gives_all ≡ true) left.old left.new self.old placed.old.items self.new placed.new.items) }
         ensures err_left { OnErr result (1 ≤ left.new) }
     {
-        // The proof reads it: what is left at first is a number of 32 bits, so what is left later is one.
+        // Only the proof uses it: the steps that are left at first fit into 32 bits, so those that are left later do
+        // too.
         let _had = *left;
         while *left > 0 {
             if let Some(forked) = self.advance(left, spares, places)? {
@@ -60,7 +63,8 @@ impl<'p> State<'p> {
         Ok(None)
     }
 
-    /// Where the innermost thread awaits the newest of these children, that one goes on in its place.
+    /// If the innermost thread awaits the newest of these children, lets that child go on in its place. Returns whether
+    /// it did.
     #[inline(always)]
     fn take_up(
         &mut self,
@@ -79,8 +83,10 @@ impl<'p> State<'p> {
         }
     }
 
-    /// The same for a thread that awaits a child. Where memory is refused it stands before the step in which it came to
-    /// await it.
+    /// Lets the newest of these children go on in this place if the innermost thread, which awaits a child, awaits that
+    /// one. Returns whether it did.
+    ///
+    /// If memory is refused, the thread stands before the step in which it began to await the child.
     #[cold]
     #[inline(never)]
     fn take_newest(
@@ -111,9 +117,11 @@ impl<'p> State<'p> {
         Ok(true)
     }
 
-    /// A child comes back: it waits to run here, and begins before those that were handed back to it; or, where it is
-    /// awaited, it goes on here, and those are the newest of these. Where it answers an error nothing has changed but
-    /// room.
+    /// Takes back a child to run it in this place.
+    ///
+    /// A child that was just forked waits, and begins before the children `others` that were handed back to it. An
+    /// awaited child goes on here at once, and `others` are the newest of these children. After an error nothing has
+    /// changed but capacities.
     pub fn place(
         &mut self,
         placed: &mut Vec<Box<State<'p>>>,
@@ -134,7 +142,8 @@ impl<'p> State<'p> {
         }
     }
 
-    /// A child that was forked waits to run here, and begins before those that were handed back to it.
+    /// Takes back a child that was just forked. It waits to run here, and begins before the children that were handed
+    /// back to it.
     fn wait_with(
         &mut self,
         placed: &mut Vec<Box<State<'p>>>,
@@ -156,7 +165,7 @@ impl<'p> State<'p> {
         Ok(())
     }
 
-    /// The child that is awaited goes on here, and those that were handed back to it are the newest of these.
+    /// Lets the awaited child go on here. The children that were handed back to it are the newest of these.
     fn go_on_with(
         &mut self,
         placed: &mut Vec<Box<State<'p>>>,

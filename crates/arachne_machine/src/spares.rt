@@ -1,15 +1,16 @@
-//! Memory that ended threads leave for new ones.
+//! The memory that ended threads leave for new ones.
 use crate::contents::Contents;
 use crate::state::State;
 use arachne_lang::Program;
 use std::alloc::{AllocError, Global};
 use std::marker::Model;
 
-/// How many states are kept at most, and how many boxes.
+/// The maximum number of states that are kept, and that of boxes.
 const MOST: usize = 64;
 
-/// The memory that ended threads leave for those that begin: their states, with the room of their environments and
-/// frames, and the boxes of outcomes that were joined. It is for the threads of one core.
+/// The memory that ended threads leave for new ones, for the threads of one core.
+///
+/// It consists of their states, with the room of their environments and frames, and of the boxes of joined outcomes.
 #[derive(Drop)]
 pub struct Spares<'p> {
     most: usize,
@@ -28,7 +29,7 @@ impl<'p> Model for Spares<'p> {
 }
 
 impl<'p> Spares<'p> {
-    /// None so far. It allocates nothing.
+    /// Returns an empty store. Takes no memory.
     pub fn new(alloc: Global) -> Spares<'p> {
         Spares {
             most: MOST,
@@ -37,7 +38,7 @@ impl<'p> Spares<'p> {
         }
     }
 
-    /// None, now and later.
+    /// Returns a store that stays empty.
     pub(crate) fn none(alloc: Global) -> Spares<'p> {
         Spares {
             most: 0,
@@ -46,7 +47,7 @@ impl<'p> Spares<'p> {
         }
     }
 
-    /// The state of an ended thread, or a new one where there is none.
+    /// Returns the state of an ended thread, or a new one if there is none.
     pub(crate) fn take(
         &mut self,
         alloc: Global,
@@ -58,7 +59,7 @@ impl<'p> Spares<'p> {
         }
     }
 
-    /// The box of an outcome that was joined, or a new one where there is none.
+    /// Returns the box of a joined outcome, or a new one if there is none.
     #[inline(always)]
     pub fn take_contents(&mut self) -> Result<Box<Contents>, AllocError> {
         match self.contents.pop() {
@@ -67,7 +68,7 @@ impl<'p> Spares<'p> {
         }
     }
 
-    /// Keeps what an outcome that was joined leaves, or a box that was taken for nothing, unless there is enough.
+    /// Keeps the box of a joined outcome, or one that was taken and not used, unless enough are kept.
     #[inline(always)]
     pub fn keep_contents(&mut self, contents: Box<Contents>) {
         if self.contents.len() < self.most {
@@ -75,7 +76,7 @@ impl<'p> Spares<'p> {
         }
     }
 
-    /// Keeps what an ended thread leaves, unless there is enough.
+    /// Keeps the state of an ended thread, unless enough are kept.
     #[inline(always)]
     pub(crate) fn keep(&mut self, state: Box<State<'p>>) {
         if self.states.len() < self.most {

@@ -1,4 +1,4 @@
-//! What a thread is between two steps.
+//! The state of a thread between two steps.
 use crate::contents::Contents;
 use crate::frame::{Control, Frame};
 use crate::level::{Level, Parent};
@@ -12,12 +12,12 @@ use arachne_lang::{Class, Expr, Name, Program, Sequence};
 use std::alloc::{AllocError, Global};
 use std::mem::replace;
 
-/// What becomes a thread's own line.
+/// The data of which a thread's own line is made.
 #[derive(Drop)]
 pub struct Own {
     pub name: Name,
     pub label: Label,
-    /// For each lock how often it held it, modulo 2^64.
+    /// For each lock, the number of times that the thread held it, modulo 2^64.
     pub holds: Vec<u64>,
 }
 
@@ -25,7 +25,7 @@ impl Own {
     ghost use Rattle.std.specs.Prelude.{◌≡◌};
     ghost use Rattle.arachne_machine.specs.Strands.{own_line};
 
-    /// That of no thread. It allocates nothing.
+    /// Returns the data of no thread. Takes no memory.
     fn vacant(alloc: Global) -> Own {
         Own {
             name: Name::root(alloc),
@@ -37,7 +37,7 @@ impl Own {
         }
     }
 
-    /// The thread's line.
+    /// Takes out the thread's line.
     #[inline(always)]
     pub fn take_line(&mut self, alloc: Global) -> ThreadLine
         ensures line { result ≡ own_line self.old }
@@ -51,7 +51,7 @@ impl Own {
         }
     }
 
-    /// Takes back its line, but for where it says that the thread ran.
+    /// Puts back the thread's line. The place at which the thread ran is not taken from it.
     pub fn put_back(&mut self, line: ThreadLine)
         ensures name { self.new.name ≡ line.name }
         ensures holds { self.new.holds.items ≡ line.holds }
@@ -68,41 +68,41 @@ impl Own {
     }
 }
 
-/// What a thread is between two steps, with those that run in its place.
+/// The state of a thread between two steps, with those of the threads that run in its place.
 #[derive(Drop)]
 pub struct State<'p> {
     pub program: &'p Program,
     pub alloc: Global,
-    /// The outermost thread's.
+    /// The data of the outermost thread's line.
     pub own: Own,
-    /// The lines below the outermost thread, in order: those of threads that were joined, and of those that run here,
-    /// each at its place.
+    /// The lines below the outermost thread, in order: those of joined threads, and of the threads that run here, each
+    /// at its place.
     pub lines: Lines,
-    /// For each ledger the sum of what all of them have tallied, modulo 2^64.
+    /// For each ledger, the sum of the amounts that all of them have tallied, modulo 2^64.
     pub sums: Vec<u64>,
-    /// Those that wait, the outermost first.
+    /// The threads that wait, the outermost first.
     pub parents: Vec<Parent<'p>>,
     /// The innermost thread, which goes on.
     pub level: Level,
-    /// Its environment. Each parent's is a part of it, from the first variable on.
+    /// The innermost thread's environment. Each parent's environment is a prefix of it.
     pub environment: Vec<u64>,
-    /// Those of all threads, the outermost's first. The newest is the last.
+    /// The frames of all threads, the outermost's first. The newest is the last.
     pub frames: Vec<Frame<'p>>,
     pub control: Control<'p>,
 }
 
-/// What comes of a part of a step.
+/// The result of a part of a step.
 #[derive(Drop)]
 pub enum Progress<'p> {
     /// This value is handed to the newest frame.
     Value(u64),
-    /// The step is made, and this expression is begun next.
+    /// The step has been made, and this expression is begun next.
     Begin(&'p Expr),
-    /// The step is made, and what comes next is in the state.
+    /// The step has been made, and the next action is in the state.
     Goes,
-    /// The step is made, and the thread pauses, but not for a fork.
+    /// The step has been made, and the thread pauses, but not for a fork.
     Stops,
-    /// The step is made, and has forked this child.
+    /// The step has been made, and has forked this child.
     Forks(Class, Box<State<'p>>),
 }
 
@@ -118,7 +118,7 @@ impl<'p> State<'p> {
     ghost use Rattle.arachne_machine.specs.declared.pause.Pending.TheVariants as pause;
     ghost use Rattle.arachne_machine.specs.declared.frame.Control.TheVariants as control;
 
-    /// A thread that begins like this, with a copy of the environment.
+    /// Creates a thread that begins with `control`, with a copy of the environment.
     pub fn new(
         alloc: Global,
         program: &'p Program,
@@ -146,7 +146,7 @@ impl<'p> State<'p> {
         Ok(state)
     }
 
-    /// A thread of the program that does nothing.
+    /// Returns a state of no thread of the program.
     #[cold]
     #[inline(never)]
     pub fn vacant(alloc: Global, program: &'p Program) -> State<'p> {
@@ -164,8 +164,9 @@ impl<'p> State<'p> {
         }
     }
 
-    /// Becomes a thread that has not begun, with the room that it had. The environment gets room for three more: a
-    /// number of a sweep, and the two that may come with a value.
+    /// Makes this the state of a thread that has not begun, with the capacities that it had.
+    ///
+    /// The environment gets room for three more variables: a number of a sweep, and the two that may come with a value.
     fn renew(
         &mut self,
         program: &'p Program,
@@ -190,8 +191,10 @@ impl<'p> State<'p> {
         Ok(())
     }
 
-    /// Goes on for at most as many steps as are left, until it pauses. Then fewer are left. Gives the child where it
-    /// pauses for a fork. Where memory is refused it stands before the refused step, which is still left.
+    /// Advances by at most `left` steps, until the thread pauses, and subtracts the steps that were made from `left`.
+    ///
+    /// Returns the child if the thread pauses for a fork. If memory is refused, the thread stands before the step that
+    /// was refused, which is not subtracted.
     pub fn advance<P: Placing>(
         &mut self,
         left: &mut u32,
@@ -231,7 +234,7 @@ impl<'p> State<'p> {
         Ok(None)
     }
 
-    /// The expression that is begun next, where one is.
+    /// Returns the expression that is begun next, if the next action is to begin one.
     #[inline(always)]
     fn beginning(&self) -> Option<&'p Expr>
         ensures current { current_in result self.now ≡ self.now }
@@ -243,7 +246,7 @@ impl<'p> State<'p> {
         }
     }
 
-    /// Writes down that this expression is begun next, where one is.
+    /// Makes it the next action to begin this expression, if there is one.
     #[inline(always)]
     fn settle(&mut self, begins: Option<&'p Expr>)
         ensures { self.new ≡ current_in begins.entry self.old }
@@ -253,9 +256,11 @@ impl<'p> State<'p> {
         }
     }
 
-    /// A step, and with it further ones of those that are left, which need nothing but what is known then. It begins
-    /// this expression, or else a part of a sweep, or takes a value that was left over; and hands on the value that is
-    /// known at once.
+    /// Makes a step, and at once those of the next ones that need only what is known by then, which are subtracted from
+    /// `left`.
+    ///
+    /// The step begins this expression. If there is none, it begins a part of a sweep, or takes a value that was left
+    /// over. A value that is known at once is handed on.
     #[inline(always)]
     fn make<P: Placing>(
         &mut self,
@@ -281,7 +286,7 @@ impl<'p> State<'p> {
         }
     }
 
-    /// Begins this expression, or else a part of a sweep, or takes a value that was left over.
+    /// Begins this expression. If there is none, begins a part of a sweep, or takes a value that was left over.
     #[inline(always)]
     fn begin_next<P: Placing>(
         &mut self,
@@ -303,7 +308,7 @@ impl<'p> State<'p> {
         }
     }
 
-    /// A value that was left over is taken, or a part of a sweep is begun.
+    /// Takes a value that was left over, or begins a part of a sweep.
     #[inline(always)]
     fn resume<P: Placing>(
         &mut self,
@@ -325,7 +330,7 @@ impl<'p> State<'p> {
         }
     }
 
-    /// The pause that is not answered.
+    /// Returns the pending pause: the one that is not answered yet.
     pub fn pending(&self) -> Option<Pending>
         ensures { result ≡ pending_of self.now.control }
     {
@@ -340,7 +345,7 @@ impl<'p> State<'p> {
         }
     }
 
-    /// The name of the innermost thread.
+    /// Returns the name of the innermost thread.
     #[inline(always)]
     pub fn running_name(&self) -> &Name
         requires { HasLine self.now }
@@ -352,7 +357,7 @@ impl<'p> State<'p> {
         &self.lines.at(self.level.place).name
     }
 
-    /// The tag of the innermost thread.
+    /// Returns the tag of the innermost thread.
     pub fn running_tag(&self) -> u64
         requires { HasLine self.now }
         ensures { result ≡ (top self.now).own.label.tag }
@@ -363,7 +368,7 @@ impl<'p> State<'p> {
         self.lines.at(self.level.place).tag
     }
 
-    /// What the outcome of a thread that has ended brings, of which nothing is left here.
+    /// Takes out the contents of the outcome of a thread that has ended.
     #[inline(always)]
     pub fn finish(&mut self) -> Contents
         requires ended { pending_of self.old.control ≡ Some pause.Ended }
@@ -382,7 +387,7 @@ impl<'p> State<'p> {
         }
     }
 
-    /// The value of a thread that has ended.
+    /// Returns the value of a thread that has ended.
     fn value(&self) -> u64
         requires { pending_of self.now.control ≡ Some pause.Ended }
         ensures { self.now.control ≡ control.Ended result }

@@ -4,7 +4,7 @@ ghost use Rattle.arachne_lang.specs.Effects.{tabulated};
 
 use std::alloc::{AllocError, Global};
 
-/// So many zeros.
+/// Returns `n` zeros.
 #[inline(always)]
 pub fn zeros(alloc: Global, n: u8) -> Result<Vec<u64>, AllocError>
     ensures { IfOk result (λ v. v.items ≡ tabulated n (λ _. 0)) }
@@ -15,7 +15,7 @@ pub fn zeros(alloc: Global, n: u8) -> Result<Vec<u64>, AllocError>
     vec![in alloc; 0u64; usize::from(n)]
 }
 
-/// Adds number by number, modulo 2^64.
+/// Adds to each number of `sums` the one of `more`, modulo 2^64.
 pub fn add_each(sums: &mut [u64], more: &[u64])
     requires { length more.now ≡ length sums.old }
     ensures { (n : ℕ) (own others : ℕ → ℕ) → sums.old ≡ tabulated n own → more.now ≡ tabulated n others

@@ -1,4 +1,4 @@
-//! A thread with those that run in its place, as callers advance, answer and join it.
+//! A thread with those that run in its place, with the calls that advance, answer and join it.
 ghost use Rattle.std.specs.Prelude.{◌≡◌, ◌≢◌, ◌↔◌, ◌≤◌, ◌+◌, ◌-◌, ℕ, ◌∷◌, [], ◌++◌, true, false, Err, None, Some, IfOk, IfSome, OnOk, IfErr, OnErr, IsTrue};
 ghost use Rattle.arachne_lang.specs.Effects.{tabulated};
 ghost use Rattle.arachne_machine.specs.Suspended.{IsAnswered, IsAsk, IsFree, IsFresh, IsNext, IsTally, Joined, SameThread, added, awaited, own_line_of, raised};
@@ -31,14 +31,15 @@ use std::alloc::{AllocError, Global};
 use std::marker::Model;
 use std::snapshot::Snapshot;
 
-/// A thread of a program between two steps, with the threads that run in its place: a child that was placed
-/// here runs once its parent awaits it, and its parent goes on once it has ended. It is not cloned: each thread
-/// runs once.
+/// A thread of a program between two steps, with the threads that run in its place.
+///
+/// A child that was placed here runs once its parent awaits it, and its parent goes on once it has ended. A thread is
+/// not `Clone`: each thread runs once.
 #[derive(Drop)]
 pub struct Thread<'p> {
-    /// The thread, and those that have begun in its place.
+    /// The thread, and the threads that have begun in its place.
     state: Box<State<'p>>,
-    /// Children that were handed back to be run here and have not begun here, the newest last.
+    /// Children that were handed back to run here and have not begun here, the newest last.
     placed: Vec<Box<State<'p>>>,
 }
 
@@ -59,7 +60,7 @@ impl<'p> Model for Thread<'p> {
 }
 
 impl<'p> Thread<'p> {
-    /// The root thread of a program.
+    /// Creates the root thread of a program.
     pub fn start(alloc: Global, program: &'p Program, tag: u64) -> Result<Thread<'p>, AllocError>
         ensures alone { IfOk result IsAlone }
         ensures fresh { IfOk result (λ thread. IsFresh program.now [] tag thread.running) }
@@ -74,36 +75,36 @@ impl<'p> Thread<'p> {
         Ok(thread_of(state))
     }
 
-    /// The tag.
+    /// Returns the tag of the outermost thread.
     pub fn tag(&self) -> u64
         ensures { result ≡ (whole self.now).label.tag }
     {
         self.state.own.label.tag
     }
 
-    /// The name.
+    /// Returns the name of the outermost thread.
     pub fn name(&self) -> &Name
         ensures { result.now ≡ (whole self.now).name }
     {
         &self.state.own.name
     }
 
-    /// The program.
+    /// Returns the program.
     pub fn program(&self) -> &'p Program
         ensures { result.now ≡ (whole self.now).program }
     {
         self.state.program
     }
 
-    /// The tag of the innermost thread that runs in this one's place: the one that makes the next step, and
-    /// whose the pause is that is not answered.
+    /// Returns the tag of the innermost thread that runs in this one's place. It makes the next step, and a pending
+    /// pause is its pause.
     pub fn running_tag(&self) -> u64
         ensures { result ≡ self.now.running.label.tag }
     {
         self.state.running_tag()
     }
 
-    /// Gives a thread that has not begun its tag.
+    /// Sets the tag of a thread that has not begun.
     pub fn set_tag(&mut self, tag: u64)
         requires { self.old.parents ≡ [] }
         ensures tagged { self.new ≡ record self.old { running = with_tag tag self.old.running } }
@@ -113,7 +114,7 @@ impl<'p> Thread<'p> {
         self.state.own.label.tag = tag;
     }
 
-    /// Notes of a thread that has not begun that a place was found for it while it waited.
+    /// Records that a place was found for the thread, which has not begun, while it waited.
     pub fn set_spilled(&mut self)
         requires { self.old.parents ≡ [] }
         ensures spilled { self.new ≡ record self.old { running = spilled_of self.old.running } }
@@ -122,7 +123,7 @@ impl<'p> Thread<'p> {
         self.state.own.label.ran = Ran::Spill;
     }
 
-    /// The pause that is not answered, if there is one. It is that of the innermost thread.
+    /// Returns the pending pause, if there is one. It is that of the innermost thread.
     pub fn pending(&self) -> Option<Pending>
         ensures pending { result ≡ pending_in self.now }
         ensures next { IsNext self.now.running.pending self.now.running.trace }
@@ -132,8 +133,9 @@ impl<'p> Thread<'p> {
         self.state.pending()
     }
 
-    /// Goes on for at most so many steps, each beginning of a node being a step of its own. Each fork is a pause. Where
-    /// memory is refused the thread stands before the refused step, and the same call goes on from there.
+    /// Advances by at most `budget` steps. Each beginning of a node is a step of its own, and each fork is a pause.
+    ///
+    /// If memory is refused, the thread stands before the step that was refused, and the same call goes on from there.
     pub fn advance(&mut self, budget: u32) -> Result<Pause<'p>, AllocError>
         requires not_paused { pending_in self.old ≡ None }
         requires some { 1 ≤ budget }
@@ -152,9 +154,12 @@ impl<'p> Thread<'p> {
         self.advance_within(&mut left, &mut spares, &mut Everywhere)
     }
 
-    /// The same, for at most as many steps as are left. Then fewer are: none at `Budget`, and at least one fewer at
-    /// another pause. A fork for whose child there is no place is no pause: the child runs in this thread's place, once
-    /// it is awaited. Another child begins with what ended threads have left.
+    /// Advances by at most `left` steps, and subtracts those that were made: all at `Budget`, at least one at another
+    /// pause.
+    ///
+    /// A fork for whose child there is no place is no pause: the child runs in this thread's place, once it is awaited.
+    /// Any other child begins with memory that ended threads have left. If memory is refused, the thread stands before
+    /// the step that was refused, as with `advance`.
     pub fn advance_within<P: Placing>(
         &mut self,
         left: &mut u32,
@@ -183,7 +188,7 @@ impl<'p> Thread<'p> {
         Ok(pause_of(forked, self.pending()))
     }
 
-    /// Goes on as `advance_within` does, over each tally of which `due` takes the amount: it is made, and is no pause.
+    /// Advances like `advance_within`, but without a pause at a tally whose amount `due` takes.
     pub fn advance_tallying<P: Placing, D: Tallying>(
         &mut self,
         left: &mut u32,
@@ -215,7 +220,7 @@ impl<'p> Thread<'p> {
         Ok(Pause::Budget)
     }
 
-    /// Makes the tally at which the thread has paused, and returns true, if there is one and `due` takes its amount.
+    /// Makes the tally at which the thread has paused. Returns whether there is one and `due` has taken its amount.
     #[inline(always)]
     fn tally<D: Tallying>(&mut self, due: &mut D) -> bool
         ensures made { result ≡ true → (ledger amount : ℕ) × IsTallied ledger amount self.old self.new × GainsAt (D.due_to due.old) ledger amount (D.due_to due.new) }
@@ -231,7 +236,7 @@ impl<'p> Thread<'p> {
         true
     }
 
-    /// Goes on until it pauses. Returns the child if it pauses for a fork.
+    /// Advances until the thread pauses. Returns the child if it pauses for a fork.
     #[inline(always)]
     fn stop<P: Placing>(
         &mut self,
@@ -253,7 +258,7 @@ impl<'p> Thread<'p> {
         Ok(forked)
     }
 
-    /// Answers a fork once the child was given away. It takes no memory.
+    /// Answers a fork whose child was given away. Takes no memory.
     pub fn forked(&mut self)
         requires { pending_in self.old ≡ Some pause.Forks }
         ensures whole { SameWhole self.old self.new }
@@ -268,9 +273,10 @@ impl<'p> Thread<'p> {
         self.state.forked();
     }
 
-    /// Answers a fork with its child, which runs in this thread's place once it is awaited; or answers a join with the
-    /// child that is awaited, which runs in its place at once. Where it answers an error nothing has changed, and the
-    /// child comes back.
+    /// Runs a child in this thread's place.
+    ///
+    /// At a fork the child must be the one that was forked, and runs once it is awaited. At a join it must be the
+    /// awaited one, and runs at once. After an error nothing has changed, and the child is returned.
     pub fn in_place(&mut self, child: Thread<'p>) -> Result<(), NotPlaced<'p>>
         requires pending { IsPlacing (pending_in self.old) }
         requires child { MayBePlaced self.old child }
@@ -292,7 +298,7 @@ impl<'p> Thread<'p> {
         }
     }
 
-    /// Answers that the thread holds the lock that it asked for. It takes no memory.
+    /// Answers a request for a lock, which the thread holds now. Takes no memory.
     pub fn granted(&mut self)
         requires { IsAsk (pending_in self.old) }
         ensures whole { SameWhole self.old self.new }
@@ -307,7 +313,7 @@ impl<'p> Thread<'p> {
         self.state.granted();
     }
 
-    /// Answers that the lock was freed. It takes no memory.
+    /// Answers the release of a lock, which the thread no longer holds. Takes no memory.
     pub fn freed(&mut self)
         requires { IsFree (pending_in self.old) }
         ensures whole { SameWhole self.old self.new }
@@ -322,7 +328,7 @@ impl<'p> Thread<'p> {
         self.state.freed();
     }
 
-    /// Answers that the amount was added to the ledger. It takes no memory.
+    /// Answers a tally, whose amount was added to the ledger. Takes no memory.
     pub fn tallied(&mut self)
         requires { IsTally (pending_in self.old) }
         ensures whole { SameWhole self.old self.new }
@@ -338,8 +344,7 @@ impl<'p> Thread<'p> {
         self.state.tallied();
     }
 
-    /// Joins the outcome of the child that is awaited. Where it answers an error nothing has changed, and the
-    /// outcome comes back.
+    /// Joins the outcome of the awaited child. After an error nothing has changed, and the outcome is returned.
     pub fn joined(&mut self, outcome: Outcome<'p>) -> Result<(), NotJoined<Outcome<'p>>>
         requires pending { pending_in self.old ≡ Some pause.Joins }
         requires program { source_of outcome.program ≡ source_of (whole self.old).program }
@@ -362,7 +367,7 @@ impl<'p> Thread<'p> {
         }
     }
 
-    /// The same for an outcome in a box. The box is left to threads that begin.
+    /// Joins the outcome of the awaited child, like `joined`, from a box. The box is left to new threads.
     pub fn joined_into(
         &mut self,
         outcome: DetachedOutcome,
@@ -395,7 +400,7 @@ impl<'p> Thread<'p> {
         }
     }
 
-    /// The same for what an outcome of this program brings. Where it answers an error nothing has changed.
+    /// Joins an outcome of this program with these contents. After an error nothing has changed.
     #[inline(always)]
     fn join(&mut self, program: &Snapshot<Program>, contents: &mut Contents) -> Result<(), Unjoined>
         requires pending { pending_in self.old ≡ Some pause.Joins }
@@ -411,12 +416,12 @@ impl<'p> Thread<'p> {
         ensures err { OnErr result (self.new ≡ self.old) }
         ensures left { OnErr result (contents.new ≡ contents.old) }
     {
-        // What the proof speaks of: it has no bytes.
+        // Only the proof uses the program, which has no bytes.
         let _ = program;
         self.state.join(contents)
     }
 
-    /// The outcome of a thread that has ended. It takes no memory.
+    /// Returns the outcome of a thread that has ended. Takes no memory.
     pub fn finish(self) -> Outcome<'p>
         requires { pending_in self ≡ Some pause.Ended }
         ensures program { result.program ≡ (whole self.entry).program }
@@ -431,7 +436,8 @@ impl<'p> Thread<'p> {
         }
     }
 
-    /// The same in this box. What the thread no longer needs is left to those that begin.
+    /// Returns the outcome of a thread that has ended, in this box. Memory that the thread no longer needs is left to
+    /// new threads.
     pub fn finish_into(self, contents: Box<Contents>, spares: &mut Spares<'p>) -> DetachedOutcome
         requires { pending_in self ≡ Some pause.Ended }
         ensures program { result.program ≡ (whole self.entry).program }
@@ -448,7 +454,7 @@ impl<'p> Thread<'p> {
     }
 }
 
-/// A thread in whose place no other is.
+/// Returns a thread in whose place no other runs.
 fn thread_of<'p>(state: Box<State<'p>>) -> Thread<'p>
     requires { IsSoundChild state.value }
     ensures { result ≡ nested state.entry.value [] }
@@ -460,7 +466,7 @@ fn thread_of<'p>(state: Box<State<'p>>) -> Thread<'p>
     }
 }
 
-/// What callers see of a pause, by the child that was forked or what is not answered.
+/// Returns the pause that callers see, given the child if one was forked, and the pending pause otherwise.
 #[inline(always)]
 fn pause_of<'p>(forked: Option<(Class, Box<State<'p>>)>, pending: Option<Pending>) -> Pause<'p>
     requires { IfSome forked (λ f. IsSoundChild f.1.value) }

@@ -7,14 +7,14 @@ use crate::line::ThreadLine;
 use std::alloc::Global;
 use std::marker::Model;
 
-/// Lines in order, in the lists in which they were made: none is moved until a `Vec` of them is wanted.
+/// Lines in order, in the lists in which they were made. None is moved until a `Vec` of them is needed.
 #[derive(Debug, Drop)]
 pub struct ThreadLines {
     count: usize,
     lists: Vec<Vec<ThreadLine>>,
 }
 
-// Clauses see one list.
+// Contracts see one list.
 impl Model for ThreadLines {
     ghost use Rattle.std.specs.Prelude.{◌≡◌, List, length};
     ghost use Rattle.arachne_machine.specs.declared.line.ThreadLine.{ThreadLine};
@@ -89,7 +89,7 @@ fn move_lines(lists: Vec<Vec<ThreadLine>>, lines: &mut Vec<ThreadLine>)
 /// The lines that an iteration has not returned yet.
 #[derive(Drop)]
 pub struct LinesLeft<'a> {
-    /// Those of the list that was begun.
+    /// The rest of the list that was begun.
     list: &'a [ThreadLine],
     /// The lists behind it.
     lists: &'a [Vec<ThreadLine>],
@@ -105,14 +105,14 @@ impl<'a> Model for LinesLeft<'a> {
     ghost view = { λ l. l.list.now ++ lines_in l.lists.now };
 }
 
-/// A line, what is left of its list, and the lists behind that.
+/// A line, the rest of its list, and the lists behind that.
 struct FirstLine<'a> {
     line: &'a ThreadLine,
     list: &'a [ThreadLine],
     lists: &'a [Vec<ThreadLine>],
 }
 
-/// The first line of a list and of those behind it.
+/// Returns the first line of a list and of the lists behind it.
 fn first_line<'a>(list: &'a [ThreadLine], lists: &'a [Vec<ThreadLine>]) -> Option<FirstLine<'a>>
     ensures { MatchOption result (list.now ++ lines_in lists.now ≡ [])
         (λ first. list.now ++ lines_in lists.now ≡ first.line.now ∷ (first.list.now ++ lines_in first.lists.now)) }

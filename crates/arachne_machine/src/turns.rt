@@ -1,10 +1,11 @@
-//! Turns of folds and sweeps. Those whose body is worth its value are made at once.
+//! Iterations of folds and sweeps. An iteration whose body has no effects and needs no more steps than are left is made
+//! at once.
 use crate::frame::Frame;
 use crate::state::{Progress, State};
 use crate::worth::body_at_once;
 use arachne_lang::{Expr, Reduction};
 
-/// How folds and sweeps go on.
+/// The iterations of folds and sweeps.
 impl<'p> State<'p> {
     ghost use Rattle.std.specs.Prelude.{◌≡◌, ◌+◌, ◌-◌, ◌<◌, ◌≤◌, ◌++◌, ◌∷◌, [], length, vec_len, vec_capacity, MatchOption};
     ghost use Rattle.arachne_lang.specs.Program.{source_of, tree_of};
@@ -16,8 +17,9 @@ impl<'p> State<'p> {
     ghost use Rattle.arachne_machine.specs.Steps.{Changes, ComesToFold, ComesToSweep, IsSame, LeavesOthers, OnStops, OnValue, Reaches, Turns, top};
     ghost use Rattle.arachne_machine.specs.Runs.{FoldsOn, IsOneStep, SweepsOn, seen_in};
 
-    /// A fold that has this value so far goes on from a number to below an end: with as many turns as are made at once,
-    /// and then with one that is begun, or not at all.
+    /// Goes on with a fold over the numbers from `next` to below `end`, whose value so far is `so_far`.
+    ///
+    /// Makes the iterations that it can make at once, and then begins one more, or ends the fold.
     pub fn turn_fold(
         &mut self,
         next: u64,
@@ -40,7 +42,7 @@ impl<'p> State<'p> {
         self.begin_fold(next, end, body, so_far, left)
     }
 
-    /// Makes as many turns of a fold at once as it can. Gives the next number, and the value so far.
+    /// Makes as many iterations of a fold at once as it can. Returns the next number, and the value so far.
     #[inline(always)]
     fn fold_at_once(
         &mut self,
@@ -72,7 +74,7 @@ impl<'p> State<'p> {
         (next, so_far)
     }
 
-    /// What the body of a turn of a fold is worth, where so many steps are left.
+    /// Returns the value of an iteration of a fold, if its body has no effects and needs no more steps than are left.
     #[inline(always)]
     fn fold_value(&mut self, next: u64, so_far: u64, body: &'p Expr, left: &mut u32) -> Option<u64>
         requires environment { vec_len self.old.environment + 2 ≤ vec_capacity self.old.environment }
@@ -92,7 +94,7 @@ impl<'p> State<'p> {
         value
     }
 
-    /// The turn of a fold that is begun, or its end.
+    /// Begins an iteration of a fold, or ends the fold.
     #[inline(always)]
     fn begin_fold(
         &mut self,
@@ -122,7 +124,8 @@ impl<'p> State<'p> {
         self.go_on(turn, body)
     }
 
-    /// A sweep that has this value so far goes on from a number to below an end, in the same way.
+    /// Goes on with a sweep over the numbers from `next` to below `end`, whose value so far is `so_far`, like
+    /// `turn_fold`.
     pub fn turn_sweep(
         &mut self,
         reduction: Reduction,
@@ -146,7 +149,7 @@ impl<'p> State<'p> {
         self.begin_sweep(reduction, next, end, body, so_far, left)
     }
 
-    /// Makes as many turns of a sweep at once as it can. Gives the next number, and the value so far.
+    /// Makes as many iterations of a sweep at once as it can. Returns the next number, and the value so far.
     #[inline(always)]
     fn sweep_at_once(
         &mut self,
@@ -179,7 +182,7 @@ impl<'p> State<'p> {
         (next, so_far)
     }
 
-    /// What the body of a turn of a sweep is worth, where so many steps are left.
+    /// Returns the value of an iteration of a sweep, if its body has no effects and needs no more steps than are left.
     #[inline(always)]
     fn sweep_value(&mut self, next: u64, body: &'p Expr, left: &mut u32) -> Option<u64>
         requires environment { vec_len self.old.environment + 2 ≤ vec_capacity self.old.environment }
@@ -198,7 +201,7 @@ impl<'p> State<'p> {
         value
     }
 
-    /// The turn of a sweep that is begun, or its end.
+    /// Begins an iteration of a sweep, or ends the sweep.
     #[inline(always)]
     fn begin_sweep(
         &mut self,

@@ -1,4 +1,4 @@
-//! What expressions without effects are worth, by plain recursion, as far as steps are left.
+//! Evaluates expressions without effects by plain recursion, as far as steps are left.
 ghost use Rattle.std.specs.Prelude.{◌≡◌, ◌≤◌, ◌+◌, ◌-◌, vec_len, vec_capacity, IfSome, MatchOption};
 ghost use Rattle.arachne_lang.specs.Program.{source_of, tree_of};
 ghost use Rattle.arachne_lang.specs.Value.{with_newest};
@@ -7,7 +7,9 @@ ghost use Rattle.arachne_machine.specs.Pure.{IsWorth};
 use crate::lookup::{item_in, length_in, variable_in};
 use arachne_lang::{Expr, Program};
 
-/// What the body of a turn is worth, where so many steps are left. Each of its steps is counted.
+/// Returns the value of the body of an iteration, if it has no effects and needs no more steps than are left.
+///
+/// Each of its steps is subtracted from `left`.
 #[inline(always)]
 pub fn body_at_once(
     program: &Program,
@@ -30,8 +32,10 @@ pub fn body_at_once(
     Some(value)
 }
 
-/// The value of an expression of numbers, variables, lengths, items, operations, choices and bindings, where so many
-/// more steps are left beside its own. The environment is as before.
+/// Returns the value of an expression, if it needs no more steps than are left beside its own.
+///
+/// It may consist of numbers, variables, lengths, items, operations, choices and bindings; for others it returns
+/// `None`. The environment is unchanged.
 #[cycle(recursion)]
 fn value_at_once(
     program: &Program,
@@ -89,7 +93,7 @@ fn value_at_once(
     }
 }
 
-/// The same for a part that is most often a number or a variable.
+/// Like `value_at_once`, for a part that is most often a number or a variable.
 #[inline(always)]
 #[cycle(recursion)]
 fn side_at_once(
@@ -111,7 +115,7 @@ fn side_at_once(
     }
 }
 
-/// The same for an expression with a newest variable. Where there is no room for that, it is not worth its value.
+/// Like `value_at_once`, with `newest` as the newest variable. Returns `None` too if there is no room for it.
 #[cycle(recursion)]
 fn bound_at_once(
     program: &Program,

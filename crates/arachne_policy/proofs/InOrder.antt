@@ -6,7 +6,7 @@ use Rattle.arachne_policy.specs.declared.orders.CoreOrder.{CoreOrder}
 use Rattle.arachne_policy.specs.declared.orders.OrderKind.TheVariants.{Release}
 use Rattle.arachne_policy.specs.Orders.{order_fault, order_at, due_before, fault_at, AreInOrder}
 
--- what is known of an order without fault
+-- the facts about an order without fault
 names_core : (cores previous : ℕ) (order : CoreOrder) → order_fault cores previous order ≡ None → order.core < cores
 names_core cores previous order h = grind (arith, common_steps, h)
 

@@ -1,4 +1,4 @@
--- The advice on a list of samples, for a loop that judges them in turn.
+-- The advice on a list of samples, for a loop that judges them one after another.
 use Rattle.std.proofs.Common.{◌≡◌, ℕ, zero, suc, ◌<◌, List, [], ◌∷◌, ◌++◌, length, reverse, take, get_or, refl, ap, arith, sym, ◌∙◌, append_assoc}
 use Rattle.std.proofs.lemmas.List.{reverse-append, append-nil}
 use Rattle.arachne_policy.specs.declared.samples.Sample.{Sample}
@@ -52,7 +52,7 @@ settings-after state s Add = refl
 settings-after state s Stay = refl
 settings-after state s Remove = refl
 
--- one more sample is judged: what a loop over samples needs of `estimate`
+-- one more sample is judged: the step of a loop that calls `estimate` for each sample
 pub HasJudged-push : (settings : Settings) (samples : List Sample) (answers : List Advice) (old new : State) (s : Sample) (a : Advice)
     → HasJudged settings samples answers old → new ≡ after old s a
     → (a ≡ advice old.settings (reverse samples) s) × StandsFor new (s ∷ reverse samples)

@@ -1,4 +1,4 @@
--- A record stands until a newer one takes its place.
+-- A record is valid until a newer one replaces it.
 use Rattle.std.proofs.Common.{◌≡◌, ◌≢◌, ℕ, ◌+◌, ◌-◌, ◌*◌, ◌<◌, ◌≤◌, Bool, true, false, ◌&&◌, cond, eqb, List, [], ◌∷◌, ◌++◌, refl, ap, arith, sym, ◌∙◌}
 use Rattle.std.proofs.lemmas.Grind.{common_steps}
 use Rattle.std.proofs.lemmas.List.{append-nil}
@@ -9,13 +9,13 @@ use Rattle.arachne_policy.specs.Sample.{utilisation_of, is_good}
 use Rattle.arachne_policy.specs.Advice.{Settings, is_add, advice, advice_by, threshold, NoneAdded, RecordStands}
 use Rattle.arachne_policy.specs.State.{State, StandsFor, most_cores, threshold_at}
 
--- another answer than Add is none
+-- an advice other than Add is not an Add
 is_add-other : (a : Advice) → a ≢ Add → is_add a ≡ false
 is_add-other Add h = absurd (h refl)
 is_add-other Stay h = refl
 is_add-other Remove h = refl
 
--- a test that is not passed
+-- a test that fails
 cond-first : (a b : Bool) (x y : ℕ) → a ≡ true → b ≡ true → cond (a && b) x y ≡ x
 cond-first a b x y p q = rw (p, q) refl
 
@@ -30,7 +30,7 @@ eqb-sound m n h = grind (arith, common_steps)
 eqb-same : (m : ℕ) → eqb m m ≡ true
 eqb-same m = grind (arith, common_steps)
 
--- a newer sample that took the place of no record leaves the threshold as it was
+-- a newer sample that replaces no record leaves the threshold unchanged
 threshold-skip : (settings : Settings) (newer older : List Sample) (s : Sample) (cores : ℕ) → NoneAdded settings (s ∷ newer) older cores
     → threshold settings (s ∷ newer ++ older) (cores + 1) ≡ threshold settings (newer ++ older) (cores + 1)
 threshold-skip settings newer older s cores none =
@@ -42,7 +42,7 @@ none_added-rest : (settings : Settings) (newer older : List Sample) (s : Sample)
     → NoneAdded settings newer older cores
 none_added-rest settings newer older s cores none after before t e = none (s ∷ after) before t (ap (λ rest. s ∷ rest) e)
 
--- samples that took the place of no record leave the threshold as it was
+-- samples that replace no record leave the threshold unchanged
 threshold-none_added : (settings : Settings) (newer older : List Sample) (cores : ℕ) → NoneAdded settings newer older cores
     → threshold settings (newer ++ older) (cores + 1) ≡ threshold settings older (cores + 1)
 threshold-none_added settings [] older cores none = refl
@@ -56,7 +56,7 @@ threshold-added : (settings : Settings) (older : List Sample) (added : Sample) �
 threshold-added settings older added add =
     cond-first (is_add (advice settings older added)) _ _ _ (ap is_add add) (eqb-same (added.cores + 1))
 
--- with no record the threshold is as many cores
+-- without a record, the threshold is that of busy cores
 pub threshold-no_record : (settings : Settings) (past : List Sample) (cores : ℕ) → NoneAdded settings past [] cores
     → threshold settings past (cores + 1) ≡ 1000 * cores
 threshold-no_record settings past cores none =
@@ -64,7 +64,7 @@ threshold-no_record settings past cores none =
     ∙ threshold-none_added settings past [] cores none
     ∙ omega arith
 
--- while a record stands, it is the threshold of one core more
+-- while a record is valid, it is the threshold of one core more
 pub threshold-record : (settings : Settings) (past : List Sample) (added : Sample) → RecordStands settings past added
     → threshold settings past (added.cores + 1) ≡ utilisation_of added
 threshold-record settings past added record_stands =
@@ -72,7 +72,7 @@ threshold-record settings past added record_stands =
     ∙ threshold-none_added settings record_stands.newer (added ∷ record_stands.older) added.cores record_stands.none_newer
     ∙ threshold-added settings record_stands.older added record_stands.was_added
 
--- an answer Remove says that the utilisation is under the threshold by more than the hysteresis
+-- if the advice is Remove, the utilisation is below the threshold by more than the hysteresis
 removed : (settings : Settings) (of_cores : ℕ → ℕ) (s : Sample) → advice_by settings of_cores s ≡ Remove
     → utilisation_of s + settings.hysteresis < of_cores s.cores
 removed settings of_cores s h = grind (arith, common_steps, h)
@@ -80,8 +80,8 @@ removed settings of_cores s h = grind (arith, common_steps, h)
 cores-good : (max : ℕ) (s : Sample) → is_good max s ≡ true → s.cores ≤ max
 cores-good max s h = grind (arith, common_steps, h)
 
--- while a record stands, a sample of one core more is not answered Remove, unless the utilisation has fallen by more
--- than the hysteresis
+-- while a record is valid, the advice on a sample of one core more is not Remove, unless the utilisation has fallen by
+-- more than the hysteresis
 pub keeps-added : (state : State) (past : List Sample) (added s : Sample) → state.settings.max ≤ most_cores → is_good state.settings.max s ≡ true
     → StandsFor state past → RecordStands state.settings past added → s.cores ≡ added.cores + 1
     → utilisation_of added - state.settings.hysteresis ≤ utilisation_of s

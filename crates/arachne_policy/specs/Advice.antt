@@ -23,24 +23,24 @@ is_add Add = true
 is_add Stay = false
 is_add Remove = false
 
--- how an advice is written
+-- the word that an advice is displayed as
 abbrev pub advice_text : Advice → List ℕ
 advice_text Add = codes "add"
 advice_text Stay = codes "stay"
 advice_text Remove = codes "remove"
 
--- the threshold of n cores after these samples: the utilisation of the last one of n - 1 cores that was answered Add,
--- and where there is none, n - 1 busy cores
+-- the threshold of n cores after these samples: the utilisation of the last one of n - 1 cores whose advice was Add, or
+-- if there is none, that of n - 1 busy cores
 abbrev pub threshold : Settings → List Sample → ℕ → ℕ
 threshold settings [] n = 1000 * (n - 1)
 threshold settings (s ∷ past) n =
     if is_add (advice_by settings (threshold settings past) s) && (s.cores + 1 == n) then utilisation_of s else threshold settings past n
 
--- the advice on a sample after these
+-- the advice on a sample after the past samples
 abbrev pub advice : Settings → List Sample → Sample → Advice
 advice settings past s = advice_by settings (threshold settings past) s
 
--- the advice on each of the samples in turn, after those before it and these
+-- the advice on each of the samples, each after those before it and the past ones
 abbrev pub advices_after : Settings → List Sample → List Sample → List Advice
 advices_after settings past [] = []
 advices_after settings past (s ∷ samples) = advice settings past s ∷ advices_after settings (s ∷ past) samples
@@ -49,13 +49,13 @@ advices_after settings past (s ∷ samples) = advice settings past s ∷ advices
 abbrev pub advices : Settings → List Sample → List Advice
 advices settings samples = advices_after settings [] samples
 
--- none of these samples, which followed `older`, has so many cores and was answered Add
+-- none of these samples, which followed `older`, has this number of cores and the advice Add
 abbrev pub NoneAdded : Settings → List Sample → List Sample → ℕ → Type 0
 NoneAdded settings samples older cores =
     (after before : List Sample) (s : Sample) → samples ≡ after ++ s ∷ before → s.cores ≡ cores
     → advice settings (before ++ older) s ≢ Add
 
--- among the past samples `added` was answered Add, and no newer one of as many cores was
+-- the advice on the past sample `added` was Add, and no newer one with the same number of cores has had that advice
 pub record RecordStands (settings : Settings) (past : List Sample) (added : Sample) : Type 0 where
   pub newer : List Sample
   pub older : List Sample

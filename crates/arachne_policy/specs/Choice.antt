@@ -1,4 +1,4 @@
--- Two random choices: which core a new thread goes to.
+-- Two random choices: the core for a new thread.
 use Rattle.std.specs.Prelude.{ℕ, ◌/◌, ◌%◌, ◌^◌, List, length, slice_index_or, nat_lt, if◌then◌else◌}
 use Rattle.arachne_policy.specs.declared.choices.CoreLoad.{CoreLoad}
 
@@ -18,6 +18,6 @@ second_choice word loads = entry_at loads ((word / 2 ^ 32) % length loads)
 abbrev pub fewer : CoreLoad → CoreLoad → CoreLoad
 fewer first second = if nat_lt second.count first.count then second else first
 
--- the core that a new thread goes to
+-- the core for a new thread
 abbrev pub chosen_core : ℕ → List CoreLoad → ℕ
 chosen_core word loads = (fewer (first_choice word loads) (second_choice word loads)).core

@@ -1,4 +1,4 @@
--- Which lists of core orders are in order.
+-- Lists of core orders that are in order.
 use Rattle.std.specs.Prelude.{◌≡◌, ◌≢◌, ℕ, zero, suc, ◌+◌, ◌<◌, ◌≤◌, Bool, true, false, ◌&&◌, ◌==◌, nat_lt, nat_le, if◌then◌else◌, List, length, slice_index_or, All, Option, Some, None}
 use Rattle.arachne_policy.specs.declared.orders.CoreOrder.{CoreOrder}
 use Rattle.arachne_policy.specs.declared.orders.OrderKind.{OrderKind}
@@ -11,8 +11,8 @@ abbrev pub is_release : OrderKind → Bool
 is_release Grant = false
 is_release Release = true
 
--- what is wrong with an order on so many cores, after one that is due after `previous` slices: the first of these
--- faults that it has
+-- the fault of an order on this number of cores, after one that is due after `previous` slices: the first of these that
+-- it has
 abbrev pub order_fault : ℕ → ℕ → CoreOrder → Option OrderFaultKind
 order_fault cores previous order =
     if nat_le cores order.core then Some NoSuchCore
@@ -24,12 +24,12 @@ order_fault cores previous order =
 abbrev pub order_at : List CoreOrder → ℕ → CoreOrder
 order_at orders place = slice_index_or orders place (record { after = 0; kind = Grant; core = 0 })
 
--- after how many slices the order before a place is due; before the first there is none
+-- the number of slices after which the order before a place is due; 0 if it is the first place
 abbrev pub due_before : List CoreOrder → ℕ → ℕ
 due_before orders zero = 0
 due_before orders (suc place) = (order_at orders place).after
 
--- what is wrong with the order at a place
+-- the fault of the order at a place, if it has one
 abbrev pub fault_at : ℕ → List CoreOrder → ℕ → Option OrderFaultKind
 fault_at cores orders place = order_fault cores (due_before orders place) (order_at orders place)
 

@@ -1,16 +1,17 @@
--- What a sample says. Loads and utilisations are in thousandths: of a runnable thread a scan, and of a busy core.
+-- The measures of a sample. Loads and utilisations are in thousandths: of a runnable thread per scan, and of a busy
+-- core.
 use Rattle.std.specs.Prelude.{ℕ, ◌*◌, ◌/◌, ◌^◌, Bool, ◌&&◌, ◌==◌, nat_le, if◌then◌else◌}
 use Rattle.arachne_policy.specs.declared.samples.Sample.{Sample}
 
--- runnable threads a scan; a sample with no scan has none
+-- the runnable threads per scan; 0 for a sample without a scan
 abbrev pub load_of : Sample → ℕ
 load_of s = if s.scans == 0 then 0 else 1000 * s.runnable / s.scans
 
--- busy cores
+-- the busy cores
 abbrev pub utilisation_of : Sample → ℕ
 utilisation_of s = 1000 * s.busy / s.elapsed
 
--- the most that a count of a sample may be
+-- the maximum of a count of a sample
 abbrev pub most_counted : ℕ
 most_counted = 2 ^ 48
 

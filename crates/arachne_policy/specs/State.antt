@@ -1,4 +1,4 @@
--- What callers see of an estimator.
+-- The view that callers have of an estimator.
 use Rattle.std.specs.Prelude.{◌≡◌, ℕ, ◌-◌, ◌<◌, ◌≤◌, List, reverse, slice_index, slice_set}
 use Rattle.arachne_policy.specs.declared.samples.Sample.{Sample}
 use Rattle.arachne_policy.specs.declared.samples.Advice.{Advice}
@@ -6,7 +6,7 @@ use Rattle.arachne_policy.specs.declared.samples.Advice.TheVariants.{Add, Stay, 
 use Rattle.arachne_policy.specs.Sample.{utilisation_of}
 use Rattle.arachne_policy.specs.Advice.{Settings, threshold, advices}
 
--- the most cores that an estimator may advise
+-- the maximum number of cores that an estimator may advise
 abbrev pub most_cores : ℕ
 most_cores = 64
 
@@ -19,8 +19,7 @@ pub record State : Type 0 where
 abbrev pub threshold_at : State → ℕ → ℕ
 threshold_at state n = slice_index state.thresholds (n - 1)
 
--- the state once this advice was given on a sample: an Add makes the sample's utilisation the threshold of one core
--- more
+-- the state after this advice on a sample: an Add makes the sample's utilisation the threshold of one core more
 abbrev pub after : State → Sample → Advice → State
 after state s Add = record state { thresholds = slice_set state.thresholds s.cores (utilisation_of s) }
 after state s Stay = state
@@ -30,7 +29,8 @@ after state s Remove = state
 abbrev pub StandsFor : State → List Sample → Type 0
 StandsFor state past = (n : ℕ) → 0 < n → n ≤ most_cores → threshold_at state n ≡ threshold state.settings past n
 
--- an estimator of these settings judged these samples, the oldest first, answered so, and is now in this state
+-- an estimator with these settings has judged these samples, the oldest first, with these answers, and is now in this
+-- state
 pub record HasJudged (settings : Settings) (samples : List Sample) (answers : List Advice) (state : State) : Type 0 where
   pub keeps_settings : state.settings ≡ settings
   pub stands : StandsFor state (reverse samples)

@@ -1,19 +1,19 @@
-//! Which core gets a new thread.
+//! The choice of the core for a new thread.
 ghost use Rattle.std.specs.Prelude.{◌≡◌, ◌<◌, length, Any};
 ghost use Rattle.arachne_policy.specs.Choice.{chosen_core};
 
-/// How many threads a core has.
+/// The number of threads that a core has.
 #[derive(Clone, Copy, Debug, PartialEq, Eq)]
 pub struct CoreLoad {
     pub core: u8,
     pub count: u8,
 }
 
-/// The core that a new thread goes to: of two entries that the word picks, the one with fewer threads, and the first of
-/// the two on a tie.
+/// Returns the core for a new thread: of two entries that the word picks, the one with fewer threads.
 ///
-/// With n entries the low 32 bits of the word modulo n pick the first entry, the high 32 bits modulo n the second. This
-/// is the power of two random choices (Mitzenmacher, 2001), as Arachne uses it for thread creation.
+/// On a tie it is the first of the two. With n entries the low 32 bits of the word modulo n pick the first entry, and
+/// the high 32 bits modulo n the second. This is the power of two random choices (Mitzenmacher, 2001), as Arachne uses
+/// it for thread creation.
 pub fn two_choices(word: u64, loads: &[CoreLoad]) -> u8
     requires { 0 < length loads.now }
     ensures formula { result ≡ chosen_core word loads.now }

@@ -1,4 +1,4 @@
-//! When to ask for one core more, and when to give one back.
+//! The estimator, which advises when to ask for one core more, and when to give one back.
 ghost use Rattle.std.specs.Prelude.{◌≡◌, ◌≢◌, ◌+◌, ◌-◌, ◌≤◌, true, List, [], ◌∷◌, is_ok, IfOk, OnErr, Ok};
 ghost use Rattle.arachne_policy.specs.declared.samples.Sample.{Sample};
 ghost use Rattle.arachne_policy.specs.Sample.{utilisation_of, is_good};
@@ -9,11 +9,12 @@ use crate::limits::MAX_CORES;
 use crate::samples::{Advice, BadSample, Sample};
 use std::marker::Model;
 
-/// Judges samples one after another: a core more by load, a core less by utilisation with hysteresis.
+/// An estimator of the number of cores, which judges samples one after another. It advises one core more by load, and
+/// one fewer by utilisation with hysteresis.
 ///
-/// This is the form of Arachne's load estimator (Qin and others, OSDI 2018): a core is added where scans see too many
-/// runnable threads, and the utilisation at which that happened is remembered as the threshold for the new number of
-/// cores. A core is removed where the utilisation is below that threshold by more than the hysteresis.
+/// This is the form of Arachne's load estimator (Qin and others, OSDI 2018). A core is added if scans see too many
+/// runnable threads; the utilisation at which that happened becomes the threshold for the new number of cores. A core
+/// is removed if the utilisation is below that threshold by more than the hysteresis.
 #[derive(Clone, Debug, Drop)]
 pub struct Estimator {
     up: u64,
@@ -22,7 +23,7 @@ pub struct Estimator {
     thresholds: [u64; MAX_CORES],
 }
 
-// Clauses see the settings and the thresholds: that of n cores stands at n - 1.
+// Contracts see the settings and the thresholds. The threshold of n cores is at index n - 1.
 impl Model for Estimator {
     ghost use Rattle.std.specs.Prelude.{◌≤◌};
     ghost use Rattle.arachne_policy.specs.State.{State, most_cores};
@@ -35,8 +36,10 @@ impl Model for Estimator {
 }
 
 impl Estimator {
-    /// An estimator that has seen no sample. A load over `up` thousandths of a thread a scan asks for a core, up to
-    /// `max` cores; a utilisation under the threshold by more than `hysteresis` thousandths of a core gives one back.
+    /// Creates an estimator that has seen no sample.
+    ///
+    /// A load over `up` thousandths of a thread per scan asks for a core, up to `max` cores. A utilisation below the
+    /// threshold by more than `hysteresis` thousandths of a core gives one back.
     pub fn new(up: u64, hysteresis: u64, max: u8) -> Self
         requires { max ≤ most_cores }
         ensures settings { result.settings ≡ record { up = up; hysteresis = hysteresis; max = max } }
@@ -56,7 +59,8 @@ impl Estimator {
         }
     }
 
-    /// An estimator that goes on with the thresholds that another one had: that of n cores stands at n - 1.
+    /// Creates an estimator that goes on with the thresholds of another one. The threshold of n cores is at index n -
+    /// 1.
     pub fn resume(up: u64, hysteresis: u64, max: u8, thresholds: &[u64; MAX_CORES]) -> Self
         requires { max ≤ most_cores }
         ensures settings { result.settings ≡ record { up = up; hysteresis = hysteresis; max = max } }
@@ -70,21 +74,24 @@ impl Estimator {
         }
     }
 
-    /// The thresholds, that of n cores at n - 1: what an estimator has learnt from its samples.
+    /// Returns the thresholds, which are all that an estimator has learnt from its samples. That of n cores is at index
+    /// n - 1.
     pub fn thresholds(&self) -> &[u64; MAX_CORES]
         ensures { result.now ≡ self.now.thresholds }
     {
         &self.thresholds
     }
 
-    /// Judges a sample, and remembers its utilisation if the answer is `Add`. A bad sample changes nothing.
+    /// Returns the advice on a sample. If it is `Add`, the sample's utilisation is remembered.
+    ///
+    /// A bad sample changes nothing.
     pub fn estimate(&mut self, sample: Sample) -> Result<Advice, BadSample>
         ensures good { is_ok result ≡ is_good self.old.settings.max sample }
         ensures advice { IfOk result (λ a. a ≡ advice_by self.old.settings (threshold_at self.old) sample) }
         ensures after { IfOk result (λ a. self.new ≡ after self.old sample a) }
         ensures bad { OnErr result (self.new ≡ self.old) }
 
-        // If the thresholds are those of some past samples, so are they afterwards, with this sample among them.
+        // If the thresholds were those of some past samples, they are now those of these with this sample added.
         ensures history { (past : List Sample) → StandsFor self.old past
             → IfOk result (λ a. (a ≡ advice self.old.settings past sample) × StandsFor self.new (sample ∷ past)) }
 
@@ -105,7 +112,7 @@ impl Estimator {
         Ok(advice)
     }
 
-    /// The advice on a good sample by the thresholds as they are.
+    /// Returns the advice on a good sample by the present thresholds.
     fn advise(&self, sample: &Sample) -> Advice
         requires { is_good self.now.settings.max sample.now ≡ true }
         ensures { result ≡ advice_by self.now.settings (threshold_at self.now) sample.now }

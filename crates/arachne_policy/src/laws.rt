@@ -1,4 +1,4 @@
-//! Laws of the definitions that the contracts cite. These functions do nothing; their contracts are what is proved.
+//! Laws of the definitions that the contracts cite. They are contracts of functions with empty bodies.
 
 ghost use Rattle.std.specs.Prelude.{◌≡◌, ℕ, ◌+◌, ◌*◌, ◌<◌, List, [], ◌∷◌, ◌++◌, length, reverse, take, slice_index_or};
 ghost use Rattle.arachne_policy.specs.declared.samples.Sample.{Sample};
@@ -9,8 +9,10 @@ ghost use Rattle.arachne_policy.specs.Sample.{most_counted};
 ghost use Rattle.arachne_policy.specs.State.{most_cores, State, after, StandsFor, HasJudged};
 ghost use Rattle.arachne_policy.specs.Advice.{Settings, threshold, advice, advices, NoneAdded, RecordStands};
 
-/// The threshold of one core more than `cores` is the utilisation of the last sample of `cores` cores that was answered
-/// `Add`; where there was none, it is that of `cores` busy cores.
+/// The law that a threshold is recorded by the last `Add`.
+///
+/// The threshold of `cores + 1` cores is the utilisation of the last sample of `cores` cores whose advice was `Add`. If
+/// there was none, it is that of `cores` busy cores.
 pub fn threshold_is_of_last_add()
     ensures recorded { (settings : Settings) (past : List Sample) (added : Sample)
         → RecordStands settings past added
@@ -20,8 +22,11 @@ pub fn threshold_is_of_last_add()
         → threshold settings past (cores + 1) ≡ 1000 * cores }
 {}
 
-/// A list of samples gets as many answers, each the advice on its sample after those before it. An estimator that has
-/// judged a list, and then judges a sample by what its thresholds stand for, has judged the list with that sample.
+/// The law that samples are judged one after another.
+///
+/// A list of samples gets one answer for each sample, the advice on it after those before it. If an estimator has
+/// judged a list, and then judges one more sample by the thresholds that it has, it has judged the list with that
+/// sample added.
 pub fn advices_are_in_turn()
     ensures each_once { (settings : Settings) (samples : List Sample)
         → length (advices settings samples) ≡ length samples }
@@ -37,7 +42,7 @@ pub fn advices_are_in_turn()
         → HasJudged settings (samples ++ s ∷ []) (answers ++ a ∷ []) new }
 {}
 
-/// The numbers of the machine in the code are those of the definitions.
+/// The law that the limits in the code are those of the definitions.
 pub fn limits_are_the_definitions()
     ensures cores { MAX_CORES ≡ most_cores }
     ensures counts { MAX_COUNT ≡ most_counted }

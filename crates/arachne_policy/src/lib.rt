@@ -1,5 +1,5 @@
-//! Which of two cores gets a thread, when to ask for a core and when to give one back, and which lists of core orders
-//! are in order.
+//! Decisions about cores: the core for a new thread, when to ask for a core and when to give one back, and whether a
+//! list of core orders is in order.
 //!
 //! Every call is a pure function over numbers: none takes memory, none waits, and none knows the table of contexts.
 #![tactic(auto)]

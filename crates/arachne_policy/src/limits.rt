@@ -1,7 +1,7 @@
 //! The limits of samples and of the number of cores.
 
-/// The most cores that an estimator may ever advise.
+/// The maximum number of cores that an estimator may advise.
 pub const MAX_CORES: usize = 64;
 
-/// The most that a count of a sample may be, in threads, scans or units of time.
+/// The maximum of a count of a sample, in threads, scans or units of time.
 pub const MAX_COUNT: u64 = 1 << 48;

@@ -1,10 +1,10 @@
-//! Orders that grant cores and take them back, and whether a list of them is in order.
+//! Orders that grant cores and take them back, and the check that a list of them is in order.
 ghost use Rattle.std.specs.Prelude.{◌≡◌, ◌↔◌, IsOk, IfErr};
 ghost use Rattle.arachne_policy.specs.Orders.{order_fault, IsFirstFault, AreInOrder};
 
 use thiserror::Error;
 
-/// What happens to a core.
+/// The kind of an order.
 #[derive(Clone, Copy, Debug, PartialEq, Eq)]
 pub enum OrderKind {
     /// The core is given to the runtime.
@@ -13,7 +13,7 @@ pub enum OrderKind {
     Release,
 }
 
-/// An arbiter's word on one core, which is due once `after` slices have ended on all cores together.
+/// An arbiter's order about one core. It is due once `after` slices have ended on all cores together.
 #[derive(Clone, Copy, Debug, PartialEq, Eq)]
 pub struct CoreOrder {
     pub after: u64,
@@ -21,7 +21,7 @@ pub struct CoreOrder {
     pub core: u64,
 }
 
-/// What is wrong with an order.
+/// The fault of an order.
 #[derive(Clone, Copy, Debug, PartialEq, Eq, Error)]
 pub enum OrderFaultKind {
     #[error("no such core")]
@@ -32,7 +32,7 @@ pub enum OrderFaultKind {
     AfterFalls,
 }
 
-/// The first order at fault of a list, by its index from 0.
+/// The first order of a list that has a fault, by its index from 0.
 #[derive(Clone, Copy, Debug, PartialEq, Eq, Error)]
 #[error("order {index}: {kind}")]
 pub struct OrderFault {
@@ -41,7 +41,8 @@ pub struct OrderFault {
 }
 
 impl CoreOrder {
-    /// What is wrong with the order on a machine of `cores` cores, after an order that is due after `previous` slices.
+    /// Returns the fault of the order, if it has one, on a machine of `cores` cores, after an order that is due after
+    /// `previous` slices.
     fn fault(&self, cores: u64, previous: u64) -> Option<OrderFaultKind>
         ensures { result ≡ order_fault cores previous self.now }
     {
@@ -57,9 +58,10 @@ impl CoreOrder {
     }
 }
 
-/// Whether the orders are in order on a machine of `cores` cores: each names one of its cores, none releases core 0,
-/// and none is due before the one that precedes it. The first order at fault is answered; of several faults of one
-/// order the first in the order of `OrderFaultKind`.
+/// Checks that the orders are in order on a machine of `cores` cores.
+///
+/// Each must name one of its cores, none may release core 0, and none may be due before the one that precedes it.
+/// Returns the first order with a fault; if it has several, the first in the order of `OrderFaultKind`.
 pub fn check_orders(orders: &[CoreOrder], cores: u64) -> Result<(), OrderFault>
     ensures accepts { IsOk result ↔ AreInOrder cores orders.now }
     ensures first { IfErr result (IsFirstFault cores orders.now) }

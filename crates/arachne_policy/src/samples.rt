@@ -1,4 +1,4 @@
-//! A sample of a load, and the advice on it.
+//! Samples of a load, and the advice on them.
 ghost use Rattle.std.specs.Prelude.{◌≡◌, ◌<◌, ◌≤◌, Some};
 ghost use Rattle.arachne_policy.specs.Advice.{advice_text};
 ghost use Rattle.arachne_policy.specs.Sample.{most_counted, load_of, utilisation_of, is_good};
@@ -7,22 +7,22 @@ use crate::limits::MAX_COUNT;
 use std::fmt;
 use thiserror::Error;
 
-/// What was measured over one stretch of time on all cores together.
+/// A sample: the measurements of one period on all cores together.
 #[derive(Clone, Copy, Debug, PartialEq, Eq)]
 pub struct Sample {
-    /// How many cores the runtime had.
+    /// The number of cores that the runtime had.
     pub cores: u64,
-    /// How many runnable threads the scans saw, added up.
+    /// The number of runnable threads that each scan saw, summed over the scans.
     pub runnable: u64,
-    /// How many times a core was scanned for runnable threads.
+    /// The number of times that a core was scanned for runnable threads.
     pub scans: u64,
-    /// The time in which cores ran threads, added up over the cores, in the unit of `elapsed`.
+    /// The time in which cores ran threads, summed over the cores, in the unit of `elapsed`.
     pub busy: u64,
-    /// The time that went by, in any unit.
+    /// The length of the period, in any unit.
     pub elapsed: u64,
 }
 
-/// What to do about the number of cores.
+/// The advice on the number of cores.
 #[derive(Clone, Copy, Debug, PartialEq, Eq)]
 pub enum Advice {
     /// Ask for one core more.
@@ -42,7 +42,7 @@ impl fmt::Display for Advice {
 }
 
 impl Advice {
-    /// Returns its word.
+    /// Returns the word that the advice is displayed as.
     fn word(&self) -> &'static str
         ensures { result.now ≡ advice_text self.now }
     {
@@ -54,13 +54,15 @@ impl Advice {
     }
 }
 
-/// A sample with no core or too many, with no time, busier than its cores could be, or with a count over `MAX_COUNT`.
+/// The error of a sample that cannot have been measured.
+///
+/// It has no core or too many, has no time, is busier than its cores could be, or has a count over `MAX_COUNT`.
 #[derive(Clone, Copy, Debug, PartialEq, Eq, Error)]
 #[error("the sample cannot have been measured")]
 pub struct BadSample;
 
 impl Sample {
-    /// Whether the sample can be judged where at most `max` cores may be had.
+    /// Returns whether the sample can be judged if at most `max` cores may be had.
     pub(crate) fn is_good(&self, max: u8) -> bool
         ensures { result ≡ is_good max self.now }
     {
@@ -74,7 +76,7 @@ impl Sample {
             && self.busy <= self.cores * self.elapsed
     }
 
-    /// The runnable threads that a scan saw on average, in thousandths of a thread.
+    /// Returns the average number of runnable threads that a scan saw, in thousandths of a thread.
     pub(crate) fn load(&self) -> u64
         requires { self.now.runnable ≤ most_counted }
         ensures { result ≡ load_of self.now }
@@ -86,7 +88,7 @@ impl Sample {
         }
     }
 
-    /// The cores that were busy on average, in thousandths of a core.
+    /// Returns the average number of busy cores, in thousandths of a core.
     pub(crate) fn utilisation(&self) -> u64
         requires counted { self.now.busy ≤ most_counted }
         requires timed { 0 < self.now.elapsed }

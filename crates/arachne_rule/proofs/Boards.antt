@@ -1,4 +1,4 @@
--- Words that change, and what the table shows then.
+-- Words that change, and what the table shows after that.
 use Rattle.std.proofs.Common.{◌≡◌, ℕ, ◌*◌, ◌<◌, ◌≤◌, List, length, refl, sym, ap, ◌∙◌, subst, arith, inl, inr, set, get_or, get_or-set_other, Option}
 use Rattle.std.proofs.lemmas.List.{get_or-set_same}
 use Rattle.std.proofs.lemmas.Bool.{cases_eq}
@@ -21,7 +21,7 @@ use Rattle.arachne_rule.specs.Layout.{contexts_in, occ_index, name_index, words_
 use Rattle.arachne_rule.specs.Table.{Table}
 use Rattle.arachne_rule.proofs.Naming.{with_name-same, with_name-other}
 
--- where a table of this shape has something
+-- a table of this shape has the place
 abbrev pub IsIn : Shape → Place → Type 0
 IsIn shape p = (p.core < shape.cores) × (p.index < shape.places_per_core)
 
@@ -33,7 +33,7 @@ name-apart n p q p_in q_in e =
     λ j. record { core = c j; index = k j }
 
 module _ {T : Type 0} where
-  -- two boards that agree wherever the World looks
+  -- two boards that agree on all words, slots and views of the World
   pub record Same (shape : Shape) (b a : Board T) : Type 0 where
     pub occ : (c : ℕ) → c < shape.cores → a.occ c ≡ b.occ c
     pub mark : (y : ℕ) → y < contexts_in shape → a.mark y ≡ b.mark y

@@ -29,7 +29,7 @@ with-at g x gs e = cond-true (eqb g.context x) _ _ (eq-eqb _ _ e) ∙ ap (λ (r 
 pub with-else : (g : Carried) (x y : ℕ) (gs : List Carried) → g.context ≡ x → (y ≡ x → ⊥) → carried_at y (with_carried g gs) ≡ carried_at y gs
 with-else g x y gs e n = cond-false (eqb g.context y) _ _ (ne_eqb _ _ (λ f. n (sym f ∙ e))) ∙ without-else g.context y gs (λ f. n (f ∙ e))
 
--- how many there are
+-- the number of entries
 pub without-length : (x : ℕ) (gs : List Carried) → length (without x gs) + length (carried_at x gs) ≡ length gs
 without-length x [] = refl
 without-length x (g ∷ gs) = elim (cases_eq g.context x) [

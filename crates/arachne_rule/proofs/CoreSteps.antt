@@ -1,4 +1,4 @@
--- What the table asks of the steps that close or open a core.
+-- The conditions of the table for the steps that close or open a core.
 use Rattle.std.proofs.Common.{◌≡◌, ℕ, ◌-◌, ◌*◌, ◌<◌, ◌^◌, List, refl, sym, ap, ◌∙◌, subst, arith, inr, Option, bit_and, bit_or}
 use mathlib.Core.Option.{none}
 use Rattle.atomic_table.specs.Table.{keeps, step, Allows}

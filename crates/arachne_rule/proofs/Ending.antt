@@ -1,4 +1,4 @@
--- The table at the end: what a whole seat knows that carries nothing.
+-- The table at the end: the knowledge of a whole seat that carries nothing.
 use Rattle.std.proofs.Common.{◌≡◌, ℕ, zero, suc, ◌+◌, ◌*◌, ◌<◌, ◌≤◌, Bool, true, false, cond, eqb, List, [], ◌∷◌, length, refl, sym, ap, ◌∙◌, arith, inl, inr, get_or}
 use Rattle.std.specs.Prelude.{count_by}
 use Rattle.std.proofs.lemmas.Bool.{cases_eq, cond-true, cond-false, eq-eqb, ne_eqb, and_left, and_right, lt-ltb, le-ltb, cases_lt}
@@ -28,7 +28,7 @@ use Rattle.arachne_rule.proofs.Carrying.{known-there}
 use Rattle.arachne_rule.proofs.Views.{more-threads}
 use Rattle.arachne_rule.proofs.Seen.{seen}
 
--- nobody claims or holds the context
+-- no seat claims or holds the context
 abbrev pub IsLeft : State → Type 0
 IsLeft (Claimed h) = ⊥
 IsLeft (Held h w t) = ⊥
@@ -42,7 +42,7 @@ left (Ready t) f none = tt
 left (Blocked t) f none = tt
 left Spent f none = tt
 
--- the tag of what lies in a slot
+-- the tag of the value in a slot
 abbrev has_tag : {T : Type 0} → (T → ℕ) → Option T → ℕ → Bool
 has_tag tag_in None tag = false
 has_tag tag_in (Some v) tag = eqb (tag_in v) tag
@@ -72,7 +72,7 @@ module _ {T : Type 0} (tag_in : T → ℕ) (bits : ℕ) (words : List ℕ) (t : 
   none-before x (None ∷ slots) l = none-before (suc x) slots (omega (arith, l))
   none-before x (Some v ∷ slots) l = skips x v slots (λ e. omega (arith, e, l)) ∙ none-before (suc x) slots (omega (arith, l))
 
-  -- a thread is left where the slot of its context has it
+  -- a thread is left if the slot of its context has it
   count-at : (x y : ℕ) (slots : List (Option T)) (slot : Option T) → t.0.context ≡ x + y → get_elem? slots y ≡ opt.some slot
       → counted x slots ≡ cond (eqb (marked_of bits (get_or words (x + y) 0)).generation t.0.generation && has_tag tag_in slot t.1) 1 0
   count-at x y [] slot at e = absurd (opt.some-ne-none slot (sym e))
@@ -104,7 +104,7 @@ module _ {T : Type 0} (tag_in : T → ℕ) (bits : ℕ) (words : List ℕ) (t : 
   none-past x (None ∷ slots) l = none-past (suc x) slots (omega (arith, l))
   none-past x (Some v ∷ slots) l = skips x v slots (λ e. omega (arith, e, l)) ∙ none-past (suc x) slots (omega (arith, l))
 
--- what lies at home in the slot of a context that nobody carries
+-- the content, at home, of the slot of a context that no seat carries
 at-home : {T : Type 0} (tag_in : T → ℕ) (s : State) (z : opt.Option (opt.Option (Option T))) → IsLeft s → HasValue tag_in s z → (o : Option T) × (z ≡ opt.some (opt.some o)) × ((tag : ℕ) → has_thread s tag ≡ has_tag tag_in o tag)
 at-home tag_in Free z l v = (None, v, λ tag. refl)
 at-home tag_in (Claimed h) z l v = absurd l
@@ -145,7 +145,7 @@ module _ {T : Type 0} (tag_in : T → ℕ) (bits : ℕ) (w : World) (d : ℕ →
     | inr n ↦ ap (λ (r : Known). carried_at x r.carried) (others h n)
   ])
 
-  -- what was given has ended, or is live
+  -- each thread that was posted has ended, or is live
   pub settles : (t : Thread) → count_by (same_thread t) k.given ≡ cond (is_live w t) (count_by (same_thread t) k.ended + 1) (count_by (same_thread t) k.ended)
   settles t =
       let f : Token Known → ℕ = λ (v : Token Known). count_by (same_thread t) v.known.given in
@@ -186,7 +186,7 @@ module _ {T : Type 0} (tag_in : T → ℕ) (bits : ℕ) (shape : Shape) (s : Tab
         ∙ ap (λ (q : Bool). cond q 1 0) (sym (and_left _ _ (and_left _ _ (le-ltb t.0.context (w.cores * w.slots) past_all))))
   ]
 
-  -- what was posted has ended or lies in a slot
+  -- each thread that was posted has ended or its value is in a slot
   pub all-settled : IsSettled tag_in k (left_from bits 0 s.words slots)
   all-settled = record {
     once = λ t. omega (arith, hs.shows.owned.once t, hs.shows.given t, whole-total blank (λ (v : Token Known). count_by (same_thread t) v.known.given) refl hs.shows.seats i (held whole k) mine refl);

@@ -1,4 +1,4 @@
--- What the table asks of loads, and of a load that takes a slot.
+-- The conditions of the table for loads, and for a load that takes a slot.
 use Rattle.std.proofs.Common.{None, ◌≡◌, ℕ, ◌*◌, ◌^◌, ◌<◌, ◌≤◌, true, false, List, ◌∷◌, length-set, refl, sym, ap, ◌∙◌, subst, arith, inl, inr, set, get_or, Option}
 use mathlib.Core.Option.{some, none}
 use mathlib.Core.Option as opt
@@ -29,7 +29,7 @@ use Rattle.arachne_rule.proofs.Boards.{IsIn, home-set, name-apart}
 use Rattle.arachne_rule.proofs.Stepping.{sees, name-made, for-seat}
 use Rattle.arachne_rule.proofs.OwnWords.{says-carried, says-gone, same-at-place, placed-in}
 
--- a place word that is written as it was
+-- a place word that is written with the same number
 same-names : {T : Type 0} (tag_in : T → ℕ) (bits : ℕ) (w : World) (d : ℕ → Phase) (b : Board T) → Shows tag_in bits w d b → (p : Place) → Shows tag_in bits w d (record b { name = with_name b.name p (b.name p) })
 same-names tag_in bits w d b s p =
     let f : (q : Place) → with_name b.name p (b.name p) q ≡ b.name q = λ q. elim (cases_place q p) [

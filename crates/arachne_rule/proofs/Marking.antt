@@ -1,4 +1,4 @@
--- Steps that leave the occupancy words alone.
+-- Steps that leave the occupancy words as they are.
 use Rattle.std.proofs.Common.{◌≡◌, ℕ, ◌<◌, Bool, true, false, cond, eqb, List, ◌∷◌, refl, sym, ap, ◌∙◌, subst, set, []}
 use Rattle.std.proofs.lemmas.Bool.{eqb-true, eq-eqb, ne_eqb, cond-true, cond-false, true≢false}
 use mathlib.Core.Option.{some}
@@ -17,7 +17,7 @@ use Rattle.arachne_rule.specs.Rule.{carried_if, share_of, Board, Phase, ShowsWor
 use Rattle.arachne_rule.proofs.OneContext.{Change, changed, one_context}
 use Rattle.arachne_rule.proofs.Views.{learned-else, learned-here}
 
--- what a step on a mark word or a place word may change
+-- the parts of the table that a step on a mark word or a place word may change
 pub record Small : Type 0 where
   pub state : ℕ → State
   pub generation : ℕ → ℕ
@@ -28,7 +28,7 @@ abbrev pub small : World → Small → World
 small w c = record w { state = c.state; generation = c.generation; given = c.given; ended = c.ended }
 
 module _ {T : Type 0} (tag_in : T → ℕ) (bits : ℕ) where
-  -- what a seat does at context x, and what it knows then
+  -- the effect of a seat's step at context x, and the seat's knowledge after it
   pub record AtOne (w : World) (c : Small) (d e : ℕ → Phase) (b a : Board T) (x h weight : ℕ) (before after : Known) : Type 0 where
     pub mine : get_elem? b.views h ≡ some (held weight before)
     pub views : a.views ≡ set b.views h (held weight after)
@@ -76,7 +76,7 @@ module _ {T : Type 0} (tag_in : T → ℕ) (bits : ℕ) where
       (λ t. given t ∙ ap (given_in t) (sym o.views))
       (λ t. ended t ∙ ap (ended_in t) (sym o.views))
 
--- ---- what a carried context says of its state
+-- ---- the state of a carried context
 
 pub no-carried : (g : Carried) → g ∷ [] ≡ [] → ⊥
 no-carried g e = cc
@@ -101,7 +101,7 @@ claimed-carried (Ready t) h f g hs e n = absurd (no-carried g (sym e))
 claimed-carried (Blocked t) h f g hs e n = absurd (no-carried g (sym e))
 claimed-carried Spent h f g hs e n = absurd (no-carried g (sym e))
 
--- and one that is held is held in the World
+-- a context that is carried and held is held in the World
 pub held-carried : (s : State) (h : ℕ) (f : Bool → ℕ → Carried) (g : Carried) → ((b : Bool) (t : ℕ) → (f b t).held ≡ b) → carried_if s h f ≡ g ∷ [] → g.held ≡ true
     → (woken : Bool) × (tag : ℕ) × (s ≡ Held h woken tag) × (g ≡ f true tag)
 held-carried (Claimed k) h f g hs e n = let q = carried-of-held (eqb k h) (f false 0) g e in absurd (true≢false (sym n ∙ ap (λ (r : Carried). r.held) q.1 ∙ hs false 0))

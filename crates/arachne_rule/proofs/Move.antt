@@ -24,7 +24,7 @@ use Rattle.arachne_rule.proofs.Views.{learned-else, learned-here, given-same, en
 use Rattle.arachne_rule.proofs.Marking.{claimed-carried, mine-claimed, not-claimed}
 use Rattle.arachne_rule.proofs.Seen.{rest-mark, rest-live, rest-coherent, coherent-rest, seen}
 
--- a thread at rest is nobody's
+-- no seat carries a thread at rest
 no-share : (s : State) → IsAtRest s → (h : ℕ) (f : Bool → ℕ → Carried) → carried_if s h f ≡ []
 no-share (Ready t) r h f = refl
 no-share (Blocked t) r h f = refl

@@ -1,5 +1,5 @@
--- What the table asks of the steps of a move: the exchange of the mark word, the two place words, and the mark word of
--- the context whose place was taken.
+-- The conditions of the table for the steps of a move: the exchange of the mark word, the two place words, and the mark
+-- word of the context whose place was taken.
 use Rattle.std.proofs.Common.{◌≡◌, ◌≢◌, ℕ, ◌<◌, true, false, List, refl, sym, ap, ◌∙◌, subst, arith, inl, inr, set, get_or, Option, eqb}
 use Rattle.std.proofs.lemmas.Bool.{cond-true, cond-false, eq-eqb, ne_eqb}
 use mathlib.Core.Option.{none}

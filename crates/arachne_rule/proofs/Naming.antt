@@ -1,6 +1,6 @@
--- The words that are mended after a move, and after a take. Each changes what one context's words say and what its seat
--- knows of it, and the World not at all (`mends`); a context that was claimed stays claimed (`mends-claimed`). A word more
--- is a lemma more by these, with the field of `Phase` that it ends.
+-- The words that are corrected after a move, and after a take. Each changes what one context's words show and what its
+-- seat knows of it, and the World not at all (`mends`); a context that was claimed stays claimed (`mends-claimed`). One
+-- more word is one more lemma by these, with the field of `Phase` that it ends.
 use Rattle.std.proofs.Common.{◌≡◌, ◌<◌, ℕ, Bool, true, false, ◌&&◌, ◌∷◌, refl, sym, ap, ◌∙◌, subst, inl, inr, set, []}
 use Rattle.std.proofs.lemmas.Bool.{true≢false, cond-true, cond-false, false_from_ne_true}
 use mathlib.Core.Option as opt
@@ -34,14 +34,14 @@ with_name-other f p x q n = cond-false (same_place q p) x (f q) (false_from_ne_t
 
 module _ {T : Type 0} (tag_in : T → ℕ) (bits : ℕ) (w : World) (d : ℕ → Phase) (b : Board T) (s : Shows tag_in bits w d b)
     (h weight : ℕ) (k : Known) (mine : get_elem? b.views h ≡ opt.some (held weight k)) where
-  -- what a seat has that isn't held, it has claimed
+  -- a seat has claimed what it carries and doesn't hold
   claims : (y : ℕ) (g : Carried) → IsContext w y → carried_at y k.carried ≡ g ∷ [] → g.held ≡ false → (w.state y ≡ Claimed h) × (g ≡ carried_of w d y false 0)
   claims y g y_in got free = claimed-carried (w.state y) h (carried_of w d y) g (λ q t. refl) (my-share tag_in bits w d b s h weight k mine y g y_in got) free
 
   abbrev unchanged : Small
   unchanged = record { state = w.state; generation = w.generation; given = w.given; ended = w.ended }
 
-  -- what the seat knows of context y, and what the words at its places say, change alone
+  -- only the seat's knowledge of context y, and the words at its places, change
   mends : (y : ℕ) (g : Carried) (r : Phase) (a : Board T) → IsContext w y → g.context ≡ y
       → a.views ≡ set b.views h (held weight (with_context k g))
       → ((j : ℕ) → j < w.cores → a.occ j ≡ b.occ j)
@@ -84,7 +84,7 @@ module _ {T : Type 0} (tag_in : T → ℕ) (bits : ℕ) (w : World) (d : ℕ →
       (ap (λ (u : Carried). u ∷ []) g_is ∙ sym (ap (λ (t : State). carried_if t h (carried_of w e y)) claimed ∙ mine-claimed h (carried_of w e y)))
       (λ j m. ap (λ (t : State). carried_if t j (carried_of w d y)) claimed ∙ not-claimed h j (carried_of w d y) m ∙ sym (ap (λ (t : State). carried_if t j (carried_of w e y)) claimed ∙ not-claimed h j (carried_of w e y) m))
 
-  -- the place word of any place that names y, which my move has left unnamed, may name any context instead
+  -- the place word of any place that names y, which this seat's move has left unnamed, may name any context instead
   pub name_target : (q : Place) (x y : ℕ) (g : Carried) → IsContext w x → IsContext w y → b.name q ≡ y → carried_at y k.carried ≡ g ∷ [] → g.held ≡ false → g.named ≡ false
       → Shows tag_in bits w d (record b { name = with_name b.name q x })
   name_target q x y g x_in y_in found got free unnamed =
@@ -114,7 +114,7 @@ module _ {T : Type 0} (tag_in : T → ℕ) (bits : ℕ) (w : World) (d : ℕ →
         ended = s.ended;
       }
 
-  -- the mark word of y says where it stands now
+  -- the mark word of y shows the place at which it stands now
   pub replace : (y : ℕ) (g : Carried) → IsContext w y → carried_at y k.carried ≡ g ∷ [] → g.context ≡ y → g.held ≡ false
       → Shows tag_in bits w (with_at d y (record (d y) { shown = g.place })) (record b {
         mark = with_at b.mark y (mark_word bits (record { mark = mark.Free; alone = false; place = g.place; generation = g.generation }));

@@ -1,4 +1,4 @@
--- A seat writes down what it has seen, which changes nothing else that it knows.
+-- A seat notes what it has seen, which changes nothing else that it knows.
 use Rattle.std.proofs.Common.{◌≡◌, ℕ, set, ap, ◌∙◌}
 use mathlib.Core.Option as opt
 use lib.ListN.{get_elem?}

@@ -21,7 +21,7 @@ use Rattle.arachne_rule.specs.Rule.{share_of, Board, Phase, ShowsWord, ShowsCont
 use Rattle.arachne_rule.proofs.OneContext.{Change, changed, one_context}
 use Rattle.arachne_rule.proofs.Views.{learned-else, learned-here, given-same, ended-same}
 
--- context x gets a state, its place is occupied or not, and cores may be alone or not
+-- context x gets a state, its place is occupied or not, and cores may be exclusive or not
 abbrev pub occupying_world : World → ℕ → State → Bool → (ℕ → Bool) → World
 occupying_world w x st q al = record w { state = with_at w.state x st; occupied = with_place w.occupied (w.at x) q; alone = al }
 
@@ -84,7 +84,7 @@ module _ {T : Type 0} (tag_in : T → ℕ) (bits : ℕ) where
       (λ t. s.given t ∙ given-same b.views h weight before after o.mine o.given t ∙ ap (given_in t) (sym o.views))
       (λ t. s.ended t ∙ ended-same b.views h weight before after o.mine o.ended t ∙ ap (ended_in t) (sym o.views))
 
--- the word with one index more shows the World in which that place is occupied
+-- the word with one more index shows the World in which that place is occupied
 pub one-more-shows : (w : World) (x word i : ℕ) (st : State) (al : ℕ → Bool) → ShowsWord w (core_of w x) word → (w.at x).index ≡ i → i < MASK_BITS
     → al (core_of w x) ≡ w.alone (core_of w x)
     → get_or (occupancy_of word).occupied i false ≡ false

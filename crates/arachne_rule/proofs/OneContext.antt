@@ -1,4 +1,4 @@
--- One context changed: what a step owes there, and nothing else.
+-- One context changed: what a step must show there, and nothing else.
 use Rattle.std.proofs.Common.{◌≡◌, ℕ, ◌<◌, Bool, true, false, cond, eqb, ◌&&◌, ◌∷◌, refl, sym, ap, ◌∙◌, subst, inl, inr, [], arith}
 use Rattle.std.proofs.lemmas.Bool.{cases_eq}
 use Rattle.arachne_core.specs.declared.place.Place.{Place}
@@ -44,7 +44,7 @@ carried-same (Blocked t) h f g e = refl
 carried-same Spent h f g e = refl
 
 module _ {T : Type 0} (tag_in : T → ℕ) (bits : ℕ) where
-  -- nothing has changed but at context x
+  -- nothing has changed except at context x
   pub record Elsewhere (w : World) (c : Change) (d e : ℕ → Phase) (b a : Board T) (x : ℕ) : Type 0 where
     pub state : (y : ℕ) → (y ≡ x → ⊥) → c.state y ≡ w.state y
     pub generation : (y : ℕ) → (y ≡ x → ⊥) → c.generation y ≡ w.generation y

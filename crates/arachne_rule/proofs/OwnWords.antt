@@ -1,4 +1,4 @@
--- What the words say to the seat that carries a context, or that has ended a thread.
+-- The meaning of the words for the seat that carries a context, or that has ended a thread.
 use Rattle.std.proofs.Common.{◌≡◌, ℕ, zero, suc, ◌<◌, ◌≤◌, Bool, true, false, ◌&&◌, List, [], ◌∷◌, refl, sym, ap, ◌∙◌, subst, arith, inl, inr, count_by}
 use Rattle.std.specs.List.{sum_by}
 use mathlib.Core.Option as opt
@@ -54,11 +54,11 @@ part-of f (u ∷ us) (suc h) v e = let all = sum_by-cons f u us in let r = part-
 
 module _ {T : Type 0} (tag_in : T → ℕ) (bits : ℕ) (w : World) (d : ℕ → Phase) (b : Board T) (s : Shows tag_in bits w d b)
     (h weight : ℕ) (k : Known) (mine : get_elem? b.views h ≡ opt.some (held weight k)) where
-  -- a context that is nobody's isn't the seat's
+  -- a context that no seat carries isn't the seat's
   pub not-mine : (x : ℕ) → IsContext w x → ((f : Bool → ℕ → Carried) → carried_if (w.state x) h f ≡ []) → carried_at x k.carried ≡ []
   not-mine x x_in nobody = sym (ap (λ (r : Known). carried_at x r.carried) (known-there b.views h (held weight k) mine)) ∙ s.carried h x x_in ∙ nobody (carried_of w d x)
 
-  -- its place is one of the World, and where it is named the place word says so
+  -- the context's place is one of the World, and if it is named there, the place word names it
   pub placed-in : (c : Carried) → IsContext w c.context → Carries k c → IsPlace w c.place × (c.named ≡ true → b.name c.place ≡ c.context)
   placed-in c c_in has =
       let share = my-share tag_in bits w d b s h weight k mine c.context c c_in has in
@@ -105,7 +105,7 @@ module _ {T : Type 0} (tag_in : T → ℕ) (bits : ℕ) (w : World) (d : ℕ →
         | inr p ↦ inr (inr (ap (λ (u : Marked). u.mark) reads ∙ spent-says (w.state x) (ap w.state (sym same) ∙ p)))
       ]
 
-  -- an ended thread was given, so its context is one of the World's; and it can't be woken
+  -- a thread that has ended was posted, so its context is one of the World's; and it can't be woken
   pub ended-for-good : (t : Thread) → HasEnded k t → IsContext w t.0.context × IsGone bits t.0 (b.mark t.0.context) × (Allowed w (event.Wake t.0) → ⊥)
   ended-for-good t has =
       let ended : 0 < w.ended t = omega (arith, has, s.ended t, part-of (λ (v : Token Known). count_by (same_thread t) v.known.ended) b.views h (held weight k) mine) in

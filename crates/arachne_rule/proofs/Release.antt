@@ -30,7 +30,7 @@ use Rattle.arachne_rule.proofs.Occupying.{occupying_world, occupying}
 pub not-free : (s : State) (h : ℕ) → s ≡ Claimed h → s ≡ Free → ⊥
 not-free s h e f = cc
 
--- two contexts on an alone core, neither of which is free, are one
+-- two contexts on an exclusive core, neither of which is free, are the same
 pub alone-apart : (w : World) → OwnedOnce w → (x y : ℕ) → IsContext w x → IsContext w y → (w.state x ≡ Free → ⊥) → (w.state y ≡ Free → ⊥) → core_of w y ≡ core_of w x → w.alone (core_of w x) ≡ true → y ≡ x
 alone-apart w o x y x_in y_in nx ny same al =
     let one = o.alone (core_of w x) (o.placed x x_in).0 al in
@@ -64,7 +64,7 @@ one-less-shows w x word i st al packed occupied closed exclusive at_i i_in full 
       };
     }
 
--- what a release takes away from the word of its core
+-- the word of a core, less the number that a release subtracts
 abbrev pub less_by : Carried → ℕ → ℕ
 less_by g word = (if g.alone then word - 2 ^ 63 else word) - (2 ^ g.place.index + 2 ^ MASK_BITS)
 
@@ -157,7 +157,7 @@ module _ {T : Type 0} (tag_in : T → ℕ) (bits : ℕ) (w : World) (d : ℕ →
   by-sum true word i = omega arith
   by-sum false word i = refl
 
-  -- the same, taken away at once
+  -- the same, subtracted at once
   pub released : (c : Carried) → IsContext w c.context → carried_at c.context k.carried ≡ c ∷ [] → c.held ≡ false → c.named ≡ true → c.away ≡ false
       → Allowed w (event.Release h c.context)
       × Shows tag_in bits (after w (event.Release h c.context)) d (record b {
@@ -171,7 +171,7 @@ module _ {T : Type 0} (tag_in : T → ℕ) (bits : ℕ) (w : World) (d : ℕ →
             (by-sum c.alone (b.occ c.place.core) c.place.index) r.1,
       )
 
--- what a release takes away is in the word
+-- the number that a release subtracts is in the word
 pub holds-index : (w i : ℕ) → IsOccupancyWord w → get_or (occupancy_of w).occupied i false ≡ true → 2 ^ i + 2 ^ MASK_BITS ≤ w
 holds-index w i packed full = omega (arith, one_less (occupancy_of w) i full, packed)
 
@@ -180,6 +180,6 @@ holds-flag w i packed full flag =
     let c : Occupancy = occupancy_of w in
     omega (arith, mask_of-clear c.occupied i full, count_of-clear c.occupied i full, packed, ap bit flag)
 
--- what a fetch_sub of it leaves
+-- the word after a fetch_sub of it
 pub wraps : (w less : ℕ) → w < 2 ^ 64 → less ≤ w → (w + (2 ^ 64 - less)) % 2 ^ 64 ≡ w - less
 wraps w less w_in fits = omega (arith, w_in, fits)

@@ -1,6 +1,6 @@
--- What the table asks of the steps that put a thread back or wake it. Each step's lemma shows the World after it, with the
--- word that it writes (`rests`, `wakes`); `mark-event` makes the rule of that. What a held thread's end of holding asks is
--- in `Resting`, a wake's in `Waking`.
+-- The conditions of the table for the steps that put a thread back or wake it. Each step's lemma shows the World after
+-- it, with the word that it writes (`rests`, `wakes`); `mark-event` makes the rule from that. The conditions for the
+-- end of a hold are in `Resting`, those for a wake in `Waking`.
 use Rattle.std.proofs.Common.{Some, ◌≡◌, ℕ, ◌<◌, true, false, List, ◌∷◌, length-set, refl, sym, ap, ◌∙◌, subst, arith, inl, inr, set, get_or, Option, eqb}
 use mathlib.Core.Option.{some, none}
 use mathlib.Core.Option as opt
@@ -42,7 +42,7 @@ module _ {T : Type 0} (tag_in : T → ℕ) (bits : ℕ) (shape : Shape) where
   abbrev n : ℕ
   n = contexts_in shape
 
-  -- the mark word of a held context is written, and its value is laid home
+  -- the mark word of a held context is written, and its value goes home
   rests : (s : Table T) (hs : Holds tag_in bits shape s) (id weight : ℕ) (k : Known) → get_elem? s.views id ≡ some (held weight k)
       → (kind : Kind) (l : List (ℕ × Option T)) (c : Carried) (v : T) (new word : ℕ) (e : Event) → c.context < n → IsHeldBy id (hs.world.state c.context)
       → Allowed hs.world e → (after hs.world e).at c.context ≡ hs.world.at c.context → new ≡ word
@@ -131,11 +131,11 @@ module _ {T : Type 0} (tag_in : T → ℕ) (bits : ℕ) (shape : Shape) where
 
   -- ---- a wake
 
-  -- the thread of the context is woken, in the generation that its mark word says
+  -- the thread of the context is woken, in the generation of its mark word
   abbrev waking : Table T → ℕ → Event
   waking s x = event.Wake (record { context = x; generation = (marked_of bits (get_or s.words x 0)).generation })
 
-  -- the exchange of a mark word that says m, by the World after it with the new word
+  -- the exchange of a mark word with the fields m, by the World after it with the new word
   wakes : (id weight : ℕ) (k : Known) (l : List (ℕ × Option T)) (x old new : ℕ) (m : Marked) (how : Kind) → x < n → marked_of bits old ≡ m → IsExchange how
       → ((s : Table T) (hs : Holds tag_in bits shape s) → get_elem? s.views id ≡ some (held weight k) → IsContext hs.world x → marked_of bits (get_or s.words x 0) ≡ m
       → (IsMarkOf bits (after hs.world (waking s x)) x new → EventOf bits hs.world id how x (get_or s.words x 0) new (waking s x))

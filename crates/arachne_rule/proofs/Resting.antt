@@ -34,7 +34,7 @@ not-woken h false t e = refl
 
 module _ {T : Type 0} (tag_in : T → ℕ) (bits : ℕ) (w : World) (d : ℕ → Phase) (b : Board T) (s : Shows tag_in bits w d b)
     (h weight : ℕ) (k : Known) (mine : get_elem? b.views h ≡ opt.some (held weight k)) where
-  -- a held context goes to a state at rest, with its value at home
+  -- a held context becomes one at rest, with its value at home
   rests : (x : ℕ) (g : Carried) (v : T) (r : Rest) (st : State) (mk : Mark) (al : Bool) → IsContext w x → carried_at x k.carried ≡ g ∷ [] → g.context ≡ x → (woken : Bool)
       → w.state x ≡ Held h woken g.tag → g ≡ carried_of w d x true g.tag
       → put_back r (Held h woken g.tag) ≡ st → mark_of st ≡ mk → is_live_state st ≡ true
@@ -109,7 +109,7 @@ module _ {T : Type 0} (tag_in : T → ℕ) (bits : ℕ) (w : World) (d : ℕ →
       rests x g v rest.Ready (Ready g.tag) mark.Ready g.alone x_in got same is.0 (is.2 ∙ ap (Held h is.0) tag) (is.3 ∙ ap (carried_of w d x true) tag) refl refl refl
       (λ j f. refl) (λ p a c. c) (λ z e. (v, e, tagged))
 
-  -- as blocked, where the mark word says HELD
+  -- as blocked, if the mark word is HELD
   pub rest_blocked : (x : ℕ) (g : Carried) (v : T) (m : Marked) → IsContext w x → carried_at x k.carried ≡ g ∷ [] → g.context ≡ x → g.held ≡ true → tag_in v ≡ g.tag
       → marked_of bits (b.mark x) ≡ m → m.mark ≡ mark.Held
       → Allowed w (event.Rest h x rest.Blocked)

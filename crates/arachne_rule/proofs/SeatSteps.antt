@@ -1,4 +1,4 @@
--- What the table asks of a split and a join of seats.
+-- The conditions of the table for a split and a join of seats.
 use Rattle.std.proofs.Common.{◌≡◌, ℕ, zero, suc, ◌+◌, ◌≤◌, ◌⊎◌, eqb, List, [], ◌∷◌, ◌++◌, length, length-set, length-append, refl, sym, ap, ◌∙◌, subst, arith, inl, inr, set}
 use Rattle.std.proofs.lemmas.Bool.{true≢false, cond-false, ne_eqb}
 use mathlib.Core.Option.{some, some-injective, some-ne-none}

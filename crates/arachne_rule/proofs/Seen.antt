@@ -1,4 +1,4 @@
--- What a mark word that was seen says of the World.
+-- The meaning of a mark word that was seen, in the World.
 use Rattle.std.proofs.Common.{◌≡◌, ℕ, true, false, refl, sym, ap, ◌∙◌, arith}
 use Rattle.arachne_core.specs.declared.place.Place.{Place}
 use Rattle.arachne_core.specs.declared.state.State.{State}
@@ -36,7 +36,7 @@ rest-live (Ready t) e = refl
 rest-live (Blocked t) e = refl
 rest-live s e = absurd e
 
--- a context that isn't claimed is at the place that its mark word says
+-- a context that isn't claimed is at the place that its mark word shows
 pub rest-coherent : (s : State) (p : Place) (a : Phase) → IsAtRest s → Coherent s p a → (a.away ≡ false) × (a.shown ≡ p)
 rest-coherent (Ready t) p a r c = c
 rest-coherent (Blocked t) p a r c = c
@@ -47,7 +47,7 @@ coherent-rest (Ready t) p a r c = c
 coherent-rest (Blocked t) p a r c = c
 coherent-rest s p a r c = absurd r
 
--- a context that its place names, or that isn't claimed, stands where its mark word says
+-- a context that its place names, or that isn't claimed, stands at the place that its mark word shows
 pub named-shown : (s : State) (p : Place) (a : Phase) → Coherent s p a → a.named ≡ true → a.shown ≡ p
 named-shown Free p a c n = c.2
 named-shown (Claimed h) p a c n = c n
@@ -74,6 +74,6 @@ module _ {T : Type 0} (tag_in : T → ℕ) (bits : ℕ) (w : World) (d : ℕ →
   seen x x_in = let p_in = (s.contexts x x_in).within in ap (marked_of bits) (s.contexts x x_in).mark
       ∙ marked_of-mark_word bits (record (marked w x) { place = (d x).shown }) (omega (arith, p_in.1, s.fits.1)) (omega (arith, p_in.0, s.fits.0))
 
-  -- a mark word that was written is that of its context, where it says the place at which the context stands
+  -- a mark word that was written is that of its context, if it shows the place at which the context stands
   pub is-mark-of : (mark : ℕ → ℕ) (x new : ℕ) → b.mark x ≡ with_at mark x new x → IsContext w x → (d x).shown ≡ w.at x → IsMarkOf bits w x new
   is-mark-of mark x new is x_in at = sym (is ∙ with_at-same mark x new) ∙ (s.contexts x x_in).mark ∙ ap (λ (p : Place). mark_word bits (record (marked w x) { place = p })) at

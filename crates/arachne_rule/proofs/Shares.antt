@@ -1,4 +1,4 @@
--- What a seat says of a context is its share of the World.
+-- A seat's knowledge of a context is its share of the World.
 use Rattle.std.proofs.Common.{◌≡◌, ℕ, [], ◌∷◌, sym, ap, ◌∙◌}
 use mathlib.Core.Option.{some}
 use lib.ListN.{get_elem?}

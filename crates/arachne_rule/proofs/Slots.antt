@@ -1,4 +1,4 @@
--- The empty slot of a context that is claimed or held comes to its carrier, and its place word is learned.
+-- The empty slot of a context that is claimed or held is out with its carrier, which has learned the place word.
 use Rattle.std.proofs.Common.{◌≡◌, ℕ, Bool, true, false, eqb, Option, ◌∷◌, refl, sym, ap, ◌∙◌, subst, set, []}
 use Rattle.std.proofs.lemmas.Bool.{eqb-true, ne_eqb, true≢false, cond-true, cond-false}
 use mathlib.Core.Option as opt
@@ -63,7 +63,7 @@ carried-coherent Spent p a h f g q e c = absurd (no-carried g (sym e))
 
 module _ {T : Type 0} (tag_in : T → ℕ) (bits : ℕ) (w : World) (d : ℕ → Phase) (b : Board T) (s : Shows tag_in bits w d b)
     (h weight : ℕ) (k : Known) (mine : get_elem? b.views h ≡ opt.some (held weight k)) where
-  -- the slot is empty, and the place word names the context where my view says so
+  -- the slot is empty, and the place word names the context if the seat's view says so
   pub learn : (x : ℕ) (g : Carried) → IsContext w x → carried_at x k.carried ≡ g ∷ [] → g.context ≡ x → g.away ≡ false
       → (b.home x ≡ opt.some (opt.some None)) × (g.named ≡ true → b.name g.place ≡ x)
       × Shows tag_in bits w (with_at d x (record (d x) { away = true })) (record b {

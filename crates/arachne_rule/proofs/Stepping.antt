@@ -1,4 +1,4 @@
--- What one step makes of a table for which the rule holds: from the World after the step, and its words, to the rule.
+-- The table after one step, if the rule holds before it: from the World after the step, and its words, to the rule.
 use Rattle.std.proofs.Common.{◌≡◌, ℕ, zero, suc, ◌<◌, ◌≤◌, List, [], ◌∷◌, length, length-set, refl, sym, ap, ◌∙◌, subst, set, get_or, Option}
 use Rattle.std.proofs.lemmas.List.{set-get_or}
 use mathlib.Core.Option as opt
@@ -43,7 +43,7 @@ module _ {T : Type 0} (tag_in : T → ℕ) (bits : ℕ) (shape : Shape) (s : Tab
   abbrev b : Board T
   b = board_of n s
 
-  -- what a seat with this knowledge shows, it shows with one step more in its records
+  -- a board that shows the World with this knowledge of a seat shows it with one more step in the seat's records
   writes : (v : World) (d : ℕ → Phase) (a : Board T) (k' k'' : Known) → k''.carried ≡ k'.carried → k''.given ≡ k'.given → k''.ended ≡ k'.ended
       → Shows tag_in bits v d (record a { views = set s.views id (held weight k') })
       → Shows tag_in bits v d (record a { views = set s.views id (held weight k'') })
@@ -125,6 +125,6 @@ module _ {T : Type 0} (tag_in : T → ℕ) (bits : ℕ) (shape : Shape) (s : Tab
       (writes (after w e) d (record b { name = with_name b.name p new; home = home }) k' k'' refl refl refl shows)
       (name-steps shape s p new id l (held weight k'') act home hs.fits.words p_in (subst (λ (m : ℕ). m ≤ SLOTS) hs.fits.slots hs.shows.fits.1) homes))
 
--- where a proposition is told of a seat as it stands, and the number of slots and the word are the table's own
+-- a proposition about a seat in use, if the number of slots and the word's index are the table's own
 pub for-seat : {T : Type 0} (P : ℕ → ℕ → Mine T → Type 0) (slots i m j : ℕ) (me : Mine T) → slots ≡ m → i ≡ j → IsLive me → P m j (held me.0.weight me.0.known, me.1) → P slots i me
 for-seat P slots i m j me e f live p = subst (λ (x : ℕ). P x i me) (sym e) (subst (λ (y : ℕ). P m y me) (sym f) (subst (λ (v : Token Known). P m j (v, me.1)) (sym live) p))

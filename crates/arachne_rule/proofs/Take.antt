@@ -37,7 +37,7 @@ module _ {T : Type 0} (tag_in : T → ℕ) (bits : ℕ) (w : World) (d : ℕ →
     views = set b.views h (held weight (with_context k (taken_context x m tag)));
   }
 
-  -- the value lies at home, and the thread is the seat's from then on
+  -- the value is at home, and the seat has the thread from then on
   pub take : (x : ℕ) (m : Marked) → IsContext w x → marked_of bits (b.mark x) ≡ m → m.mark ≡ mark.Ready
       → (v : T) × (b.home x ≡ opt.some (opt.some (Some v))) × Allowed w (event.Take h x)
       × Shows tag_in bits (after w (event.Take h x)) (with_at d x (taken_phase m.place)) (after_take x m (tag_in v))

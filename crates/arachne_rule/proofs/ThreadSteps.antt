@@ -1,6 +1,6 @@
--- What the table asks of the steps by which threads come and go: a post, a take, the name that is kept after it, and
--- the end of a thread. Each step's lemma shows the World after it, with the word that it writes; `mark-event` makes the
--- rule of that. A new kind of step is a lemma more, with what it asks of the context that is carried.
+-- The conditions of the table for the steps by which threads come and go: a post, a take, the name that is kept after
+-- it, and the end of a thread. Each step's lemma shows the World after it, with the word that it writes; `mark-event`
+-- makes the rule from that. A new kind of step is one more lemma, with its conditions on the context that is carried.
 use Rattle.std.proofs.Common.{Some, None, ◌≡◌, ℕ, ◌*◌, ◌<◌, true, false, List, [], ◌∷◌, length, length-set, refl, sym, ap, ◌∙◌, subst, arith, inl, inr, set, get_or, Option, eqb}
 use Rattle.std.proofs.lemmas.Bool.{cases_eq}
 use mathlib.Core.Option.{some, none}
@@ -52,7 +52,7 @@ last-out d (z ∷ zs) = in-slot d z.1
 pub same-value : {T : Type 0} (x y : ℕ) (v u : T) (l m : List (ℕ × Option T)) → (x, Some v) ∷ l ≡ (y, Some u) ∷ m → v ≡ u
 same-value x y v u l m e = ap (last-out v) e
 
--- a map in which what stands at x is written again
+-- a map in which the value at x is written again
 same-at : {A : Type 0} (f : ℕ → A) (x : ℕ) (v : A) → f x ≡ v → (y : ℕ) → f y ≡ with_at f x v y
 same-at f x v e y = elim (cases_eq y x) [
   | inl g ↦ ap f g ∙ e ∙ sym (ap (with_at f x v) g ∙ with_at-same f x v)
@@ -66,8 +66,8 @@ module _ {T : Type 0} (tag_in : T → ℕ) (bits : ℕ) (shape : Shape) where
   pub is-context : (s : Table T) (hs : Holds tag_in bits shape s) (x : ℕ) → x < n → IsContext hs.world x
   is-context s hs x x_in = subst (λ (m : ℕ). x < m) (λ j. sym hs.fits.cores j * sym hs.fits.slots j) x_in
 
-  -- A step that writes a mark word, by the World after it with that word. Where the context stands then, as its mark word
-  -- says, makes the word its own, which the event may ask
+  -- A step that writes a mark word, by the World after it with that word. If the context then stands at the place that
+  -- its mark word shows, the word is the context's own, which the event may require.
   pub mark-event : (s : Table T) (hs : Holds tag_in bits shape s) (id weight : ℕ) (k : Known) → get_elem? s.views id ≡ some (held weight k)
       → (kind : Kind) (x new word : ℕ) (l : List (ℕ × Option T)) (act : Act (Option T)) (e : Event) (d : ℕ → Phase) (k' : Known) (home : ℕ → opt.Option (opt.Option (Option T)))
       → x < n → k'.records ≡ k.records → Allowed hs.world e → new ≡ word
@@ -85,11 +85,11 @@ module _ {T : Type 0} (tag_in : T → ℕ) (bits : ℕ) (shape : Shape) where
       let own = is-mark-of tag_in bits (after hs.world e) d b' shows (board_of n s).mark x new refl x_is (stands b' shows) in
       mark-made tag_in bits shape s hs id weight k mine kind x new l act e d k' home x_in kept allowed (makes own) long homes shows
 
-  -- a context that its place names stands where its mark word says
+  -- a context that its place names stands at the place that its mark word shows
   named-stands : (w : World) (d : ℕ → Phase) (x : ℕ) → IsContext w x → (d x).named ≡ true → (a : Board T) → Shows tag_in bits w d a → (d x).shown ≡ w.at x
   named-stands w d x x_is named a shows = named-shown (w.state x) (w.at x) (d x) (shows.contexts x x_is).coherent named
 
-  -- so does one that was held, and whose slot came home
+  -- so does a context that was held, and whose slot has gone home
   pub held-stands : (s : Table T) (hs : Holds tag_in bits shape s) (id x : ℕ) → IsContext hs.world x → IsHeldBy id (hs.world.state x)
       → (with_at hs.phase x (record (hs.phase x) { away = false }) x).shown ≡ hs.world.at x
   held-stands s hs id x x_is holds =

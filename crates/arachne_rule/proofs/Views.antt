@@ -1,4 +1,4 @@
--- One seat has learned something: what becomes of what seats carry, and of totals.
+-- One seat has learned something: the effect on what seats carry, and on totals.
 use Rattle.std.proofs.Common.{◌≡◌, ℕ, ◌+◌, Bool, true, false, cond, List, ◌∷◌, set, sym, ap, ◌∙◌, arith, inl, inr}
 use Rattle.std.specs.Prelude.{count_by}
 use Rattle.std.specs.List.{sum_by}
@@ -48,7 +48,7 @@ module _ (vs : List (Token Known)) (h weight : ℕ) (before after : Known) (mine
     | inr n ↦ ap (λ (r : Known). carried_at x r.carried) (known-else vs h k (held weight after) n) ∙ others k n
   ]
 
-  -- how often a thread is in what each seat has of a kind, as in what was given to it or what it has ended
+  -- the number of times that all seats have a thread in one of their lists, as in what they have posted or ended
   abbrev times : (Known → List Thread) → Thread → List (Token Known) → ℕ
   times of t views = sum_by (λ (v : Token Known). count_by (same_thread t) (of v.known)) views
 

@@ -15,7 +15,7 @@ use Rattle.arachne_rule.specs.Ending.{left_from}
 
 -- ---- words
 
--- a claim of index 0 on the word 0, and of index 1 where 0 and 2 are occupied
+-- a claim of index 0 on the word 0, and of index 1 if 0 and 2 are occupied
 first-claim : 0 + index_sum 0 ≡ 0x0100000000000001
 first-claim = refl
 

@@ -1,4 +1,4 @@
--- What each kind of step makes of what its seat knows, of the phases, and of the words.
+-- The effect of each kind of step on what its seat knows, on the phases, and on the words.
 use Rattle.std.specs.Prelude.{ℕ, ◌+◌, ◌^◌, true, false, if◌then◌else◌, ◌∷◌}
 use Rattle.arachne_core.specs.declared.layout.TheConstants.{MASK_BITS}
 use Rattle.arachne_core.specs.declared.place.Place.{Place}
@@ -16,9 +16,9 @@ use Rattle.arachne_rule.specs.Rule.{Phase}
 abbrev pub with_name : (Place → ℕ) → Place → ℕ → Place → ℕ
 with_name names p x q = if same_place q p then x else names q
 
--- ---- a context as its carrier knows it
+-- ---- a context as its carrier knows it, after a step
 
--- after a claim of a place: nothing is under way
+-- after a claim of a place: the context, at the place p and with no call in progress
 abbrev pub claimed_context : ℕ → Place → ℕ → Carried
 claimed_context x p generation = record { context = x; place = p; shown = p; generation = generation; held = false; tag = 0; alone = false; named = true; away = false }
 
@@ -36,7 +36,7 @@ alone_context x core generation = record {
   away = false;
 }
 
--- after a take of the thread of a mark word that was seen: the slot is out, and the place word may name another context
+-- after a take by a mark word that was seen: the slot is out, and the place word may name another context
 abbrev pub taken_context : ℕ → Marked → ℕ → Carried
 taken_context x m tag = record {
   context = x;
@@ -50,15 +50,15 @@ taken_context x m tag = record {
   away = true;
 }
 
--- after a thread ended there: claimed again, for the next generation
+-- after the end of its thread: claimed again, for the next generation
 abbrev pub claimed_again : Carried → Carried
 claimed_again c = record c { held = false; tag = 0; generation = c.generation + 1; away = false; shown = c.place }
 
--- left at p by a thread that took its place: its mark word still shows the place that it had
+-- after a thread took its place: it stands at p, and its mark word still shows the place that it had
 abbrev pub left_context : Carried → Place → Carried
 left_context c p = record c { place = p; named = false }
 
--- ---- what a seat knows after a post, and after the end of a thread
+-- ---- the knowledge of a seat after a post, and after the end of a thread
 
 abbrev pub posted : Known → Carried → ℕ → Known
 posted k c tag = record (without_context k c) { given = (record { context = c.context; generation = c.generation }, tag) ∷ k.given }
@@ -75,28 +75,28 @@ spent_known k c = record (without_context k c) { ended = thread_in c ∷ k.ended
 abbrev pub marked_as : Mark → Carried → Marked
 marked_as mark c = record { mark = mark; alone = c.alone; place = c.place; generation = c.generation }
 
--- that of a context which is free or claimed
+-- the mark word of a context that is free or claimed
 abbrev pub marked_free : Carried → Marked
 marked_free c = record { mark = mark.Free; alone = false; place = c.place; generation = c.generation }
 
--- that of a context which is spent
+-- the mark word of a context that is spent
 abbrev pub marked_spent : Carried → Marked
 marked_spent c = record { mark = mark.Spent; alone = false; place = c.place; generation = c.generation }
 
--- what the claim of an index adds to the word of its core
+-- the number that the claim of index i adds to the word of its core
 abbrev pub index_sum : ℕ → ℕ
 index_sum i = 2 ^ i + 2 ^ MASK_BITS
 
--- what the end of a claim takes away from the word of its core
+-- the number that the release of a claim subtracts from the word of its core
 abbrev pub release_sum : Carried → ℕ
 release_sum c = if c.alone then 2 ^ 63 + index_sum c.place.index else index_sum c.place.index
 
 -- ---- phases
 
--- after a take
+-- the phase of a context after a take
 abbrev pub taken_phase : Place → Phase
 taken_phase p = record { away = true; named = false; shown = p }
 
--- after x was moved to q, where y stood
+-- the phases after x was moved to q, the place of y
 abbrev pub moved_phase : (ℕ → Phase) → ℕ → ℕ → Place → ℕ → Phase
 moved_phase d x y q = with_at (with_at d x (record { away = false; named = false; shown = q })) y (record (d y) { named = false })

@@ -1,4 +1,4 @@
--- The history of a table: every step on its words so far, by whom, and which event of the World it was.
+-- The history of a table: every step on its words so far, the seat that made it, and its event of the World.
 use Rattle.std.specs.Prelude.{◌≡◌, ℕ, ◌+◌, ◌-◌, ◌*◌, ◌<◌, ◌^◌, ◌⊎◌, if◌then◌else◌, ◌==◌, List, [], ◌∷◌, ◌++◌, slice_index, slice_set, bit_and, bit_or, false}
 use Rattle.arachne_core.specs.declared.state.State.TheVariants.{Free}
 use Rattle.arachne_core.specs.declared.state.Rest.TheVariants as rest
@@ -21,9 +21,9 @@ pub record Entry : Type 0 where
   pub step : Record
   pub event : Event
 
--- ---- which event a step is
+-- ---- the event of a step
 
--- an exchange that found another word than the one expected changes nothing
+-- the kind is an exchange, which changes nothing if it found another word than the expected one
 abbrev pub IsExchange : Kind → Type 0
 IsExchange kind.Claim = Unit {0}
 IsExchange kind.Alone = Unit {0}
@@ -35,12 +35,12 @@ IsExchange kind.Move = Unit {0}
 IsExchange kind.NameTarget = Unit {0}
 IsExchange k = ⊥
 
--- the word is the mark word of context x, which says its place and its generation
+-- the word is the mark word of context x, with its place and its generation
 abbrev pub IsMarkOf : ℕ → World → ℕ → ℕ → Type 0
 IsMarkOf bits w x word = word ≡ mark_word bits (marked w x)
 
--- The event of a step of seat h on word i, which was b and is a: at the place, core or context whose word it is. The
--- World is the one before.
+-- The event of a step of seat h on word i, which changes the word from b to a. The event is at the place, core or
+-- context of that word. The World w is the one before the step.
 abbrev pub EventOf : ℕ → World → ℕ → Kind → ℕ → ℕ → ℕ → Event → Type 0
 EventOf bits w h kind.Look i b a e = (a ≡ b) × (e ≡ event.Still)
 EventOf bits w h kind.Learn i b a e = (a ≡ b) × (e ≡ event.Still)
@@ -63,7 +63,7 @@ EventOf bits w h kind.NameTarget i b a e = e ≡ event.Still
 EventOf bits w h kind.Replace i b a e = e ≡ event.Still
 EventOf bits w h kind.NameSource i b a e = e ≡ event.Still
 
--- what a step is in the World: its event, or nothing where an exchange was lost
+-- the step is an event of the World, or a lost exchange, which is `Still`
 abbrev pub Makes : ℕ → World → Entry → Type 0
 Makes bits w e = (IsExchange e.step.kind × (e.step.after ≡ e.step.before) × (e.event ≡ event.Still))
     ⊎ EventOf bits w e.seat e.step.kind e.step.word e.step.before e.step.after e.event
@@ -104,7 +104,7 @@ abbrev pub records_of : ℕ → List Entry → List Record
 records_of h [] = []
 records_of h (e ∷ es) = if e.seat == h then e.step ∷ records_of h es else records_of h es
 
--- the step may come next: it found what stands in its word, and is an event that is allowed
+-- the step may come next: it found the number that is in its word, and its event is allowed
 pub record IsNext (bits : ℕ) (w : World) (words : List ℕ) (e : Entry) : Type 0 where
   pub found : slice_index words e.step.word ≡ e.step.before
   pub allowed : Allowed w e.event
@@ -114,7 +114,7 @@ abbrev pub IsHistory : ℕ → World → List ℕ → List Entry → Type 0
 IsHistory bits w words [] = Unit {0}
 IsHistory bits w words (e ∷ es) = IsHistory bits w words es × IsNext bits (world_after w es) (words_after words es) e
 
--- seat h has made the step, and it is in the history at its place, behind what came before it
+-- seat h has made the step, and it is in the history at its place, after all that came before it
 pub record IsStepOf (bits : ℕ) (w : World) (words : List ℕ) (history : List Entry) (h : ℕ) (step : Record) : Type 0 where
   pub newer : List Entry
   pub older : List Entry

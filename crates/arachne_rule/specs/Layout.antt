@@ -1,4 +1,4 @@
--- Where the words lie: the mark word of context x is word x. Behind the n mark words each core has a block, with its
+-- The order of the words: the mark word of context x is word x. Behind the n mark words, each core has a block with its
 -- occupancy word and, further on, the place words of its indexes. No other word is within two cache lines of an
 -- occupancy word.
 use Rattle.std.specs.Prelude.{◌≡◌, ℕ, ◌+◌, ◌-◌, ◌*◌, ◌^◌, ◌<◌, ◌≤◌, false, List, length, slice_index, Option}
@@ -16,19 +16,19 @@ use Rattle.arachne_rule.specs.declared.view.Known.{Known}
 use Rattle.arachne_rule.specs.declared.view.Shape.{Shape}
 use Rattle.arachne_rule.specs.Rule.{Board}
 
--- the number of contexts, which is that of the places
+-- the number of contexts, which is the number of places
 abbrev pub contexts_in : Shape → ℕ
 contexts_in shape = shape.cores * shape.places_per_core
 
--- the occupancy word of core c, where there are n contexts
+-- the index of core c's occupancy word, if there are n contexts
 abbrev pub occ_index : ℕ → ℕ → ℕ
 occ_index n c = n + BLOCK * c + OCCUPANCY
 
--- the place word of a place
+-- the index of a place's place word
 abbrev pub name_index : ℕ → Place → ℕ
 name_index n p = n + BLOCK * p.core + NAMES + p.index
 
--- how many words there are
+-- the number of words
 abbrev pub words_in : Shape → ℕ
 words_in shape = contexts_in shape + BLOCK * shape.cores
 
@@ -42,7 +42,7 @@ board_of n s = record {
   views = s.views;
 }
 
--- the words have fields for such a machine
+-- the fields of the words are large enough for such a machine
 pub record IsShape (bits : ℕ) (shape : Shape) : Type 0 where
   pub cores : shape.cores ≤ 2 ^ bits
   pub some : 0 < shape.places_per_core
@@ -58,14 +58,14 @@ pub record AreFirstWords (bits : ℕ) (shape : Shape) (words : List ℕ) : Type 
       → slice_index words x ≡ mark_word bits (record { mark = mark.Free; alone = false; place = first_place shape.places_per_core x; generation = shape.first })
   pub name : (p : Place) → p.core < shape.cores → p.index < shape.places_per_core → slice_index words (name_index (contexts_in shape) p) ≡ number_of shape.places_per_core p
 
--- ---- the type that owns the table, as contracts see it
+-- ---- the model of the type that owns the table
 
--- which table it is, and its shape
+-- the identity of the table, and its shape
 pub record Contexts : Type 0 where
   pub table : TableId
   pub shape : Shape
 
--- the table has the words and slots that its shape asks for, and the numbers are small
+-- the table has the words and slots of its shape, and the numbers are small enough
 pub record IsLaidOut (c : Contexts) : Type 0 where
   pub words : c.table.words ≡ words_in c.shape
   pub slots : c.table.slots ≡ contexts_in c.shape

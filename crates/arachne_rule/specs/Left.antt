@@ -1,4 +1,4 @@
--- What each kind of step leaves: the phases of the contexts, and the board.
+-- The phases of the contexts, and the board, after each kind of step.
 use Rattle.std.specs.Prelude.{◌≡◌, ℕ, ◌+◌, ◌-◌, ◌^◌, true, false, ◌∷◌, [], ◌++◌, slice_set, Option, Some, None}
 use mathlib.Core.Option as slot
 use Rattle.arachne_core.specs.declared.place.Place.{Place}
@@ -13,7 +13,7 @@ use Rattle.arachne_rule.specs.Views.{blank, with_context, without_context, first
 use Rattle.arachne_rule.specs.Rule.{Phase, Board, views_with, settled}
 use Rattle.arachne_rule.specs.Changes.{with_name, claimed_context, alone_context, taken_context, claimed_again, left_context, posted, retired, spent_known, marked_as, marked_free, marked_spent, index_sum, release_sum, taken_phase, moved_phase}
 
--- What a step finds: a board that shows a World, calls being under way in these phases, and the seat that makes the
+-- The state before a step: a board that shows a World, the phases of the calls in progress, and the seat that makes the
 -- step.
 pub record Seated (T : Type 0) : Type 0 where
   pub tag_in : T → ℕ
@@ -25,31 +25,31 @@ pub record Seated (T : Type 0) : Type 0 where
   pub weight : ℕ
   pub known : Known
 
--- what a step leaves
+-- the state after a step
 pub record Left (T : Type 0) : Type 0 where
   pub phases : ℕ → Phase
   pub board : Board T
 
 module _ {T : Type 0} where
-  -- what the mark word of a context says
+  -- the fields of a context's mark word
   abbrev pub mark_at : Seated T → ℕ → Marked
   mark_at s x = marked_of s.bits (s.board.mark x)
 
-  -- the slot of a context is at home, and has this in it
+  -- the slot of the context is at home, with this content
   abbrev pub HasAtHome : Seated T → ℕ → Option T → Type 0
   HasAtHome s x v = s.board.home x ≡ slot.some (slot.some v)
 
-  -- the word of the place where a context stands names it, and its empty slot is at home
+  -- the place word of the context's place names it, and its empty slot is at home
   abbrev pub IsNamedAtHome : Seated T → Carried → Type 0
   IsNamedAtHome s c = (s.board.name c.place ≡ c.context) × HasAtHome s c.context None
 
   -- ---- loads
 
-  -- the seat has noted more, and knows the same
+  -- after a look: the seat has noted one more step, and otherwise knows the same
   abbrev pub after_look : Seated T → Known → Left T
   after_look s noting = record { phases = s.phases; board = record s.board { views = views_with s.board s.seat s.weight noting } }
 
-  -- the slot of the context is out with the seat
+  -- after learning: the slot of the context is out with the seat
   abbrev pub after_learning : Seated T → Carried → Left T
   after_learning s c = record {
     phases = with_at s.phases c.context (record (s.phases c.context) { away = true });
@@ -61,7 +61,7 @@ module _ {T : Type 0} where
 
   -- ---- claims
 
-  -- the word of the core has the index of the place, and one more in its count
+  -- after a claim: the word of the core has the index of the place, and one more in its count
   abbrev pub after_claim : Seated T → Place → ℕ → Left T
   after_claim s p x = record {
     phases = s.phases;
@@ -71,7 +71,7 @@ module _ {T : Type 0} where
     };
   }
 
-  -- the word of the core has index 0, 1 in its count, and the exclusive bit
+  -- after a claim of a core: its word has index 0, 1 in its count, and the exclusive bit
   abbrev pub after_alone : Seated T → ℕ → ℕ → Left T
   after_alone s core x = record {
     phases = s.phases;
@@ -81,7 +81,7 @@ module _ {T : Type 0} where
     };
   }
 
-  -- what the claim had added is taken away from the word of the core
+  -- after a release: what the claim had added is subtracted from the word of the core
   abbrev pub after_release : Seated T → Carried → Left T
   after_release s c = record {
     phases = s.phases;
@@ -93,7 +93,7 @@ module _ {T : Type 0} where
 
   -- ---- threads come and go
 
-  -- the mark word of the context is ready, and its slot at home with the value
+  -- after a post: the mark word of the context is ready, and its slot at home with the value
   abbrev pub after_post : Seated T → Carried → T → Left T
   after_post s c value = record {
     phases = with_at s.phases c.context (settled c.place);
@@ -104,7 +104,7 @@ module _ {T : Type 0} where
     };
   }
 
-  -- the mark word of the context is held, and its slot out with the seat
+  -- after a take: the mark word of the context is held, and its slot out with the seat
   abbrev pub after_take : Seated T → ℕ → T → Left T
   after_take s x value = record {
     phases = with_at s.phases x (taken_phase (mark_at s x).place);
@@ -115,7 +115,7 @@ module _ {T : Type 0} where
     };
   }
 
-  -- the word of the place names the context, whose empty slot is at home
+  -- after keeping the name: the place word names the context, whose empty slot is at home
   abbrev pub after_keeping_name : Seated T → Carried → Left T
   after_keeping_name s c = record {
     phases = with_at s.phases c.context (record (s.phases c.context) { named = true; away = false });
@@ -126,7 +126,7 @@ module _ {T : Type 0} where
     };
   }
 
-  -- the mark word of the context is free, of the next generation, and its empty slot at home
+  -- after a retire: the mark word of the context is free, of the next generation, and its empty slot at home
   abbrev pub after_retire : Seated T → Carried → Left T
   after_retire s c = record {
     phases = with_at s.phases c.context (settled c.place);
@@ -137,7 +137,7 @@ module _ {T : Type 0} where
     };
   }
 
-  -- the mark word of the context is spent, and its empty slot at home
+  -- after a last retire: the mark word of the context is spent, and its empty slot at home
   abbrev pub after_last_retire : Seated T → Carried → Left T
   after_last_retire s c = record {
     phases = with_at s.phases c.context (record (s.phases c.context) { away = false });
@@ -150,13 +150,14 @@ module _ {T : Type 0} where
 
   -- ---- cores
 
-  -- the core has this word
+  -- the board on which the core has this word
   abbrev pub with_word : Board T → ℕ → ℕ → Board T
   with_word b core word = record b { occ = with_at b.occ core word }
 
   -- ---- rest and wake
 
-  -- the mark word of the context has the mark of a thread at rest, and its slot is at home with the value
+  -- after a put-back: the mark word of the context has the mark of a thread at rest, and its slot is at home with the
+  -- value
   abbrev pub after_rest : Mark → Seated T → Carried → T → Left T
   after_rest m s c value = record {
     phases = with_at s.phases c.context (record (s.phases c.context) { away = false });
@@ -167,15 +168,15 @@ module _ {T : Type 0} where
     };
   }
 
-  -- the thread is ready again
+  -- after a put-back as ready
   abbrev pub after_rest_ready : Seated T → Carried → T → Left T
   after_rest_ready = after_rest mark.Ready
 
-  -- the thread is blocked
+  -- after a put-back as blocked
   abbrev pub after_rest_blocked : Seated T → Carried → T → Left T
   after_rest_blocked = after_rest mark.Blocked
 
-  -- the mark word of the context has another mark
+  -- after a wake: the mark word of the context has another mark
   abbrev pub after_wake : Mark → Seated T → ℕ → Left T
   after_wake m s x = record {
     phases = s.phases;
@@ -187,7 +188,7 @@ module _ {T : Type 0} where
 
   -- ---- a move
 
-  -- the mark word of context x has the place of c, which stands now where x was
+  -- after a move: the mark word of context x has the place of c, and c stands at the place at which x stood
   abbrev pub after_move : Seated T → ℕ → Carried → Left T
   after_move s x c = record {
     phases = moved_phase s.phases x c.context c.place;
@@ -197,11 +198,11 @@ module _ {T : Type 0} where
     };
   }
 
-  -- the word of the place names the context
+  -- after naming the target: the place word names the context
   abbrev pub after_naming_target : Seated T → Place → ℕ → Left T
   after_naming_target s p x = record { phases = s.phases; board = record s.board { name = with_name s.board.name p x } }
 
-  -- the mark word of the context says where it stands
+  -- after replacing: the mark word of the context shows its place
   abbrev pub after_replacing : Seated T → Carried → Left T
   after_replacing s c = record {
     phases = with_at s.phases c.context (record (s.phases c.context) { shown = c.place });
@@ -211,7 +212,7 @@ module _ {T : Type 0} where
     };
   }
 
-  -- the word of the place where the context stands names it
+  -- after naming the source: the place word of the context's place names it
   abbrev pub after_naming_source : Seated T → Carried → Left T
   after_naming_source s c = record {
     phases = with_at s.phases c.context (record (s.phases c.context) { named = true });
@@ -223,14 +224,14 @@ module _ {T : Type 0} where
 
   -- ---- seats
 
-  -- the seat is the first of the two, and the second is behind all others
+  -- after a split: the first part is in the seat's place, and the second is behind all others
   abbrev pub after_split : Seated T → Left T
   after_split s = record {
     phases = s.phases;
     board = record s.board { views = slice_set s.board.views s.seat (first_seat (held s.weight s.known)) ++ second_seat (held s.weight s.known) ∷ [] };
   }
 
-  -- the seat is the two together, and the other is spent
+  -- after a join: the seat is both together, and the other is spent
   abbrev pub after_join : Seated T → ℕ → ℕ → Known → Left T
   after_join s other added o = record {
     phases = s.phases;

@@ -1,5 +1,5 @@
--- What each kind of step tells the seat that makes it: of the step, the seat before, the number found (by a store, the
--- number stored) and the seat after.
+-- For each kind of step, a relation between the step, the seat before it, the number that was found (for a store, the
+-- number that was stored), and the seat after it.
 use Rattle.std.specs.Prelude.{◌≡◌, ◌≢◌, ℕ, ◌+◌, ◌-◌, ◌<◌, ◌⊎◌, true, false, if◌then◌else◌, ◌==◌, [], ◌∷◌, count_by, bit_and, bit_or, Option, Some, None}
 use Rattle.atomic_table.specs.Table.{Step, rest}
 use Rattle.arachne_core.specs.declared.place.Place.{Place}
@@ -35,12 +35,12 @@ IsRestMark mark.Ready = Unit {0}
 IsRestMark mark.Blocked = Unit {0}
 IsRestMark m = ⊥
 
--- what a mark word says of a context to the seat that carries it
+-- the mark word shows the context as the seat that carries it knows it
 abbrev pub SaysCarried : ℕ → Carried → ℕ → Type 0
 SaysCarried bits c word = (c.held ≡ false → marked_of bits word ≡ record (marked_free c) { place = c.shown })
     × (c.held ≡ true → IsHeldMark (marked_of bits word).mark × (marked_of bits word ≡ record (marked_as (marked_of bits word).mark c) { place = c.shown }))
 
--- the thread of this id isn't in its context any more
+-- the mark word shows that the thread of this id is no longer in its context
 abbrev pub IsGone : ℕ → ThreadId → ℕ → Type 0
 IsGone bits id word = ((marked_of bits word).generation ≢ id.generation) ⊎ (((marked_of bits word).mark ≡ mark.Free) ⊎ ((marked_of bits word).mark ≡ mark.Spent))
 
@@ -49,15 +49,15 @@ abbrev pub HasEnded : Known → Thread → Type 0
 HasEnded k t = 0 < count_by (same_thread t) k.ended
 
 module _ {T : Type 0} where
-  -- the seat in use knows this now
+  -- the seat in use after it has learned k
   abbrev pub knowing : Mine T → Known → Mine T
   knowing me k = (held me.0.weight k, me.1)
 
-  -- the same, and the slot that was taken last has gone home
+  -- the same, after the slot that was taken last has gone home
   abbrev pub knowing_home : Mine T → Known → Mine T
   knowing_home me k = (held me.0.weight k, rest me.1)
 
-  -- the seat has seen a word and changed nothing
+  -- the seat after it has seen a word and changed nothing
   abbrev pub saw : Kind → Step (Option T) → ℕ → Mine T → Mine T
   saw k step found me = knowing me (noted k step.word found found me.0.known)
 
@@ -70,18 +70,18 @@ module _ {T : Type 0} where
   abbrev pub LooksCore : Step (Option T) → Mine T → ℕ → Mine T → Type 0
   LooksCore step before found after = IsOccupancyWord found × (after ≡ saw kind.Look step found before)
 
-  -- a mark word says what its carrier knows, and that a thread which this seat has ended is gone
+  -- a mark word shows what the seat knows of the context that it carries, and that a thread which it has ended is gone
   abbrev pub LooksMark : ℕ → Step (Option T) → Mine T → ℕ → Mine T → Type 0
   LooksMark bits step before found after = IsMarkWord bits found × (after ≡ saw kind.Look step found before)
       × ((c : Carried) → c.context ≡ step.word → Carries before.0.known c → SaysCarried bits c found)
       × ((t : Thread) → t.0.context ≡ step.word → HasEnded before.0.known t → IsGone bits t.0 found)
 
-  -- a place word names a context: the seat's own, where that is named at its place
+  -- a place word names a context: the one that the seat carries, if that is named at its place
   abbrev pub LearnsName : Step (Option T) → Mine T → ℕ → Mine T → Type 0
   LearnsName step before found after = (found < step.slots) × (after ≡ saw kind.Learn step found before)
       × ((c : Carried) → c.context < step.slots → Carries before.0.known c → c.named ≡ true → step.word ≡ name_index step.slots c.place → found ≡ c.context)
 
-  -- the empty slot of a context that is named at its place comes to its carrier
+  -- the empty slot of a context that is named at its place is then out with its carrier
   abbrev pub TakesSlot : Step (Option T) → Mine T → ℕ → Mine T → Type 0
   TakesSlot step before found after = (c : Carried) → c.context < step.slots → Carries before.0.known c → c.named ≡ true → c.away ≡ false
       → step.word ≡ name_index step.slots c.place
@@ -89,20 +89,20 @@ module _ {T : Type 0} where
 
   -- ---- claims
 
-  -- where the word was the one expected, the seat has claimed the context that stands at that place, which it didn't
-  -- carry before
+  -- if the word was the expected one, the seat has claimed the context that stands at that place, which it didn't carry
+  -- before
   abbrev pub Claims : Step (Option T) → Mine T → ℕ → Mine T → Type 0
   Claims step before found after = (p : Place) → step.word ≡ occ_index step.slots p.core → step.second ≡ step.first + index_sum p.index
       → (found ≡ step.first → (x generation : ℕ) × (x < step.slots) × (carried_at x before.0.known.carried ≡ []) × (after ≡ knowing before (noted kind.Claim step.word found step.second (with_context before.0.known (claimed_context x p generation)))))
       × (found ≢ step.first → after ≡ saw kind.Claim step found before)
 
-  -- the same for the whole core, whose word was 0
+  -- if the word was the expected one, 0, the seat has claimed the whole core, by its context at index 0
   abbrev pub ClaimsAlone : Step (Option T) → Mine T → ℕ → Mine T → Type 0
   ClaimsAlone step before found after = (core : ℕ) → step.word ≡ occ_index step.slots core
       → (found ≡ step.first → (x generation : ℕ) × (x < step.slots) × (carried_at x before.0.known.carried ≡ []) × (after ≡ knowing before (noted kind.Alone step.word found step.second (with_context before.0.known (alone_context x core generation)))))
       × (found ≢ step.first → after ≡ saw kind.Alone step found before)
 
-  -- a claim is given up
+  -- the seat has given up a claim
   abbrev pub Releases : Step (Option T) → Mine T → ℕ → Mine T → Type 0
   Releases step before found after = (c : Carried) → c.context < step.slots → Carries before.0.known c → step.word ≡ occ_index step.slots c.place.core → step.first ≡ release_sum c
       → after ≡ knowing before (noted kind.Release step.word found (found - step.first) (without_context before.0.known c))
@@ -114,8 +114,8 @@ module _ {T : Type 0} where
   Posts tag_in step before found after = (c : Carried) (value : T) → c.context ≡ step.word → Carries before.0.known c → before.1 ≡ (c.context, Some value) ∷ rest before.1
       → (was : ℕ) × (after ≡ knowing_home before (noted kind.Post step.word was step.first (posted before.0.known c (tag_in value))))
 
-  -- where the word was the one expected, the seat has taken the thread that it spoke of, with its value; it didn't
-  -- carry the context before
+  -- if the word was the expected one, the seat has taken the thread that it shows, with its value; it didn't carry the
+  -- context before
   abbrev pub Takes : (T → ℕ) → ℕ → Step (Option T) → Mine T → ℕ → Mine T → Type 0
   Takes tag_in bits step before found after =
       (found ≡ step.first → (value : T) × (carried_at step.word before.0.known.carried ≡ []) × (after ≡ (held before.0.weight (noted kind.Take step.word found step.second (with_context before.0.known (taken_context step.word (marked_of bits step.first) (tag_in value)))), (step.word, Some value) ∷ before.1)))
@@ -141,14 +141,14 @@ module _ {T : Type 0} where
   RestsReady step before found after = (c : Carried) → c.context ≡ step.word → Carries before.0.known c
       → (was : ℕ) × (after ≡ knowing_home before (noted kind.RestReady step.word was step.first (without_context before.0.known c)))
 
-  -- where the word was the one expected, the thread is blocked, and its value at home; else the word found is the
-  -- seat's own thread's
+  -- if the word was the expected one, the thread is blocked and its value at home; otherwise the word that was found is
+  -- that of the seat's own thread
   abbrev pub RestsBlocked : ℕ → Step (Option T) → Mine T → ℕ → Mine T → Type 0
   RestsBlocked bits step before found after = (c : Carried) → c.context ≡ step.word → Carries before.0.known c
       → (found ≡ step.first → after ≡ knowing_home before (noted kind.RestBlocked step.word found step.second (without_context before.0.known c)))
       × (found ≢ step.first → IsMarkWord bits found × SaysCarried bits c found × (after ≡ saw kind.RestBlocked step found before))
 
-  -- a wake, of either kind: the seat knows what it knew
+  -- a wake, of either kind, after which the seat knows nothing new
   abbrev pub Wakes : Kind → Step (Option T) → Mine T → ℕ → Mine T → Type 0
   Wakes k step before found after =
       (found ≡ step.first → after ≡ knowing before (noted k step.word found step.second before.0.known))
@@ -164,8 +164,7 @@ module _ {T : Type 0} where
 
   -- ---- a move
 
-  -- where the word was the one expected, its context has gone to the place of c, which stands now where that context
-  -- was
+  -- if the word was the expected one, its context has moved to the place of c, and c stands at the place that it left
   abbrev pub Moves : ℕ → Step (Option T) → Mine T → ℕ → Mine T → Type 0
   Moves bits step before found after = (c : Carried) → c.context < step.slots → Carries before.0.known c → (marked_of bits step.second).place ≡ c.place
       → (found ≡ step.first → after ≡ knowing before (noted kind.Move step.word found step.second (with_context before.0.known (left_context c (marked_of bits step.first).place))))

@@ -20,7 +20,7 @@ use Rattle.arachne_rule.specs.declared.view.Known.{Known}
 use Rattle.arachne_rule.specs.Views.{blank, known_at, carried_at, given_in, ended_in}
 
 -- The words and slots as maps: occupancy words by core, mark words by context, place words by place, slots by context.
--- A slot is out (none), or at home with a value or empty.
+-- A slot is out with a seat (none), or at home in the table, empty or with a value.
 pub record Board (T : Type 0) : Type 0 where
   pub occ : ℕ → ℕ
   pub mark : ℕ → ℕ
@@ -33,25 +33,24 @@ module _ {T : Type 0} where
   abbrev pub Knows : Board T → ℕ → ℕ → Known → Type 0
   Knows b h weight k = get_elem? b.views h ≡ slot.some (held weight k)
 
-  -- the views when it knows k instead
+  -- the views if the seat knows k instead
   abbrev pub views_with : Board T → ℕ → ℕ → Known → List (Token Known)
   views_with b h weight k = slice_set b.views h (held weight k)
 
--- Where the steps of a call stand with a context: whether its slot is out with its carrier, whether the place word of
--- its place names it, and the place in its mark word.
+-- The phase of a context between the steps of a call: whether its slot is out with its carrier, whether the place word
+-- of its place names it, and the place in its mark word.
 pub record Phase : Type 0 where
   pub away : Bool
   pub named : Bool
   pub shown : Place
 
--- no call is under way with the context, which stands at p
+-- the phase of a context that stands at p, if no call on it is in progress
 abbrev pub settled : Place → Phase
 settled p = record { away = false; named = true; shown = p }
 
--- What may be under way, by the state of a context that stands at p. The slot of a context is out with the seat that
--- has claimed or holds it. Between the exchange that moves a thread and the store of the mark word of the context whose
--- place it took, that one has another place in its mark word than it stands at, and until its place word names it again
--- it is claimed.
+-- The phases that are possible for a context of this state, which stands at p. The slot of a context may be out only
+-- with the seat that has claimed or holds it. After a move, the context whose place was taken still has its former
+-- place in its mark word until that is stored anew, and it stays claimed until its place word names it again.
 abbrev pub Coherent : State → Place → Phase → Type 0
 Coherent Free p f = (f.away ≡ false) × (f.named ≡ true) × (f.shown ≡ p)
 Coherent (Claimed h) p f = f.named ≡ true → f.shown ≡ p
@@ -60,10 +59,10 @@ Coherent (Blocked tag) p f = (f.away ≡ false) × (f.shown ≡ p)
 Coherent (Held h woken tag) p f = f.shown ≡ p
 Coherent Spent p f = (f.away ≡ false) × (f.shown ≡ p)
 
--- ---- what seats know of the contexts
+-- ---- the knowledge that seats have of the contexts
 
--- what seat h has of a context in this state: nothing, or what is said of a claimed context or of a held one with its
--- tag
+-- the part that seat h has of a context in this state: the one that `says` gives for a claimed context, or for a held
+-- one with its tag; otherwise none
 abbrev pub carried_if : State → ℕ → (Bool → ℕ → Carried) → List Carried
 carried_if (Claimed k) h says = if k == h then says false 0 ∷ [] else []
 carried_if (Held k woken tag) h says = if k == h then says true tag ∷ [] else []
@@ -85,7 +84,7 @@ carried_of w d x held tag = record {
 abbrev pub share_of : World → (ℕ → Phase) → ℕ → ℕ → List Carried
 share_of w d h x = carried_if (w.state x) h (carried_of w d x)
 
--- ---- what an occupancy word says
+-- ---- the fields of an occupancy word
 
 abbrev pub is_closed : ℕ → Bool
 is_closed word = (occupancy_of word).closed
@@ -101,19 +100,19 @@ HasNoOccupied slots word = (i : ℕ) → i < slots → is_occupied word i ≡ fa
 
 -- ---- the rule
 
--- the word of core c is the word of what the World says of it
+-- the word is the occupancy word of core c of the World
 pub record ShowsWord (w : World) (c word : ℕ) : Type 0 where
   pub packed : IsOccupancyWord word
   pub shows : ShowsCore w c (occupancy_of word)
 
 module _ {T : Type 0} (tag_in : T → ℕ) where
-  -- a slot that is at home: it has the value of a thread at rest, with its tag, else nothing
+  -- the slot, at home, has the value of the thread, with its tag, if the thread is at rest; otherwise it is empty
   abbrev pub HasValue : State → slot.Option (slot.Option (Option T)) → Type 0
   HasValue (Ready tag) s = (value : T) × (s ≡ slot.some (slot.some (Some value))) × (tag_in value ≡ tag)
   HasValue (Blocked tag) s = (value : T) × (s ≡ slot.some (slot.some (Some value))) × (tag_in value ≡ tag)
   HasValue state s = s ≡ slot.some (slot.some None)
 
-  -- context x, in its phase: its mark word, the place word of its place, and its slot
+  -- the mark word of context x, the place word of its place, and its slot are those of the World, in its phase
   pub record ShowsContext (bits : ℕ) (w : World) (d : ℕ → Phase) (b : Board T) (x : ℕ) : Type 0 where
     pub within : IsPlace w (d x).shown
     pub coherent : Coherent (w.state x) (w.at x) (d x)
@@ -121,8 +120,9 @@ module _ {T : Type 0} (tag_in : T → ℕ) where
     pub named : (d x).named ≡ true → b.name (w.at x) ≡ x
     pub value : (d x).away ≡ false → HasValue (w.state x) (b.home x)
 
-  -- The core's number has so many bits in a mark word. No index from a core's last place on is occupied. Every place
-  -- word names a context; and what each seat says that it carries, has posted and has ended is its share of the World.
+  -- The board shows the World. A mark word has `bits` bits for the core's number. No index from the number of a core's
+  -- places on is occupied. Every place word names a context. And each seat's knowledge of what it carries, has posted
+  -- and has ended is its share of the World.
   pub record Shows (bits : ℕ) (w : World) (d : ℕ → Phase) (b : Board T) : Type 0 where
     pub owned : OwnedOnce w
     pub fits : (w.cores ≤ 2 ^ bits) × (w.slots ≤ SLOTS) × (w.last < 2 ^ (54 - bits))

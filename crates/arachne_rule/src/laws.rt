@@ -1,8 +1,9 @@
-//! The laws of the steps, one for each kind. Each is a function with an empty body, whose contract is the law.
+//! The laws of the steps, one for each kind of step. Each is a function with an empty body, whose contract is the law.
 //!
-//! A law speaks of a board that shows a World, and of the seat that makes the step. It says that the step's event is
-//! allowed there, and that the board with the one word changed shows the World after that event (`Steps`). So between
-//! any two steps the World is owned once. `EachCarried` and the like say of which seats and contexts a law speaks.
+//! A law is about a board that shows a World, and about the seat that makes the step. It says that the step's event is
+//! allowed in that World, and that the board with the one word changed shows the World after that event (`Steps`). So
+//! between any two steps the World is owned once. `EachCarried` and the like say to which seats and contexts a law
+//! applies.
 ghost use Rattle.std.specs.Prelude.{◌≡◌, ◌≢◌, ℕ, ◌+◌, ◌-◌, ◌^◌, ◌<◌, ◌≤◌, ◌⊎◌, Some, true, false, bit_and, bit_or, []};
 ghost use mathlib.Core.Option as slot;
 ghost use lib.ListN.{get_elem?};
@@ -32,20 +33,21 @@ use arachne_core::SLOTS;
 
 // ---- loads
 
-/// A look changes nothing. What a seat notes of its steps is no part of what is shown.
+/// A look changes nothing. The steps that a seat has noted are no part of the World.
 pub fn a_look_is_still<T>()
     ensures { EachNoting T (λ s noting. Steps s event.Still (after_look s noting)) }
 {}
 
-/// A load of the word of a place at which the seat carries a context: the word names the context, whose empty slot
-/// comes to the seat.
+/// A load of the place word of a context that the seat carries finds the context named there.
+///
+/// The empty slot of the context is then out with the seat.
 pub fn learning_is_still<T>()
     ensures { EachCarried T (λ s c. c.named ≡ true → c.away ≡ false → IsNamedAtHome s c × Steps s event.Still (after_learning s c)) }
 {}
 
 // ---- claims
 
-/// A won exchange that adds an index, free in the word of an open core, is Claim of the context that stands there.
+/// A won exchange that adds a free index to the word of an open core is Claim, of the context that stands there.
 pub fn a_claim_is_claim<T>()
     ensures { EachFreePlace T (λ s p. (x : ℕ) × (s.world.at x ≡ p) × Steps s (event.Claim s.seat x) (after_claim s p x)) }
 {}
@@ -55,7 +57,7 @@ pub fn a_claim_of_a_core_is_alone<T>()
     ensures { EachEmptyCore T (λ s core. (x : ℕ) × (s.world.at x ≡ record { core = core; index = 0 }) × Steps s (event.Alone s.seat x) (after_alone s core x)) }
 {}
 
-/// Taking away from a core's word what a claim of the seat had added is Release.
+/// Subtracting from a core's word what a claim of the seat had added is Release.
 pub fn a_release_is_release<T>()
     ensures { EachCarried T (λ s c. c.held ≡ false → c.named ≡ true → c.away ≡ false → Steps s (event.Release s.seat c.context) (after_release s c)) }
 {}
@@ -67,23 +69,24 @@ pub fn a_post_is_post<T>()
     ensures { EachValue T (λ s c value. c.held ≡ false → c.named ≡ true → Steps s (event.Post s.seat c.context (s.tag_in value)) (after_post s c value)) }
 {}
 
-/// A won exchange from READY to HELD is Take. The value is at home, and goes out with the seat.
+/// A won exchange from READY to HELD is Take. The value was at home, and is then out with the seat.
 pub fn a_take_is_take<T>()
     ensures { EachMarked T mark.Ready (λ s x. (value : T) × HasAtHome s x (Some value) × Steps s (event.Take s.seat x) (after_take s x value)) }
 {}
 
-/// A store of a held context to the word of its place, whose empty slot goes home, changes nothing in the World.
+/// A store of a held context to the word of its place changes nothing in the World. The context's empty slot goes home.
 pub fn keeping_the_name_is_still<T>()
     ensures { EachCarried T (λ s c. c.held ≡ true → Steps s event.Still (after_keeping_name s c)) }
 {}
 
-/// A swap of a held context's mark word to FREE of the next generation is Retire, below the last one. The place stays
-/// claimed.
+/// A swap of a held context's mark word to FREE of the next generation is Retire, below the last generation.
+///
+/// The place stays claimed.
 pub fn a_retire_is_retire<T>()
     ensures { EachCarried T (λ s c. c.held ≡ true → c.named ≡ true → c.generation < s.world.last → Steps s (event.Retire s.seat c.context) (after_retire s c)) }
 {}
 
-/// At the last generation a swap to SPENT is Retire.
+/// A swap of a held context's mark word to SPENT is Retire, at the last generation.
 pub fn a_last_retire_is_retire<T>()
     ensures { EachCarried T (λ s c. c.held ≡ true → c.generation ≡ s.world.last → Steps s (event.Retire s.seat c.context) (after_last_retire s c)) }
 {}
@@ -95,7 +98,7 @@ pub fn resting_ready_is_rest<T>()
     ensures { EachHeld T (λ s c value. Steps s (event.Rest s.seat c.context rest.Ready) (after_rest_ready s c value)) }
 {}
 
-/// A won exchange from HELD to BLOCKED, with the value gone home, is Rest as blocked.
+/// A won exchange from HELD to BLOCKED, by which the value goes home, is Rest as blocked.
 pub fn resting_blocked_is_rest<T>()
     ensures { EachHeld T (λ s c value. (mark_at s c.context).mark ≡ mark.Held → Steps s (event.Rest s.seat c.context rest.Blocked) (after_rest_blocked s c value)) }
 {}
@@ -124,25 +127,29 @@ pub fn an_open_is_open_core<T>()
 
 // ---- a move
 
-/// A won exchange that gives the mark word of a resting thread the place of a context that the seat has claimed on
-/// another core, neither core being alone, is Move. The value stays at home, and the word differs in its place alone.
+/// A won exchange that gives the mark word of a resting thread another place is Move.
+///
+/// That is the place of a context that the seat has claimed on another core, and neither core may be exclusive. The
+/// value stays at home, and the word changes only in its place.
 pub fn a_move_is_move<T>()
     ensures { EachTarget T (λ s x c. c.alone ≡ false → (mark_at s x).place.core ≢ c.place.core → Steps s (event.Move s.seat x c.context) (after_move s x c)) }
 {}
 
-/// A won exchange of any place word from a context that the seat's move has left unnamed, to any other context, changes
-/// nothing in the World.
+/// A won exchange of a place word from a context that the seat's move has left unnamed changes nothing in the World.
+///
+/// The place word may be any one that names the context, and it may name any other context afterwards.
 pub fn naming_the_target_is_still<T>()
     ensures { EachUnnamed T (λ s p x. Steps s event.Still (after_naming_target s p x)) }
 {}
 
-/// A store of where a claimed context stands to its mark word changes nothing in the World.
+/// A store of a claimed context's place to its mark word changes nothing in the World.
 pub fn replacing_is_still<T>()
     ensures { EachCarried T (λ s c. c.held ≡ false → Steps s event.Still (after_replacing s c)) }
 {}
 
-/// A store of a claimed context, whose mark word shows where it stands, to the word of its place changes nothing in the
-/// World.
+/// A store of a claimed context to the word of its place changes nothing in the World.
+///
+/// The context's mark word must already show that place.
 pub fn naming_the_source_is_still<T>()
     ensures { EachCarried T (λ s c. c.held ≡ false → c.shown ≡ c.place → Steps s event.Still (after_naming_source s c)) }
 {}
@@ -154,31 +161,34 @@ pub fn a_split_is_still<T>()
     ensures { EachSeat T (λ s. Steps s event.Still (after_split s)) }
 {}
 
-/// A join of a seat that carries nothing into another changes nothing in the World.
+/// A join of another seat, which carries nothing, into a seat changes nothing in the World.
 pub fn a_join_is_still<T>()
     ensures { EachOtherSeat T (λ s other added o. o.carried ≡ [] → Steps s event.Still (after_join s other added o)) }
 {}
 
 // ---- the rule of a whole table
 
-/// The rule holds of a table as it is made.
+/// The rule holds of a new table.
 pub fn the_rule_holds_at_first<T>()
     ensures { EachFirst T (λ tag_in bits shape words. Holds tag_in bits shape (first_table shape words)) }
 {}
 
-/// Where the rule holds, the World that is shown is owned once, and is what a run of its events has made of the World
-/// at first; and the words are what the steps of the history have made of the first words.
+/// If the rule holds, the World that is shown is owned once, and the history leads to it.
+///
+/// A run of the history's events from the World at first gives the World that is shown. The history's steps from the
+/// first words give the words as they are.
 pub fn a_table_shows_a_run<T>()
     ensures { EachTable T (λ t. OwnedOnce t.rule.world × IsReplayed t) }
 {}
 
-/// A step that may come next, and after which the World of its event is shown, keeps the rule, whatever its kind. It is
-/// the newest of the history then.
+/// A step that may come next keeps the rule, whatever its kind, if the World of its event is shown after it.
+///
+/// It is then the newest step of the history.
 pub fn a_step_keeps_the_rule<T>()
     ensures { EachStep T (λ t e next. HoldsAfter t.tag_in t.bits t.shape t.rule e next) }
 {}
 
-/// At least two cache lines lie between a core's occupancy word and any other word of the table.
+/// A core's occupancy word is at least two cache lines away from every other word of the table.
 pub fn an_occupancy_word_stands_apart()
     ensures marks { (shape : Shape) (core x : ℕ) → x < contexts_in shape → x + SPACING ≤ occ_index (contexts_in shape) core }
     ensures cores { (n core next : ℕ) → core < next → occ_index n core + SPACING ≤ occ_index n next }
@@ -186,35 +196,41 @@ pub fn an_occupancy_word_stands_apart()
         → (name_index n p + SPACING ≤ occ_index n core) ⊎ (occ_index n core + SPACING ≤ name_index n p) }
 {}
 
-/// What a seat in use has noted are exactly its own steps. Each of them is in the history at its place: it found what
-/// stood in its word, and was an event that was allowed.
+/// The steps that a seat in use has noted are exactly its own steps.
+///
+/// Each of them is in the history at its place: it found the number that was in its word, and was an event that was
+/// allowed.
 pub fn a_record_is_a_step<T>()
     ensures all { EachKnown T (λ t h k. k.records ≡ records_of h t.rule.history) }
     ensures each { EachKnown T (λ t h k. (at : ℕ) (r : Record) → get_elem? k.records at ≡ slot.some r → IsStepIn t h r) }
 {}
 
-/// Two seats that carry one context, or contexts at one place, are one seat: no context and no place belongs to two.
+/// Two seats that carry the same context, or contexts at the same place, are the same seat.
+///
+/// So no context and no place belongs to two seats.
 pub fn a_context_has_one_carrier<T>()
     ensures context { EachTwoSeats T (λ s j o. (c f : Carried) → IsContext s.world c.context → Carries s.known c → Carries o f → c.context ≡ f.context → s.seat ≡ j) }
     ensures place { EachTwoCarried T (λ s c j f. c.place ≡ f.place → (c.context ≡ f.context) × (s.seat ≡ j)) }
 {}
 
-/// A thread that a seat has ended isn't in its context any more, whoever has had the context since, and can't be woken.
+/// A thread that a seat has ended is no longer in its context, and can't be woken.
+///
+/// This stays so, whichever seats have the context later.
 pub fn an_ended_thread_is_gone<T>()
     ensures { EachSeat T (λ s. (t : Thread) → HasEnded s.known t → IsContext s.world t.0.context × IsGoneForGood s t.0) }
 {}
 
-/// No word has the bit of an index past the last place of its core.
+/// No occupancy word has the bit of an index that is not a place of its core.
 pub fn a_word_shows_no_index_past_the_places<T>()
     ensures { EachCore T (λ tag_in bits w d b core. IsVacantFrom w.slots (occupancy_of (b.occ core))) }
 {}
 
-/// A word that shows a closed core with no index occupied is that of a drained core.
+/// If a word shows a closed core with no index occupied, the core is drained.
 pub fn a_drained_word_shows_a_drained_core<T>()
     ensures { EachCore T (λ tag_in bits w d b core. is_closed (b.occ core) ≡ true → HasNoOccupied w.slots (b.occ core) → IsDrained w core) }
 {}
 
-/// When a whole seat carries nothing, what was posted has ended or lies in a slot, each once.
+/// If a whole seat carries nothing, each thread that was posted has either ended or its value is in a slot.
 pub fn what_was_posted_has_ended_or_is_left<T>()
     ensures { EachWhole T (λ t k slots. IsSettled t.tag_in k (left_from t.bits 0 t.table.words slots)) }
 {}

@@ -1,7 +1,7 @@
-//! The rule of the context table on atomic words.
+//! The rule of the context table on atomic words: the invariant between any two steps.
 //!
-//! Words, slots and views of seats show a World that is owned once, between any two steps. Each kind of step is one
-//! event of that World. The steps on the words themselves are made by the crate above.
+//! The words, the slots and the views of seats show a World that is owned once. Each kind of step is one event of that
+//! World. The steps themselves are made by `arachne_words`.
 #![tactic(auto)]
 
 pub mod laws;

@@ -1,4 +1,4 @@
-//! What the rule sees of a seat and of a table. These types are for proofs alone: no value of them is made.
+//! The model of a seat and of a table in the rule. These types are only for proofs: no value of them is made.
 
 use arachne_core::{Place, ThreadId};
 use arachne_weights::Token;
@@ -7,38 +7,40 @@ use std::collections::LinkedList;
 /// A context that a seat carries: it has claimed it, or holds its thread.
 pub struct Carried {
     pub context: u32,
-    /// Where the context stands.
+    /// The place at which the context stands.
     pub place: Place,
-    /// The place in its mark word.
+    /// The place that its mark word shows.
     pub shown: Place,
     pub generation: u64,
-    /// Its thread is held; else it is claimed.
+    /// True if its thread is held, false if the context is claimed.
     pub held: bool,
     /// The tag of the thread that is held.
     pub tag: u64,
-    /// Its core is alone.
+    /// True if its core is exclusive.
     pub alone: bool,
-    /// The place word of its place names it.
+    /// True if the place word of its place names it.
     pub named: bool,
-    /// Its slot is out with the seat.
+    /// True if its slot is out with the seat.
     pub away: bool,
 }
 
 /// The kinds of step on a word of the table.
+///
+/// A slot is *home* in the table, or *out* with a seat.
 pub enum Kind {
     /// A load of an occupancy word or of a mark word.
     Look,
-    /// A load of a place word. The empty slot of the context that it names may come to the seat.
+    /// A load of a place word. The empty slot of the context that it names may then be out with the seat.
     Learn,
-    /// An exchange of an occupancy word, that claims an index.
+    /// An exchange of an occupancy word that claims an index.
     Claim,
-    /// An exchange of an occupancy word from 0, that claims a whole core.
+    /// An exchange of an occupancy word from 0 that claims a whole core.
     Alone,
     /// A store of a mark word: a thread is posted, and its value goes home.
     Post,
-    /// An exchange of a mark word: a ready thread is taken, and its value comes to the seat.
+    /// An exchange of a mark word: a ready thread is taken, and its value is out with the seat.
     Take,
-    /// A store of a place word: the context that was taken is named at its place, and its empty slot goes home.
+    /// A store of a place word: the place of a taken context names it, and its empty slot goes home.
     KeepName,
     /// A swap of a mark word: a held thread has ended.
     Retire,
@@ -56,17 +58,17 @@ pub enum Kind {
     Close,
     /// The closed bit of an occupancy word is cleared.
     Open,
-    /// An exchange of a mark word: a thread at rest goes to another place.
+    /// An exchange of a mark word: a thread at rest gets another place.
     Move,
-    /// An exchange of a place word: the place that a move went to names the context that came.
+    /// An exchange of a place word: the target of a move names the context that came there.
     NameTarget,
-    /// A store of a mark word: the context whose place a move took says where it stands now.
+    /// A store of a mark word: the context whose place a move took shows its new place.
     Replace,
     /// A store of a place word: the place that a move left names the context that stands there now.
     NameSource,
 }
 
-/// One step on a word: its kind, the word, and the numbers that stood there before and stood there after.
+/// A step on a word: its kind, the word's index, and the numbers in the word before and after it.
 pub struct Record {
     pub kind: Kind,
     pub word: usize,
@@ -74,7 +76,7 @@ pub struct Record {
     pub after: u64,
 }
 
-/// What a seat knows.
+/// The knowledge of a seat.
 pub struct Known {
     /// The contexts that it has claimed or holds.
     pub carried: LinkedList<Carried>,
@@ -88,7 +90,7 @@ pub struct Known {
 
 pub type View = Token<Known>;
 
-/// The key of a table: how many cores it has, how many places each of them, and the first and the last generation.
+/// The key of a table: its number of cores, the number of places of each, and the first and the last generation.
 pub struct Shape {
     pub cores: u8,
     pub places_per_core: u8,

@@ -1,5 +1,5 @@
-//! For tests: all memory that a process can get, of which a little is given back at a time, so that each growth is
-//! refused.
+//! For tests: takes all memory that a process can get, and gives back a little at a time, so that each growth is
+//! refused in turn.
 #![tactic(auto)]
 
 ghost use Rattle.std.specs.Prelude.{◌≡◌, ◌≤◌, ◌<◌, ◌-◌, ◌/◌};
@@ -7,11 +7,12 @@ ghost use Rattle.arachne_shortage.specs.declared.TheConstants.{APART, KEPT};
 
 use std::alloc::{AllocError, Global};
 
-/// The size of the first block that is tried, in bytes. Where one is refused the next has half of it.
+/// The size of the first block that is tried, in bytes. If a block is refused, the next one that is tried has half its
+/// size.
 const LARGEST: usize = 1 << 46;
 
-/// From this size down each next one is smaller by so many bytes alone: of each such size the C library keeps some
-/// blocks, for blocks of the same size.
+/// From this size down, each next size is only `APART` bytes smaller: the C library keeps some blocks of each such
+/// size, and uses them only for blocks of that size.
 const KEPT: usize = 1024;
 
 const APART: usize = 16;
@@ -19,19 +20,19 @@ const APART: usize = 16;
 /// The size of the smallest blocks that are taken.
 const SMALLEST: usize = 16;
 
-/// The most blocks that are taken.
+/// The maximum number of blocks that are taken.
 const BLOCKS: usize = 150_000;
 
-/// How many small blocks lie beside one another, to be given back, and how large each is.
+/// The number of small blocks, which lie next to each other and can be given back. Each has `SMALL_SIZE` bytes.
 const SMALL: usize = 20_000;
 
 const SMALL_SIZE: usize = 40;
 
-/// The size of the largest block that is looked for among what was given back.
+/// The size of the largest block that is taken again from the memory that was given back.
 const PIECE: usize = 1 << 20;
 
-/// All memory that a process can get, but what was given back. Nothing is written to it, so it takes little of the
-/// machine's.
+/// All memory that a process can get, less what was given back. The blocks are not written to, so they use little of
+/// the machine's memory.
 #[derive(Drop)]
 pub struct Hoard {
     alloc: Global,
@@ -39,7 +40,7 @@ pub struct Hoard {
     small: Vec<Vec<u8>>,
 }
 
-/// Takes all blocks that there are of at most this size, and at most so many as there is room for.
+/// Takes all blocks of at most `largest` bytes that can be had, until `blocks` is full.
 fn take_all(alloc: Global, blocks: &mut Vec<Vec<u8>>, largest: usize) -> Result<(), AllocError> {
     let mut size = largest;
     for _ in 0..BLOCKS {
@@ -54,7 +55,7 @@ fn take_all(alloc: Global, blocks: &mut Vec<Vec<u8>>, largest: usize) -> Result<
     Ok(())
 }
 
-/// The size that is tried next where a block of this one was refused.
+/// Returns the size that is tried after a block of this size was refused.
 fn next_size(size: usize) -> usize
     requires { APART ≤ size }
     ensures half { KEPT < size → result ≡ size / 2 }
@@ -64,7 +65,8 @@ fn next_size(size: usize) -> usize
 }
 
 impl Hoard {
-    /// Takes all memory there is. Kernel threads begin only on stacks of those that have ended before.
+    /// Takes all memory that can be had. After that kernel threads begin only on stacks of those that have ended
+    /// before.
     pub fn take(alloc: Global) -> Result<Hoard, AllocError> {
         let mut small = Vec::with_capacity(alloc, BLOCKS)?;
         let mut large = Vec::with_capacity(alloc, BLOCKS)?;
@@ -79,7 +81,7 @@ impl Hoard {
         })
     }
 
-    /// Gives so many bytes back, or a little more, as far as there are small blocks.
+    /// Gives back small blocks of at least `bytes` bytes together, or all of them if they have fewer.
     pub fn give_back(&mut self, bytes: usize) {
         let mut left = bytes;
         for _ in 0..BLOCKS {
@@ -93,7 +95,7 @@ impl Hoard {
         }
     }
 
-    /// Takes again what is left of that.
+    /// Takes the memory that is left of what was given back.
     pub fn take_again(&mut self) -> Result<(), AllocError> {
         take_all(self.alloc, &mut self.small, PIECE)
     }

@@ -16,7 +16,7 @@ no-items : {X : Type 0} (xs : List X) → length xs ≡ 0 → xs ≡ []
 no-items [] e = refl
 no-items (x ∷ xs) e = absurd (omega (arith, e))
 
--- ---- a split: the first k are halved, and the others as they were
+-- ---- a split: the first k are split, and the others are as they were
 
 at-drop : (xs ys : List SeatView) (k : ℕ) (d : SeatView) → drop k xs ≡ drop k ys → k < length xs → k < length ys → get_or xs k d ≡ get_or ys k d
 at-drop xs ys k d e in_xs in_ys = ap (λ (zs : List SeatView). get_or zs 0 d) (sym (drop_more xs k d in_xs) ∙ e ∙ drop_more ys k d in_ys)
@@ -102,12 +102,12 @@ are-joined seats others own left a none =
 
 -- ---- a close
 
--- what the lock of this seat gives at the end
+-- the history of a closed lock, by the log of its seat
 pub record IsClosedTo (seat : SeatView) (history : List LockEvent) : Type 0 where
   pub sound : IsSound history
   pub told : IsToldBy seat.log history
 
--- the last ones are closed, and what was told of each lies in turn, the last one first
+-- the last locks are closed, and the facts about each are in order, the last one first
 
 pub record AreClosing {X : Type 0} (R : SeatView → X → Type 0) (seats left : List SeatView) (xs : List X) : Type 0 where
   pub closed : List SeatView
@@ -133,7 +133,7 @@ pub all-closed : {X : Type 0} (R : SeatView → X → Type 0) (seats left : List
 all-closed R seats left xs a none =
     subst (λ (zs : List SeatView). AllZip R zs (reverse xs)) (sym (a.seats_are ∙ ap (λ (zs : List SeatView). zs ++ a.closed) (no-items left none))) a.told
 
--- what follows of each history, and of each with its seat
+-- the facts that R implies of each history, and of each history with its seat
 pub each-right : {X : Type 0} (R : SeatView → X → Type 0) (P : X → Type 0) → ((seat : SeatView) (x : X) → R seat x → P x) → (seats : List SeatView) (xs : List X) → AllZip R seats xs → All P xs
 each-right R P then [] [] all = All-nil P
 each-right R P then [] (x ∷ xs) all = absurd all

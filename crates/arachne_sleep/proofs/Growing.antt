@@ -1,4 +1,4 @@
--- Histories that go on, and the places of their events.
+-- Histories that extend others, and the places of their events.
 use Rattle.std.proofs.Common.{◌≡◌, ℕ, zero, suc, ◌+◌, List, [], ◌∷◌, ◌++◌, drop, length, refl, sym, ap, ◌∙◌, subst, arith, append_assoc, length-append, Some}
 use Rattle.std.specs.Prelude.{slice_get, All, ◌==◌, if◌then◌else◌}
 use Rattle.std.proofs.lemmas.Bool.Decides.{nat_tests}
@@ -29,7 +29,7 @@ get-here : (pre : List LockEvent) (e : LockEvent) (events : List LockEvent) → 
 get-here [] e events = refl
 get-here (x ∷ pre) e events = get-here pre e events
 
--- what stands in a history stands in each that goes on
+-- an event of a history is in each history that extends it
 pub begins-more : (h g : List LockEvent) → BeginsWith g h → (seen : List (List LockEvent)) → All (BeginsWith h) seen → All (BeginsWith g) seen
 begins-more h g more seen all = All-weaker (BeginsWith h) (BeginsWith g) (λ s b. begins-trans s h g more b) seen all
 
@@ -39,7 +39,7 @@ stands-more h g more made all = All-weaker (StandsIn h) (StandsIn g) (λ m there
 pub granted-more : (number : ℕ) (h g : List LockEvent) → BeginsWith g h → (passes : List Pass) → All (IsGrantedIn number h) passes → All (IsGrantedIn number g) passes
 granted-more number h g more passes all = All-weaker (IsGrantedIn number h) (IsGrantedIn number g) (λ p there. (there.0, get-begins g h more p.at _ there.1)) passes all
 
--- the events that are added stand at their places
+-- the events that are added are at their places
 stands-placed : (pre events : List LockEvent) (n : ℕ) → n ≡ length pre → All (StandsIn (pre ++ events)) (placed n events)
 stands-placed pre [] n at = All-nil (StandsIn (pre ++ []))
 stands-placed pre (e ∷ events) n at =

@@ -1,4 +1,4 @@
--- Each kind of step keeps the rule, and tells what it says.
+-- Each kind of step keeps the rule, and what it says of its seat is true.
 use Rattle.std.proofs.Common.{◌≡◌, ◌≢◌, ℕ, ◌+◌, ◌≤◌, ⊎_elim, Bool, true, false, List, [], ◌∷◌, length, get_or, set, refl, sym, ap, ◌∙◌, subst, arith, length-set, get_or-set_same, Option, None, Some}
 use Rattle.std.specs.Prelude.{All, IfSome, if◌then◌else◌}
 use Rattle.std.proofs.lemmas.Bool.Decides.{nat_tests}
@@ -39,7 +39,7 @@ use Rattle.arachne_sleep.proofs.Growing.{begins-refl, begins-more, stands-more, 
 abbrev EachFits : ℕ → List LockEvent → List (Token Known) → Type 0
 EachFits number history views = (i : ℕ) (t : Token Known) → get_elem? views i ≡ some t → Fits number history t
 
--- how many times a seat has the guard, and how many events it made at a place
+-- the number of times that a seat has the guard, and the number of events that it made at a place
 abbrev guard_of : Token Known → ℕ
 guard_of t = if t.known.taken then 1 else 0
 
@@ -52,7 +52,7 @@ has-guard t e = ap (λ (b : Bool). if b then 1 else 0) e
 no-guard : (t : Token Known) → t.known.taken ≡ false → guard_of t ≡ 0
 no-guard t e = ap (λ (b : Bool). if b then 1 else 0) e
 
--- a seat without the guard fits the history as it goes on; so does each where it stays
+-- a seat without the guard agrees with each history that extends its own; so does each seat if the history stays
 fits-more : (number : ℕ) (h g : List LockEvent) (t : Token Known) → BeginsWith g h → (t.known.taken ≡ true → h ≡ g) → Fits number h t → Fits number g t
 fits-more number h g t more still f = record {
   numbered = f.numbered;
@@ -62,7 +62,7 @@ fits-more number h g t more still f = record {
   at_guard = λ e. f.at_guard e ∙ ap (λ (x : List LockEvent). x ∷ []) (still e);
 }
 
--- One seat made a step: its view is another, and the history may have gone on
+-- One seat made a step: its view has changed, and the history may have been extended.
 module _ (number : ℕ) (s : Board) (h g : List LockEvent) (kept : IsLawful number s h) (id weight : ℕ) (k k' : Known) (mine : get_elem? s.views id ≡ some (held weight k)) where
   abbrev after_views : List (Token Known)
   after_views = set s.views id (held weight k')
@@ -73,7 +73,7 @@ module _ (number : ℕ) (s : Board) (h g : List LockEvent) (kept : IsLawful numb
   guards-after : guards after_views + guard_of (held weight k) ≡ guards s.views + guard_of (held weight k')
   guards-after = total-set guard_of s.views id (held weight k) (held weight k') mine
 
-  -- where this seat has the guard no other has
+  -- if this seat has the guard, no other has
   no-other : k.taken ≡ true → (i : ℕ) (t : Token Known) → i ≢ id → get_elem? s.views i ≡ some t → t.known.taken ≡ true → ⊥
   no-other e i t apart there e' =
       let two = two-le-total guard_of s.views id i (held weight k) t mine apart there in
@@ -357,7 +357,7 @@ joins-allowed number id weight l other added o s all at apart from =
 
 -- ---- the end
 
--- what the whole seat concludes of the state that is in the slot at the end
+-- the conclusions of the whole seat about the state that is in the slot at the end
 settles : (number id : ℕ) (l : SeatLog) (words : List ℕ) (slots : List Guarded) → Final (Seen (IsKept number) id (held whole (idle_known l))) words slots
     → (guarded : Guarded) → get_elem? slots 0 ≡ some guarded → IsToldBy l guarded.state.history
 settles number id l words slots (s, (all, at), same, long, homes) guarded there =
@@ -378,7 +378,7 @@ settles number id l words slots (s, (all, at), same, long, homes) guarded there 
       passes = subst (λ (n : ℕ). All (IsGrantedIn n h) l.passes) (sym (f.numbered refl)) f.passes;
     })
 
--- the same, as the lock and its whole seat see it
+-- the same, for the lock and its whole seat
 pub settled : (key id weight : ℕ) (me : Mine) (l : SeatLog) (words : List ℕ) (slots : List Guarded) → Final (Seen (IsKept key) id me.0) words slots
     → me ≡ idle weight me.0.known.log → weight ≡ whole → me.0.known.log ≡ l
     → (guarded : Guarded) → get_elem? slots 0 ≡ some guarded → (history : List LockEvent) → history ≡ guarded.state.history → IsToldBy l history

@@ -1,4 +1,4 @@
--- A trace with one step more, and seats that come and go.
+-- A trace with one more step, and seats that are split off and joined.
 use Rattle.std.proofs.Common.{◌≡◌, ℕ, zero, suc, ◌+◌, ◌<◌, ◌⊎◌, inl, inr, eqb, false, List, [], ◌∷◌, ◌++◌, length, set, refl, sym, ap, ◌∙◌, subst, arith, length-set, length-append, get_or-set_same, Some}
 use Rattle.std.specs.Prelude.{slice_get}
 use Rattle.std.proofs.lemmas.Bool.{cases_eq, cond-true, cond-false, eq-eqb, ne_eqb, false≢true}
@@ -50,7 +50,7 @@ module _ (trace : List Entry) (words : List ℕ) (views : List (Token Known)) (t
     ];
   }
 
-  -- a seat is cut off
+  -- a seat is split off
   pub tells-cut : (left right : Token Known) → left.known.log.records ≡ k.log.records → right.known.log.records ≡ [] → Tells trace words (set views id left ++ right ∷ [])
   tells-cut left right same none_yet = record {
     lawful = t.lawful;

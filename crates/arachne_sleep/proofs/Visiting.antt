@@ -1,4 +1,4 @@
--- A call on the state while a seat has it: what the answers say of the history, and what the seat's log is afterwards.
+-- A call on the state while a seat has it: what its result says of the history, and the seat's log after it.
 use Rattle.std.proofs.Common.{◌≡◌, ℕ, ◌+◌, List, [], ◌∷◌, ◌++◌, length, get_or, refl, sym, ap, ◌∙◌, subst, append_assoc, length-append, Option, None, Some}
 use Rattle.std.specs.Prelude.{slice_get, IfSome, All}
 use Rattle.std.specs.declared.result.Result.{Result}
@@ -28,7 +28,7 @@ get-last : (pre : List LockEvent) (e : LockEvent) → slice_get (pre ++ e ∷ []
 get-last [] e = refl
 get-last (x ∷ pre) e = get-last pre e
 
--- the second of two events behind a history
+-- the second of two events after a history
 get-second : (pre : List LockEvent) (a b : LockEvent) → slice_get (pre ++ a ∷ b ∷ []) (length pre + 1) ≡ Some b
 get-second pre a b =
     ap (λ (x : List LockEvent). slice_get x (length pre + 1)) (sym (append_assoc pre (a ∷ []) (b ∷ [])))
@@ -137,7 +137,7 @@ module _ (w : ℕ) (l : SeatLog) {from to : TableId} (taken visited : Mine) (old
           ∙ ap (λ (x : SeatView). with_log x (answered_log x.log old.state.history new.state.history pass)) view;
     }
 
--- the seat is of the same lock after a call
+-- the seat belongs to the same lock after a call
 pub seat-kept : (lock : SleepLockView) (old new : SeatView) (l : SeatLog) → new ≡ with_log old l → l.number ≡ old.log.number → IsSeatOf lock old → IsSeatOf lock new × (new.weight ≡ old.weight)
 seat-kept lock old new l told same own =
     subst (λ (v : SeatView). IsSeatOf lock v × (v.weight ≡ old.weight)) (sym told) (record { table = own.table; number = same ∙ own.number }, refl)

@@ -1,4 +1,4 @@
--- What each call answers, and what the seat's log is then.
+-- The result of each call, and the seat's log after it.
 use Rattle.std.specs.Prelude.{◌≡◌, ◌↔◌, ℕ, All, List, Option, Some, None, IsOk, IsSome, IfOk, IfSome, OnErr}
 use Rattle.std.specs.declared.result.Result.{Result}
 use Rattle.std.specs.declared.result.Result.TheVariants.{Ok, Err}
@@ -21,16 +21,16 @@ use Rattle.arachne_sleep.specs.declared.view.SeatLog.{SeatLog}
 use Rattle.arachne_sleep.specs.Logs.{contended_log, answered_log}
 use Rattle.arachne_sleep.specs.Views.{SeatView, with_log}
 
--- A call on the state of the lock with this number, from `before` to `after`, by a seat that got this pass. The history
--- before the call is sound and begins with each one that the seat had seen, and the seat's log tells what the call
--- added.
+-- A call on the state of the lock with this number, which changed it from `before` to `after`, by a seat that got this
+-- pass. The history before the call is sound and begins with each history that the seat had seen. The seat's log then
+-- has what the call added.
 pub record IsCallOn (number : ℕ) (old new : SeatView) (pass : Option Pass) (before after : Lock) : Type 0 where
   pub numbered : before.number ≡ number
   pub sound : IsSound before.history
   pub begins : All (BeginsWith before.history) old.log.seen
   pub told : new ≡ with_log old (answered_log old.log before.history after.history pass)
 
--- ---- what `LockState` answers
+-- ---- the results of `LockState`
 
 pub record IsAsked (before after : Lock) (who : Who) (answer : Result Asked AskFault) : Type 0 where
   pub already : (answer ≡ Err AlreadyIn) ↔ IsIn (replay before.history) who
@@ -47,13 +47,13 @@ pub record IsChecked (before after : Lock) (who : Who) (answer : Option Pass) : 
   pub pass : IfSome answer (IsPassOf before who)
   pub same : after ≡ before
 
--- the pass that an ask gives
+-- the pass that an ask returns
 abbrev pub pass_asked : Result Asked AskFault → Option Pass
 pass_asked (Ok (Granted pass)) = Some pass
 pass_asked (Ok (Queued at)) = None
 pass_asked (Err fault) = None
 
--- ---- what a lock that threads share answers: what its state does, or nothing where the guard was seen taken
+-- ---- the results of a shared lock: those of its state, or none if the guard was seen taken
 
 -- the try found the guard taken, and changed nothing
 abbrev pub IsContended : SeatView → SeatView → Type 0
@@ -73,8 +73,8 @@ CheckAnswer number who old Contended new = IsContended old new
 
 -- ---- the end
 
--- The history of a closed lock, as the log of its whole seat tells it: it begins with each history that was seen, has
--- the events that were made and no others, each at its place and once, and for each pass the grant.
+-- The history of a closed lock agrees with the log of its whole seat: it begins with each history that was seen, has
+-- the events that were made and no others, each at its place and once, and has the grant for each pass.
 pub record IsToldBy (log : SeatLog) (history : List LockEvent) : Type 0 where
   pub begins : All (BeginsWith history) log.seen
   pub made : IsMadeOf history log.made

@@ -1,4 +1,4 @@
--- What word, slot and all views of a lock show between any two steps.
+-- The rule of a lock: what its word, its slot and all views show between any two steps.
 use Rattle.std.specs.Prelude.{◌≡◌, ℕ, ◌≤◌, true, false, if◌then◌else◌, List, [], ◌∷◌, All, length, slice_index}
 use Rattle.std.specs.List.{sum_by}
 use mathlib.Core.Option.{some}
@@ -30,7 +30,8 @@ taken_known log = record { taken = true; log = log }
 abbrev pub blank : Known
 blank = idle_known (blank_log 0)
 
--- what one seat has done and seen fits the lock's number and its history; a seat that has the guard has seen all of it
+-- the log of one seat agrees with the lock's number and its history; a seat that has the guard has seen all of the
+-- history
 pub record Fits (number : ℕ) (history : List LockEvent) (t : Token Known) : Type 0 where
   pub numbered : t.live ≡ true → t.known.log.number ≡ number
   pub seen : All (BeginsWith history) t.known.log.seen
@@ -38,11 +39,11 @@ pub record Fits (number : ℕ) (history : List LockEvent) (t : Token Known) : Ty
   pub passes : All (IsGrantedIn number history) t.known.log.passes
   pub at_guard : t.known.taken ≡ true → t.known.log.seen ≡ history ∷ []
 
--- how many events the seats have made at the place
+-- the number of events that the seats have made at the place
 abbrev pub made_at : ℕ → List (Token Known) → ℕ
 made_at k views = sum_by (λ (t : Token Known). times_at k t.known.log.made) views
 
--- how many seats have the guard
+-- the number of seats that have the guard
 abbrev pub guards : List (Token Known) → ℕ
 guards views = sum_by (λ (t : Token Known). if t.known.taken then 1 else 0) views
 
@@ -57,7 +58,7 @@ pub record IsLawful (number : ℕ) (board : Board) (history : List LockEvent) : 
   pub fits : (i : ℕ) (t : Token Known) → get_elem? board.views i ≡ some t → Fits number history t
   -- the events of the history are those that the seats made, each once
   pub once : (k : ℕ) → made_at k board.views ≡ once_below k (length history)
-  -- the guard word is 1 where one seat has the guard, and else 0 with the state at home
+  -- the guard word is 1 if one seat has the guard, and otherwise 0 with the state at home
   pub guard : slice_index board.words guard_word ≡ guards board.views
   pub one_guard : guards board.views ≤ 1
   pub home : slice_index board.words guard_word ≡ 0 → IsHome number history board.homes
@@ -90,7 +91,7 @@ spent_seat = spent blank
 abbrev pub IsFirstSlot : ℕ → List Guarded → Type 0
 IsFirstSlot number slots = (guarded : Guarded) × (slots ≡ guarded ∷ []) × (guarded.state ≡ record { number = number; history = [] })
 
--- the rule allows a board where the seat with the whole weight has done and seen what this one has
+-- the rule allows a board on which the seat with the whole weight has the log of this one
 pub record IsLawfulEnd (number : ℕ) (seat : SeatView) : Type 0 where
   pub board : Board
   pub kept : IsKept number board

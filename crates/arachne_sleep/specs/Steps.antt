@@ -1,4 +1,4 @@
--- What each kind of step tells the seat that makes it.
+-- The knowledge of a seat after each kind of step that it makes.
 use Rattle.std.specs.Prelude.{◌≡◌, ◌≢◌, ℕ, All, [], ◌∷◌, List, Option, IfSome}
 use Rattle.atomic_table.specs.Table.{Me}
 use Rattle.atomic_table.specs.Seated.{TableId}
@@ -15,7 +15,7 @@ use Rattle.arachne_sleep.specs.Histories.{BeginsWith, IsGrantedIn}
 use Rattle.arachne_sleep.specs.Logs.{contended_log, taken_log, given_back_log}
 use Rattle.arachne_sleep.specs.Rule.{idle_known, taken_known}
 
--- a seat's view, and the slots that it has
+-- a seat's view, and the slots that are with it
 abbrev pub Mine : Type 0
 Mine = Me Guarded (Token Known)
 
@@ -23,18 +23,19 @@ Mine = Me Guarded (Token Known)
 abbrev pub idle : ℕ → SeatLog → Mine
 idle weight log = (held weight (idle_known log), [])
 
--- a seat that has the guard, and the slot with this in it
+-- a seat that has the guard, and the slot with this content
 abbrev pub with_guard : ℕ → SeatLog → Guarded → Mine
 with_guard weight log guarded = (held weight (taken_known log), (0, guarded) ∷ [])
 
--- the lock's state as it came to a seat with this log
+-- the state that a seat with this log has taken: it has the lock's number, and a sound history that begins with each
+-- one that the seat had seen
 pub record Extends (log : SeatLog) (guarded : Guarded) : Type 0 where
   pub numbered : guarded.state.number ≡ log.number
   pub sound : IsSound guarded.state.history
   pub begins : All (BeginsWith guarded.state.history) log.seen
 
--- Where the guard was at home the state came to the seat, with a history that begins with each one seen. Else the guard
--- was seen taken.
+-- If the guard was at home, the state is with the seat, and has a history that begins with each one that the seat had
+-- seen. Otherwise the seat has seen the guard taken.
 abbrev pub Takes : Mine → ℕ → Mine → Type 0
 Takes before found after =
     (found ≡ 0 → (guarded : Guarded) × (after ≡ with_guard before.0.weight (taken_log before.0.known.log guarded.state.history) guarded) × Extends before.0.known.log guarded)
@@ -48,18 +49,18 @@ GivesBack before after = (guarded : Guarded) → before.1 ≡ (0, guarded) ∷ [
 abbrev pub HasTaken : ℕ → SeatLog → Mine → Type 0
 HasTaken weight log me = (guarded : Guarded) × (me ≡ with_guard weight (taken_log log guarded.state.history) guarded) × Extends log guarded
 
--- within a call: the seat is of this lock, and has its slot
+-- within a call: the seat belongs to this lock, and has its slot
 abbrev pub HasSlot : SleepLockView → TableId → Mine → Type 0
 HasSlot lock table me = (table ≡ lock.table) × ((guarded : Guarded) × (me.1 ≡ (0, guarded) ∷ []))
 
--- the slot that is out with the seat was changed, and nothing else
+-- the content of the slot that is with the seat has changed, and nothing else
 pub record Visits (home away : TableId) (before after : Mine) (old new : Guarded) : Type 0 where
   pub own : away ≡ home
   pub was : before.1 ≡ (0, old) ∷ []
   pub view : after.0 ≡ before.0
   pub is : after.1 ≡ (0, new) ∷ []
 
--- the state goes on from another, and the pass that was got of it is of a grant that stands there
+-- the state extends another, and the pass that a call got from it is for a grant in its history
 pub record GoesOn (old new : Lock) (pass : Option Pass) : Type 0 where
   pub numbered : new.number ≡ old.number
   pub begins : BeginsWith new.history old.history
@@ -75,7 +76,7 @@ pub record IsReturnable (me : Mine) (guarded : Guarded) (before : List LockEvent
   pub sound : IsSound guarded.state.history
   pub granted : IfSome guarded.last_pass (IsGrantedIn me.0.known.log.number guarded.state.history)
 
--- the state in the slot was changed by a call that answers so and got this pass
+-- the state in the slot was changed by a call that has this result and got this pass
 abbrev pub HasVisited : TableId → TableId → Mine → Mine → (Lock → Lock → Type 0) → Option Pass → Type 0
 HasVisited home away before after answers pass =
     (old new : Guarded) × Visits home away before after old new × answers old.state new.state × (new.last_pass ≡ pass) × IsSound new.state.history

@@ -1,4 +1,4 @@
--- All steps on the guard word so far, by whom, the newest first.
+-- All steps on the guard word so far, each with its seat, the newest first.
 use Rattle.std.specs.Prelude.{◌≡◌, ℕ, ◌<◌, true, if◌then◌else◌, ◌==◌, List, [], ◌∷◌, ◌++◌, length, slice_index}
 use mathlib.Core.Option.{some}
 use lib.ListN.{get_elem?}
@@ -17,17 +17,17 @@ pub record Entry : Type 0 where
 abbrev pub entry : ℕ → Record → Entry
 entry seat step = record { seat = seat; step = step }
 
--- what stands in the word after these steps
+-- the number in the word after these steps
 abbrev pub word_after : List Entry → ℕ
 word_after [] = 0
 word_after (e ∷ es) = e.step.after
 
--- a try leaves the word at 1, and the guard is given back from 1
+-- a try leaves the word at 1, and giving the guard back changes it from 1 to 0
 abbrev pub IsStep : Kind → ℕ → ℕ → Type 0
 IsStep kind.Take before after = after ≡ 1
 IsStep kind.GiveBack before after = (before ≡ 1) × (after ≡ 0)
 
--- the step may come next: it found what stands in the word
+-- the step may come next: it found the number that is in the word
 pub record IsNext (older : List Entry) (step : Record) : Type 0 where
   pub place : step.word ≡ guard_word
   pub found : step.before ≡ word_after older
@@ -47,14 +47,14 @@ abbrev pub AreOfSeats : ℕ → List Entry → Type 0
 AreOfSeats n [] = Unit {0}
 AreOfSeats n (e ∷ es) = (e.seat < n) × AreOfSeats n es
 
--- the trace replays to the word as it is, and what a seat in use has noted are exactly its own steps
+-- the trace leads to the word as it is, and the steps that a seat in use has noted are exactly its own
 pub record Tells (trace : List Entry) (words : List ℕ) (views : List (Token Known)) : Type 0 where
   pub lawful : IsTrace trace
   pub word : slice_index words guard_word ≡ word_after trace
   pub seats : AreOfSeats (length views) trace
   pub records : (h : ℕ) (t : Token Known) → get_elem? views h ≡ some t → t.live ≡ true → t.known.log.records ≡ records_of h trace
 
--- seat h has made the step: it stands in the trace at its place, where it found what stood in the word then
+-- seat h has made the step: it is in the trace, at a place at which it found the number that was then in the word
 pub record IsStepOf (trace : List Entry) (h : ℕ) (step : Record) : Type 0 where
   pub newer : List Entry
   pub older : List Entry

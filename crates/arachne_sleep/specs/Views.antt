@@ -1,4 +1,4 @@
--- What contracts see of a lock and of its seats.
+-- The models of a lock and of its seats.
 use Rattle.std.specs.Prelude.{◌≡◌, ℕ, Option}
 use Rattle.atomic_table.specs.Seated.{TableId}
 use Rattle.arachne_weights.specs.Weight.{whole, first_part, second_part, joined}
@@ -8,23 +8,23 @@ use Rattle.arachne_sleep.specs.declared.view.SeatLog.{SeatLog}
 use Rattle.arachne_sleep.specs.Logs.{blank_log, cut_log, joined_log}
 use Rattle.arachne_sleep.specs.Words.{word_count}
 
--- what lies in a lock's slot: its state, and the pass that the last call got of it
+-- the content of a lock's slot: its state, and the pass that the last call got from it
 pub record Guarded : Type 0 where
   pub state : Lock
   pub last_pass : Option Pass
 
--- the table, and the lock's number
+-- a lock: the identity of its table, and its number
 pub record SleepLockView : Type 0 where
   pub table : TableId
   pub number : ℕ
 
--- the table that it came from, its part of the whole weight, and what it has done and seen
+-- a seat: the table that it came from, its part of the whole weight, and what it has done and seen
 pub record SeatView : Type 0 where
   pub table : TableId
   pub weight : ℕ
   pub log : SeatLog
 
--- it came from this lock
+-- the seat came from this lock
 pub record IsSeatOf (lock : SleepLockView) (seat : SeatView) : Type 0 where
   pub table : seat.table ≡ lock.table
   pub number : seat.log.number ≡ lock.number
@@ -37,13 +37,13 @@ IsWhole seat = seat.weight ≡ whole
 abbrev pub with_log : SeatView → SeatLog → SeatView
 with_log seat log = record { table = seat.table; weight = seat.weight; log = log }
 
--- a table of one word and one slot, with the lock's number for its key
+-- the table has the words of a lock and one slot, and the lock's number as its key
 pub record IsLaidOut (table : TableId) (key number : ℕ) : Type 0 where
   pub keyed : key ≡ number
   pub words : table.words ≡ word_count
   pub slots : table.slots ≡ 1
 
--- the lock that it came from
+-- the lock that a seat came from
 abbrev pub home_of : SeatView → SleepLockView
 home_of seat = record { table = seat.table; number = seat.log.number }
 
@@ -58,6 +58,6 @@ first_half seat = record { table = seat.table; weight = first_part seat.weight; 
 abbrev pub second_half : SeatView → SeatView
 second_half seat = record { table = seat.table; weight = second_part seat.weight; log = cut_log seat.log }
 
--- a seat that has taken in another, with what both have done and seen
+-- a seat after another was joined into it, with what both have done and seen
 abbrev pub joined_with : SeatView → SeatView → SeatView
 joined_with seat other = record { table = seat.table; weight = joined seat.weight other.weight; log = joined_log seat.log other.log }

@@ -1,7 +1,7 @@
 -- The words of a lock's table: its guard word, with two cache lines of unused words before it and behind it.
 use Rattle.std.specs.Prelude.{ℕ, List, replicate}
 
--- where the guard word is
+-- the index of the guard word
 abbrev pub guard_word : ℕ
 guard_word = 16
 

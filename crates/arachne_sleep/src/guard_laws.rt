@@ -1,7 +1,7 @@
 //! The laws of the steps on a guard word, one for each kind: functions with an empty body, whose contract is the law.
 //!
 //! A law says that its step keeps the rule of the lock's table, whatever the table is when the step is made, and what
-//! the step tells its seat.
+//! the seat knows after it.
 ghost use Rattle.std.specs.Prelude.{◌≡◌, ℕ, ◌==◌, List, [], ◌∷◌, slice_get, Some};
 ghost use mathlib.Core.Option.{some};
 ghost use lib.ListN.{get_elem?};
@@ -24,34 +24,40 @@ pub fn the_rule_holds_at_first()
         → IsKept number (opening first_words (guarded ∷ []) (first_view number)) }
 {}
 
-/// An exchange of the guard word from 0 to 1. Where it is won the state comes to the seat, with a history that begins
-/// with each one that the seat had seen; where it is lost the guard was seen taken.
+/// An exchange of the guard word from 0 to 1 keeps the rule.
+///
+/// If it is won, the state is with the seat, and has a history that begins with each history that the seat had seen. If
+/// it is lost, the seat has seen that the guard was taken.
 pub fn a_try_keeps_the_rule()
     ensures { (number slots id weight : ℕ) (log : SeatLog)
         → Allows (IsKept number) slots id (idle weight log) guard_word (λ n. either (n == 0) 1 n) (Takes (idle weight log)) }
 {}
 
-/// A store of 0 to the guard word: the state goes home, with a history that goes on from the one that came.
+/// A store of 0 to the guard word keeps the rule.
+///
+/// The state is at home again, with a history that begins with the one that was taken.
 pub fn giving_back_keeps_the_rule()
     ensures { (number slots id : ℕ) (me : Mine) (guarded : Guarded) (before : List LockEvent) → slots ≡ 1 → IsReturnable me guarded before
         → Allows (IsKept number) slots id me guard_word (λ _. 0) (λ _ after. GivesBack me after) }
 {}
 
-/// A seat is split: the new one has seen what the other has, and has done nothing.
+/// A split of a seat keeps the rule. The new seat has seen what the other has, and has done nothing.
 pub fn a_split_keeps_the_rule()
     ensures { (number id weight : ℕ) (log : SeatLog)
         → Splits (IsKept number) id (held weight (idle_known log)) (first_seat (held weight (idle_known log))) (second_seat (held weight (idle_known log))) }
 {}
 
-/// A seat takes in another with all that it has done and seen.
+/// A join of another seat into a seat keeps the rule. The seat then has all that the other has done and seen.
 pub fn a_join_keeps_the_rule()
     ensures { (number id weight : ℕ) (log : SeatLog) (other added : ℕ) (theirs : SeatLog)
         → Joins (IsKept number) id (held weight (idle_known log)) other (held added (idle_known theirs))
         (joined_seat (held weight (idle_known log)) (held added (idle_known theirs))) spent_seat }
 {}
 
-/// What a seat in use has noted are exactly its own steps. Each of them stands in the one trace of all steps, where it
-/// found what stood in the guard word then.
+/// The steps that a seat in use has noted are exactly its own steps.
+///
+/// Each of them is in the one trace of all steps, at a place at which it found the number that was then in the guard
+/// word.
 pub fn a_record_is_a_step()
     ensures all { (number : ℕ) (board : Board) → (rule : IsKept number board) → (place weight : ℕ) (known : Known)
         → get_elem? board.views place ≡ some (held weight known) → known.log.records ≡ records_of place rule.trace }

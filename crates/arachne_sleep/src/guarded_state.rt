@@ -1,4 +1,4 @@
-//! What lies in a lock's slot.
+//! The content of a lock's slot.
 ghost use Rattle.std.specs.Prelude.{◌≡◌, [], None};
 ghost use Rattle.arachne_sleep.specs.History.{IsSound};
 ghost use Rattle.arachne_sleep.specs.Calls.{IsAsked, IsFreed, IsChecked, pass_asked};
@@ -12,9 +12,9 @@ use crossbeam_utils::CachePadded;
 use std::alloc::Global;
 use std::marker::Model;
 
-/// A lock's state, on cache lines of its own, and the place of the pass that the last call got of it.
+/// A lock's state, on cache lines of its own, and the place of the pass that the last call got from it.
 ///
-/// The place is for proofs alone: the step that gives the guard back finds it here.
+/// The place is only for proofs: the step that gives the guard back finds it here.
 #[derive(Drop)]
 pub struct GuardedState {
     state: CachePadded<LockState>,
@@ -51,7 +51,7 @@ fn place_checked(pass: &Option<Pass>) -> Option<usize>
 }
 
 impl GuardedState {
-    /// That of a lock that nobody has asked for yet.
+    /// Creates the state of a lock that nobody has asked for yet.
     pub(crate) fn new(alloc: Global, number: u8) -> Self
         ensures state { result.state ≡ record { number = number; history = [] } }
     {

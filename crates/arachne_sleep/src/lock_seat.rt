@@ -1,4 +1,4 @@
-//! What a kernel thread has of a lock.
+//! The seat of a kernel thread at a lock.
 ghost use Rattle.std.specs.Prelude.{◌↔◌, IsTrue};
 ghost use Rattle.arachne_sleep.specs.Views.{IsWhole};
 
@@ -10,15 +10,15 @@ use std::marker::Model;
 
 /// A part of the right to use one sleep lock, with what was done through it.
 ///
-/// It is used, split and joined with the lock that it came from. A seat that is dropped takes its weight with it, so
-/// that no seat is whole any more.
+/// It must be used, split and joined with the lock that it came from. If a seat is dropped, its weight is lost, and no
+/// seat can be whole any more.
 #[derive(Drop)]
 pub struct LockSeat {
     pub(crate) seat: Seat<GuardedState, View>,
     pub(crate) weight: Weight,
 }
 
-// Clauses see the table that it came from, its weight and its log.
+// Contracts see the table that it came from, its weight and its log.
 impl Model for LockSeat {
     ghost use Rattle.std.specs.Prelude.{◌≡◌};
     ghost use Rattle.arachne_sleep.specs.Views.{SeatView};
@@ -32,7 +32,7 @@ impl Model for LockSeat {
 }
 
 impl LockSeat {
-    /// Whether all other seats of its lock were joined into it.
+    /// Returns whether all other seats of its lock were joined into it.
     pub fn is_whole(&self) -> bool
         ensures { IsTrue result ↔ IsWhole self.now }
     {

@@ -1,4 +1,4 @@
-//! A sleep lock that kernel threads share, and in whose calls none of them waits.
+//! A sleep lock that kernel threads share. None of them waits in its calls.
 ghost use Rattle.std.specs.Prelude.{◌≡◌, ◌↔◌, List, MatchBool, IsTrue, IsOk, IfOk, None, [], ◌∷◌};
 ghost use Rattle.arachne_sleep.specs.declared.event.LockEvent.{LockEvent};
 ghost use Rattle.arachne_sleep.specs.History.{IsSound};
@@ -21,11 +21,11 @@ use atomic_table::{Seat, Table};
 use std::alloc::{AllocError, Global};
 use std::marker::Model;
 
-/// How many words the table has. Processors fetch cache lines in pairs, so two lines of unused words are on each side
-/// of the guard word.
+/// The number of words of the table. Processors fetch cache lines in pairs, so two lines of unused words are on each
+/// side of the guard word.
 const WORDS: usize = 32;
 
-/// Where the guard word is.
+/// The index of the guard word.
 const GUARD: usize = 16;
 
 /// The guard word while the state is at home.
@@ -36,16 +36,16 @@ const TAKEN: u64 = 1;
 
 /// A sleep lock on a word: 0 while its state is at home in a slot, 1 while the state is with a seat.
 ///
-/// Each kernel thread uses it through a seat of its own. `ask`, `free` and `check` try the guard word once. Where it is
-/// taken they return `Contended`, and nothing has changed; else they call the state, and give the guard back, whatever
-/// the answer is.
+/// Each kernel thread uses it through a seat of its own. `ask`, `free` and `check` try the guard word once. If it is
+/// taken, they return `Contended`, and nothing has changed. Otherwise they call the state, and give the guard back,
+/// whatever the result is.
 #[derive(Drop)]
 pub struct SleepLock {
     number: u8,
     table: Table<GuardedState, View, u8, GuardRule, Global>,
 }
 
-// Clauses see the lock's number and its table.
+// Contracts see the lock's number and its table.
 impl Model for SleepLock {
     ghost use Rattle.arachne_sleep.specs.Views.{SleepLockView, IsLaidOut};
 
@@ -56,7 +56,7 @@ impl Model for SleepLock {
     ghost invariant = { λ l. IsLaidOut l.table.shared.table_id l.table.shared.key l.number };
 }
 
-/// The slots of a new lock.
+/// Returns the slots of a new lock.
 fn first_slots(alloc: Global, number: u8) -> Result<Vec<GuardedState>, AllocError>
     ensures { IfOk result (λ slots. IsFirstSlot number slots.items) }
 {
@@ -66,7 +66,7 @@ fn first_slots(alloc: Global, number: u8) -> Result<Vec<GuardedState>, AllocErro
 }
 
 impl SleepLock {
-    /// A lock that nobody has asked for yet, and its whole seat.
+    /// Creates a lock that nobody has asked for yet, and its whole seat.
     pub fn new(alloc: Global, lock: u8) -> Result<(SleepLock, LockSeat), AllocError>
         ensures number { IfOk result (λ made. made.0.number ≡ lock) }
         ensures seat { IfOk result (λ made. made.1 ≡ whole_seat made.0) }
@@ -85,16 +85,16 @@ impl SleepLock {
         ))
     }
 
-    /// The lock's number.
+    /// Returns the lock's number.
     pub fn number(&self) -> u8
         ensures { result ≡ self.now.number }
     {
         self.number
     }
 
-    /// Asks for the lock. The thread holds it at once where nobody owns it, and waits otherwise.
+    /// Asks for the lock. The thread holds it at once if nobody owns it, and waits otherwise.
     ///
-    /// A thread that is in already is told so. Where memory is refused nothing changes.
+    /// Returns `AlreadyIn` if the thread owns the lock or waits for it. If memory is refused, nothing changes.
     pub fn ask(&self, seat: &mut LockSeat, who: Who) -> Tried<Result<Asked, AskFault>>
         requires { IsSeatOf self.now seat.old }
         ensures seat { IsSeatOf self.now seat.new × (seat.new.weight ≡ seat.old.weight) }
@@ -108,8 +108,9 @@ impl SleepLock {
         Tried::Answered(answer)
     }
 
-    /// Frees the lock, which goes to the thread that has waited longest, if any waits. A thread that doesn't own the
-    /// lock is told so.
+    /// Frees the lock, and grants it to the thread that has waited longest, if any waits.
+    ///
+    /// Returns `NotHolder` if the thread doesn't own the lock.
     pub fn free(&self, seat: &mut LockSeat, who: Who) -> Tried<Result<Freed, NotHolder>>
         requires { IsSeatOf self.now seat.old }
         ensures seat { IsSeatOf self.now seat.new × (seat.new.weight ≡ seat.old.weight) }
@@ -123,7 +124,7 @@ impl SleepLock {
         Tried::Answered(answer)
     }
 
-    /// The pass of a thread that owns the lock, and `None` for any other.
+    /// Returns the pass of the thread if it owns the lock, and `None` otherwise.
     pub fn check(&self, seat: &mut LockSeat, who: Who) -> Tried<Option<Pass>>
         requires { IsSeatOf self.now seat.old }
         ensures seat { IsSeatOf self.now seat.new × (seat.new.weight ≡ seat.old.weight) }
@@ -137,8 +138,10 @@ impl SleepLock {
         Tried::Answered(answer)
     }
 
-    /// Halves the weight, rounded up for the first seat, which keeps what it has done. The second has seen what the
-    /// first has. At weight 1 or 0 neither gets any.
+    /// Splits a seat in two, each with half of its weight, rounded up for the first.
+    ///
+    /// The first keeps what it has done. The second has seen what the first has. If the weight is 1 or 0, both get
+    /// weight 0.
     pub fn split(&self, seat: LockSeat) -> (LockSeat, LockSeat)
         requires { IsSeatOf self.now seat }
         ensures first { result.0 ≡ first_half seat }
@@ -163,7 +166,9 @@ impl SleepLock {
         }
     }
 
-    /// Adds up weights, to at most the whole, and what both have done and seen.
+    /// Joins two seats into one, which has all that both have done and seen.
+    ///
+    /// Its weight is the sum of theirs, but at most the whole.
     pub fn join_seats(&self, seat: LockSeat, other: LockSeat) -> LockSeat
         requires seat { IsSeatOf self.now seat }
         requires other { IsSeatOf self.now other }
@@ -187,14 +192,14 @@ impl SleepLock {
         seat.weight = seat.weight.join(added);
     }
 
-    /// Whether all other seats of the seat's lock were joined into it.
+    /// Returns whether all other seats of the seat's lock were joined into it.
     pub fn is_whole(&self, seat: &LockSeat) -> bool
         ensures { IsTrue result ↔ IsWhole seat.now }
     {
         seat.is_whole()
     }
 
-    /// All that was asked, granted and freed, oldest first. It takes no memory.
+    /// Closes the lock. Returns all its asks, grants and frees, oldest first. Takes no memory.
     pub fn close(self, seat: LockSeat) -> Result<History, (SleepLock, LockSeat)>
         requires own { IsSeatOf self seat }
         requires whole { IsWhole seat }
@@ -222,7 +227,7 @@ impl SleepLock {
         guarded.into_history()
     }
 
-    /// Tries the guard once. Won, the state has come to the seat.
+    /// Tries to take the guard once. Returns whether the seat has it, and the state with it.
     fn take(&self, seat: &mut Seat<GuardedState, View>) -> bool
         requires own { seat.old.table_id ≡ self.now.table }
         requires idle { seat.old.me ≡ idle seat.old.me.0.weight seat.old.me.0.known.log }
@@ -235,7 +240,7 @@ impl SleepLock {
         shared.compare_exchange::<Take>(seat, GUARD, HOME, TAKEN) == HOME
     }
 
-    /// Gives the guard back, and with it the state.
+    /// Gives the guard back, and the state with it.
     fn give_back(&self, seat: &mut Seat<GuardedState, View>)
         requires own { seat.old.table_id ≡ self.now.table }
         requires guarded { (guarded : Guarded) × (before : List LockEvent) × IsReturnable seat.old.me guarded before }

@@ -15,7 +15,7 @@ use crate::who::Who;
 use std::alloc::{AllocError, Global};
 use std::marker::Model;
 
-/// Some number of locks, numbered from 0, that kernel threads share.
+/// The locks of a run, numbered from 0, which kernel threads share.
 #[derive(Drop)]
 pub struct SleepLocks {
     locks: Vec<SleepLock>,
@@ -33,7 +33,7 @@ impl Model for SleepLocks {
     ghost invariant = { λ l. AreNumbered l.locks.items };
 }
 
-/// A seat of each of some locks, in their order.
+/// One seat of each of some locks, in the order of the locks.
 #[derive(Drop)]
 pub struct LockSeats {
     seats: Vec<LockSeat>,
@@ -49,7 +49,7 @@ impl Model for LockSeats {
 }
 
 impl SleepLocks {
-    /// So many locks, of which there may be none, and the whole seat of each.
+    /// Creates `count` locks, which may be 0, and the whole seat of each.
     pub fn new(alloc: Global, count: u8) -> Result<(SleepLocks, LockSeats), AllocError>
         ensures count { IfOk result (λ made. length made.0 ≡ count) }
         ensures own { IfOk result (λ made. AreSeatsOf made.0 made.1) }
@@ -66,14 +66,14 @@ impl SleepLocks {
         Ok((SleepLocks { locks }, LockSeats { seats }))
     }
 
-    /// How many locks there are.
+    /// Returns the number of locks.
     pub fn count(&self) -> usize
         ensures { result ≡ length self.now }
     {
         self.locks.len()
     }
 
-    /// As [`SleepLock::ask`].
+    /// Asks for a lock, as [`SleepLock::ask`] does.
     pub fn ask(&self, seats: &mut LockSeats, lock: u8, who: Who) -> Tried<Result<Asked, AskFault>>
         requires own { AreSeatsOf self.now seats.old }
         requires lock { lock < length self.now }
@@ -84,7 +84,7 @@ impl SleepLocks {
         self.locks[k].ask(&mut seats.seats[k], who)
     }
 
-    /// As [`SleepLock::free`].
+    /// Frees a lock, as [`SleepLock::free`] does.
     pub fn free(&self, seats: &mut LockSeats, lock: u8, who: Who) -> Tried<Result<Freed, NotHolder>>
         requires own { AreSeatsOf self.now seats.old }
         requires lock { lock < length self.now }
@@ -95,7 +95,7 @@ impl SleepLocks {
         self.locks[k].free(&mut seats.seats[k], who)
     }
 
-    /// As [`SleepLock::check`].
+    /// Returns the pass of a thread that owns a lock, as [`SleepLock::check`] does.
     pub fn check(&self, seats: &mut LockSeats, lock: u8, who: Who) -> Tried<Option<Pass>>
         requires own { AreSeatsOf self.now seats.old }
         requires lock { lock < length self.now }
@@ -106,7 +106,9 @@ impl SleepLocks {
         self.locks[k].check(&mut seats.seats[k], who)
     }
 
-    /// Splits each seat. Where there is no memory for the others' list the seats come back.
+    /// Splits each seat.
+    ///
+    /// If memory for the list of the second parts is refused, returns the seats as an error.
     pub fn split(
         &self,
         alloc: Global,
@@ -144,15 +146,16 @@ impl SleepLocks {
         LockSeats { seats: own }
     }
 
-    /// Whether each seat is whole.
+    /// Returns whether each seat is whole.
     pub fn are_whole(&self, seats: &LockSeats) -> bool
         ensures { IsTrue result ↔ All IsWhole seats.now }
     {
         seats.seats.iter().all(|seat| seat.is_whole())
     }
 
-    /// The history of each lock, in the order of the locks. Where there is no memory for their list the locks and the
-    /// seats come back.
+    /// Closes all locks. Returns the history of each, in the order of the locks.
+    ///
+    /// If memory for the list is refused, returns the locks and the seats as an error.
     pub fn close(
         self,
         alloc: Global,

@@ -1,10 +1,11 @@
-//! The rule of a lock's table, and the kinds of step on it. These types are for proofs alone.
+//! The rule of a lock's table, and the kinds of step on it. These types are only for proofs.
 use crate::guarded_state::GuardedState;
 use crate::view::View;
 use atomic_table::{Join, Play, Split, TableRule};
 
-/// There is one history, which the state at home has, and one trace of all steps on the guard word. The table is told
-/// the lock's number.
+/// The rule: there is one history, which the state at home has, and one trace of all steps on the guard word.
+///
+/// The key of the table is the lock's number.
 pub struct GuardRule;
 
 impl TableRule<GuardedState, View, u8> for GuardRule {

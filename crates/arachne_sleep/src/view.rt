@@ -1,4 +1,4 @@
-//! What a seat knows of its lock. These types are for proofs alone: no value of them is made.
+//! The knowledge of a seat about its lock. These types are only for proofs: no value of them is made.
 use crate::{LockEvent, Pass};
 use arachne_weights::Token;
 use std::collections::LinkedList;
@@ -11,13 +11,13 @@ pub struct PlacedEvent {
 
 /// The kinds of step on the guard word.
 pub enum Kind {
-    /// A compare-exchange from 0 to 1. Where it is won the lock's state comes to the seat.
+    /// A compare-exchange from 0 to 1. If it is won, the lock's state is with the seat.
     Take,
-    /// A store of 0: the lock's state goes home.
+    /// A store of 0. The lock's state is at home again.
     GiveBack,
 }
 
-/// One step on a word: its kind, the word, and the numbers that stood there before and stood there after.
+/// A step on a word: its kind, the word's index, and the numbers in the word before and after it.
 pub struct Record {
     pub kind: Kind,
     pub word: usize,
@@ -25,7 +25,7 @@ pub struct Record {
     pub after: u64,
 }
 
-/// What a seat has done and seen.
+/// The log of a seat: what it has done and seen.
 pub struct SeatLog {
     /// The lock's number.
     pub number: u8,
@@ -33,13 +33,13 @@ pub struct SeatLog {
     pub made: LinkedList<PlacedEvent>,
     /// The passes that it got.
     pub passes: LinkedList<Pass>,
-    /// The history that it saw last, and those that the seats saw last that were joined into it since then.
+    /// The last history that it saw, and the last ones of the seats that were joined into it since then.
     pub seen: LinkedList<LinkedList<LockEvent>>,
     /// The steps that it made, the newest first.
     pub records: LinkedList<Record>,
 }
 
-/// A seat's log, and whether the lock's state is out with it.
+/// A seat's log, and whether the lock's state is with the seat.
 pub struct Known {
     pub taken: bool,
     pub log: SeatLog,

@@ -1,4 +1,4 @@
-//! Tables, by public calls: each form gives each row.
+//! Tests of the tables by public calls. Each form must give the results of each row.
 ghost use Rattle.std.specs.Prelude.{ℕ};
 
 mod carriers;
@@ -10,7 +10,7 @@ mod steps;
 use crate::{LockedContexts, Tagged, WordContexts};
 use std::test::Fail;
 
-/// A thread that is nothing but its tag.
+/// A thread that consists only of its tag.
 #[derive(Debug, Drop)]
 struct TagOnly(u64);
 

@@ -1,4 +1,4 @@
-//! The kernel threads of a team side by side.
+//! Starts the kernel threads of a team, and joins them.
 ghost use Rattle.std.specs.Prelude.{◌≡◌, ◌<◌, ◌≤◌, All, IfSome, vec_capacity, vec_len};
 ghost use Rattle.std.specs.Thread.{IsSync};
 
@@ -9,7 +9,7 @@ use std::sync::Wait;
 use std::thread::{self, Promise, PromisedHandle, Threads};
 use std::time::Clock;
 
-/// The share that a kernel thread gives back is one of this team.
+/// The promise that the share which a kernel thread returns is one of this team.
 #[derive(Drop)]
 struct Returns<W> {
     team: Snapshot<W>,
@@ -29,10 +29,12 @@ impl<S, W: Team<S>> Promise<Option<S>> for Returns<W> {
     ghost kept_by = { λ promise share. IfSome share (W.has promise.team.value) };
 }
 
-/// Has all kernel threads of a team work, each with a part of this share: this one with number 0, and new ones with the
-/// other numbers. Once all have ended, the share of all together, unless some is lost.
+/// Runs all kernel threads of a team, each with a part of `share`, and returns the share of all together.
 ///
-/// Where memory or a kernel thread is refused the team is told so, and those that have begun work without the others.
+/// The calling kernel thread has number 0, and new ones have the other numbers. The call returns after all have ended,
+/// and returns `None` if a share is lost.
+///
+/// If memory or a kernel thread is refused, `Team::fail` is called, and those that have begun work without the others.
 /// The idea is that of a team of threads of OpenMP.
 pub fn work_together<H: Threads + Wait + Clock + Sync, S: Drop + Send, W: Team<S> + Sync>(
     rt: &H,
@@ -79,7 +81,9 @@ pub fn work_together<H: Threads + Wait + Clock + Sync, S: Drop + Send, W: Team<S
     )
 }
 
-/// The share of one kernel thread more, for which there is room among the others then. None where memory is refused.
+/// Parts off a share for one more kernel thread, and reserves room for that thread in `others`.
+///
+/// Returns the remaining share, and no other share if memory is refused.
 fn part_off<H: Wait, S, W: Team<S>, O>(
     rt: &H,
     team: &W,
@@ -98,7 +102,7 @@ fn part_off<H: Wait, S, W: Team<S>, O>(
     team.part_off(rt, share)
 }
 
-/// The share of all kernel threads together, once the others have ended, if each gave its own back.
+/// Joins the other kernel threads, and returns the share of all together, if each returned its own.
 fn join_all<H: Threads + Wait, S: Drop, W: Team<S>>(
     rt: &H,
     team: &W,

@@ -1,4 +1,4 @@
--- What holds of all tokens that can come about.
+-- Properties of all lists of tokens that are possible.
 use Rattle.std.proofs.Common.{◌≡◌, ◌≢◌, ◌⊎◌, ℕ, zero, suc, ◌+◌, ◌<◌, ◌≤◌, Bool, true, false, true≢false, List, [], ◌∷◌, ◌++◌, set, sym, refl, ap, ◌∙◌, subst, inl, inr, ⊎_elim, arith}
 use Rattle.std.specs.List.{sum_by}
 use Rattle.std.proofs.lemmas.Bool.Decides.{nat_tests}
@@ -9,7 +9,7 @@ use Rattle.arachne_weights.specs.Weight.{whole, first_part, second_part, joined}
 use Rattle.arachne_weights.specs.Tokens.{held, spent, total_weight, IsReachable, begins, learns, splits, joins}
 use Rattle.arachne_weights.proofs.Totals.{total-set, total-snoc, at-le-total, two-le-total, total-alone}
 
--- a fact of each item of a list
+-- a property of each item of a list
 abbrev EachAt : {X : Type 0} → (X → Type 0) → List X → Type 0
 EachAt {X} P xs = (i : ℕ) (x : X) → get_elem? xs i ≡ some x → P x
 
@@ -42,7 +42,7 @@ live_or_not : (b : Bool) → (b ≡ true) ⊎ (b ≡ false)
 live_or_not true = inl refl
 live_or_not false = inr refl
 
--- the parts are never more than what was split, and where nothing is lost each has some
+-- the parts of a weight are together at most the weight; if nothing is lost, each part is above 0
 parts-within : (w : ℕ) → first_part w + second_part w ≤ w
 parts-within w = grind (arith, nat_tests)
 
@@ -59,8 +59,8 @@ module _ {K : Type 0} (nothing : K) where
   abbrev IsSpentOrLive : Token K → Type 0
   IsSpentOrLive t = t.live ≡ false → t ≡ spent nothing
 
-  -- there is no more than the whole weight; where none of it was lost each live token has some; and what isn't live is
-  -- spent
+  -- The tokens have at most the whole weight. If none of it was lost, each live token has some. Each token that isn't
+  -- live is spent.
   record IsSound (tokens : List (Token K)) : Type 0 where
     pub within : total_weight tokens ≤ whole
     pub weighted : total_weight tokens ≡ whole → EachAt HasWeight tokens
@@ -125,13 +125,13 @@ module _ {K : Type 0} (nothing : K) where
   pub joined-sum : {tokens : List (Token K)} → IsReachable nothing tokens → (i j w x : ℕ) (mine other : K) → get_elem? tokens i ≡ some (held w mine) → j ≢ i → get_elem? tokens j ≡ some (held x other) → joined w x ≡ w + x
   joined-sum {tokens} r i j w x mine other at n from = let s = sound r in let room = two-le-total (λ (t : Token K). t.weight) tokens i j (held w mine) (held x other) at n from in joined-exact w x (omega (arith, s.within))
 
-  -- where one has the whole weight, each other is spent
+  -- if one has the whole weight, each other is spent
   pub whole-alone : {tokens : List (Token K)} → IsReachable nothing tokens → (i j : ℕ) (t u : Token K) → get_elem? tokens i ≡ some t → t.weight ≡ whole → j ≢ i → get_elem? tokens j ≡ some u → u ≡ spent nothing
   whole-alone {tokens} r i j t u at all n from = let s = sound r in
       let one = at-le-total (λ (t : Token K). t.weight) tokens i t at in
       let two = two-le-total (λ (t : Token K). t.weight) tokens i j t u at n from in
       ⊎_elim (λ live. let some_weight = s.weighted (omega (arith, s.within)) j u from live in absurd (omega (arith, s.within))) (λ not. s.idle j u from not) (live_or_not u.live)
 
-  -- so a total of what the tokens know is what that one knows
+  -- so the total of a number over the tokens is that of this one
   pub whole-total : (f : Token K → ℕ) → f (spent nothing) ≡ 0 → {tokens : List (Token K)} → IsReachable nothing tokens → (i : ℕ) (t : Token K) → get_elem? tokens i ≡ some t → t.weight ≡ whole → sum_by f tokens ≡ f t
   whole-total f none {tokens} r i t at all = total-alone f tokens i t at (λ j u n from. ap f (whole-alone r i j t u at all n from) ∙ none)

@@ -1,4 +1,4 @@
--- The tokens of one shared object: what each holder has, and how tokens come and go.
+-- The tokens of one shared object: the weight and knowledge of each holder, and how tokens are made and joined.
 use Rattle.std.specs.Prelude.{◌≡◌, ◌≢◌, ℕ, true, false, List, [], ◌∷◌, ◌++◌, slice_set}
 use Rattle.std.specs.List.{sum_by}
 use mathlib.Core.Option.{some}
@@ -7,19 +7,19 @@ use Rattle.arachne_weights.specs.declared.token.Token.{Token}
 use Rattle.arachne_weights.specs.Weight.{whole, first_part, second_part, joined}
 
 module _ {K : Type 0} where
-  -- a token in use, with a weight and what its holder knows
+  -- a token in use, with a weight and its holder's knowledge
   abbrev pub held : ℕ → K → Token K
   held w k = record { live = true; weight = w; known = k }
 
-  -- what is left of a token that was joined into another
+  -- a token that was joined into another
   abbrev pub spent : K → Token K
   spent nothing = record { live = false; weight = 0; known = nothing }
 
   abbrev pub total_weight : List (Token K) → ℕ
   total_weight tokens = sum_by (λ (t : Token K). t.weight) tokens
 
-  -- The lists of tokens that can come about. At first one token has the whole weight. Then, one step after another, a
-  -- holder learns something, cuts its token in two, or takes in another token. A new token stands at the end.
+  -- The lists of tokens that are possible. At first one token has the whole weight. Then, one step after another, a
+  -- holder learns something, splits its token in two, or takes in another token. A new token is appended.
   pub data IsReachable (nothing : K) : List (Token K) → Type 0 where
     begins : (k : K) → IsReachable nothing (held whole k ∷ [])
     learns : {tokens : List (Token K)} → IsReachable nothing tokens → (i w : ℕ) (before after : K) → get_elem? tokens i ≡ some (held w before)

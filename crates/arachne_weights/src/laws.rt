@@ -1,4 +1,4 @@
-//! What holds of all tokens of one object, at any time. These functions do nothing: a law is their contract.
+//! Laws of all tokens of one object, at any time. They are contracts of functions with empty bodies.
 ghost use Rattle.std.specs.Prelude.{◌≡◌, ◌≢◌, ◌≤◌, ℕ, List};
 ghost use mathlib.Core.Option.{some};
 ghost use lib.ListN.{get_elem?};
@@ -6,12 +6,12 @@ ghost use Rattle.arachne_weights.specs.declared.token.Token.{Token};
 ghost use Rattle.arachne_weights.specs.Weight.{whole};
 ghost use Rattle.arachne_weights.specs.Tokens.{IsReachable, spent, total_weight};
 
-/// Tokens never have more than the whole weight between them.
+/// The law that all tokens together have at most the whole weight.
 pub fn tokens_within_the_whole<K>()
     ensures { (nothing : K) (tokens : List (Token K)) → IsReachable nothing tokens → total_weight tokens ≤ whole }
 {}
 
-/// Where one token has the whole weight, each other was joined into it or into one that was.
+/// The law that if one token has the whole weight, each other was joined into it or into one that was.
 pub fn whole_is_alone<K>()
     ensures { (nothing : K) (tokens : List (Token K)) → IsReachable nothing tokens
         → (i j : ℕ) (t u : Token K) → get_elem? tokens i ≡ some t → t.weight ≡ whole → j ≢ i → get_elem? tokens j ≡ some u

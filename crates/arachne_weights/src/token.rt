@@ -1,8 +1,10 @@
-//! What a shared object's rule sees of the holder of a token.
+//! The token of one holder of a shared object.
 
-/// The view of one holder, with what it knows of the object. No value of it is made.
+/// The view that a shared object's rule has of one holder, with the holder's knowledge of the object. Only contracts
+/// use it: no value of it is made.
 pub struct Token<K> {
-    /// It wasn't joined into another. A live token may have no weight, since a split at weight 1 gives none.
+    /// True if the token wasn't joined into another. A live token may have no weight, since a split at weight 1 gives
+    /// none.
     pub live: bool,
     pub weight: u128,
     pub known: K,

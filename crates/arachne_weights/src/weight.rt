@@ -26,14 +26,14 @@ impl Model for Weight {
 }
 
 impl Weight {
-    /// What the first token has.
+    /// Returns the whole weight, which the first token has.
     pub fn whole() -> Weight
         ensures { result ≡ whole }
     {
         Weight { amount: WHOLE }
     }
 
-    /// Half, rounded up, and the rest. A weight of 1 or 0 can't be halved, and gives two of 0.
+    /// Returns half of the weight, rounded up, and the rest. A weight of 1 or 0 can't be halved: then both are 0.
     pub fn split(self) -> (Weight, Weight)
         ensures first { result.0 ≡ first_part self }
         ensures second { result.1 ≡ second_part self }
@@ -46,7 +46,7 @@ impl Weight {
         (Weight { amount: first }, Weight { amount: second })
     }
 
-    /// The sum, and at most the whole.
+    /// Returns the sum of both weights, which is at most the whole.
     pub fn join(self, other: Weight) -> Weight
         ensures { result ≡ joined self other }
     {

@@ -1,4 +1,4 @@
--- The end of a thread: what its steps ask, and what they leave.
+-- The end of a thread: the conditions of its steps, and the seat after them.
 use Rattle.std.proofs.Common.{◌≡◌, ℕ, ◌+◌, ◌-◌, ◌∙◌, ap, sym, subst, refl, ◌∷◌}
 use Rattle.arachne_core.specs.declared.layout.TheConstants.{CORE_BITS}
 use Rattle.arachne_core.specs.Marked.{mark_word}

@@ -1,4 +1,4 @@
--- The first words of a table are those that its rule asks for.
+-- The first words of a table are those that its rule requires.
 use Rattle.std.proofs.Common.{◌≡◌, ℕ, ◌+◌, ◌-◌, ◌*◌, ◌/◌, ◌%◌, ◌<◌, ◌≤◌, ◌∙◌, ltb, false, ap, sym, arith, List, [], ◌∷◌, ◌++◌, length, get_or, inl, inr}
 use Rattle.std.proofs.lemmas.Bool.{cases_lt, cond-true, cond-false, lt-ltb, le-ltb}
 use Rattle.std.proofs.Math.ListN.{get_or-append}
@@ -46,7 +46,7 @@ are-first cores slots generation last ws few long each =
           ∙ (λ j. block_word slots (core j) (offset j)) ∙ block-name slots p.core (NAMES + p.index) (omega arith) (omega (arith, index_in)) ∙ omega arith;
     }
 
--- one word more
+-- one more word
 pub one-more : (f : ℕ → ℕ) (ws : List ℕ) (w k : ℕ) → length ws ≡ k → ((i : ℕ) → i < k → get_or ws i 0 ≡ f i) → w ≡ f k → (i : ℕ) → i < k + 1 → get_or (ws ++ w ∷ []) i 0 ≡ f i
 one-more f ws w k long each is i h = elim (cases_lt i k) [
   | inl l ↦ get_or-append ws (w ∷ []) 0 i (omega (arith, l, long)) ∙ each i l

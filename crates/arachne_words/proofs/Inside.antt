@@ -1,4 +1,4 @@
--- That the words of a sized table are among its words.
+-- The indexes of a sized table's words are below their number.
 use Rattle.std.proofs.Common.{◌≡◌, ℕ, ◌<◌, arith}
 use Rattle.arachne_core.specs.declared.place.Place.{Place}
 use Rattle.arachne_rule.specs.Layout.{Contexts, occ_index, name_index}

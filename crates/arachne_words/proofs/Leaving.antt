@@ -1,4 +1,4 @@
--- How the list of what is left grows, context by context.
+-- The list of the threads that are left, as it grows context by context.
 use Rattle.std.proofs.Common.{◌≡◌, ◌≢◌, ℕ, zero, suc, ◌+◌, ◌<◌, ◌≤◌, ◌∙◌, ap, sym, subst, refl, arith, Some, None, Option, List, [], ◌∷◌, ◌++◌, length, drop, set, get_or, get_or-set_other, Bool, true, false, inl, inr}
 use Rattle.std.proofs.lemmas.Bool.{cases_eq}
 use mathlib.Core.Option as opt
@@ -51,7 +51,7 @@ module _ {T : Type 0} where
   abbrev pub EndsWith : (T → ℕ) → Shape → Known → List ℕ → List (Option T) → Type 0
   EndsWith tag_of shape k words slots = (id : ℕ) × Final (Seen (Holds tag_of CORE_BITS shape) id (held whole k)) words slots
 
-  -- the list so far, and what is left from context x on
+  -- the list so far, and the threads that are left from context x on
   abbrev pub SoFar : List (ThreadId × T) → ℕ → List ℕ → List (Option T) → Type 0
   SoFar left x words slots = left ++ left_from CORE_BITS x words (drop x slots) ≡ left_from CORE_BITS 0 words slots
 
@@ -72,7 +72,7 @@ module _ {T : Type 0} where
   append-none [] = refl
   append-none (x ∷ xs) = ap (λ (r : List (ThreadId × T)). x ∷ r) (append-none xs)
 
-  -- ---- what is left is listed by context
+  -- ---- the threads that are left are listed in the order of the contexts
 
   abbrev From : ℕ → List (ThreadId × T) → Type 0
   From x [] = Unit {0}
@@ -95,7 +95,7 @@ module _ {T : Type 0} where
       let r = left-by-context bits (suc x) words slots in
       (omega arith, more-by-context (record { context = x; generation = (marked_of bits (slice_index words x)).generation }, value) (left_from bits (suc x) words slots) r.0 r.1)
 
-  -- the list, once each context was looked at
+  -- the list, after each context was looked at
   pub all-left : (left : List (ThreadId × T)) (x : ℕ) (words : List ℕ) (slots : List (Option T)) → length slots ≤ x → SoFar left x words slots → left ≡ left_from CORE_BITS 0 words slots
   all-left left x words slots past so = sym (append-none left) ∙ ap (λ (r : List (Option T)). left ++ left_from CORE_BITS x words r) (sym (drop-past slots x past)) ∙ so
 

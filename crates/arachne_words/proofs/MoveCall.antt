@@ -1,4 +1,4 @@
--- A move: what its steps ask, and what they leave.
+-- A move: the conditions of its steps, and the seat after them.
 use Rattle.std.proofs.Common.{◌≡◌, ℕ, ◌<◌, ◌∙◌, ◌==◌, if◌then◌else◌, ap, sym, subst, refl, inr, List}
 use Rattle.arachne_core.specs.declared.layout.TheConstants.{CORE_BITS}
 use Rattle.arachne_core.specs.declared.place.Place.{Place}
@@ -61,7 +61,7 @@ module _ (z : Contexts) (moving y g : ℕ) (source target : Place) (inside : y <
       ∙ ap (λ (cs : List Carried). record s0 { known = moved_off z.table.slots moving y g source target r b1 b2 found (record s0.known { carried = cs }) })
       (without-with named (with_carried replaced s0.known.carried) ∙ without-with replaced s0.known.carried)
 
--- nothing else comes to be carried, or goes
+-- no other context comes to the seat, or leaves it
 pub to-carried : (c : Contexts) (x : ℕ) (seen : Marked) (target : Place) (y g : ℕ) (k after : Known) (answer : Moved) → ToAnswer c x seen target y g k answer after → after.carried ≡ without y k.carried
 to-carried c x seen target y g k after moved.Moved is = ap (λ (q : Known). q.carried) is.4
 to-carried c x seen target y g k after (moved.Lost word) is = ap (λ (q : Known). q.carried) is.2

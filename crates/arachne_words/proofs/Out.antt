@@ -1,4 +1,4 @@
--- How many contexts are out with a seat, after one was claimed or taken, changed, or given up.
+-- The number of contexts that are out with a seat, after one was claimed or taken, changed, or given up.
 use Rattle.std.proofs.Common.{◌≡◌, ℕ, zero, suc, ◌+◌, ◌-◌, ◌<◌, ◌≤◌, List, [], ◌∷◌, length, eqb, refl, sym, ap, ◌∙◌, subst, arith, inl, inr}
 use Rattle.std.proofs.lemmas.Bool.{cases_eq, cond-true, cond-false, eq-eqb, ne_eqb}
 use Rattle.arachne_rule.specs.declared.view.Carried.{Carried}
@@ -39,7 +39,7 @@ moved n out k k' o is = record {
   inside = λ x h. ap (carried_at x) is ∙ o.inside x h;
 }
 
--- a context that wasn't out comes
+-- one more context is out, which wasn't
 pub out-more : (n out : ℕ) (k k' : Known) (c : Carried) → AreOut n out k → c.context < n → carried_at c.context k.carried ≡ [] → k'.carried ≡ with_carried c k.carried → AreOut n (out + 1) k'
 out-more n out k k' c o inside fresh is = moved n (out + 1) (record k { carried = with_carried c k.carried }) k' (record {
   counted = let a = without-length c.context k.carried in let b = ap length fresh in let d = o.counted in omega arith;
@@ -50,7 +50,7 @@ out-more n out k k' c o inside fresh is = moved n (out + 1) (record k { carried 
   inside = λ x h. with-else c c.context x k.carried refl (λ e. omega arith) ∙ o.inside x h;
 }) is
 
--- a context that is out goes
+-- a context is no longer out
 pub out-less : (n out : ℕ) (k k' : Known) (c : Carried) → AreOut n out k → Carries k c → k'.carried ≡ without c.context k.carried → AreOut n (out - 1) k'
 out-less n out k k' c o has is = moved n (out - 1) (record k { carried = without c.context k.carried }) k' (record {
   counted = let a = without-length c.context k.carried in let b = ap length has in let d = o.counted in omega arith;
@@ -92,7 +92,7 @@ without-twice x (c ∷ cs) = elim (cases_eq c.context x) [
 pub without-with : (c : Carried) (cs : List Carried) → without c.context (with_carried c cs) ≡ without c.context cs
 without-with c cs = cond-true (eqb c.context c.context) _ _ (eq-eqb c.context c.context refl) ∙ without-twice c.context cs
 
--- what a seat keeps between calls
+-- the invariant of a seat between calls
 abbrev pub Keeps : {T : Type 0} → CallView T → ℕ → ℕ → Type 0
 Keeps s weight out = (s.weight ≡ weight) × (s.slots ≡ []) × AreOut s.table.slots out s.known
 

@@ -1,4 +1,4 @@
--- What is out with a seat after each call, by what the call answers.
+-- The claims and threads that are out with a seat after each call, by the call's result.
 use Rattle.std.proofs.Common.{◌≡◌, ℕ, ◌<◌, ◌∙◌, ap, sym, subst, refl, List, [], ◌∷◌, Ok}
 use Rattle.arachne_core.specs.declared.place.Place.{Place}
 use Rattle.arachne_contexts.specs.Out.{Out, Claim, Thread, with_claim, with_thread}

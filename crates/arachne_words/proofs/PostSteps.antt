@@ -1,4 +1,4 @@
--- A post: what its steps ask, and what it leaves.
+-- A post: the conditions of its steps, and the seat after them.
 use Rattle.std.proofs.Common.{◌≡◌, ℕ, ◌<◌, ◌∙◌, ap, sym, subst, refl, true, Some, None, ◌∷◌}
 use Rattle.atomic_table.specs.Table.{rest}
 use Rattle.arachne_core.specs.declared.layout.TheConstants.{CORE_BITS}

@@ -1,4 +1,4 @@
--- How a held thread is put back: what the steps ask, and what they leave.
+-- How a held thread is put back: the conditions of the steps, and the seat after them.
 use Rattle.std.proofs.Common.{◌≡◌, ℕ, ◌<◌, ◌∙◌, ap, sym, subst, refl, true, Some, None, ◌∷◌}
 use Rattle.atomic_table.specs.Table.{rest}
 use Rattle.arachne_core.specs.declared.layout.TheConstants.{CORE_BITS}

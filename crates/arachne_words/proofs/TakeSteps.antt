@@ -1,4 +1,4 @@
--- A take: what its steps ask, and what it leaves.
+-- A take: the conditions of its steps, and the seat after them.
 use Rattle.std.proofs.Common.{◌≡◌, ℕ, ◌<◌, ◌∙◌, ap, sym, subst, refl, true, false, Some, None, Option, List, [], ◌∷◌}
 use Rattle.atomic_table.specs.Table.{rest}
 use Rattle.arachne_core.specs.declared.layout.TheConstants.{CORE_BITS}

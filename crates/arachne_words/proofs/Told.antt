@@ -1,4 +1,4 @@
--- What a seat within a call shows after a step, by what the step told it.
+-- The model of a seat within a call after a step, by what the step says of the seat.
 use Rattle.std.proofs.Common.{◌≡◌, ℕ, List, refl, sym, ap, ◌∙◌, subst, Option}
 use Rattle.atomic_table.specs.Seated.{TableId}
 use Rattle.arachne_weights.specs.Tokens.{held}

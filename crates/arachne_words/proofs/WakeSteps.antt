@@ -1,5 +1,5 @@
--- What the mark word of a thread shows: that of an id which is blocked or held doesn't show that it is gone, and that
--- of a held one which isn't HELD shows it woken.
+-- The meaning of a thread's mark word: if it shows the thread of an id blocked or held, it doesn't show that the thread
+-- is gone; and the mark word of a held thread that isn't HELD shows the thread woken.
 use Rattle.std.proofs.Common.{◌≡◌, ◌≢◌, ℕ, ◌<◌, true, ◌∙◌, ap, sym, arith, inl, inr}
 use Rattle.arachne_core.specs.declared.layout.TheConstants.{CORE_BITS}
 use Rattle.arachne_core.specs.declared.thread_id.ThreadId.{ThreadId}

@@ -1,5 +1,5 @@
--- What each step of a call makes of the seat within it: the step is noted with its kind, its word, and what stood there
--- before and after it. A store doesn't tell what stood there before.
+-- The seat within a call after each step: it has noted the step's kind, its word, and the numbers in the word before
+-- and after it. A store doesn't show the number before.
 use Rattle.std.specs.Prelude.{◌≡◌, ◌≢◌, ℕ, ◌<◌, [], ◌∷◌, true, false, Some, None}
 use Rattle.atomic_table.specs.Table.{rest}
 use Rattle.arachne_core.specs.declared.layout.TheConstants.{CORE_BITS}
@@ -19,14 +19,14 @@ use Rattle.arachne_words.specs.Seats.{CallView, ClaimView, HoldView, claimed_by,
 use Rattle.arachne_words.specs.Calls.{EachContextOf, given_back, learned, sum_of, won_claim}
 use Rattle.arachne_words.specs.Moves.{moved_off, shared_claim}
 
--- the mark word that was seen has another mark, and the seat knows this besides
+-- the knowledge after the mark word that was seen has got another mark
 abbrev pub marked_anew : Kind → ℕ → Marked → Mark → Known → Known
 marked_anew step x seen m k = noted step x (mark_word CORE_BITS seen) (mark_word CORE_BITS (record seen { mark = m })) k
 
 module _ {T : Type 0} where
   -- ---- exchanges
 
-  -- an exchange was lost: another word was found than the one expected
+  -- an exchange was lost: the word found was not the expected one
   abbrev pub LosesTo : Kind → ℕ → ℕ → ℕ → CallView T → CallView T → Type 0
   LosesTo step word expected found s t = (found ≢ expected) × (t ≡ record s { known = noted step word found found s.known })
 
@@ -43,7 +43,7 @@ module _ {T : Type 0} where
             (with_context s.known (claimed_by (record { place = record { core = core; index = 0 }; alone = true }) x g));
       })
 
-  -- the thread of a context is held, and its value has come; the seat didn't carry the context
+  -- the thread of a context is held, and its value is with the seat, which didn't carry the context
   abbrev pub WinsTake : (T → ℕ) → ℕ → Marked → CallView T → CallView T → Type 0
   WinsTake tag_of x seen s t = (value : T) × (carried_at x s.known.carried ≡ [])
       × (t ≡ record s { known = marked_anew kind.Take x seen mark.Held (with_context s.known (taken_context x seen (tag_of value))); slots = (x, Some value) ∷ s.slots })
@@ -52,15 +52,16 @@ module _ {T : Type 0} where
   abbrev pub WinsRest : ℕ → Marked → Carried → CallView T → CallView T → Type 0
   WinsRest x held a s t = t ≡ record s { known = marked_anew kind.RestBlocked x held mark.Blocked (without_context s.known a); slots = rest s.slots }
 
-  -- the thread isn't blocked: the mark word found says that it was woken while it was held
+  -- the thread isn't blocked: the mark word that was found shows that it was woken while it was held
   abbrev pub FindsWoken : ℕ → Marked → ℕ → CallView T → CallView T → Type 0
   FindsWoken x held found s t = (found ≡ mark_word CORE_BITS (record held { mark = mark.Woken })) × (t ≡ record s { known = noted kind.RestBlocked x found found s.known })
 
-  -- the mark word of a context has another mark, and the seat knows what it knew
+  -- the mark word of a context has another mark, and the seat knows nothing else that is new
   abbrev pub WinsMark : Kind → ℕ → Marked → Mark → CallView T → CallView T → Type 0
   WinsMark step x seen m s t = t ≡ record s { known = marked_anew step x seen m s.known }
 
-  -- the mark word of context x has the target as its place, and a, which was claimed there, stands where x was
+  -- the mark word of context x has the target as its place, and a, which was claimed there, stands at the place that x
+  -- left
   abbrev pub WinsMove : ℕ → Marked → Place → Carried → CallView T → CallView T → Type 0
   WinsMove x seen target a s t = t ≡ record s {
     known = noted kind.Move x (mark_word CORE_BITS seen) (mark_word CORE_BITS (record seen { place = target })) (with_context s.known (left_context a seen.place));
@@ -78,7 +79,7 @@ module _ {T : Type 0} where
 
   -- ---- stores and swaps
 
-  -- this is written to the word, and the seat knows this besides
+  -- this number is written to the word, and the seat then knows k and the step
   abbrev pub Writes : Kind → ℕ → ℕ → Known → CallView T → CallView T → Type 0
   Writes step word after k s t = (before : ℕ) × (t ≡ record s { known = noted step word before after k })
 
@@ -94,7 +95,7 @@ module _ {T : Type 0} where
   abbrev pub WritesRest : ℕ → Marked → Carried → CallView T → CallView T → Type 0
   WritesRest x ready a s t = WritesHome kind.RestReady x (mark_word CORE_BITS ready) (without_context s.known a) s t
 
-  -- the word of the place where a thread was taken names its context
+  -- the word of the place at which a thread was taken names its context
   abbrev pub WritesName : Contexts → Place → ℕ → Carried → CallView T → CallView T → Type 0
   WritesName c place x a s t = WritesHome kind.KeepName (name_index c.table.slots place) x (with_context s.known (record a { named = true; away = false })) s t
 
@@ -106,7 +107,7 @@ module _ {T : Type 0} where
   abbrev pub WritesSpent : HoldView → ℕ → CallView T → CallView T → Type 0
   WritesSpent hold tag s t = Writes kind.Retire hold.id.context (mark_word CORE_BITS (marked_spent (held_by hold tag))) (spent_known s.known (held_by hold tag)) s t
 
-  -- the mark word of the context whose place a move took says where it stands now
+  -- the mark word of the context whose place a move took shows its new place
   abbrev pub WritesPlace : ℕ → Marked → Carried → CallView T → CallView T → Type 0
   WritesPlace x free a s t = Writes kind.Replace x (mark_word CORE_BITS free) (with_context s.known (record a { shown = a.place })) s t
 

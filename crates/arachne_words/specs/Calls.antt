@@ -1,5 +1,5 @@
--- What the calls of a table answer, by the steps that they made: each step is noted with its word, and what stood there
--- before and after it.
+-- The results of a table's calls, by the steps that they made: each step is noted with its word, and the numbers in the
+-- word before and after it.
 use Rattle.std.specs.Prelude.{◌≡◌, ◌≢◌, ◌↔◌, IsTrue, EachIndex, ℕ, ◌+◌, ◌-◌, ◌<◌, ◌≤◌, ◌^◌, ◌⊎◌, Bool, true, false, if◌then◌else◌, [], slice_index_or}
 use Rattle.arachne_core.specs.declared.place.Place.{Place}
 use Rattle.arachne_core.specs.declared.layout.TheConstants.{CORE_BITS}
@@ -27,17 +27,17 @@ use Rattle.arachne_rule.specs.Changes.{index_sum, release_sum, posted, spent_kno
 use Rattle.arachne_rule.specs.Layout.{Contexts, occ_index, name_index}
 use Rattle.arachne_words.specs.Seats.{ClaimView, HoldView, claimed_by, held_by, marked_by}
 
--- ---- what words show
+-- ---- the meaning of words
 
 -- no index is free
 abbrev pub HasNoFree : ℕ → Occupancy → Type 0
 HasNoFree slots o = (i : ℕ) → i < slots → slice_index_or o.occupied i false ≡ true
 
--- one thread has the core alone, or no index is free
+-- the core is exclusive, or no index is free
 abbrev pub HasNoPlace : ℕ → Occupancy → Type 0
 HasNoPlace slots o = (o.exclusive ≡ true) ⊎ HasNoFree slots o
 
--- the lowest free index of a core that isn't one thread's alone
+-- the lowest free index of a core that isn't exclusive
 pub record IsLowestFree (slots : ℕ) (o : Occupancy) (index : ℕ) : Type 0 where
   pub shared : o.exclusive ≡ false
   pub inside : index < slots
@@ -46,37 +46,37 @@ pub record IsLowestFree (slots : ℕ) (o : Occupancy) (index : ℕ) : Type 0 whe
 
 -- ---- steps
 
--- a word was seen
+-- the knowledge after a word was seen
 abbrev pub looked : ℕ → ℕ → Known → Known
 looked word found k = noted kind.Look word found found k
 
--- a place word was seen
+-- the knowledge after a place word was seen
 abbrev pub learned : ℕ → ℕ → Known → Known
 learned word found k = noted kind.Learn word found found k
 
--- a claim that was lost, to the word that was found
+-- the knowledge after a claim was lost, because this word was found
 abbrev pub lost_claim : ℕ → ℕ → Known → Known
 lost_claim word found k = noted kind.Claim word found found k
 
--- an index was claimed in a word, and with it a context
+-- the knowledge after an index was claimed in a word, and with it a context
 abbrev pub won_claim : ℕ → ℕ → Carried → Known → Known
 won_claim word found c k = noted kind.Claim word found (found + index_sum c.place.index) (with_context k c)
 
--- a place became free, by what its word says less this number
+-- the knowledge after a place was freed, by subtracting this number from the word
 abbrev pub released : ℕ → ℕ → ℕ → Carried → Known → Known
 released word found less c k = noted kind.Release word found (found - less) (without_context k c)
 
--- what a claim adds to the word of its core, and its end takes away
+-- the number that a claim adds to the word of its core, and its release subtracts
 abbrev pub sum_of : Bool → ℕ → ℕ
 sum_of alone index = if alone then 2 ^ 63 + index_sum index else index_sum index
 
 -- ---- claims
 
--- it holds of each context as which the claim may be out with the seat, with its generation
+-- Q is true of each context, with its generation, as which the claim may be out with the seat
 abbrev pub EachContextOf : Contexts → Known → ClaimView → (ℕ → ℕ → Type 0) → Type 0
 EachContextOf c k claim Q = (x g : ℕ) → x < c.table.slots → Carries k (claimed_by claim x g) → Q x g
 
--- A place of the core was claimed: the lowest free one of the word that was exchanged, which is the word seen before
+-- A place of the core was claimed: the lowest free one of the word that was exchanged, which is the word seen before.
 pub record HasClaimed (c : Contexts) (core : ℕ) (k : Known) (claim : ClaimView) (after : Known) : Type 0 where
   pub word : ℕ
   pub context : ℕ
@@ -95,7 +95,7 @@ ClaimAnswer c core k (claimed.Full word) after = ((occupancy_of word).closed ≡
 ClaimAnswer c core k (claimed.Closed word) after = ((occupancy_of word).closed ≡ true) × (after ≡ looked (occ_index c.table.slots core) word k)
 ClaimAnswer c core k (claimed.Lost word) after = (seen : ℕ) × (word ≢ seen) × (after ≡ lost_claim (occ_index c.table.slots core) word (looked (occ_index c.table.slots core) seen k))
 
--- An open core on which nothing was is claimed whole, with its index 0
+-- An open and empty core was claimed whole, with its index 0.
 pub record HasClaimedWhole (c : Contexts) (core : ℕ) (k : Known) (claim : ClaimView) (after : Known) : Type 0 where
   pub context : ℕ
   pub generation : ℕ
@@ -111,7 +111,7 @@ ClaimAloneAnswer c core k (claimed.Full word) after = ((occupancy_of word).close
 ClaimAloneAnswer c core k (claimed.Closed word) after = ((occupancy_of word).closed ≡ true) × (after ≡ looked (occ_index c.table.slots core) word k)
 ClaimAloneAnswer c core k (claimed.Lost word) after = (word ≢ 0) × (after ≡ noted kind.Alone (occ_index c.table.slots core) word word (looked (occ_index c.table.slots core) 0 k))
 
--- the claim of a context was given up, in the word of its core that was found
+-- the knowledge after the claim of a context was given up, in the word of its core that was found
 abbrev pub given_back : Contexts → ClaimView → ℕ → ℕ → ℕ → Known → Known
 given_back c claim x g found k = released (occ_index c.table.slots claim.place.core) found (release_sum (claimed_by claim x g)) (claimed_by claim x g) k
 
@@ -127,13 +127,13 @@ pub record HasPosted (c : Contexts) (k : Known) (claim : ClaimView) (tag : ℕ) 
   pub steps : after ≡ noted kind.Post id.context before (mark_word CORE_BITS (marked_as mark.Ready (claimed_by claim id.context id.generation)))
       (looked id.context seen (learned (name_index c.table.slots claim.place) id.context (posted k (claimed_by claim id.context id.generation) tag)))
 
--- the id is that of the claim's context, where the thread was posted
+-- the id is that of the claim's context, in which the thread was posted
 abbrev pub PostAnswer : Contexts → Known → ClaimView → ℕ → ThreadId → Known → Type 0
 PostAnswer c k claim tag id after = EachContextOf c k claim (λ x g. (id ≡ record { context = x; generation = g }) × HasPosted c k claim tag id after)
 
 -- ---- takes
 
--- The thread that a mark word shows ready at the place was taken, and its place word names its context
+-- The thread that a mark word shows ready at the place was taken, and the place word names its context.
 pub record HasTaken (c : Contexts) (p : Place) (k : Known) (hold : HoldView) (tag : ℕ) (after : Known) : Type 0 where
   pub place_is : hold.place ≡ p
   pub inside : hold.id.context < c.table.slots
@@ -152,8 +152,8 @@ TakeAnswer tag_of c p k (taken.Lost word) after = (x seen : ℕ) × (word ≢ se
 
 -- ---- ends
 
--- The thread has ended: its context is claimed for the next generation, and then its place is free; or it is spent, and
--- its place stays occupied
+-- The thread has ended. Either its context is claimed for the next generation, and then its place is freed; or the
+-- context is spent, and its place stays occupied.
 pub record HasFinished (c : Contexts) (k : Known) (hold : HoldView) (tag : ℕ) (after : Known) : Type 0 where
   pub before : ℕ
   pub ends : hold.id.generation ≢ c.shape.last → (found : ℕ) × (after ≡ noted kind.Release (occ_index c.table.slots hold.place.core) found (found - release_sum (held_by hold tag))
@@ -177,8 +177,8 @@ WakeAnswer c id k (woken.Lost word) after = (seen : ℕ) × (word ≢ seen)
 
 -- ---- threads that are put back
 
--- what was asked, what is answered, and the steps: a thread that is to be blocked, and was woken while it was held, is
--- ready
+-- The request, the result, and the steps. A thread that was to be blocked is ready if it was woken while it was
+-- held.
 abbrev pub RestAnswer : Contexts → HoldView → ℕ → Known → Rest → Rested → Known → Type 0
 RestAnswer c hold tag k rest.Ready rested.AsAsked after = (before : ℕ)
     × (after ≡ noted kind.RestReady hold.id.context before (mark_word CORE_BITS (marked_by mark.Ready hold)) (learned (name_index c.table.slots hold.place) hold.id.context (without_context k (held_by hold tag))))
@@ -190,7 +190,7 @@ RestAnswer c hold tag k rest.Blocked rested.WokenMeanwhile after = (found before
 
 -- ---- cores
 
--- the word of the core was seen, and shows it closed with no place occupied, or not
+-- the word of the core was seen; the result is true exactly if it shows the core closed with no place occupied
 abbrev pub DrainAnswer : Contexts → ℕ → Known → Bool → Known → Type 0
 DrainAnswer c core k answer after = (word : ℕ) × (after ≡ looked (occ_index c.table.slots core) word k)
     × (IsTrue answer ↔ (((occupancy_of word).closed ≡ true) × EachIndex (occupancy_of word).occupied (λ i. slice_index_or (occupancy_of word).occupied i false ≡ false)))

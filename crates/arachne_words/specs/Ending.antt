@@ -1,4 +1,4 @@
--- Of which table the rule is, at the end.
+-- The table to which the rule applies, at the end.
 use Rattle.std.specs.Prelude.{◌≡◌, ℕ}
 use mathlib.Core.Option.{some}
 use lib.ListN.{get_elem?}
@@ -9,7 +9,7 @@ use Rattle.arachne_rule.specs.declared.view.Known.{Known}
 use Rattle.arachne_rule.specs.declared.view.Shape.{Shape}
 use Rattle.arachne_rule.specs.Table.{Table, Holds}
 
--- the rule allows a table of that shape where the seat with the whole weight knows this
+-- the rule allows a table of that shape in which the seat with the whole weight knows k
 pub record IsLawfulEnd {T : Type 0} (tag_in : T → ℕ) (shape : Shape) (k : Known) : Type 0 where
   pub table : Table T
   pub lawful : Holds tag_in CORE_BITS shape table

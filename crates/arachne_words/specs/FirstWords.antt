@@ -6,12 +6,12 @@ use Rattle.arachne_core.specs.Place.{first_place}
 use Rattle.arachne_rule.specs.declared.layout.TheConstants.{BLOCK, NAMES}
 use Rattle.arachne_core.specs.Marked.{mark_word}
 
--- in the block of a core of so many places: its place words name the contexts that stand there at first, and the others
--- are 0
+-- a word of a core's block, for cores of `slots` places: a place word names the context that stands there at first, and
+-- the other words are 0
 abbrev pub block_word : ℕ → ℕ → ℕ → ℕ
 block_word slots core offset = if nat_lt offset NAMES then 0 else if nat_lt (offset - NAMES) slots then core * slots + (offset - NAMES) else 0
 
--- where there are n contexts, each of the same generation: their mark words, and then the blocks
+-- a word of a table with n contexts of the same generation: first their mark words, and then the blocks of the cores
 abbrev pub first_word : ℕ → ℕ → ℕ → ℕ → ℕ
 first_word slots n generation i =
     if nat_lt i n then mark_word CORE_BITS (record { mark = mark.Free; alone = false; place = first_place slots i; generation = generation })

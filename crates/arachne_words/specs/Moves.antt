@@ -1,4 +1,5 @@
--- What a move answers, by its steps: each step is noted with its word, and what stood there before and after it.
+-- The results of a move, by its steps: each step is noted with its word, and the numbers in the word before and after
+-- it.
 use Rattle.std.specs.Prelude.{◌≡◌, ◌≢◌, ℕ, ◌-◌, ◌<◌, ◌⊎◌, ◌==◌, if◌then◌else◌, true, false, []}
 use Rattle.arachne_core.specs.declared.place.Place.{Place}
 use Rattle.arachne_core.specs.declared.layout.TheConstants.{CORE_BITS}
@@ -16,16 +17,17 @@ use Rattle.arachne_rule.specs.Views.{noted, without_context, carried_at}
 use Rattle.arachne_words.specs.Seats.{ClaimView, claimed_by}
 use Rattle.arachne_words.specs.Calls.{HasNoPlace, IsLowestFree, looked, learned, lost_claim, won_claim}
 
--- a claim of a place on a core that others share
+-- a claim of a place on a core that is not exclusive
 abbrev pub shared_claim : Place → ClaimView
 shared_claim p = record { place = p; alone = false }
 
--- what the mark word of a context says that is free, or claimed, at the place
+-- the fields of the mark word of a context that is free, or claimed, at the place
 abbrev pub free_at : Place → ℕ → Marked
 free_at p generation = record { mark = mark.Free; alone = false; place = p; generation = generation }
 
--- The last four steps of a move. The target is named, unless it was named anew; context y, whose place the move took,
--- says where it stands now, and is named there; and that place is free
+-- The knowledge after the last four steps of a move. The place word of the target names the moved context, unless it
+-- was changed meanwhile. Context y, whose place the move took, shows its new place in its mark word, and is named
+-- there. That place is free.
 abbrev pub moved_off : ℕ → ℕ → ℕ → ℕ → Place → Place → ℕ → ℕ → ℕ → ℕ → Known → Known
 moved_off n moving y generation source target named before replaced found k =
     noted kind.Release (occ_index n source.core) found (found - index_sum source.index)
@@ -33,8 +35,8 @@ moved_off n moving y generation source target named before replaced found k =
     (noted kind.Replace y before (mark_word CORE_BITS (free_at source generation))
     (noted kind.NameTarget (name_index n target) named (if named == y then moving else named) k)))
 
--- What a move answers once the target was claimed, with context y, of this generation, that stood there: the exchange
--- was lost, and the target is free again; or it was won, and all is as after a move
+-- The result of a move after the target was claimed, with the context y that stood there, of this generation. Either
+-- the exchange was lost, and the target is free again; or it was won, and the four last steps were made.
 abbrev pub ToAnswer : Contexts → ℕ → Marked → Place → ℕ → ℕ → Known → Moved → Known → Type 0
 ToAnswer c x seen target y generation k moved.Moved after = (named before replaced found : ℕ)
     × (after ≡ moved_off c.table.slots x y generation seen.place target named before replaced found
@@ -54,28 +56,28 @@ pub record HasRoom (c : Contexts) (to : ℕ) (k : Known) (room index y generatio
   pub fresh : carried_at y k.carried ≡ []
   pub steps : after ≡ won_claim (occ_index c.table.slots to) room (claimed_by (shared_claim (record { core = to; index = index })) y generation) (looked (occ_index c.table.slots to) room k)
 
--- the target was claimed, and then this came of the move
+-- the target was claimed, and then the move had this result
 abbrev pub HasTried : Contexts → ℕ → Marked → ℕ → Known → Moved → Known → Type 0
 HasTried c x seen to k answer after = (room index y generation : ℕ) × (claimed : Known) × HasRoom c to k room index y generation claimed
     × ToAnswer c x seen (record { core = to; index = index }) y generation claimed answer after
 
--- what came of a move of a thread at rest, once the target core was looked at: it has no room, or its word changed, or
--- a place was claimed
+-- the result of a move of a thread at rest, after the target core was looked at: it has no room, or its word changed,
+-- or a place was claimed
 abbrev pub SeenAnswer : Contexts → ℕ → Marked → ℕ → Known → Moved → Known → Type 0
 SeenAnswer c x seen to k (moved.NoRoom word) after = (((occupancy_of word).closed ≡ true) ⊎ HasNoPlace c.shape.places_per_core (occupancy_of word)) × (after ≡ looked (occ_index c.table.slots to) word k)
 SeenAnswer c x seen to k (moved.Lost word) after = ((room : ℕ) × (word ≢ room) × (after ≡ lost_claim (occ_index c.table.slots to) word (looked (occ_index c.table.slots to) room k)))
     ⊎ HasTried c x seen to k (moved.Lost word) after
 SeenAnswer c x seen to k answer after = HasTried c x seen to k answer after
 
--- a thread that isn't moved: there is none, it has its core alone, or it is held and shares its core
+-- the reason why a thread isn't moved: there is none, its core is exclusive to it, or it is held on a shared core
 abbrev pub IsObstacle : Marked → Moved → Type 0
 IsObstacle seen moved.Unposted = (seen.mark ≡ mark.Free) ⊎ (seen.mark ≡ mark.Spent)
 IsObstacle seen moved.Alone = (IsRestMark seen.mark ⊎ IsHeldMark seen.mark) × (seen.alone ≡ true)
 IsObstacle seen moved.Running = IsHeldMark seen.mark × (seen.alone ≡ false)
 IsObstacle seen answer = ⊥
 
--- What a move answers, with the context x that was seen in the place's word, and what its mark word said: it stands
--- elsewhere; or it isn't moved; or it is at rest there, and then the target was tried
+-- The result of a move, with the context x that the place word named, and the fields of its mark word. Either x stands
+-- at another place; or its thread isn't moved; or the thread is at rest there, and then the target was tried.
 abbrev pub MoveAnswer : Contexts → Place → ℕ → Known → Moved → Known → Type 0
 MoveAnswer c p to k answer after = (x : ℕ) × (seen : Marked) × (marked_of CORE_BITS (mark_word CORE_BITS seen) ≡ seen) × (known : Known) × (known ≡ looked x (mark_word CORE_BITS seen) (learned (name_index c.table.slots p) x k))
     × (((answer ≡ moved.Lost (mark_word CORE_BITS seen)) × (seen.place ≢ p) × (after ≡ known))

@@ -1,4 +1,4 @@
--- What is out with a seat, as the trait of all forms of table speaks of it.
+-- The claims and threads that are out with a seat, in the terms of the trait of context tables.
 use Rattle.std.specs.Prelude.{◌≡◌, ℕ, ◌+◌, ◌<◌, ◌≤◌, List, [], ◌∷◌, count_by}
 use Rattle.arachne_core.specs.World.{Thread as ThreadOf, same_thread}
 use Rattle.arachne_contexts.specs.Out.{Out, Claim, Thread}
@@ -23,7 +23,7 @@ AreOutAs c cs (o ∷ outs) = (a : Carried) × IsOutAs c a o × (carried_at a.con
 abbrev pub IsOutWith : Contexts → SeatView → List (Out ClaimView HoldView) → Type 0
 IsOutWith c seat outs = AreOutAs c seat.known.carried outs
 
--- what was posted has ended or is one of these, each thread once, by its id and its tag
+-- each thread that was posted has ended or is one of these, once, by its id and its tag
 pub record AreAllLeft (k : Known) (left : List ThreadOf) : Type 0 where
   pub once : (t : ThreadOf) → count_by (same_thread t) k.given ≤ 1
   pub settled : (t : ThreadOf) → count_by (same_thread t) k.given ≡ count_by (same_thread t) k.ended + count_by (same_thread t) left

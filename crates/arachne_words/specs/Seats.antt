@@ -1,4 +1,4 @@
--- What contracts see of a seat, of a claim and of a hold, and what a seat knows of them.
+-- The models of a seat, of a claim and of a hold, and what a seat knows of them.
 use Rattle.std.specs.Prelude.{◌≡◌, ℕ, ◌<◌, ◌≤◌, Bool, true, false, List, [], length, Option}
 use Rattle.atomic_table.specs.Seated.{TableId}
 use Rattle.arachne_core.specs.declared.place.Place.{Place}
@@ -12,13 +12,13 @@ use Rattle.arachne_rule.specs.Layout.{Contexts}
 use Rattle.arachne_rule.specs.Plays.{Carries}
 use Rattle.arachne_words.specs.Sizes.{IsPlaceIn}
 
--- a seat: which table it is of, its part of the whole weight, and what it knows
+-- a seat: the identity of its table, its part of the whole weight, and what it knows
 pub record SeatView : Type 0 where
   pub table : TableId
   pub weight : ℕ
   pub known : Known
 
--- the same within a call, where slots are out with it, the one taken last first
+-- the same within a call, with the slots that are out with it, the one taken last first
 pub record CallView (T : Type 0) : Type 0 where
   pub table : TableId
   pub weight : ℕ
@@ -30,7 +30,7 @@ pub record ClaimView : Type 0 where
   pub place : Place
   pub alone : Bool
 
--- what a held thread is known by: its id, where it was taken, and whether it has its core alone
+-- the handle of a held thread: its id, the place at which it was taken, and whether its core is exclusive to it
 pub record HoldView : Type 0 where
   pub id : ThreadId
   pub place : Place
@@ -64,7 +64,7 @@ held_by hold tag = record {
   away = false;
 }
 
--- what a mark word says of a thread that is known by a hold
+-- the fields of the mark word of the thread that a hold names
 abbrev pub marked_by : Mark → HoldView → Marked
 marked_by mark hold = record { mark = mark; alone = hold.alone; place = hold.place; generation = hold.id.generation }
 
@@ -86,7 +86,7 @@ pub record HasThread (c : Contexts) (k : Known) (hold : HoldView) (tag : ℕ) : 
 abbrev pub HasNothingOut : Known → Type 0
 HasNothingOut k = k.carried ≡ []
 
--- so many contexts are out with a seat of a table with n contexts, each once
+-- `out` contexts are out with a seat of a table with n contexts, each once
 pub record AreOut (n out : ℕ) (k : Known) : Type 0 where
   pub counted : length k.carried ≡ out
   pub once : (x : ℕ) → length (carried_at x k.carried) ≤ 1

@@ -1,4 +1,4 @@
--- What the table's type keeps of the table that it owns.
+-- The fields that the table's type keeps beside the table that it owns.
 use Rattle.std.specs.Prelude.{◌≡◌, ℕ, ◌<◌, ◌≤◌}
 use Rattle.arachne_core.specs.declared.place.Place.{Place}
 use Rattle.arachne_core.specs.declared.layout.TheConstants.{CORES, SLOTS, LAST_GENERATION}
@@ -9,7 +9,7 @@ use Rattle.arachne_rule.specs.Layout.{Contexts, IsLaidOut}
 abbrev pub IsPlaceIn : Shape → Place → Type 0
 IsPlaceIn shape p = (p.core < shape.cores) × (p.index < shape.places_per_core)
 
--- the table is laid out for its shape, whose numbers have room in the words
+-- the table is laid out for its shape, whose numbers fit the fields of the words
 pub record IsSized (c : Contexts) (places_per_core last : ℕ) : Type 0 where
   pub laid_out : IsLaidOut c
   pub places_is : places_per_core ≡ c.shape.places_per_core

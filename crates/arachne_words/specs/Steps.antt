@@ -1,4 +1,5 @@
--- What the steps of a call ask of the seat within it. The seat's slots are out, the one taken last first.
+-- The conditions of a call's steps on the seat within it. The seat's slots are those that are out, the one taken last
+-- first.
 use Rattle.std.specs.Prelude.{◌≡◌, ℕ, ◌<◌, true, false, List, ◌∷◌, Option, Some, None}
 use Rattle.atomic_table.specs.Table.{rest}
 use Rattle.arachne_core.specs.declared.place.Place.{Place}
@@ -23,7 +24,7 @@ pub record IsAtHome (c : Contexts) (p : Place) (k : Known) (a : Carried) : Type 
 abbrev pub HasLast : {T : Type 0} → List (ℕ × Option T) → ℕ → Option T → Type 0
 HasLast slots x v = slots ≡ (x, v) ∷ rest slots
 
--- the seat has claimed the context, and its value is laid into the slot
+-- the seat has claimed the context, and the value is in its slot
 pub record IsPostable {T : Type 0} (c : Contexts) (s : CallView T) (context : ℕ) (ready : Marked) (a : Carried) (value : T) : Type 0 where
   pub context_is : context ≡ a.context
   pub inside : context < c.table.slots
@@ -42,7 +43,7 @@ pub record IsTaken {T : Type 0} (c : Contexts) (s : CallView T) (context : ℕ) 
   pub place : a.place ≡ p
   pub slot : HasLast s.slots a.context None
 
--- the seat holds the context's thread, and its value is laid into the slot with its tag
+-- the seat holds the context's thread, and the value, with the thread's tag, is in its slot
 pub record IsRestable {T : Type 0} (tag_of : T → ℕ) (c : Contexts) (s : CallView T) (context : ℕ) (a : Carried) (value : T) : Type 0 where
   pub context_is : context ≡ a.context
   pub inside : context < c.table.slots

@@ -1,4 +1,4 @@
--- What is out with a seat is out in any order.
+-- The order of what is out with a seat has no meaning.
 use Rattle.std.proofs.Common.{◌≡◌, ◌≢◌, ℕ, ◌∙◌, ap, sym, subst, refl, List, [], ◌∷◌, eqb, inl, inr}
 use Rattle.std.proofs.lemmas.Bool.{cases_eq, cond-true, cond-false, eq-eqb, ne_eqb}
 use Rattle.arachne_contexts.specs.Out.{Out}

@@ -3,7 +3,9 @@ use arachne_rule::View;
 use atomic_table::Seat;
 use std::marker::Model;
 
-/// A seat within a call, which may have slots out. Contracts see its table, its weight, what it knows, and those slots.
+/// A seat within a call, which may have slots out.
+///
+/// Contracts see its table, its weight, what it knows, and those slots.
 #[derive(Drop)]
 pub(crate) struct CallSeat<T> {
     pub(crate) seat: Seat<Option<T>, View>,

@@ -1,4 +1,4 @@
-//! Claims of places, and their end.
+//! Claims of places, and their release.
 ghost use Rattle.std.specs.Prelude.{◌≡◌, ◌<◌, true, false, slice_index_or, IfSome, IfNone, IfOk, IfErr};
 ghost use Rattle.arachne_core.specs.Occupancy.{occupancy_word};
 ghost use Rattle.arachne_rule.specs.Layout.{occ_index};
@@ -14,11 +14,12 @@ use crate::table::WordContexts;
 use arachne_contexts::{Claimed, Tagged};
 use arachne_core::{COUNT_ONE, EXCLUSIVE, OccWord, Place, SLOTS};
 
-/// The word of a core that was claimed whole.
+/// The word of a core that one claim has for itself.
 const WHOLE_CORE: u64 = EXCLUSIVE + COUNT_ONE + 1;
 
-/// What a claim adds to the word of its core, and its end takes away: the index's bit, one in the count, and the
-/// exclusive bit where the core was claimed whole.
+/// Returns the number that a claim adds to the word of its core, and its release subtracts.
+///
+/// It has the index's bit, one in the count, and the exclusive bit if the whole core was claimed.
 fn claim_sum(index: u8, alone: bool) -> u64
     requires { index < SLOTS }
     ensures { result ≡ sum_of alone index }
@@ -28,7 +29,7 @@ fn claim_sum(index: u8, alone: bool) -> u64
 }
 
 impl<T: Tagged + Drop> WordContexts<T> {
-    /// The lowest free index of a core that isn't one thread's alone.
+    /// Returns the lowest free index of a core, unless the core is exclusive.
     pub(crate) fn free_index(&self, seen: OccWord) -> Option<u8>
         ensures some { IfSome result (IsLowestFree self.now.shape.places_per_core seen) }
         ensures none { IfNone result (HasNoPlace self.now.shape.places_per_core seen) }
@@ -64,7 +65,7 @@ impl<T: Tagged + Drop> WordContexts<T> {
         Ok(())
     }
 
-    /// Claims the lowest free index of a core: one look, one try.
+    /// Claims the lowest free index of a core, by one look and one try.
     pub fn claim(&self, seat: &mut WordSeat<T>, core: u8) -> Claimed<WordClaim>
         requires own { seat.old.table ≡ self.now.table }
         requires core { core < self.now.shape.cores }
@@ -92,7 +93,7 @@ impl<T: Tagged + Drop> WordContexts<T> {
         }
     }
 
-    /// One try to claim a whole core, whose word was 0.
+    /// Tries once to claim a whole core, whose word was 0.
     fn try_claim_alone(&self, seat: &mut CallSeat<T>, core: u8) -> Result<(), u64>
         requires own { seat.old.table ≡ self.now.table }
         requires core { core < self.now.shape.cores }
@@ -108,7 +109,7 @@ impl<T: Tagged + Drop> WordContexts<T> {
         Ok(())
     }
 
-    /// Claims an empty core for one thread, at index 0: one look, one try.
+    /// Claims an empty core for one thread, at index 0, by one look and one try.
     pub fn claim_alone(&self, seat: &mut WordSeat<T>, core: u8) -> Claimed<WordClaim>
         requires own { seat.old.table ≡ self.now.table }
         requires core { core < self.now.shape.cores }
@@ -135,7 +136,7 @@ impl<T: Tagged + Drop> WordContexts<T> {
         }
     }
 
-    /// Frees a place, whose bit and count, and its core's exclusive bit if it is alone, are taken away at once.
+    /// Frees a place: subtracts its bit, one in the count, and the exclusive bit if `alone` is true, at once.
     pub(crate) fn release(&self, seat: &mut CallSeat<T>, place: Place, alone: bool)
         requires own { seat.old.table ≡ self.now.table }
         requires claim { HasClaim self.now seat.old.known (record { place = place; alone = alone }) }

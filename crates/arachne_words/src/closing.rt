@@ -35,7 +35,7 @@ impl<T: Tagged + Drop> WordContexts<T> {
         shared.fetch_and::<Open>(&mut seat.seat, self.core_word(core), !CLOSED)
     }
 
-    /// Closes a core, which takes no more threads then. Answers its occupancy word from before.
+    /// Closes a core, which then takes no more threads. Returns its occupancy word from before.
     pub fn close_core(&self, seat: &mut WordSeat<T>, core: u8) -> u64
         requires own { seat.old.table ≡ self.now.table }
         requires core { core < self.now.shape.cores }
@@ -45,7 +45,7 @@ impl<T: Tagged + Drop> WordContexts<T> {
         self.set_closed(&mut seat.at, core)
     }
 
-    /// Opens a core. Answers its occupancy word from before.
+    /// Opens a core. Returns its occupancy word from before.
     pub fn open_core(&self, seat: &mut WordSeat<T>, core: u8) -> u64
         requires own { seat.old.table ≡ self.now.table }
         requires core { core < self.now.shape.cores }
@@ -55,7 +55,7 @@ impl<T: Tagged + Drop> WordContexts<T> {
         self.clear_closed(&mut seat.at, core)
     }
 
-    /// Whether a core is closed and no place of it is occupied.
+    /// Returns whether a core is closed and none of its places is occupied.
     pub fn is_drained(&self, seat: &mut WordSeat<T>, core: u8) -> bool
         requires own { seat.old.table ≡ self.now.table }
         requires core { core < self.now.shape.cores }

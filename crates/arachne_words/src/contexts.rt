@@ -1,5 +1,7 @@
-//! The table on words as a form of context table: each call of the trait is the call of the same name, which takes no
-//! memory and doesn't wait. It says what that call says, beside what the trait asks.
+//! The table on words as a form of context table.
+//!
+//! Each call of the trait makes the inherent call of the same name. No call waits, and only `new` and `close` take
+//! memory. The contract of a call has the clauses of the inherent call besides those of the trait.
 ghost use Rattle.std.specs.Prelude.{◌≡◌, ◌≢◌, ◌*◌, ◌-◌, ◌<◌, ◌≤◌, ◌↔◌, ◌^◌, IfOk, IfErr, IsOk, IsTrue, bit_and, bit_or, length};
 ghost use Rattle.arachne_core.specs.declared.layout.TheConstants.{CORE_BITS, CORES, LAST_GENERATION, SLOTS};
 ghost use Rattle.arachne_core.specs.Occupancy.{IsOccupancyWord};

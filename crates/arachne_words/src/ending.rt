@@ -1,4 +1,4 @@
-//! The end of a table: what was posted and has not ended.
+//! The end of a table, with the threads that were posted and have not ended.
 ghost use Rattle.std.specs.Prelude.{◌≡◌, IfOk, IfErr};
 ghost use Rattle.arachne_rule.specs.Ending.{IsSettled};
 ghost use Rattle.arachne_contexts.specs.Answers.{IsByContext};
@@ -15,7 +15,7 @@ use arachne_contexts::Tagged;
 use arachne_core::{GENERATION_BITS, ThreadId};
 use std::alloc::Global;
 
-/// The generation in a mark word, which has its highest bits.
+/// Returns the generation in a mark word, which is in its highest bits.
 fn generation_in(word: u64) -> u64
     ensures { result ≡ (marked_of CORE_BITS word).generation }
 {
@@ -23,7 +23,9 @@ fn generation_in(word: u64) -> u64
 }
 
 impl<T: Tagged + Drop> WordContexts<T> {
-    /// What was posted and has not ended, by context. Where memory for the list is refused, table and seat come back.
+    /// Closes the table. Returns the threads that were posted and have not ended, in the order of the contexts.
+    ///
+    /// If memory for the list is refused, returns the table and the seat as an error.
     pub fn close(
         self,
         alloc: Global,

@@ -1,4 +1,4 @@
-//! The words of a table at first.
+//! The first words of a table.
 ghost use Rattle.std.specs.Prelude.{◌≡◌, ◌+◌, ◌*◌, ◌<◌, ◌≤◌, ℕ, IfOk, vec_len, slice_index};
 ghost use Rattle.arachne_core.specs.declared.layout.TheConstants.{CORES, LAST_GENERATION, SLOTS};
 ghost use Rattle.arachne_words.specs.FirstWords.{first_word};
@@ -7,7 +7,7 @@ use arachne_core::{Mark, MarkWord, Place};
 use arachne_rule::{BLOCK, NAMES};
 use std::alloc::{AllocError, Global};
 
-/// The word at this index, where each core has so many places and there are so many contexts.
+/// Returns the first word at this index, for `contexts` contexts and cores of `slots` places.
 fn word_at(contexts: usize, slots: u8, generation: u64, index: usize) -> u64
     requires slots { slots ≤ SLOTS }
     requires contexts { contexts ≤ CORES * slots }
@@ -27,7 +27,7 @@ fn word_at(contexts: usize, slots: u8, generation: u64, index: usize) -> u64
     (core * usize::from(slots) + (offset - NAMES)) as u64
 }
 
-/// The words of a table whose contexts are free and have this generation.
+/// Returns the words of a table whose contexts are free and have this generation.
 pub(crate) fn first_words(
     alloc: Global,
     cores: u8,

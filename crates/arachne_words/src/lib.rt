@@ -1,7 +1,7 @@
 //! The context table on atomic words.
 //!
 //! Each core has an occupancy word, each context a mark word and a slot for its thread's value, and each place a word
-//! that names its context. A seat steps on these words by single atomic steps, without waiting and without memory.
+//! that names its context. A seat changes these words by single atomic steps, without waiting and without memory.
 //! Between any two steps they show a World in which no context and no place belongs to two threads.
 #![tactic(auto)]
 

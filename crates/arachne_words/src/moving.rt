@@ -21,7 +21,7 @@ use crate::table::WordContexts;
 use arachne_contexts::{Moved, Tagged};
 use arachne_core::{Mark, MarkWord, Place};
 
-/// Whether a mark word shows its context at the place.
+/// Returns whether a mark word shows its context at the place.
 fn stands_at(seen: MarkWord, place: Place) -> bool
     ensures { IsTrue result ↔ (seen.place ≡ place) }
 {
@@ -29,7 +29,9 @@ fn stands_at(seen: MarkWord, place: Place) -> bool
     at.core == place.core && at.index == place.index
 }
 
-/// Why the thread of a mark word can't be moved, if it isn't at rest or has its core alone.
+/// Returns the reason why the thread of a mark word can't be moved, if there is one.
+///
+/// There is no thread, its core is exclusive, or it is held.
 fn obstacle(seen: MarkWord) -> Option<Moved>
     ensures some { IfSome result (IsObstacle seen) }
     ensures none { IfNone result (IsRestMark seen.mark × (seen.alone ≡ false)) }
@@ -43,7 +45,7 @@ fn obstacle(seen: MarkWord) -> Option<Moved>
 }
 
 impl<T: Tagged + Drop> WordContexts<T> {
-    /// One try to move a thread at rest to a place on another core where the seat has claimed a context.
+    /// Tries once to move a thread at rest to a place on another core, at which the seat has claimed a context.
     fn try_move(
         &self,
         seat: &mut CallSeat<T>,
@@ -70,7 +72,7 @@ impl<T: Tagged + Drop> WordContexts<T> {
         Ok(())
     }
 
-    /// Names a context that was moved at its new place, unless the place was named anew since.
+    /// Names a moved context at its new place, unless the place word was changed meanwhile.
     fn name_target(
         &self,
         seat: &mut CallSeat<T>,
@@ -89,7 +91,7 @@ impl<T: Tagged + Drop> WordContexts<T> {
         shared.compare_exchange::<NameTarget>(&mut seat.seat, word, replaced as u64, context as u64)
     }
 
-    /// Writes into the mark word of the context whose place a move took where it stands now.
+    /// Stores its new place in the mark word of the context whose place a move took.
     fn replace(&self, seat: &mut CallSeat<T>, context: usize, free: MarkWord)
         requires own { seat.old.table ≡ self.now.table }
         requires claimed { (c : Carried) × IsClaimed self.now seat.old.known c × (context ≡ c.context) × (free ≡ marked_free c) }
@@ -99,7 +101,7 @@ impl<T: Tagged + Drop> WordContexts<T> {
         shared.store::<Replace>(&mut seat.seat, context, free.word());
     }
 
-    /// Names the context that stands now at the place that a move left.
+    /// Stores the context that stands now at the place that a move left in the word of that place.
     fn name_source(&self, seat: &mut CallSeat<T>, source: Place, context: usize)
         requires own { seat.old.table ≡ self.now.table }
         requires place { IsPlaceIn self.now.shape source }
@@ -111,7 +113,8 @@ impl<T: Tagged + Drop> WordContexts<T> {
         shared.store::<NameSource>(&mut seat.seat, word, context as u64);
     }
 
-    /// The steps after the exchange of a move: context `replaced`, which stood at the target, stands at the source now.
+    /// Makes the steps after the exchange of a move. Context `replaced`, which stood at the target, stands at the
+    /// source now.
     fn move_off(
         &self,
         seat: &mut CallSeat<T>,
@@ -134,8 +137,9 @@ impl<T: Tagged + Drop> WordContexts<T> {
         self.release(seat, source, false);
     }
 
-    /// Moves a thread at rest to a place that the seat has claimed on another core. Where its mark word changed, the
-    /// place is free again.
+    /// Moves a thread at rest to a place that the seat has claimed on another core.
+    ///
+    /// If the thread's mark word has changed, the place is freed again.
     fn move_to(
         &self,
         seat: &mut CallSeat<T>,
@@ -171,7 +175,7 @@ impl<T: Tagged + Drop> WordContexts<T> {
         Moved::Moved
     }
 
-    /// Claims a place on the target core for a thread at rest that was seen, and moves it there.
+    /// Claims a place on the target core for a thread that was seen at rest, and moves the thread there.
     fn move_seen(
         &self,
         seat: &mut CallSeat<T>,
@@ -203,8 +207,9 @@ impl<T: Tagged + Drop> WordContexts<T> {
         self.move_to(seat, moving, seen, source, target)
     }
 
-    /// Moves the thread at a place to the lowest free index of another core, if it is at rest: one try. Its value stays
-    /// where it lies, and its mark word differs in its place alone.
+    /// Moves the thread at a place to the lowest free index of another core, if it is at rest. Tries once.
+    ///
+    /// Its value stays in its slot, and its mark word changes only in its place.
     pub fn move_one(&self, seat: &mut WordSeat<T>, place: Place, to: u8) -> Moved
         requires own { seat.old.table ≡ self.now.table }
         requires place { IsPlaceIn self.now.shape place }

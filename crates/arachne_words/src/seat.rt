@@ -1,4 +1,4 @@
-//! What a thread has of the table.
+//! The seats of the table, and their claims and holds.
 ghost use Rattle.std.specs.Prelude.{◌≡◌};
 
 use crate::call_seat::CallSeat;
@@ -7,11 +7,10 @@ use arachne_core::{Place, ThreadId};
 use arachne_weights::Weight;
 use std::marker::Model;
 
-/// A seat at a table: a thread steps with it. It has a part of the whole weight, and may have claims and held threads
-/// out.
+/// A seat at a table, through which a kernel thread calls it. It has a part of the whole weight.
 ///
-/// Contracts see which table it is of, its weight, and what it knows: what it has out, the threads that it has posted
-/// and ended, and the steps that it has made.
+/// Contracts see the identity of its table, its weight, and what it knows: the claims and held threads that are out
+/// with it, the threads that it has posted and ended, and the steps that it has made.
 #[derive(Drop)]
 pub struct WordSeat<T> {
     pub(crate) at: CallSeat<T>,
@@ -30,7 +29,7 @@ impl<T> Model for WordSeat<T> {
     ghost invariant = { λ s. (s.at.weight ≡ s.weight) × (s.at.slots ≡ []) × AreOut s.at.table.slots s.out s.at.known };
 }
 
-/// A place that a seat has claimed, to post a thread at or to give back.
+/// A place that a seat has claimed, to post a thread at it or to give it back.
 #[derive(Drop)]
 pub struct WordClaim {
     pub(crate) place: Place,
@@ -53,7 +52,7 @@ impl Placed for WordClaim {
     }
 }
 
-/// What a thread that a seat holds is known by.
+/// The handle of a thread that a seat holds.
 #[derive(Drop)]
 pub struct WordHold {
     pub(crate) id: ThreadId,

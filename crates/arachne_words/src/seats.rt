@@ -1,4 +1,4 @@
-//! The first seat, seats that are split and joined, and the end of a table.
+//! The first seat of a table, and the split and the join of seats.
 ghost use Rattle.std.specs.Prelude.{◌≡◌, ◌↔◌, ◌≤◌, [], IsTrue, IfOk, length};
 ghost use Rattle.arachne_core.specs.declared.layout.TheConstants.{CORES, LAST_GENERATION, SLOTS};
 ghost use Rattle.arachne_weights.specs.Weight.{whole, first_part, second_part, joined};
@@ -18,8 +18,9 @@ use atomic_table::Table;
 use std::alloc::{AllocError, Global};
 
 impl<T: Tagged + Drop> WordContexts<T> {
-    /// A table with so many cores, each with so many places, whose contexts are free and have this generation, and the
-    /// seat with the whole weight.
+    /// Creates a table, and the seat with the whole weight.
+    ///
+    /// The table has `cores` cores of `slots` places, and its contexts are free and have this generation.
     pub fn new(
         alloc: Global,
         cores: u8,
@@ -83,7 +84,9 @@ impl<T: Tagged + Drop> WordContexts<T> {
         self.table.shared.join_seat::<Deal>(&mut seat.seat, spent);
     }
 
-    /// Halves the weight, rounded up for the first seat, which keeps what is known. At weight 1 or 0 neither gets any.
+    /// Splits a seat in two, each with half of its weight, rounded up for the first. The first keeps what is known.
+    ///
+    /// If the weight is 1 or 0, both get weight 0.
     pub fn split(&self, seat: WordSeat<T>) -> (WordSeat<T>, WordSeat<T>)
         requires own { seat.table ≡ self.now.table }
         requires nothing_out { HasNothingOut seat.known }
@@ -111,7 +114,9 @@ impl<T: Tagged + Drop> WordContexts<T> {
         )
     }
 
-    /// Adds up the weights, to at most the whole, and what both have posted and ended.
+    /// Joins two seats into one, which has all that both have posted and ended.
+    ///
+    /// Its weight is the sum of theirs, but at most the whole.
     pub fn join_seats(&self, seat: WordSeat<T>, other: WordSeat<T>) -> WordSeat<T>
         requires own { (seat.table ≡ self.now.table) × (other.table ≡ self.now.table) }
         requires nothing_out { HasNothingOut seat.known × HasNothingOut other.known }
@@ -135,14 +140,14 @@ impl<T: Tagged + Drop> WordContexts<T> {
         }
     }
 
-    /// Whether all other seats were joined into this one.
+    /// Returns whether all other seats were joined into this one.
     pub fn is_whole(&self, seat: &WordSeat<T>) -> bool
         ensures { IsTrue result ↔ (seat.now.weight ≡ whole) }
     {
         seat.weight.is_whole()
     }
 
-    /// How many claims and held threads are out with the seat.
+    /// Returns the number of claims and held threads that are out with the seat.
     pub fn out(&self, seat: &WordSeat<T>) -> u32
         ensures { result ≡ length seat.now.known.carried }
     {

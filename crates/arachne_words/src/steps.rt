@@ -1,4 +1,4 @@
-//! The rule of the table, and the kinds of step on it. These types are for proofs alone.
+//! The rule of the table, and the kinds of step on it. These types are only for proofs.
 use arachne_contexts::Tagged;
 use arachne_rule::{Shape, View};
 use atomic_table::{Join, Play, Split, TableRule};

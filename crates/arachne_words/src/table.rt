@@ -1,4 +1,4 @@
-//! The table, where its words lie, and what a step sees of them.
+//! The table, the indexes of its words, and the loads of a seat.
 ghost use Rattle.std.specs.Prelude.{◌≡◌, ◌+◌, ◌*◌, ◌<◌, true};
 ghost use Rattle.arachne_core.specs.declared.layout.TheConstants.{CORE_BITS};
 ghost use Rattle.arachne_core.specs.Occupancy.{IsOccupancyWord, occupancy_of, occupancy_word};
@@ -20,11 +20,11 @@ use atomic_table::Table;
 use std::alloc::Global;
 use std::marker::Model;
 
-/// A context table on atomic words. Whoever has a seat may step on it, without waiting.
+/// A context table on atomic words. Whoever has a seat may call it, without waiting.
 ///
-/// Contracts see which table it is, and its shape.
-// In its methods a line `let _ = &self.places_per_core;` opens the table for the prover, which learns its sizes
-// (`IsSized`) there.
+/// Contracts see the identity of the table, and its shape.
+// In its methods a line `let _ = &self.places_per_core;` opens the table for the prover, which learns its sizes there
+// (`IsSized`).
 #[derive(Drop)]
 pub struct WordContexts<T: Tagged + Drop> {
     pub(crate) table: Table<Option<T>, View, Shape, ContextRule, Global>,
@@ -101,14 +101,14 @@ impl<T: Tagged + Drop> WordContexts<T> {
         shared.load::<LearnName>(&mut seat.seat, self.name_word(place)) as usize
     }
 
-    /// The occupancy word of a core, looked at with no seat. It tells nothing.
+    /// Returns the occupancy word of a core, read without a seat. Its contract promises nothing of the word.
     pub fn glance(&self, core: u8) -> u64
         requires core { core < self.now.shape.cores }
     {
         self.table.shared.peek(self.core_word(core))
     }
 
-    /// The occupancy word of a core.
+    /// Returns the occupancy word of a core.
     pub fn look(&self, seat: &mut WordSeat<T>, core: u8) -> u64
         requires own { seat.old.table ≡ self.now.table }
         requires core { core < self.now.shape.cores }
@@ -118,7 +118,7 @@ impl<T: Tagged + Drop> WordContexts<T> {
         self.see_core(&mut seat.at, core).word()
     }
 
-    /// The mark word of a context.
+    /// Returns the mark word of a context.
     pub fn look_mark(&self, seat: &mut WordSeat<T>, context: u32) -> u64
         requires own { seat.old.table ≡ self.now.table }
         requires context { context < self.now.table.slots }

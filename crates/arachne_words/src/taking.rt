@@ -18,7 +18,7 @@ use crate::table::WordContexts;
 use arachne_contexts::{Held, Tagged, Taken};
 use arachne_core::{Mark, MarkWord, Place, ThreadId};
 
-/// Whether a mark word shows a thread that is ready at the place.
+/// Returns whether a mark word shows a thread that is ready at the place.
 fn is_ready_at(seen: MarkWord, place: Place) -> bool
     ensures { IsTrue result ↔ ((seen.mark ≡ Mark.Ready) × (seen.place ≡ place)) }
 {
@@ -57,7 +57,7 @@ impl<T: Tagged + Drop> WordContexts<T> {
             .unwrap()
     }
 
-    /// Writes the context into the place word of the place at which it was taken, and lays its empty slot home.
+    /// Names the context in the word of the place at which it was taken, and puts its empty slot back into the table.
     fn keep_name(&self, seat: &mut CallSeat<T>, context: usize, place: Place)
         requires own { seat.old.table ≡ self.now.table }
         requires place { IsPlaceIn self.now.shape place }
@@ -69,7 +69,7 @@ impl<T: Tagged + Drop> WordContexts<T> {
         shared.store::<KeepName>(&mut seat.seat, word, context as u64);
     }
 
-    /// Takes the thread at a place, if it is ready: one try.
+    /// Takes the thread at a place, if it is ready. Tries once.
     pub fn take(&self, seat: &mut WordSeat<T>, core: u8, index: u8) -> Taken<T, WordHold>
         requires own { seat.old.table ≡ self.now.table }
         requires place { IsPlaceIn self.now.shape (record { core = core; index = index }) }

@@ -18,7 +18,7 @@ use arachne_contexts::{Tagged, Woken};
 use arachne_core::{Mark, MarkWord, ThreadId};
 
 impl<T: Tagged + Drop> WordContexts<T> {
-    /// One try to make a blocked thread ready.
+    /// Tries once to make a blocked thread ready.
     fn try_wake(&self, seat: &mut CallSeat<T>, context: usize, seen: MarkWord) -> Result<(), u64>
         requires own { seat.old.table ≡ self.now.table }
         requires context { context < self.now.table.slots }
@@ -36,7 +36,7 @@ impl<T: Tagged + Drop> WordContexts<T> {
         Ok(())
     }
 
-    /// One try to mark a held thread as woken.
+    /// Tries once to mark a held thread as woken.
     fn try_mark_woken(
         &self,
         seat: &mut CallSeat<T>,
@@ -59,8 +59,9 @@ impl<T: Tagged + Drop> WordContexts<T> {
         Ok(())
     }
 
-    /// Wakes the thread of an id, which may be any: one try. A blocked thread is ready then, and a held one is marked,
-    /// so that it stays ready when it is put back.
+    /// Wakes the thread of this id. Any id may be passed. Tries once.
+    ///
+    /// A blocked thread is then ready. A held one is marked, so that it is ready when it is put back.
     pub fn wake(&self, seat: &mut WordSeat<T>, id: ThreadId) -> Woken
         requires own { seat.old.table ≡ self.now.table }
         ensures seat { (seat.new.table ≡ seat.old.table) × (seat.new.weight ≡ seat.old.weight) }

@@ -1,4 +1,4 @@
-//! Reads the lines of the arrays.
+//! Reads the lines of a program's arrays.
 ghost use Rattle.std.specs.Prelude.{[], map};
 ghost use Rattle.arachne_lang.specs.Reading.{Gives, items_at, arrays_at};
 
@@ -7,7 +7,7 @@ use super::stop::Stop;
 use super::words::word;
 use std::alloc::Global;
 
-/// The arrays of the lines at the front of the text, and the text behind those lines.
+/// Returns the arrays of the lines at the front of the text, and the text behind those lines.
 pub fn array_lines(alloc: Global, text: &[u8]) -> Result<(Vec<Vec<u64>>, &[u8]), Stop<'_>>
     ensures { Gives (λ read. (map (λ array. array.items) read.0.items, read.1.now)) result (arrays_at [] text.now) }
 {
@@ -22,7 +22,7 @@ pub fn array_lines(alloc: Global, text: &[u8]) -> Result<(Vec<Vec<u64>>, &[u8]),
     Ok((arrays, rest))
 }
 
-/// The items of an array, a space before each, and the text behind their newline.
+/// Returns the items of an array, each after a space, and the text behind their newline.
 fn items(alloc: Global, text: &[u8]) -> Result<(Vec<u64>, &[u8]), Stop<'_>>
     ensures { Gives (λ read. (read.0.items, read.1.now)) result (items_at [] text.now) }
 {

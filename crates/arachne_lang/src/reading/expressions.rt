@@ -12,7 +12,7 @@ use super::words::word;
 use crate::program::{Class, Expr, Operation, Reduction};
 use std::alloc::Global;
 
-/// An expression of at most so many levels, and the text behind it.
+/// Returns the expression at the front of the text, of at most `levels` levels, and the text behind it.
 #[cycle(expression)]
 pub fn expression(alloc: Global, levels: u8, text: &[u8]) -> Result<(Expr, &[u8]), Stop<'_>>
     ensures { Gives (λ read. (tree_of read.0, read.1.now)) result (expression_at levels text.now) }
@@ -26,7 +26,8 @@ pub fn expression(alloc: Global, levels: u8, text: &[u8]) -> Result<(Expr, &[u8]
     form(alloc, levels - 1, rest)
 }
 
-/// A part of a form, of at most so many levels, with what ends it, and the text behind that.
+/// Returns the expression at the front of the text, of at most `levels` levels, and the text behind `end`, which must
+/// follow it.
 #[cycle(expression)]
 #[tactic(auto, unfolding(crate::specs::Reading::part_at))]
 fn part<'t>(
@@ -43,7 +44,8 @@ fn part<'t>(
     Ok((part, rest))
 }
 
-/// The form behind its opening bracket, with the closing one. Its parts have at most so many levels.
+/// Returns the form whose opening bracket was just read, and the text behind its closing bracket. Its parts have at
+/// most `levels` levels.
 #[cycle(expression)]
 #[tactic(auto, unfolding(crate::specs::Reading::form_at))]
 fn form(alloc: Global, levels: u8, text: &[u8]) -> Result<(Expr, &[u8]), Stop<'_>>

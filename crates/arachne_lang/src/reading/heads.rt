@@ -1,11 +1,11 @@
-//! Reads the word that says which form an expression is.
+//! Reads the word with which a form begins.
 ghost use Rattle.arachne_lang.specs.Reading.{Gives, Behind, End, words_at, form_words, words_in_f, words_in_i, words_in_l, words_in_m, words_in_s, words_of_sweeps, sweeps_in_m};
 
 use super::stop::Stop;
 use super::words::word;
 use crate::program::{Class, Operation, Reduction};
 
-/// Which form an expression is, as its word says.
+/// The form of an expression, as its word names it.
 #[derive(Clone, Copy)]
 pub enum Head {
     Num,
@@ -22,8 +22,10 @@ pub enum Head {
     Sweep(Reduction),
 }
 
-/// The word of a form, with the space behind it, and the text behind that. Words that begin alike are told apart by
-/// their letters; where no other goes on, the text departs from the last.
+/// Returns the form whose word, with the space behind it, is at the front of the text, and the text behind that.
+///
+/// The letters decide between words that begin alike. If none of the letters that may follow is there, the text departs
+/// from the word that is tried last.
 #[tactic(auto, unfolding(crate::specs::Reading::form_words))]
 pub fn head_word(text: &[u8]) -> Result<(Head, &[u8]), Stop<'_>>
     ensures { Gives (λ read. (read.0, read.1.now)) result (words_at form_words text.now) }
@@ -44,7 +46,7 @@ pub fn head_word(text: &[u8]) -> Result<(Head, &[u8]), Stop<'_>>
     }
 }
 
-/// The rest of a word.
+/// Returns `head` and the text behind `letters`, the rest of its word.
 fn ending<'t>(text: &'t [u8], letters: &[u8], head: Head) -> Result<(Head, &'t [u8]), Stop<'t>>
     ensures { Gives (λ read. (read.0, read.1.now)) result (words_at (Behind letters.now (End head)) text.now) }
 {
@@ -114,7 +116,7 @@ fn behind_s(text: &[u8]) -> Result<(Head, &[u8]), Stop<'_>>
     }
 }
 
-/// The word of a sweep's reduction.
+/// Reads the word of a sweep's reduction.
 #[tactic(auto, unfolding(crate::specs::Reading::words_of_sweeps))]
 fn reduction(text: &[u8]) -> Result<(Head, &[u8]), Stop<'_>>
     ensures { Gives (λ read. (read.0, read.1.now)) result (words_at words_of_sweeps text.now) }

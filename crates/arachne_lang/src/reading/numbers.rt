@@ -5,7 +5,7 @@ ghost use Rattle.arachne_lang.specs.Reading.{Gives, digits_at, figures_at, numbe
 use super::stop::Stop;
 use super::words::word;
 
-/// A number, what ends it, and the text behind that.
+/// Returns the number at the front of the text, and the text behind `end`, which must follow it.
 #[tactic(auto, unfolding(crate::specs::Reading::number_at))]
 pub fn number<'t>(text: &'t [u8], end: &[u8]) -> Result<(u64, &'t [u8]), Stop<'t>>
     ensures { Gives (λ read. (read.0, read.1.now)) result (number_at (2 ^ 64) end.now text.now) }
@@ -15,7 +15,7 @@ pub fn number<'t>(text: &'t [u8], end: &[u8]) -> Result<(u64, &'t [u8]), Stop<'t
     Ok((value, rest))
 }
 
-/// A number up to 255, what ends it, and the text behind that.
+/// Returns the number up to 255 at the front of the text, and the text behind `end`, which must follow it.
 #[tactic(auto, unfolding(crate::specs::Reading::number_at))]
 pub fn small_number<'t>(text: &'t [u8], end: &[u8]) -> Result<(u8, &'t [u8]), Stop<'t>>
     ensures { Gives (λ read. (read.0, read.1.now)) result (number_at 256 end.now text.now) }
@@ -25,7 +25,7 @@ pub fn small_number<'t>(text: &'t [u8], end: &[u8]) -> Result<(u8, &'t [u8]), St
     Ok((value as u8, rest))
 }
 
-/// A number up to this one, and the text behind its digits.
+/// Returns the number at the front of the text, which is at most `greatest`, and the text behind its digits.
 pub fn figures(greatest: u64, text: &[u8]) -> Result<(u64, &[u8]), Stop<'_>>
     requires { 9 ≤ greatest }
     ensures read { Gives (λ read. (read.0, read.1.now)) result (figures_at (greatest + 1) text.now) }
@@ -39,7 +39,8 @@ pub fn figures(greatest: u64, text: &[u8]) -> Result<(u64, &[u8]), Stop<'_>>
     }
 }
 
-/// The number whose first digits have this value, and whose others are the next ones of the text.
+/// Returns the number whose first digits have the value `value` and whose other digits are at the front of the text,
+/// and the text behind them.
 fn digits(greatest: u64, value: u64, text: &[u8]) -> Result<(u64, &[u8]), Stop<'_>>
     requires { value ≤ greatest }
     ensures read { Gives (λ read. (read.0, read.1.now)) result (digits_at (greatest + 1) value text.now) }

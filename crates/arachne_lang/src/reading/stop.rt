@@ -1,11 +1,11 @@
-//! Why reading stops, and the fault of the whole text that this is.
+//! The reasons why reading stops, and the faults of the whole text that follow from them.
 ghost use Rattle.std.specs.Prelude.{◌≡◌};
 ghost use Rattle.arachne_lang.specs.declared.reading.stop.Stop.TheVariants.{Memory};
 
 use crate::text_fault::TextFault;
 use std::alloc::AllocFailed;
 
-/// Why reading stops. A fault of the text has the bytes that are left, from the one where it stands.
+/// The reason why reading stops. A fault of the text has the bytes that are left, from the one at which it stands.
 #[derive(Clone, Copy)]
 pub enum Stop<'t> {
     /// Memory was refused.
@@ -21,7 +21,7 @@ pub enum Stop<'t> {
 impl<'t> Stop<'t> {
     ghost use Rattle.arachne_lang.specs.Reading.{fault_within};
 
-    /// The fault of the whole text that this is, where what is left is left of that text.
+    /// Returns the fault of the whole `text`, of which the bytes that are left are the end.
     pub fn fault(self, text: &[u8]) -> TextFault
         ensures { result ≡ fault_within text.now self.entry }
     {

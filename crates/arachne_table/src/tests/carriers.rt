@@ -1,4 +1,4 @@
-//! Four seats of a table behind a lock, none of which may spend what another has claimed.
+//! Four seats of a table behind a lock, none of which may spend a claim of another.
 ghost use Rattle.std.specs.Prelude.{◌<◌, IfSome, [], ◌∷◌};
 ghost use Rattle.arachne_contexts.specs.Out.{Claim as a_claim};
 ghost use Rattle.arachne_locked.specs.Seats.{HasCounted};
@@ -43,7 +43,7 @@ fn claimed<C: Contexts<TagOnly>, R: Wait>(rt: &R, table: &C, seat: &mut C::Seat)
     }
 }
 
-/// The claim, if a seat that has another one out can't give it back.
+/// Returns the claim if a seat that has another claim out can't give it back.
 fn refused<R: Wait>(
     rt: &R,
     table: &Locked,
@@ -55,7 +55,7 @@ fn refused<R: Wait>(
     table.give_back(rt, seat, claim).err()
 }
 
-/// Splits a seat in two, then the second of them, and then the first once more. Two of these four seats.
+/// Splits a seat in two, then the second of them, and then the first once more. Returns two of these four seats.
 fn parted<R: Wait>(rt: &R, table: &Locked, seat: LockedSeat, pair: Pair) -> (LockedSeat, LockedSeat)
     requires { HasCounted seat 0 }
     ensures one { HasCounted result.0 0 }
@@ -74,7 +74,7 @@ fn parted<R: Wait>(rt: &R, table: &Locked, seat: LockedSeat, pair: Pair) -> (Loc
     }
 }
 
-/// Whether the one of two seats that have a claim out can't give back that of the other.
+/// Returns whether one of two seats that each have a claim out can't give back the claim of the other.
 fn is_refused<R: Wait>(rt: &R, alloc: Global, pair: Pair) -> Result<bool, Fail> {
     let (table, seat) = Locked::new(alloc, 1, 2, 0)?;
     let (mut one, mut other) = parted(rt, &table, seat, pair);

@@ -11,11 +11,12 @@ use std::test::Fail;
 use std::thread;
 use std::thread::Threads;
 
-/// How many threads each kernel thread posts.
+/// The number of threads that each kernel thread posts.
 const THREADS: u64 = 10_000;
 
-/// What a thread has done: its seat, twice the tag of each thread that it has posted, twice the tag and 1 of each that
-/// it has ended, and how many it has posted and moved.
+/// The state of a kernel thread: its seat, its log, and the numbers of threads that it has posted and moved.
+///
+/// The log has twice the tag of each thread that it has posted, and twice the tag and 1 of each that it has ended.
 #[derive(Drop)]
 struct Work<S> {
     seat: S,
@@ -24,8 +25,9 @@ struct Work<S> {
     moved: u64,
 }
 
-/// How many threads were posted and have ended or are left, once each, or none if there is one that wasn't; and how
-/// many were moved.
+/// The result of a run: the number of threads that were settled, and the number that were moved.
+///
+/// A thread is settled if it was posted once, and has ended or is left once. If one is not, `settled` is `None`.
 #[derive(Clone, Copy)]
 struct ContentionResult {
     settled: Option<usize>,
@@ -33,7 +35,7 @@ struct ContentionResult {
 }
 
 impl ContentionResult {
-    /// Each thread of both kernel threads is settled.
+    /// Returns whether each thread of both kernel threads is settled.
     fn is_settled(&self) -> bool {
         self.settled == Some(2 * THREADS as usize)
     }
@@ -43,7 +45,7 @@ type Words = WordContexts<TagOnly>;
 
 type WordWork = Work<WordSeat<TagOnly>>;
 
-/// Claims a place on a core, and posts a thread there if it got one. None where the table refuses memory or the claim.
+/// Claims a place on a core, and posts a thread there if it got one. Returns `None` if memory or the claim is refused.
 fn post<C: Contexts<TagOnly>, R: Wait>(
     rt: &R,
     table: &C,
@@ -67,12 +69,12 @@ fn post<C: Contexts<TagOnly>, R: Wait>(
     }
 }
 
-/// How the end of a thread is noted.
+/// Returns the number by which the log records the end of a thread.
 fn ended(job: &TagOnly) -> u64 {
     job.0.wrapping_mul(2).wrapping_add(1)
 }
 
-/// Takes the thread at a place, if it is ready, and ends it.
+/// Takes the thread at a place, if it is ready, and ends it. Returns whether it did.
 fn end<C: Contexts<TagOnly>, R: Wait>(
     rt: &R,
     table: &C,
@@ -96,7 +98,7 @@ fn end<C: Contexts<TagOnly>, R: Wait>(
     }
 }
 
-/// Ends what is ready on a core. How many there were.
+/// Ends the threads that are ready on a core. Returns their number.
 fn end_all<C: Contexts<TagOnly>, R: Wait>(
     rt: &R,
     table: &C,
@@ -117,9 +119,10 @@ fn end_all<C: Contexts<TagOnly>, R: Wait>(
     Some(ended)
 }
 
-/// What a kernel thread does in each round, on a table of so many cores: it posts one thread on the last core. If it
-/// moves, it then closes core 1, moves what is there to core 0, and opens it. It ends what is ready on the cores from
-/// one on.
+/// The plan of a kernel thread for each round, on a table of `cores` cores.
+///
+/// It posts one thread on the last core. If it moves threads, it then closes core 1, moves the threads there to core 0,
+/// and opens it. It ends the threads that are ready on the cores from `from` on.
 #[derive(Clone, Copy)]
 struct RoundPlan {
     cores: u8,
@@ -128,7 +131,7 @@ struct RoundPlan {
     first_tag: u64,
 }
 
-/// Closes core 1, moves what is at rest there to core 0, and opens it. How many were moved.
+/// Closes core 1, moves the threads at rest there to core 0, and opens it. Returns the number of moved threads.
 fn move_away<C: Contexts<TagOnly>, R: Wait>(rt: &R, table: &C, work: &mut Work<C::Seat>) -> u64
     requires seat { C.sits table.now work.old.seat × C.idle table.now work.old.seat }
     requires cores { 1 < C.core_count table.now }
@@ -147,7 +150,7 @@ fn move_away<C: Contexts<TagOnly>, R: Wait>(rt: &R, table: &C, work: &mut Work<C
     moved
 }
 
-/// Rounds of a kernel thread until it has posted all of its threads. None where memory is refused.
+/// Makes rounds until the kernel thread has posted all of its threads. Returns `None` if memory is refused.
 fn all_rounds<C: Contexts<TagOnly>, R: Wait>(
     rt: &R,
     table: &C,
@@ -182,7 +185,7 @@ fn all_rounds<C: Contexts<TagOnly>, R: Wait>(
     unreachable!()
 }
 
-/// The work of two kernel threads, each with a seat of its own.
+/// Runs two kernel threads, each with a seat of its own, and returns their states.
 fn work_side_by_side<R: Threads + Wait + Sync>(
     rt: &R,
     table: &Words,
@@ -213,8 +216,9 @@ fn work_side_by_side<R: Threads + Wait + Sync>(
     Some((first?, second?))
 }
 
-/// Adds the ends of the threads that are left to what was noted of both kernel threads. How many tags there are, if
-/// each was posted, and was ended or is left, once.
+/// Returns the number of settled threads, or `None` if one is not settled.
+///
+/// The logs of both kernel threads are joined, and the threads that are left are counted as ended.
 fn settled(
     mut log: Vec<u64>,
     other: Vec<u64>,
@@ -231,7 +235,7 @@ fn settled(
     Ok(None)
 }
 
-/// A thread was posted and ended.
+/// Returns whether two entries of a sorted log say that a thread was posted and ended.
 fn is_pair(pair: &[u64]) -> bool {
     match pair {
         [posted, ended] => *posted % 2 == 0 && *ended == posted.wrapping_add(1),
@@ -239,7 +243,7 @@ fn is_pair(pair: &[u64]) -> bool {
     }
 }
 
-/// The threads that are left, where the seats of both kernel threads are whole together.
+/// Joins the seats of both kernel threads, and closes the table. Returns the threads that are left.
 fn left(
     alloc: Global,
     table: Words,
@@ -256,7 +260,7 @@ fn left(
     table.close(alloc, seat).ok()
 }
 
-/// Two kernel threads on one table of so many cores, one of which may move threads away.
+/// Runs two kernel threads on one table of `cores` cores, of which the second moves threads away if `moves` is true.
 fn contend<R: Threads + Wait + Sync>(
     rt: &R,
     alloc: Global,

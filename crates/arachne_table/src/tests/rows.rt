@@ -1,4 +1,4 @@
-//! What any form of table answers: runs, a step a row, each with its answer.
+//! The rows that each form of table must give: runs of steps, each with its answer.
 ghost use Rattle.std.specs.Prelude.{◌≡◌, List, IfOk, IfSome, [], ◌∷◌};
 ghost use Rattle.arachne_contexts.specs.Out.{Out, KeepsOut, Claim as a_claim, Thread as a_thread};
 
@@ -10,22 +10,22 @@ use std::alloc::Global;
 use std::sync::Wait;
 use std::test::Fail;
 
-/// Steps, and what each answers.
+/// Steps, each with its answer.
 type Rows = &'static [(Step, Answer)];
 
-/// How a claim or a thread is spent.
+/// The way in which a claim or a thread is spent.
 #[derive(Clone, Copy)]
 enum SpendKind {
     Back,
-    /// A thread with a tag is posted at the place.
+    /// Posts a thread with this tag at the place.
     Post(u64),
     End,
     Block,
     Ready,
 }
 
-/// What the step answers that gets a claim or a thread, the steps while that is out, how it is spent, and what that
-/// answers. Where none is got, that is all.
+/// A use of a claim or a thread: the answer of the step that gets it, the steps while it is out, the way in which it is
+/// spent, and the answer to that. If none is got, the use ends with the first answer.
 struct Use {
     got: Answer,
     steps: Rows,
@@ -33,16 +33,16 @@ struct Use {
     spent: Answer,
 }
 
-/// A part of a run: steps with nothing out, a place that is claimed on a core, or the whole core, or the thread at a
-/// core's index.
+/// A part of a run: steps with nothing out; a claim on a core, of a place or of the whole core; or the thread at an
+/// index of a core.
 enum RunPart {
     Steps(Rows),
     Claim(u8, bool, Use),
     Thread(u8, u8, Use),
 }
 
-/// The cores of a run's table, the generation that its contexts begin with, its parts, and where that is looked at what
-/// is left at the end: each thread's context, its generation and its tag.
+/// A run: the size of its table, the generation that its contexts begin with, its parts, and the threads that must be
+/// left at the end. Each of these has its context, its generation and its tag; `None` if they are not compared.
 struct TableRun {
     cores: u8,
     slots: u8,
@@ -51,7 +51,7 @@ struct TableRun {
     left: Option<&'static [(u32, u64, u64)]>,
 }
 
-/// The answer was to be this.
+/// Fails if the answer is not the expected one.
 fn same(expected: Answer, shown: Answer) -> Result<(), Fail> {
     let ((told, one, other), (word, first, second)) = (expected, shown);
     if told == word && one == first && other == second {
@@ -62,7 +62,7 @@ fn same(expected: Answer, shown: Answer) -> Result<(), Fail> {
     )))
 }
 
-/// Takes steps that leave out what is out.
+/// Makes steps that leave out what is out with the seat.
 fn go_on<C: Contexts<TagOnly>, R: Wait>(
     rt: &R,
     table: &C,
@@ -82,7 +82,7 @@ fn go_on<C: Contexts<TagOnly>, R: Wait>(
     Ok(())
 }
 
-/// Posts a thread with the claim, or gives it back. What that answers.
+/// Posts a thread with the claim, or gives the claim back. Returns the answer.
 fn spend_claim<C: Contexts<TagOnly>, R: Wait>(
     rt: &R,
     table: &C,
@@ -101,7 +101,7 @@ fn spend_claim<C: Contexts<TagOnly>, R: Wait>(
     Some(told_id(table.post(rt, seat, claim, TagOnly(tag)).ok()?))
 }
 
-/// Takes the steps while a claim is out, and spends it.
+/// Makes the steps while a claim is out, and spends the claim.
 fn use_claim<C: Contexts<TagOnly>, R: Wait>(
     rt: &R,
     table: &C,
@@ -152,7 +152,7 @@ fn with_claim<C: Contexts<TagOnly>, R: Wait>(
     }
 }
 
-/// Ends the thread, or puts it back as blocked or as ready. What that answers.
+/// Ends the thread, or puts it back as blocked or as ready. Returns the answer.
 fn spend_thread<C: Contexts<TagOnly>, R: Wait>(
     rt: &R,
     table: &C,
@@ -178,7 +178,7 @@ fn spend_thread<C: Contexts<TagOnly>, R: Wait>(
     }
 }
 
-/// Takes the thread at a place, and spends it.
+/// Takes the thread at a place, makes the steps while it is out, and spends it.
 fn with_thread<C: Contexts<TagOnly>, R: Wait>(
     rt: &R,
     table: &C,
@@ -204,7 +204,7 @@ fn with_thread<C: Contexts<TagOnly>, R: Wait>(
     same(part.spent, spent)
 }
 
-/// Takes all parts of a run.
+/// Makes all parts of a run.
 fn follow<C: Contexts<TagOnly>, R: Wait>(
     rt: &R,
     table: &C,
@@ -230,7 +230,7 @@ fn follow<C: Contexts<TagOnly>, R: Wait>(
     Ok(())
 }
 
-/// Whether these threads are left, each with its context, its generation and its tag.
+/// Returns whether these threads are left, each with its context, its generation and its tag.
 fn are_left(left: &[(ThreadId, TagOnly)], expected: &[(u32, u64, u64)]) -> bool {
     if left.len() != expected.len() {
         return false;
@@ -244,7 +244,7 @@ fn are_left(left: &[(ThreadId, TagOnly)], expected: &[(u32, u64, u64)]) -> bool 
     true
 }
 
-/// Splits the seat, joins both halves, and closes the table. The threads that are left.
+/// Splits the seat, joins both halves, and closes the table. Returns the threads that are left.
 pub(super) fn close<C: Contexts<TagOnly> + Drop, R: Wait>(
     rt: &R,
     alloc: Global,
@@ -264,7 +264,7 @@ pub(super) fn close<C: Contexts<TagOnly> + Drop, R: Wait>(
     table.close(rt, alloc, seat).ok()
 }
 
-/// Takes a run.
+/// Makes a run.
 fn take<C: Contexts<TagOnly> + Drop, R: Wait>(
     rt: &R,
     alloc: Global,
@@ -290,7 +290,7 @@ fn take<C: Contexts<TagOnly> + Drop, R: Wait>(
 }
 
 const RUNS: &[TableRun] = &[
-    // A core of three places is full with three.
+    // A core of three places is full with three threads.
     TableRun {
         cores: 1,
         slots: 3,
@@ -392,7 +392,7 @@ const RUNS: &[TableRun] = &[
         ],
         left: None,
     },
-    // A closed core and a full one.
+    // One core is closed, another is full.
     TableRun {
         cores: 2,
         slots: SLOTS,
@@ -443,7 +443,7 @@ const RUNS: &[TableRun] = &[
         ],
         left: None,
     },
-    // A core for one thread.
+    // A core is claimed for one thread.
     TableRun {
         cores: 2,
         slots: SLOTS,
@@ -488,7 +488,7 @@ const RUNS: &[TableRun] = &[
         ],
         left: None,
     },
-    // A thread is woken while it is held. When it has ended it is gone.
+    // A thread is woken while it is held. When it has ended, it is gone.
     TableRun {
         cores: 1,
         slots: SLOTS,
@@ -579,7 +579,7 @@ const RUNS: &[TableRun] = &[
         ],
         left: None,
     },
-    // A held thread and one that has its core alone are not moved, and a thread is put back as ready.
+    // A held thread is not moved, nor is one that has its core exclusively. A thread is put back as ready.
     TableRun {
         cores: 2,
         slots: SLOTS,
@@ -677,7 +677,7 @@ const RUNS: &[TableRun] = &[
         ],
         left: None,
     },
-    // A thread goes there and back.
+    // A thread is moved to another core and back.
     TableRun {
         cores: 2,
         slots: SLOTS,
@@ -709,7 +709,7 @@ const RUNS: &[TableRun] = &[
         ],
         left: None,
     },
-    // What is left comes back by context.
+    // The threads that are left are returned in the order of their contexts.
     TableRun {
         cores: 2,
         slots: SLOTS,
@@ -733,7 +733,7 @@ const RUNS: &[TableRun] = &[
         ],
         left: Some(&[(0, 0, 6), (57, 0, 7)]),
     },
-    // An id of no context is gone.
+    // An id whose context doesn't exist is gone.
     TableRun {
         cores: 1,
         slots: SLOTS,
@@ -743,12 +743,12 @@ const RUNS: &[TableRun] = &[
     },
 ];
 
-/// The runs.
+/// Returns the runs.
 fn runs() -> &'static [TableRun] {
     RUNS
 }
 
-/// The table gives what each run shows. How many runs there are.
+/// Makes each run on a table of this form. Returns the number of runs.
 pub(super) fn give<C: Contexts<TagOnly> + Drop, R: Wait>(
     rt: &R,
     alloc: Global,

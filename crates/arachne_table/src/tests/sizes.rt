@@ -1,4 +1,5 @@
-//! Tables of many sizes, filled to the last place and closed, and a core whose contexts have all had their last thread.
+//! Tables of many sizes, which are filled to the last place and closed, and a core whose contexts have all had their
+//! last thread.
 ghost use Rattle.std.specs.Prelude.{◌≡◌, ◌<◌, ◌≤◌, IfOk, IfSome};
 
 use super::TagOnly;
@@ -12,7 +13,7 @@ use std::test::Fail;
 
 const CORE_COUNTS: &[u8] = &[1, 2, 3, 5, 8, 15, 16, 17, 20, 32, 40, 63, 64];
 
-/// How many places a core has, and its word when each of them is occupied.
+/// The numbers of places of a core, each with the core's word when all places are occupied.
 const SLOT_COUNTS: &[(u8, u64)] = &[
     (1, 0x0100000000000001),
     (2, 0x0200000000000003),
@@ -25,7 +26,7 @@ const SLOT_COUNTS: &[(u8, u64)] = &[
     (56, 0x38ffffffffffffff),
 ];
 
-/// Posts a thread at each place of a core, and is refused one more for its word.
+/// Posts a thread at each place of a core. One more must be refused, with the core's word.
 fn fill_core<C: Contexts<TagOnly>, R: Wait>(
     rt: &R,
     table: &C,
@@ -46,7 +47,7 @@ fn fill_core<C: Contexts<TagOnly>, R: Wait>(
     }
 }
 
-/// Fills each core of a table, and closes it. How many threads were left.
+/// Fills each core of a table, and closes the table. Returns the number of threads that were left.
 fn fill_table<C: Contexts<TagOnly> + Drop, R: Wait>(
     rt: &R,
     alloc: Global,
@@ -81,7 +82,7 @@ pub(super) fn fill_tables<C: Contexts<TagOnly> + Drop, R: Wait>(
     Ok(())
 }
 
-/// Makes a table of each size that there is, and how many there are.
+/// Makes a table of each possible size. Returns their number.
 pub(super) fn make_tables<C: Contexts<TagOnly> + Drop>(alloc: Global) -> Result<usize, AllocError> {
     let mut made = 0usize;
     for cores in 1..CORES + 1 {
@@ -114,8 +115,9 @@ fn pass<C: Contexts<TagOnly>, R: Wait>(
     Some(())
 }
 
-/// On one core whose contexts begin at the last generation, a thread passes through each. Its word then, its word once
-/// the core is closed, and whether it is drained.
+/// Passes a thread through each context of one core, whose contexts begin at the last generation.
+///
+/// Returns the core's word then, its word once the core is closed, and whether it is drained.
 pub(super) fn spend_core<C: Contexts<TagOnly> + Drop, R: Wait>(
     rt: &R,
     alloc: Global,

@@ -1,4 +1,4 @@
-//! The steps of a run that leave out with the seat what was out with it, and what each answers.
+//! The steps of a run that leave out with the seat what was out with it, and their answers.
 ghost use Rattle.std.specs.Prelude.{◌≡◌, ◌<◌, List, IfSome};
 ghost use Rattle.arachne_contexts.specs.Out.{Out, KeepsOut};
 
@@ -7,10 +7,10 @@ use crate::{Claimed, Contexts, Moved, Woken};
 use arachne_core::{Place, ThreadId};
 use std::sync::Wait;
 
-/// A step, with its core, with its context or with its place.
+/// A step, with its core, its context or its place.
 #[derive(Clone, Copy)]
 pub(super) enum Step {
-    /// Tells how much is out with the seat.
+    /// Counts the claims and threads that are out with the seat.
     Out,
     Look(u8),
     Close(u8),
@@ -25,14 +25,14 @@ pub(super) enum Step {
     Post(u8, u64),
     /// Claims two places of a core, posts a thread at the second, and gives the first back.
     Second(u8, u64),
-    /// Posts a thread at each place of a core, and tells the last.
+    /// Posts a thread at each place of a core. The answer is that to the last post.
     Fill(u8),
 }
 
-/// What is told, and up to two numbers: a word that shows it, a core and an index, or a context and a generation.
+/// An answer: its name, and up to two numbers. These are a word, a core and an index, or a context and a generation.
 pub(super) type Answer = (&'static str, u64, u64);
 
-/// A thread's context and its generation.
+/// Returns a thread's id as an answer: its context and its generation.
 pub(super) fn told_id(id: ThreadId) -> Answer {
     ("id", u64::from(id.context), id.generation)
 }
@@ -57,14 +57,14 @@ fn told_move(answer: Moved) -> Answer {
     }
 }
 
-/// How many cores a table has, and how many places each of them.
+/// The number of cores of a table, and the number of places of each.
 #[derive(Clone, Copy)]
 pub(super) struct Size {
     pub(super) cores: u8,
     pub(super) slots: u8,
 }
 
-/// A step at a core.
+/// Makes a step at a core. Returns its answer, or `None` if it is no such step or the core doesn't exist.
 fn at_core<C: Contexts<TagOnly>, R: Wait>(
     rt: &R,
     table: &C,
@@ -91,7 +91,8 @@ fn at_core<C: Contexts<TagOnly>, R: Wait>(
     }
 }
 
-/// A step at a context, with a thread's id or at two cores, or the count of what is out.
+/// Makes a step at a context, with a thread's id, at two cores, at a core, or the count of what is out. Returns its
+/// answer.
 fn at_context<C: Contexts<TagOnly>, R: Wait>(
     rt: &R,
     table: &C,
@@ -124,7 +125,7 @@ fn at_context<C: Contexts<TagOnly>, R: Wait>(
     }
 }
 
-/// Claims a place and posts a thread there.
+/// Claims a place and posts a thread there. Returns the answer.
 fn post<C: Contexts<TagOnly>, R: Wait>(
     rt: &R,
     table: &C,
@@ -143,7 +144,7 @@ fn post<C: Contexts<TagOnly>, R: Wait>(
     Some(told_id(table.post(rt, seat, claim, TagOnly(tag)).ok()?))
 }
 
-/// Claims two places, posts a thread at the second, and gives the first back.
+/// Claims two places, posts a thread at the second, and gives the first back. Returns the answer to the post.
 fn post_second<C: Contexts<TagOnly>, R: Wait>(
     rt: &R,
     table: &C,
@@ -164,7 +165,7 @@ fn post_second<C: Contexts<TagOnly>, R: Wait>(
     Some(id)
 }
 
-/// Posts a thread at each place of a core. The id of the last.
+/// Posts a thread at each place of a core. Returns the answer to the last post.
 fn fill<C: Contexts<TagOnly>, R: Wait>(
     rt: &R,
     table: &C,
@@ -183,7 +184,7 @@ fn fill<C: Contexts<TagOnly>, R: Wait>(
     post(rt, table, seat, core, u64::from(slots))
 }
 
-/// What a step answers. None where a core or a context is not there, or a claim isn't had.
+/// Makes a step, and returns its answer. Returns `None` if a core or a context doesn't exist, or if no place was got.
 pub(super) fn answered<C: Contexts<TagOnly>, R: Wait>(
     rt: &R,
     table: &C,

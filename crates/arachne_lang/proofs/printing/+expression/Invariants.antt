@@ -1,4 +1,4 @@
--- A part is written after the form that it is part of, and an expression after the part.
+-- The order of the recursion: from a form to its part, and from that to the part's expression.
 use Rattle.std.proofs.Common.{◌+◌, ◌*◌, max}
 use Rattle.arachne_lang.specs.Program.{tree_of}
 use Rattle.arachne_lang.specs.Text.{nesting}

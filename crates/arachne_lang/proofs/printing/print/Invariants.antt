@@ -3,7 +3,7 @@ use Rattle.std.specs.List.{AllByRecursion, flat_map}
 use Rattle.arachne_lang.specs.Spelling.{line}
 use Rattle.arachne_lang.proofs.printing.print.Given as goal
 
--- With the rest of the arrays the text has them all, and all fit where the rest does.
+-- The text and the rest of the arrays are all array lines, and all numbers fit if those of the rest do.
 abbrev pub invariant-loop-array : goal.invariant-loop-array
 invariant-loop-array l = record {
   written : l.text.items ++ flat_map (line (codes "array")) (map (λ array. array.items) (drop l.array-index l.program.arrays.items))

@@ -3,7 +3,7 @@ use Rattle.std.specs.List.{AllByRecursion}
 use Rattle.arachne_lang.specs.Spelling.{after_spaces, numeral}
 use Rattle.arachne_lang.proofs.printing.push_line.Given as goal
 
--- With the rest of the numbers the text has them all, and all fit where the rest does.
+-- The text and the rest of the numbers are the whole line, and all numbers fit if those of the rest do.
 abbrev pub invariant-loop-number : goal.invariant-loop-number
 invariant-loop-number l = record {
   written : l.text.items ++ after_spaces (map numeral (drop l.number-index l.numbers))

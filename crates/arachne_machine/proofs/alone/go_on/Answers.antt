@@ -1,5 +1,5 @@
--- A thread that is alone goes on (`made`), and each pause that is answered leaves its outcomes and those of the others
--- ready for what is left. Where it joins, the newest outcome is its child's (`is_ready`).
+-- A thread in whose place no other runs goes on (`made`). Each pause that is answered leaves its outcomes and those of
+-- the other threads ready for the rest. If the thread joins, the newest outcome is its child's (`is_ready`).
 use Rattle.std.proofs.Common.{rules, refl, ◌≡◌, ◌<◌, List, [], ◌∷◌, ◌++◌, length, map, reverse, sym, ap, ◌∙◌, subst}
 use Rattle.arachne_lang.specs.Program.{source_of}
 use Rattle.arachne_machine.specs.Advance.{AdvancedAlone}

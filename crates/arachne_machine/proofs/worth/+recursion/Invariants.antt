@@ -1,4 +1,4 @@
--- An expression is evaluated after the helper that takes it, and its parts after it.
+-- The order of the recursion: from a helper to the expression that it takes, and from that to its parts.
 use Rattle.std.proofs.Common.{◌+◌, ◌*◌}
 use Rattle.arachne_lang.specs.Program.{tree_of}
 use Rattle.arachne_lang.specs.Text.{nesting}

@@ -193,7 +193,7 @@ run_half-returns-clause-value t c =
     c.in_ok-value.ensures.value
     refl refl (rw (c.len-place.ensures, c.args.shared.now.lines.ok.0, c.into_line.ensures) refl)
 
--- what holds for every class holds for one
+-- a property that holds for every class holds for this one
 at_class : {X E : Type 0} (r : Result X E) (P : X → Class → Type 0) (class : Class) → IfOk r (λ x. (any : Class) → P x any) → IfOk r (λ x. P x class)
 at_class r P class h = IfOk-weaker r _ _ (λ x each. each class) h
 

@@ -1,5 +1,5 @@
--- An expression is evaluated after the helper that takes it, and its parts after it. A half of a range is shorter than
--- the range, which has less than 2 ^ 64 numbers.
+-- The order of the recursion: from a helper to the expression that it takes, and from that to its parts. A half of a
+-- range is shorter than the range, which has less than 2 ^ 64 numbers.
 use Rattle.std.proofs.Common.{◌≡◌, ℕ, ◌+◌, ◌*◌, ◌^◌, max, length}
 use Rattle.arachne_lang.specs.Program.{tree_of, source_of}
 use Rattle.arachne_lang.specs.Text.{nesting}
@@ -57,7 +57,7 @@ decreases-reduce l = 2 ^ 66 * nesting (tree_of l.reducer.body.now) + 1
 abbrev pub decreases-body : goal.decreases-body
 decreases-body l = 2 ^ 66 * nesting (tree_of l.expr.now) + 1
 
--- So many turns were taken, and the newest variables are those of the last one.
+-- The iterations so far were made, and the newest variables are those of the last one.
 abbrev pub invariant-turns-loop-turn : goal.invariant-turns-loop-turn
 invariant-turns-loop-turn l = record {
   turned : IsFolded (source_of l.self.program.now) (tree_of l.body) l.fn.shared.environment.items l.from l.first l.turn l.fn.own l.fn.shared l.so_far l.own l.shared;

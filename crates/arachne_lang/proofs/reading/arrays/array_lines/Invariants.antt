@@ -2,7 +2,7 @@ use Rattle.std.proofs.Common.{[], ◌≡◌, length, map}
 use Rattle.arachne_lang.specs.Reading.{arrays_at}
 use Rattle.arachne_lang.proofs.reading.arrays.array_lines.Given as goal
 
--- What is left is read behind the arrays so far.
+-- The rest of the bytes is read behind the arrays so far.
 abbrev pub invariant-loop-rest : goal.invariant-loop-rest
 invariant-loop-rest l = arrays_at [] l.fn.text ≡ arrays_at (map (λ array. array.items) l.arrays.items) l.rest
 

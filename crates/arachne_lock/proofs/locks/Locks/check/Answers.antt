@@ -1,5 +1,5 @@
--- Under the guard the state is looked at, and that nothing comes of it (`goes`) is what a call on a state that a seat has
--- wants.
+-- The seat has the guard, and checks on the state. That the history stays (`goes`) is the condition of a call on a
+-- state that a seat has.
 use Rattle.std.proofs.Common.{List, [], ◌++◌, ◌∙◌}
 use Rattle.arachne_lock.specs.State.{Lock, IsChecked}
 use Rattle.arachne_lock.proofs.GoingOn.{Leaves, check-goes-on}

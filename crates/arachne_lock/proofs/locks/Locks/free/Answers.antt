@@ -1,4 +1,5 @@
--- Under the guard the lock is freed, and how that goes on (`goes`) is what a call on a state that a seat has wants.
+-- The seat has the guard, and frees on the state. The effect on the history (`goes`) is the condition of a call on a
+-- state that a seat has.
 use Rattle.std.proofs.Common.{List, ◌++◌, ◌∙◌}
 use Rattle.arachne_lock.specs.Deeds.{freed_events}
 use Rattle.arachne_lock.specs.State.{Lock, IsFreed}

@@ -1,6 +1,7 @@
 -- A thread ends, in two events: it is retired, and its place is released unless its context is spent. The idea: neither
--- can be refused (`retire_made`, `release_made`), and each leaves room for what is held (`spent_room`, `release_room`).
--- A change of what an end does to a place changes `ends` in `Calls` and these lemmas of `Ends`.
+-- event can be refused (`retire_made`, `release_made`), and each leaves enough reserved memory for the threads that are
+-- held (`spent_room`, `release_room`). A change of what an end does to a place changes `ends` in `Calls` and these
+-- lemmas of `Ends`.
 use Rattle.std.proofs.Common.{sym, ap, ◌∙◌, subst, rules}
 use Rattle.std.proofs.lemmas.Bool.{true≢false}
 use Rattle.arachne_core.specs.ContextTable.{ContextTable, world_of}

@@ -1,6 +1,6 @@
 -- A move, in three events: the place is claimed, the thread moves, and the place that it left is released. The idea:
--- what may move at first (`may-move`) makes each later event allowed (`allows_move`, `allows_release`), and the three
--- are the events that the call says (`move_takes`). Another event in between changes these lemmas of `Moves`.
+-- the conditions for the move (`may-move`) make each later event allowed (`allows_move`, `allows_release`), and the
+-- three are the events that the contract says (`move_takes`). Another event in between changes these lemmas of `Moves`.
 use Rattle.std.proofs.Common.{◌∷◌, [], sym, subst}
 use Rattle.arachne_core.specs.declared.event.Event.TheVariants as event
 use Rattle.arachne_core.specs.ContextTable.{world_of}

@@ -1,4 +1,4 @@
--- Each turn of the loop is a step (`comes`) after those before it (`so_far`).
+-- Each iteration of the loop is a step (`comes`) after those before it (`so_far`).
 use Rattle.std.proofs.Common.{true, ◌≡◌, ◌+◌, ◌-◌, None, subst, sym, arith}
 use Rattle.arachne_machine.specs.declared.state.Progress.{Progress}
 use Rattle.arachne_machine.specs.declared.state.Progress.TheVariants as way
@@ -11,7 +11,7 @@ use Rattle.arachne_machine.proofs.state.State.advance.Given as given
 use Rattle.arachne_machine.proofs.state.State.advance.Goals.{After-make}
 use Rattle.arachne_machine.proofs.state.State.advance.Goals as goal
 
--- what the steps before this one have made, of which this one is counted off
+-- the steps before this one, which is subtracted already
 so_far : (g : given.Over) (c : goal.After-make g) →
     RunsOn (g.P.Placing.gives_all ≡ true) c.args.left.now (c.loop-rest.rest - 1 + 1) 0 c.args.self.now (current_in c.loop-rest.begins c.loop-rest.self)
 so_far g c =
@@ -19,7 +19,7 @@ so_far g c =
     let one : loop.rest ≡ loop.rest - 1 + 1 = omega (arith, c.loop-rest-test.true) in
     subst (λ n. RunsOn (g.P.Placing.gives_all ≡ true) c.args.left.now n 0 c.args.self.now (current_in loop.begins loop.self)) one loop.invariant.makes
 
--- what this step comes to, by the arm that it was found in
+-- the result of this step, by the arm that it was found in
 comes : (g : given.Over) (c : goal.After-make g) (p way : Progress) → p ≡ way →
     Comes (g.P.Placing.gives_all ≡ true) (c.loop-rest.rest - 1) c.make.new.left (current_in c.loop-rest.begins c.loop-rest.self) p c.make.new.self →
     Comes (g.P.Placing.gives_all ≡ true) (c.loop-rest.rest - 1) c.make.new.left (current_in c.loop-rest.begins c.loop-rest.self) way c.make.new.self

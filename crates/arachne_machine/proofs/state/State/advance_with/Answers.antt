@@ -1,4 +1,4 @@
--- The state advances, and where no child was forked (`advances`) it goes on with one that was placed, or pauses.
+-- The state advances. If no child was forked (`advances`), it goes on with one that was placed, or pauses.
 use Rattle.std.proofs.Common.{◌≡◌, true, None, refl, sym, subst, arith}
 use Rattle.arachne_machine.specs.Steps.{pending_of}
 use Rattle.arachne_machine.specs.Runs.{Advances}

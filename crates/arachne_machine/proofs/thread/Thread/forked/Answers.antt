@@ -1,4 +1,4 @@
--- A fork is answered: the thread goes on past it, and as callers see it all else is as it was.
+-- A fork is answered. The thread goes on past it, and all else that callers see is unchanged.
 use Rattle.std.proofs.Common.{◌≡◌, ap, ◌∙◌, subst}
 use Rattle.arachne_machine.specs.Kept.{nested}
 use Rattle.arachne_machine.specs.Nested.{pending_in}
@@ -15,7 +15,7 @@ past c =
     fork_past c.self.inside.state.value new c.self.inside.placed.items c.self.invariant (ap pending_in c.self.view_is ∙ c.requires)
     (subst (λ s. Turns s new (after_fork s.control)) c.deref_mut.ensures.value c.forked.ensures)
 
--- what callers see of it
+-- the view that callers have of it
 seen : (c : goal.After-forked) → SeenAnswered c.args.self.now (nested c.forked.new.self c.self.inside.placed.items)
 seen c = subst (λ v. SeenAnswered v (nested c.forked.new.self c.self.inside.placed.items)) c.self.view_is (past c).0.seen
 

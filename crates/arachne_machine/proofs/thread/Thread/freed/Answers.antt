@@ -1,5 +1,5 @@
--- A free is answered: the thread goes on past it, the lock is the newest that it held, and as callers see it all else is
--- as it was.
+-- The release of a lock is answered. The thread goes on past it, the lock is the newest that it held, and all else that
+-- callers see is unchanged.
 use Rattle.std.proofs.Common.{◌≡◌, ◌∷◌, ap, sym, ◌∙◌, subst}
 use Rattle.arachne_machine.specs.Kept.{nested}
 use Rattle.arachne_machine.specs.Steps.{Turns, pending_of, top}
@@ -16,7 +16,7 @@ past c =
     let e = c.freed.ensures in
     free_past c.self.inside.state.value new c.self.inside.placed.items e.0 e.1 c.self.invariant (ap (λ s. s.control) (sym is) ∙ e.2) (subst (λ s. Turns s new (Give e.1)) is e.3)
 
--- what callers see of it
+-- the view that callers have of it
 seen : (c : goal.After-freed) → SeenAnswered c.args.self.now (nested c.freed.new.self c.self.inside.placed.items)
 seen c = subst (λ v. SeenAnswered v (nested c.freed.new.self c.self.inside.placed.items)) c.self.view_is (past c).0.seen
 

@@ -1,5 +1,5 @@
--- An ask is answered: the thread has one hold more of the lock, the body begins, and as callers see it all else is as it
--- was.
+-- A request for a lock is answered. The thread has held the lock once more, the body begins, and all else that callers
+-- see is unchanged.
 use Rattle.std.proofs.Common.{ap, sym, ◌∙◌, subst}
 use Rattle.arachne_lang.specs.Program.{source_of}
 use Rattle.arachne_lang.specs.Effects.{held}

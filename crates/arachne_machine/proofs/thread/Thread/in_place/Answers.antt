@@ -1,5 +1,5 @@
--- A child is placed: where it was taken, callers see it placed at the fork or begun at the join (`placed`), and where it
--- came back, child and thread are as they were (`came_back`).
+-- A child is placed. If it was taken, callers see it placed at the fork or begun at the join (`placed`). If it was
+-- refused, child and thread are unchanged (`came_back`).
 use Rattle.std.proofs.Common.{◌≡◌, ◌+◌, Some, ap, sym, ◌∙◌, subst}
 use Rattle.arachne_machine.specs.declared.state.State.{State}
 use Rattle.arachne_machine.specs.Kept.{IsReturned, IsTakenBack, nested}

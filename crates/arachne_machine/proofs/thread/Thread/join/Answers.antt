@@ -1,5 +1,5 @@
--- What an outcome brings is joined: where the call answers that it was, the thread goes on with it (`went_on`), and
--- where it answers an error the state is as it was (`stayed`).
+-- An outcome is joined. If the call succeeds, the thread goes on with it (`went_on`). After an error the state is
+-- unchanged (`stayed`).
 use Rattle.std.proofs.Common.{◌≡◌, length, List, sym, ap, ◌∙◌, subst}
 use Rattle.std.specs.Prelude.{OnErr, OnOk}
 use Rattle.arachne_lang.specs.Program.{source_of}

@@ -1,5 +1,5 @@
--- A tally is answered: the amount is added to the thread's sums, the body begins, and as callers see it all else is as
--- it was.
+-- A tally is answered. The amount is added to the thread's sums, the body begins, and all else that callers see is
+-- unchanged.
 use Rattle.std.proofs.Common.{ap, sym, ◌∙◌, subst}
 use Rattle.arachne_lang.specs.Program.{source_of}
 use Rattle.arachne_lang.specs.Effects.{tallied}

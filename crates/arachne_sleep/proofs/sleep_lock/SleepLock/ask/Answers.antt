@@ -1,5 +1,5 @@
--- With the state in hand the wait is asked for, and how the history goes on (`goes`) is what a call on a state
--- that a seat has wants.
+-- The seat has the state, and asks on it. How the history is extended (`goes`) is the condition of a call on a state
+-- that a seat has.
 use Rattle.std.proofs.Common.{ap, ◌∙◌, refl}
 use Rattle.arachne_sleep.specs.Calls.{pass_asked}
 use Rattle.arachne_sleep.proofs.Visiting.{ask-goes-on, returnable, idle-again, called, seat-kept}

@@ -1,5 +1,5 @@
--- With the state in hand a wait is looked at, and how the history goes on (`goes`) is what a call on a state
--- that a seat has wants.
+-- The seat has the state, and checks on it. How the history is extended (`goes`) is the condition of a call on a state
+-- that a seat has.
 use Rattle.std.proofs.Common.{ap, ◌∙◌, refl}
 use Rattle.arachne_sleep.proofs.Visiting.{check-goes-on, returnable, idle-again, called, seat-kept}
 use Rattle.arachne_sleep.specs.Steps.{GoesOn}

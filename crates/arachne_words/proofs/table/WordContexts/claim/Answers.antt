@@ -1,5 +1,5 @@
--- A claim by one look and one try. The idea: what the try won is one context more that is out with the seat
--- (`keeps-more`), which was not its own before. More tries, or a place chosen by another rule, change `ClaimAnswer` and
+-- A claim by one look and one try. The idea: a won try gives one more context that is out with the seat (`keeps-more`),
+-- which it did not carry before. More tries, or a place chosen by another rule, change `ClaimAnswer` and
 -- `IsLowestFree`.
 use Rattle.std.proofs.Common.{◌<◌, ℕ, ◌∙◌, ap, sym, subst, refl, arith, false}
 use Rattle.arachne_core.specs.Occupancy.{occupancy_word}

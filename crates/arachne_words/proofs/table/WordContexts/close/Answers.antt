@@ -1,6 +1,6 @@
--- The end of a table. The idea: `close_with` gives its words and slots as they were, and each turn of the loop leaves
--- them so but for one slot (`stays`), whose value goes to the list's end (`so-on`); at the end each was looked at
--- (`all-seen`). Another order of the list, or more of a slot in it, changes `left_from` and `Leaving`.
+-- The end of a table. The idea: `close_with` returns its words and slots as they were, and each turn of the loop leaves
+-- them so except for one slot (`stays`), whose value is appended to the list (`so-on`); at the end each was looked at
+-- (`all-seen`). Another order of the list, or more values in a slot, changes `left_from` and `Leaving`.
 use Rattle.std.proofs.Common.{◌≡◌, ℕ, suc, ◌+◌, ◌<◌, ◌≤◌, ◌∙◌, ◌++◌, ap, sym, subst, arith, rules, Option, List, [], ◌∷◌, true, false, get_or, length}
 use mathlib.Core.Option as opt
 use Rattle.std.specs.Slots.{IsFull, slots_items, slots_filled, slots_len}
@@ -43,7 +43,7 @@ loop-context-init g c =
       room = search rules;
     }
 
--- what the take of a slot's value leaves of words and slots
+-- the words and slots after a slot's value was taken
 same-words : (g : given.Over) (c : goal.After-take g) (P : List ℕ → List (Option g.row.T.Denot) → Type 0)
     → P (slots_items c.loop-context.closed.words) (slots_items c.loop-context.closed.slots) → P (slots_items c.take.new.self.words) (slots_items c.take.new.self.slots)
 same-words g c P p =

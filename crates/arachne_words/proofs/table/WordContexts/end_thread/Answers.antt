@@ -1,6 +1,6 @@
--- The end of a thread. The idea: the hold's fields are what the contract sees of it (`inner`), so that `retire` tells
--- of them (`retired-as`), and `release` gives back the claim that it left; both are one equation of the seat (`ended`).
--- Another order of the two changes that, and `HasFinished`.
+-- The end of a thread. The idea: the hold's fields are those of its model (`inner`), so `retire` is about them
+-- (`retired-as`), and `release` gives back the claim that it left; both are one equation of the seat (`ended`). Another
+-- order of the two changes that, and `HasFinished`.
 use Rattle.std.proofs.Common.{◌≡◌, ℕ, ◌+◌, ◌-◌, ◌∙◌, ap, sym, subst, arith}
 use Rattle.arachne_core.specs.declared.layout.TheConstants.{CORE_BITS}
 use Rattle.arachne_core.specs.Marked.{mark_word}

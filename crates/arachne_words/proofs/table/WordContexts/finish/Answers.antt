@@ -1,5 +1,5 @@
--- A held thread ends, and its context is out with the seat no more. The idea: the seat's fields are what the contract
--- sees of it, so that `end_thread` says what the seat carries then (`keeps-less`). Its steps are in `end_thread`.
+-- A held thread ends, and its context is no longer out with the seat. The idea: the seat's fields are those of its
+-- model, so `end_thread` says what the seat carries then (`keeps-less`). The steps are in `end_thread`.
 use Rattle.std.proofs.Common.{ap, sym, subst}
 use Rattle.arachne_rule.specs.declared.view.Known.{Known}
 use Rattle.arachne_words.specs.Seats.{HasThread, held_by}

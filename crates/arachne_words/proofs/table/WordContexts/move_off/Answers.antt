@@ -1,6 +1,7 @@
 -- The steps after the exchange of a move. The idea: each of the four leaves the context of the target in a form that
--- the next one asks (`left`, `replaced`, `named` of `MoveCall`); here its call is told so (`second`, `third`), and
--- `after` of `MoveCall` makes one equation of the four. Another order of the steps is another chain there.
+-- fulfils the condition of the next one (`left`, `replaced`, `named` of `MoveCall`). Here each call gets that condition
+-- (`second`, `third`), and `after` of `MoveCall` makes one equation of the four. Another order of the steps is another
+-- chain there.
 use Rattle.std.proofs.Common.{◌≡◌, ℕ, ◌∙◌, ap, refl}
 use Rattle.arachne_core.specs.declared.layout.TheConstants.{CORE_BITS}
 use Rattle.arachne_core.specs.Marked.{mark_word}

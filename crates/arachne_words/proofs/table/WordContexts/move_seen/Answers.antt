@@ -1,6 +1,6 @@
 -- A move of a thread that was seen at rest: look at the core, claim its lowest free place, and move there. The idea:
--- the claim's equation holds of the seat as it was before the look (`won`), so that `move_to` finds the claim, and what
--- it answers is a step of `SeenAnswer`. Another way to choose the place changes `HasRoom` and the last answer.
+-- the claim's equation is about the seat as it was before the look (`won`), so `move_to` finds the claim, and its
+-- result is a step of `SeenAnswer`. Another way to choose the place changes `HasRoom` and the last result.
 use Rattle.std.proofs.Common.{◌≡◌, ◌<◌, ℕ, [], ◌∙◌, ap, sym, subst, refl, inl}
 use Rattle.arachne_core.specs.declared.place.Place.{Place}
 use Rattle.arachne_rule.specs.declared.view.Carried.{Carried}
@@ -22,7 +22,7 @@ use Rattle.arachne_words.proofs.table.WordContexts.move_seen.Goals as goal
 abbrev claimed_at : ℕ → ℕ → ℕ → ℕ → Carried
 claimed_at core index y generation = claimed_by (shared_claim (record { core = core; index = index })) y generation
 
--- the claim was won: the seat has its context, which was not its own, and knows what the look and the exchange showed
+-- the claim was won: the seat has its context, which it did not carry, and knows the words of the look and the exchange
 record Won (g : given.Over) (c : goal.In_default-try_claim g) : Type 0 where
   context : ℕ
   generation : ℕ

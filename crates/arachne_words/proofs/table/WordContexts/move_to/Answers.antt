@@ -1,6 +1,6 @@
--- A move to a claimed place. The idea: the two looks find the claim's context, free at the target and the seat's still
--- (`found`); then each way that the exchange goes is one equation of the seat (`undone`, `away`, `all-moved`). A step
--- more or less changes the equation of its way, and `ToAnswer`.
+-- A move to a claimed place. The idea: the two looks find the claim's context, free at the target and still the seat's
+-- (`found`); then each outcome of the exchange is one equation of the seat (`undone`, `away`, `all-moved`). One step
+-- more or less changes the equation of its outcome, and `ToAnswer`.
 use Rattle.std.proofs.Common.{◌≡◌, ℕ, ◌-◌, ◌<◌, ◌∙◌, ap, sym, subst, refl, arith}
 use Rattle.arachne_core.specs.declared.layout.TheConstants.{CORE_BITS}
 use Rattle.arachne_core.specs.declared.place.Place.{Place}
@@ -37,7 +37,7 @@ early : (g : given.Over) (c : goal.After-see_mark-free g)
 early g c =
     c.see_mark-free.ensures.seat ∙ ap (λ (v : CallView g.row.T.Denot). record v { known = looked c.see_name-replaced.result (mark_word CORE_BITS c.see_mark-free.result) v.known }) c.see_name-replaced.ensures.seat
 
--- the looks found the context of a claim: it is free, and the seat has it still
+-- the looks found the context of a claim: it is free, and the seat still has it
 record Found (g : given.Over) (c : goal.After-see_mark-free g) (y generation : ℕ) : Type 0 where
   same : c.see_name-replaced.result ≡ y
   claimed : IsClaimed c.args.self.now c.see_mark-free.new.seat.known (claimed_at c.args.target c.see_name-replaced.result generation)

@@ -1,6 +1,7 @@
--- A post at a claimed place. The idea: the claim is read as what the seat's fields say (`mine`); with it the slot's
--- take, the look and the laying in give what the store asks (`may-post`) and one equation of the seat (`posted-whole`),
--- both for any context that the claim may be of. A step more or less changes these two, and `HasPosted`.
+-- A post at a claimed place. The idea: the claim is read by the seat's fields (`mine`). With it, the take of the slot,
+-- the look, and the value put into the slot give the condition of the store (`may-post`) and one equation of the seat
+-- (`posted-whole`), both for any context that the claim may have. One step more or less changes these two, and
+-- `HasPosted`.
 use Rattle.std.proofs.Common.{◌≡◌, ℕ, ◌<◌, ◌∙◌, ap, sym, subst, refl, arith, None, ◌∷◌}
 use Rattle.arachne_core.specs.declared.layout.TheConstants.{CORE_BITS}
 use Rattle.arachne_core.specs.declared.mark.Mark.TheVariants as mark
@@ -21,7 +22,7 @@ use Rattle.arachne_words.proofs.table.WordContexts.post.Given as given
 use Rattle.arachne_words.proofs.table.WordContexts.post.Goals.{After-take_slot-context, After-new-ready, After-store_posted}
 use Rattle.arachne_words.proofs.table.WordContexts.post.Goals as goal
 
--- what the fields of claim and seat show is what the contract sees of them
+-- the fields of claim and seat are those of their models
 has-claim : (z : Contexts) (claim inner : ClaimView) (k inner_k : Known) → inner ≡ claim → inner_k ≡ k → HasClaim z k claim → HasClaim z inner_k inner
 has-claim z claim inner k inner_k is known has = subst (λ (q : Known). HasClaim z q inner) (sym known) (subst (λ (v : ClaimView). HasClaim z k v) (sym is) has)
 
@@ -38,7 +39,7 @@ slot-out g c x y inside has =
     let claim : ClaimView = record { place = c.claim.inside.place; alone = c.claim.inside.alone } in
     c.take_slot-context.ensures (claimed_by claim x y) (at-home c.args.self.now claim x y inside c.seat.inside.at.known has)
 
--- of the context that the contract's claim is of
+-- the context of the contract's claim
 slot-mine : (g : given.Over) (c : goal.After-take_slot-context g) → (c.take_slot-context.result < c.args.self.now.table.slots) × (c.take_slot-context.new.seat.table ≡ c.args.self.now.table) × HasLast c.take_slot-context.new.seat.slots c.take_slot-context.result None
 slot-mine g c =
     let is = mine g c in

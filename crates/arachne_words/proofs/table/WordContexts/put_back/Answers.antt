@@ -1,6 +1,5 @@
--- A held thread is put back, and its context is out with the seat no more. The idea: the hold's fields are what the
--- contract sees of it, so that `rest_thread` says what the seat carries then (`keeps-less`). Its steps are in
--- `rest_thread`.
+-- A held thread is put back, and its context is no longer out with the seat. The idea: the hold's fields are those of
+-- its model, so `rest_thread` says what the seat carries then (`keeps-less`). The steps are in `rest_thread`.
 use Rattle.std.proofs.Common.{ℕ, ap, sym, subst}
 use Rattle.arachne_rule.specs.declared.view.Known.{Known}
 use Rattle.arachne_words.specs.Seats.{HasThread, HoldView, held_by}

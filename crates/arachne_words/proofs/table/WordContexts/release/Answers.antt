@@ -1,6 +1,6 @@
--- A place is given back. The idea: the context is the claim's, at the word of its core (`there`), so that the rule
--- allows the subtraction (`release-allowed`), and what it tells is told of the seat's view (`view-told`). Another way
--- to free a place changes `release_sum`, `Releases` in `Plays` and that lemma.
+-- A place is given back. The idea: the context is the claim's, at the word of its core (`there`), so the rule allows
+-- the subtraction (`release-allowed`), and what the step says is then said of the seat's view (`view-told`). Another
+-- way to free a place changes `release_sum`, `Releases` in `Plays` and that lemma.
 use Rattle.std.proofs.Common.{◌<◌, ◌∙◌, ap, sym, subst, refl, arith, Bool}
 use Rattle.arachne_core.specs.declared.layout.TheConstants.{CORE_BITS}
 use Rattle.arachne_core.specs.declared.place.Place.{Place}

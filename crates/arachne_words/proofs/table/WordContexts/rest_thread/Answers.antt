@@ -1,6 +1,6 @@
--- A held thread is put back. The idea: its slot is taken and its value laid in (`taken`, `restable-now`), which is what
--- `rest_ready` and `try_rest_blocked` ask; each of the three ways is one equation of the seat (`made-ready`,
--- `made-blocked`, `forestalled`). Another step changes that of its way, and `RestAnswer`.
+-- A held thread is put back. The idea: its slot is taken and its value put into it (`taken`, `restable-now`), which is
+-- the condition of `rest_ready` and `try_rest_blocked`; each of the three ways is one equation of the seat
+-- (`made-ready`, `made-blocked`, `forestalled`). Another step changes that of its way, and `RestAnswer`.
 use Rattle.std.proofs.Common.{◌≡◌, ℕ, ◌∙◌, ap, sym, subst, refl, None, ◌∷◌, List, Option}
 use Rattle.arachne_core.specs.declared.layout.TheConstants.{CORE_BITS}
 use Rattle.arachne_core.specs.declared.place.Place.{Place}
@@ -26,7 +26,7 @@ use Rattle.arachne_words.proofs.table.WordContexts.rest_thread.Goals as goal
 abbrev hold : ThreadId → Marked → HoldView
 hold id held = record { id = id; place = held.place; alone = held.alone }
 
--- what a seat knows once a thread with this tag is out no more: its place word was seen
+-- the knowledge of a seat after a thread with this tag is no longer out: its place word was seen
 abbrev put : Contexts → HoldView → ℕ → Known → Known
 put z h tag k = learned (name_index z.table.slots h.place) h.id.context (without_context k (held_by h tag))
 
@@ -88,7 +88,7 @@ made-blocked g c =
     after-blocked g.T.Tagged.tag_of c.args.self.now h c.args.value c.args.seat.now c.take_slot-context.new.seat c.lay_in.new.seat c.take_slot-context.result c.requires.thread
     (taken g at.After-take_slot-context) c.lay_in.ensures c.try_rest_blocked.new.seat c.args.held c.requires.held told
 
--- the exchange was lost to a wake: the thread's value lies in its slot still
+-- the exchange was lost to a wake: the thread's value is still in its slot
 restable-still : (g : given.Over) (c : goal.In-Err g) → IsRestable g.T.Tagged.tag_of c.args.self.now c.try_rest_blocked.new.seat c.take_slot-context.result (out_with g.T.Tagged.tag_of c.args.self.now (hold c.args.id c.args.held) c.args.value) c.args.value
 restable-still g c =
     restable-again g.T.Tagged.tag_of c.args.self.now (hold c.args.id c.args.held) c.args.value c.args.seat.now c.take_slot-context.new.seat c.lay_in.new.seat c.take_slot-context.result c.requires.thread

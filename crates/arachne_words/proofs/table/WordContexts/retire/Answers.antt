@@ -1,6 +1,6 @@
--- A thread ends whose context can have another. The idea: what the seat holds is what the rule asks of the swap
--- (`retire-allowed`), and what the swap tells is told of the seat's view (`view-told`). What a mark word says of a
--- context between two threads is in `claimed_again` and `marked_free`.
+-- A thread ends, and its context may have another. The idea: what the seat holds fulfils the rule's condition for the
+-- swap (`retire-allowed`), and what the swap says is then said of the seat's view (`view-told`). The fields of the mark
+-- word of a context between two threads are in `claimed_again` and `marked_free`.
 use Rattle.std.proofs.Common.{ℕ, ◌+◌, ◌<◌, ◌∙◌, ap, sym, subst, refl, false}
 use Rattle.arachne_core.specs.declared.layout.TheConstants.{CORE_BITS}
 use Rattle.arachne_core.specs.Marked.{mark_word}

@@ -1,5 +1,5 @@
--- The last thread of a context ends. As in `retire`, by `spend-allowed`: the context is nobody's then, and its place
--- stays occupied. What a mark word says of it is in `marked_spent`.
+-- The last thread of a context ends. As in `retire`, by `spend-allowed`: no seat carries the context then, and its
+-- place stays occupied. The fields of its mark word are in `marked_spent`.
 use Rattle.std.proofs.Common.{ℕ, ◌<◌, ◌∙◌, ap, sym, subst, refl, false}
 use Rattle.arachne_core.specs.declared.layout.TheConstants.{CORE_BITS}
 use Rattle.arachne_core.specs.Marked.{mark_word}

@@ -1,6 +1,7 @@
--- A take. The idea: place word and mark word were seen, the exchange won and the value taken out, by which the context
--- is one that was taken there (`is-taken`), and was not the seat's before (`was-not`); `keep_name` then makes of all of
--- it one equation of the seat (`kept`). A step more or less changes that equation, in `TakeSteps`, and `HasTaken`.
+-- A take. The idea: the place word and the mark word were seen, the exchange was won and the value taken out, so the
+-- context is one that was taken there (`is-taken`), and the seat didn't carry it before (`was-not`). `keep_name` then
+-- makes one equation of the seat from all of it (`kept`). One step more or less changes that equation, in `TakeSteps`,
+-- and `HasTaken`.
 use Rattle.std.proofs.Common.{◌≡◌, ◌<◌, ℕ, [], ◌∙◌, ap, sym, subst, refl, arith}
 use Rattle.arachne_core.specs.declared.layout.TheConstants.{CORE_BITS}
 use Rattle.arachne_core.specs.declared.place.Place.{Place}

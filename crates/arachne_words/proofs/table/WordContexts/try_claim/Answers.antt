@@ -1,6 +1,6 @@
--- One try to claim an index. The idea: the new word is the old one and what the index adds (`sum`), which is what the
--- rule asks of a claim (`claim-allowed`); what the exchange tells, won or lost, is then told of the seat's view. A
--- change of what the words mean changes `sum` and `index_sum`.
+-- One try to claim an index. The idea: the new word is the old one and the number of the index (`sum`), which is the
+-- rule's condition for a claim (`claim-allowed`); what the exchange says, won or lost, is then said of the seat's view.
+-- A change of what the words mean changes `sum` and `index_sum`.
 use Rattle.std.proofs.Common.{◌≡◌, ℕ, ◌+◌, ◌<◌, ◌∙◌, ap, sym, subst, arith, false, get_or}
 use Rattle.arachne_core.specs.Occupancy.{Occupancy}
 use Rattle.arachne_core.specs.declared.layout.TheConstants.{CORE_BITS}

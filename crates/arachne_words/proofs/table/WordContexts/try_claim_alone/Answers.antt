@@ -1,6 +1,6 @@
--- One try to claim a whole core, from the word 0. The idea: the word is the core's (`there`), so that the rule allows
--- the exchange (`alone-allowed`); won or lost, what it tells is told of the seat's view. What the word of such a core
--- is, is `sum_of true 0`.
+-- One try to claim a whole core, from the word 0. The idea: the word is the core's (`there`), so the rule allows the
+-- exchange (`alone-allowed`); won or lost, what the exchange says is then said of the seat's view. The word of such a
+-- core is `sum_of true 0`.
 use Rattle.std.proofs.Common.{◌≡◌, ℕ, ◌<◌, ◌∙◌, ap, sym, subst, refl, true}
 use Rattle.arachne_core.specs.declared.layout.TheConstants.{CORE_BITS}
 use Rattle.arachne_rule.specs.declared.view.Kind.TheVariants as kind

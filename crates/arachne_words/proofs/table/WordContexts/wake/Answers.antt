@@ -1,6 +1,6 @@
--- A wake, by an exchange from blocked or from held. The idea: the mark word that was seen is of the generation asked,
--- so that a win is `HasWoken`, and a loss says which word stood there; that the thread had ended contradicts
--- `not-gone`. A third mark that can be woken is another arm here, and in `HasWoken`.
+-- A wake, by an exchange from blocked or from held. The idea: the mark word that was seen is of the generation of the
+-- id, so a win is `HasWoken`, and a loss returns the word that was found; that the thread had ended contradicts
+-- `not-gone`. A third mark that can be woken is one more arm here, and in `HasWoken`.
 use Rattle.std.proofs.Common.{ℕ, ◌∙◌, ap, sym, subst, arith, inl, inr}
 use Rattle.arachne_core.specs.declared.layout.TheConstants.{CORE_BITS}
 use Rattle.arachne_core.specs.declared.mark.Mark.TheVariants as mark
