@@ -9,7 +9,7 @@ ghost use Rattle.arachne_machine.specs.Suspended.{awaited};
 ghost use Rattle.arachne_machine.specs.Tallying.{AdvancesOver};
 ghost use Rattle.arachne_machine.specs.declared.pause.Pending.TheVariants as pause;
 ghost use Rattle.arachne_jobs.specs.Threads.{HasWaited, IsForking, IsGoing, IsAwaiting, name_of, pause_of, program_of, running_tag_of, tag_of};
-ghost use Rattle.arachne_jobs.specs.Cells.{IsFoundOf, IsFor};
+ghost use Rattle.arachne_jobs.specs.Cells.{IsFoundOf, IsFor, IsOf};
 ghost use Rattle.arachne_jobs.specs.Dues.{GoesOnOver, HasTallied, IsJoined, due_to};
 ghost use Rattle.arachne_jobs.specs.Ends.{IsEnd, IsWaitEnd};
 ghost use Rattle.arachne_jobs.specs.Slices.{HasNoRest, IsLeft, IsRequest, MayRest, UsesSteps};
@@ -172,9 +172,8 @@ impl<'p> RunJob for Job<'p> {
     {
         let mut child = child;
         child.set_tag(tag);
-        self.ties.ends.try_reserve(1)?;
         let (job, receiver) = Job::of(alloc, child, Some(me), spares)?;
-        self.ties.ends.push_reserved(End::Awaits(receiver));
+        self.expect(receiver)?;
         self.thread.forked();
         Ok(job)
     }
@@ -394,6 +393,16 @@ impl<'p> Job<'p> {
         ensures at_join { pause_of self.old.thread ≡ Some pause.Joins → OnOk result (self.new.thread ≡ begun_in self.old.thread child.entry) }
     {
         self.thread.in_place(child)?;
+        Ok(())
+    }
+
+    /// Awaits the outcome of one more child, at this end.
+    fn expect(&mut self, receiver: OutcomeReceiver) -> Result<(), JobFault>
+        requires { IsOf (program_of self.old.thread) receiver.opening.key }
+        ensures { self.new ≡ self.old }
+    {
+        self.ties.ends.try_reserve(1)?;
+        self.ties.ends.push_reserved(End::Awaits(receiver));
         Ok(())
     }
 

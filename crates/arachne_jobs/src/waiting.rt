@@ -19,6 +19,8 @@ use std::sync::Arc;
 
 type Cell<'p> = JoinCell<LeftInCell<'p>, Wanted>;
 
+type CellEnd<'p> = SendingEnd<LeftInCell<'p>, Wanted>;
+
 /// A share of a cell. Contracts see the cell: what it is for, and its table.
 #[derive(Drop)]
 pub struct WaitCell<'p> {
@@ -127,11 +129,7 @@ impl<'p> WaitCell<'p> {
     }
 
     /// Leaves the child's outcome, with the sending end of this cell. Returns the receipt.
-    pub(crate) fn leave(
-        self,
-        end: SendingEnd<LeftInCell<'p>, Wanted>,
-        outcome: DetachedOutcome,
-    ) -> Receipt<Wanted>
+    pub(crate) fn leave(self, end: CellEnd<'p>, outcome: DetachedOutcome) -> Receipt<Wanted>
         requires end { end ≡ self.table }
         requires outcome { IsWanted self.key outcome }
         ensures { result ≡ shown self.entry.table HasLeft }
@@ -157,15 +155,7 @@ impl<'p> RunTicket for Ticket<'p> {
 
 impl<'p> Ticket<'p> {
     /// Takes the child, if it still waits, with its cell and the end with which it leaves its outcome there.
-    pub(crate) fn take(
-        self,
-    ) -> Option<
-        (
-            Waiting<'p>,
-            WaitCell<'p>,
-            SendingEnd<LeftInCell<'p>, Wanted>,
-        ),
-    >
+    pub(crate) fn take(self) -> Option<(Waiting<'p>, WaitCell<'p>, CellEnd<'p>)>
         ensures child { IfSome result (λ taken. IsFor taken.0.thread taken.1.key × HasNotBegun taken.0.thread) }
         ensures told { IfSome result (λ taken. IsTold taken.0 self.entry.key) }
         ensures end { IfSome result (λ taken. taken.2 ≡ taken.1.table) }
@@ -185,14 +175,7 @@ impl<'p> Ticket<'p> {
 fn shared_cell<'p>(
     alloc: Global,
     wanted: &Wanted,
-) -> Result<
-    (
-        Arc<Cell<'p>>,
-        SendingEnd<LeftInCell<'p>, Wanted>,
-        Arc<Cell<'p>>,
-    ),
-    AllocError,
->
+) -> Result<(Arc<Cell<'p>>, CellEnd<'p>, Arc<Cell<'p>>), AllocError>
     ensures cell { IfOk result (λ made. (arc_value made.0).key ≡ wanted.now) }
     ensures end { IfOk result (λ made. made.1 ≡ (arc_value made.0).table) }
     ensures other { IfOk result (λ made. arc_value made.2 ≡ arc_value made.0) }
