@@ -1,4 +1,4 @@
--- What the cells of a run are for.
+-- The purpose and the content of the cells of a run.
 use Rattle.std.specs.Prelude.{◌≡◌, None, Some}
 use Rattle.arachne_lang.specs.declared.program.Program.{Program}
 use Rattle.arachne_lang.specs.Program.{source_of}
@@ -47,10 +47,10 @@ MayWait wanted (left.Outcome outcome) = ⊥
 abbrev pub IsFoundFor : Wanted → Found → Type 0
 IsFoundFor wanted (found.Outcome outcome) = IsWanted wanted outcome
 IsFoundFor wanted (found.Child thread) = IsFor thread wanted × HasNotBegun thread
-IsFoundFor wanted (found.Nothing unended) = Unit {0}
+IsFoundFor wanted found.Nothing = Unit {0}
 
 -- what was found is of a program equal to this one
 abbrev pub IsFoundOf : Program → Found → Type 0
 IsFoundOf program (found.Outcome outcome) = source_of outcome.program ≡ source_of program
 IsFoundOf program (found.Child thread) = (source_of (program_of thread) ≡ source_of program) × HasNotBegun thread
-IsFoundOf program (found.Nothing unended) = Unit {0}
+IsFoundOf program found.Nothing = Unit {0}

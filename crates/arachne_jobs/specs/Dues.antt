@@ -1,4 +1,4 @@
--- What threads have tallied and their ledgers have not got yet.
+-- Amounts that threads have tallied and that their ledgers have not got yet.
 use Rattle.std.specs.Prelude.{◌≡◌, ◌≢◌, ◌⊎◌, ℕ, ◌==◌, if◌then◌else◌}
 use Rattle.arachne_machine.specs.Nested.{begun_in}
 use Rattle.arachne_machine.specs.Outcome.{Finished}

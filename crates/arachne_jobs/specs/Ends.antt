@@ -1,4 +1,4 @@
--- What the ends of a job are for.
+-- The purpose of a job's ends of cells.
 use Rattle.std.specs.Prelude.{◌≡◌, ℕ, List, MatchOption}
 use Rattle.arachne_lang.specs.declared.program.Program.{Program}
 use Rattle.arachne_jobs.specs.Cells.{IsOf}

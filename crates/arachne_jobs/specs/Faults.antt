@@ -1,4 +1,4 @@
--- What a job answers where a child was not joined or placed.
+-- The fault of a job if a child was not joined or placed.
 use Rattle.arachne_machine.specs.Outcome.{Finished}
 use Rattle.arachne_machine.specs.declared.pause.NotJoined.{NotJoined}
 use Rattle.arachne_machine.specs.declared.pause.NotJoined.TheVariants as not_joined

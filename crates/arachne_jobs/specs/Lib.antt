@@ -3,7 +3,5 @@ pub mod Cells
 pub mod Ends
 pub mod Slices
 pub mod Classes
-pub mod Places
-pub mod Queued
 pub mod Faults
 pub mod Dues

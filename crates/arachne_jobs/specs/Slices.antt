@@ -1,4 +1,4 @@
--- What a slice leaves, and how a job is put back.
+-- The state in which a slice leaves a job, and how the job is put back.
 use Rattle.std.specs.Prelude.{◌≡◌, ◌<◌, ◌≤◌, ℕ, Option, None, Some}
 use Rattle.arachne_core.specs.declared.state.Rest.{Rest}
 use Rattle.arachne_core.specs.declared.state.Rest.TheVariants as rest
@@ -13,30 +13,29 @@ IsWait (Some pause.Joins) = Unit {0}
 IsWait (Some (pause.Asks lock)) = Unit {0}
 IsWait _ = ⊥
 
--- the pauses at which a job asks for something that is done for it: it holds a lock from then on, frees one, or adds to
--- a ledger
+-- the pauses at which a job requests something: to hold a lock, to free one, or to add to a ledger
 abbrev pub IsRequest : Option Pending → Type 0
 IsRequest (Some (pause.Asks lock)) = Unit {0}
 IsRequest (Some (pause.Frees lock)) = Unit {0}
 IsRequest (Some (pause.Tallies ledger amount)) = Unit {0}
 IsRequest _ = ⊥
 
--- A job with this pause may rest so: it is ready where its pause was answered, and blocked where it waits.
+-- A job with this pause may rest so: ready if its pause has a reply, blocked if it waits.
 abbrev pub MayRest : Rest → Option Pending → Type 0
 MayRest rest.Ready pending = pending ≡ None
 MayRest rest.Blocked pending = IsWait pending
 
--- the pauses at which a job neither goes on nor waits: something is to be done for it first, or it has ended
+-- the pauses at which a job neither goes on nor waits: its request must be done first, or it has ended
 abbrev pub HasNoRest : Option Pending → Type 0
 HasNoRest None = ⊥
 HasNoRest (Some pause.Joins) = ⊥
 HasNoRest (Some (pause.Asks lock)) = ⊥
 HasNoRest _ = Unit {0}
 
--- of the steps that a job had, fewer are left, or as many where it awaits a child; one that still waits for a lock has
--- made none
+-- Of the steps that a job had, fewer are left, or as many if it awaits a child. A job that still waits for a lock has
+-- made none.
 abbrev pub UsesSteps : {Child : Type 0} → Slice Child → ℕ → ℕ → Type 0
-UsesSteps (Blocks unended) had left = left ≤ had
+UsesSteps Blocks had left = left ≤ had
 UsesSteps (Awaits lock) had left = left ≡ had
 UsesSteps _ had left = left < had
 
@@ -45,7 +44,7 @@ module _ {Job Child : Type 0} (forks : Job → Child → Type 0) (pause_of : Job
   abbrev pub IsLeft : Slice Child → Job → Type 0
   IsLeft Goes job = pause_of job ≡ None
   IsLeft (Forks class child) job = forks job child
-  IsLeft (Blocks unended) job = pause_of job ≡ Some pause.Joins
+  IsLeft Blocks job = pause_of job ≡ Some pause.Joins
   IsLeft (Asks lock) job = pause_of job ≡ Some (pause.Asks lock)
   IsLeft (Awaits lock) job = pause_of job ≡ Some (pause.Asks lock)
   IsLeft (Frees lock) job = pause_of job ≡ Some (pause.Frees lock)

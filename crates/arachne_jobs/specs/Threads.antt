@@ -1,4 +1,4 @@
--- What a run sees of a thread, with those that run in its place.
+-- The view of a thread in a run, with those that run in its place.
 use Rattle.std.specs.Prelude.{◌≡◌, ℕ, List, Option, None, Some}
 use Rattle.arachne_core.specs.declared.thread_id.ThreadId.{ThreadId}
 use Rattle.arachne_lang.specs.declared.program.Program.{Program}

@@ -5,7 +5,7 @@ ghost use Rattle.arachne_jobs.specs.Classes.{forks_exclusive};
 
 use arachne_lang::{Class, Expr};
 
-/// Whether an expression forks a thread that is to have a core for itself.
+/// Returns whether an expression forks a thread that has a core for itself.
 pub fn has_exclusive(expr: &Expr) -> bool
     ensures { result ≡ forks_exclusive (tree_of expr.now) }
 {

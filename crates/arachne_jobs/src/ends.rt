@@ -4,19 +4,19 @@ use crate::waiting::WaitCell;
 use crate::wanted::{OutcomeReceiver, OutcomeSender, Wanted};
 use arachne_join::SendingEnd;
 
-/// An end of a cell: the one at which a thread leaves its outcome, or one to which the outcome of a child comes.
+/// An end of a cell: the one at which a thread leaves its outcome, or one at which it gets a child's outcome.
 #[derive(Drop)]
 pub enum End {
-    /// Here the thread leaves its outcome.
+    /// The thread leaves its outcome here.
     Leaves(OutcomeSender),
-    /// Here the outcome of a child comes.
+    /// The thread gets a child's outcome here.
     Awaits(OutcomeReceiver),
-    /// The cell of a child that waits, which lies in a list of its own.
+    /// The cell of a child that waits, which is in a list of its own.
     Waits,
 }
 
-/// The cell in which a child waits or has waited. The parent, which awaits its outcome, has no sending end; the child
-/// has one once it was taken out of the cell.
+/// The cell in which a child waits or has waited. The parent has no sending end. The child has one once it was taken
+/// out of the cell.
 #[derive(Drop)]
 pub struct WaitEnd<'p> {
     pub(crate) cell: WaitCell<'p>,

@@ -1,5 +1,4 @@
 //! Why a job can't go on.
-use crate::refusal::PushRefused;
 use arachne_machine::{DetachedOutcome, NotJoined, NotPlaced};
 use std::alloc::AllocError;
 use thiserror::Error;
@@ -10,8 +9,8 @@ pub enum JobFault {
     /// A growth was refused.
     #[error("out of memory")]
     Memory,
-    /// It got the outcome of another thread than the child that it awaits, or one that its program can't have; or it
-    /// was asked for what it doesn't wait for.
+    /// It got another outcome than that of the child that it awaits, or one that its program can't have, or a call that
+    /// its pause doesn't allow.
     #[error("the outcome of another thread")]
     Foreign,
 }
@@ -23,17 +22,6 @@ impl From<AllocError> for JobFault {
     ghost from_gives = { λ _ e. e ≡ Memory };
 
     fn from(_: AllocError) -> JobFault {
-        JobFault::Memory
-    }
-}
-
-impl From<PushRefused> for JobFault {
-    ghost use Rattle.std.specs.Prelude.{◌≡◌};
-    ghost use Rattle.arachne_jobs.specs.declared.fault.JobFault.TheVariants.{Memory};
-
-    ghost from_gives = { λ _ e. e ≡ Memory };
-
-    fn from(_: PushRefused) -> JobFault {
         JobFault::Memory
     }
 }

@@ -1,5 +1,5 @@
-//! What a context holds in a run: a thread of the program.
-ghost use Rattle.std.specs.Prelude.{◌≡◌, ◌≤◌, ℕ, List, [], false, IfErr, IfNone, IfOk, IfSome, IsSome, OnErr, OnOk, None, Some};
+//! The value of a context in a run: a thread of the program.
+ghost use Rattle.std.specs.Prelude.{◌≡◌, ◌≤◌, ◌<◌, ℕ, List, [], false, true, vec_capacity, vec_len, IfErr, IfNone, IfOk, IfSome, IsSome, OnErr, OnOk, None, Some};
 ghost use Rattle.arachne_lang.specs.declared.program.Program.{Program};
 ghost use Rattle.arachne_lang.specs.Program.{source_of};
 ghost use Rattle.arachne_lang.specs.Checked.{IsChecked};
@@ -14,18 +14,14 @@ ghost use Rattle.arachne_jobs.specs.Dues.{GoesOnOver, HasTallied, IsJoined, due_
 ghost use Rattle.arachne_jobs.specs.Ends.{IsEnd, IsWaitEnd};
 ghost use Rattle.arachne_jobs.specs.Slices.{HasNoRest, IsLeft, IsRequest, MayRest, UsesSteps};
 
-use crate::awaited::{Awaited, open};
 use crate::ends::{End, WaitEnd};
 use crate::fault::JobFault;
 use crate::left::{Found, Waiting};
-use crate::left_behind::OutcomeLeft;
 use crate::openings::{ForkPlacing, Openings};
-use crate::refusal::{PushRefused, reserve_both};
 use crate::room::Room;
 use crate::slice::{JobOf, RunJob, RunThread, Slice};
 use crate::spares::JobSpares;
 use crate::ties::Ties;
-use crate::unended::{Unended, look_at, look_in};
 use crate::waiting::{Ticket, WaitCell};
 use crate::wanted::{OutcomeReceiver, Wanted};
 use arachne_contexts::Tagged;
@@ -35,18 +31,18 @@ use arachne_machine::{Contents, Pause, Pending, Thread};
 use std::alloc::{AllocError, Global};
 use std::marker::Model;
 
-/// A thread of the program, with its ends of the cells of outcomes: the first is the one at which it leaves its own,
-/// and the others await those of the children that it has forked and not joined, the newest last.
+/// A thread of the program, with its ends of cells: at the first it leaves its own outcome, and the others await those
+/// of the children that it has forked and not joined, the newest last.
 ///
 /// Contracts see the thread, and the id under which its parent runs.
 #[derive(Drop)]
 pub struct Job<'p> {
     thread: Thread<'p>,
-    /// What ties it to others, where no lifetime is.
+    /// Its ties to other jobs, without a lifetime.
     ties: Box<Ties>,
-    /// Its outcome is written here.
+    /// The box into which its outcome is written.
     contents: Box<Contents>,
-    /// The cells in which threads wait or have waited, one for each of its ends that says so, in their order.
+    /// The cells in which threads wait or have waited, one for each of its ends of that kind, in their order.
     waits: Vec<WaitEnd<'p>>,
 }
 
@@ -148,8 +144,8 @@ impl<'p> RunJob for Job<'p> {
         match self.thread.pending() {
             None => {}
             Some(Pending::Joins) => {
-                if let Some(unended) = self.join(spares)? {
-                    return Ok(Slice::Blocks(unended));
+                if !self.join(spares)? {
+                    return Ok(Slice::Blocks);
                 }
             }
             Some(Pending::Asks(lock)) => return Ok(Slice::Awaits(lock)),
@@ -176,8 +172,8 @@ impl<'p> RunJob for Job<'p> {
     {
         let mut child = child;
         child.set_tag(tag);
-        let (job, awaited) = Job::of(alloc, child, Some(me), spares)?;
-        self.expect(awaited)?;
+        let (job, receiver) = Job::of(alloc, child, Some(me), spares)?;
+        self.expect(receiver)?;
         self.thread.forked();
         Ok(job)
     }
@@ -204,13 +200,15 @@ impl<'p> RunJob for Job<'p> {
             self.place(child)?;
             return Ok(None);
         }
+        // Room comes first: the child can't be taken back once its ticket is out.
         if reserve_both(&mut self.ties.ends, &mut self.waits).is_err() {
             self.place(child)?;
             return Ok(None);
         }
         match WaitCell::wait(alloc, child, me) {
-            Ok((awaited, ticket)) => {
-                awaited.push_reserved(&mut self.ties.ends, &mut self.waits);
+            Ok((cell, ticket)) => {
+                self.waits.push_reserved(WaitEnd { cell, end: None });
+                self.ties.ends.push_reserved(End::Waits);
                 self.thread.forked();
                 Ok(Some(ticket))
             }
@@ -230,15 +228,20 @@ impl<'p> RunJob for Job<'p> {
         let mut waits = Vec::with_capacity(alloc, 1).ok()?;
         let mut ties = spares.ties.take(alloc, None).ok()?;
         let contents = spares.threads.take_contents().ok()?;
-        let Some((waiting, owed)) = ticket.take(&waits, &ties, &contents) else {
+        // The child is taken last: if memory is refused before, it waits on for its parent.
+        let Some((waiting, cell, end)) = ticket.take() else {
             spares.ties.keep(ties);
             spares.threads.keep_contents(contents);
             return None;
         };
         let Waiting { mut thread, parent } = waiting;
         thread.set_spilled();
-        owed.push_reserved(&mut ties.ends, &mut waits);
-        ties.set_parent(parent);
+        ties.ends.push_reserved(End::Waits);
+        waits.push_reserved(WaitEnd {
+            cell,
+            end: Some(end),
+        });
+        ties.parent = Some(parent);
         Some(Job {
             thread,
             ties,
@@ -261,8 +264,8 @@ impl<'p> RunJob for Job<'p> {
             return Err(JobFault::Foreign);
         };
         let outcome = thread.finish_into(contents, &mut spares.threads);
-        let left = match end {
-            End::Leaves(end) => OutcomeLeft::at(end, outcome),
+        match end {
+            End::Leaves(sender) => sender.leave(outcome),
             End::Waits => {
                 let Some(wait) = waits.pop() else {
                     return Err(JobFault::Foreign);
@@ -271,11 +274,13 @@ impl<'p> RunJob for Job<'p> {
                 let Some(end) = end else {
                     return Err(JobFault::Foreign);
                 };
-                OutcomeLeft::within(cell, end, outcome)
+                let _ = cell.leave(end, outcome);
             }
             End::Awaits(_) => return Err(JobFault::Foreign),
-        };
-        Ok(spares.ties.keep_ended(ties, left))
+        }
+        let parent = ties.parent;
+        spares.ties.keep(ties);
+        Ok(parent)
     }
 }
 
@@ -286,37 +291,36 @@ impl<'p> JobOf<'p> for Job<'p> {
         spares: &mut JobSpares<'p>,
     ) -> Result<(Job<'p>, OutcomeReceiver), AllocError> {
         let thread = Thread::start(alloc, program, 0)?;
-        let (job, awaited) = Job::of(alloc, thread, None, spares)?;
-        Ok((job, awaited.of_root()))
+        Job::of(alloc, thread, None, spares)
     }
 }
 
 impl<'p> Job<'p> {
-    /// The job of this thread, and the end that its outcome comes to.
+    /// Returns the job of this thread, and the end at which its outcome is got.
     fn of(
         alloc: Global,
         thread: Thread<'p>,
         parent: Option<ThreadId>,
         spares: &mut JobSpares<'p>,
-    ) -> Result<(Job<'p>, Awaited), AllocError>
+    ) -> Result<(Job<'p>, OutcomeReceiver), AllocError>
         ensures thread { IfOk result (λ made. made.0 ≡ record { thread = thread.entry; parent = parent }) }
-        ensures receiver { IfOk result (λ made. IsFor thread.entry made.1.receiver.opening.key) }
+        ensures receiver { IfOk result (λ made. IsFor thread.entry made.1.opening.key) }
     {
         let wanted = Wanted::of(&thread, parent);
         let mut ties = spares.ties.take(alloc, parent)?;
         let contents = spares.threads.take_contents()?;
-        let (awaited, owed) = open(alloc, &mut spares.cells, &wanted)?;
-        owed.push_reserved(&mut ties.ends);
+        let (receiver, sender) = spares.cells.open(alloc, &wanted)?;
+        ties.ends.push_reserved(End::Leaves(sender));
         let job = Job {
             thread,
             ties,
             contents,
             waits: Vec::new(alloc),
         };
-        Ok((job, awaited))
+        Ok((job, receiver))
     }
 
-    /// Goes on for at most as many steps as are left, over tallies whose amounts are due then.
+    /// Runs it for at most `left` steps, over tallies whose amounts are due then.
     #[inline(always)]
     fn advance_over(
         &mut self,
@@ -345,7 +349,7 @@ impl<'p> Job<'p> {
         Ok(paused?)
     }
 
-    /// Goes on for at most as many steps as are left.
+    /// Runs it for at most `left` steps.
     fn advance(
         &mut self,
         left: &mut u32,
@@ -364,10 +368,13 @@ impl<'p> Job<'p> {
         match self.advance_over(left, spares, room, openings)? {
             Pause::Budget => Ok(Slice::Goes),
             Pause::Forks(class, child) => Ok(Slice::Forks(class, child)),
-            Pause::Joins => match self.join(spares)? {
-                None => Ok(Slice::Goes),
-                Some(unended) => Ok(Slice::Blocks(unended)),
-            },
+            Pause::Joins => {
+                if self.join(spares)? {
+                    Ok(Slice::Goes)
+                } else {
+                    Ok(Slice::Blocks)
+                }
+            }
             Pause::Asks(lock) => Ok(Slice::Asks(lock)),
             Pause::Frees(lock) => Ok(Slice::Frees(lock)),
             Pause::Tallies(ledger, amount) => Ok(Slice::Tallies(ledger, amount)),
@@ -375,7 +382,7 @@ impl<'p> Job<'p> {
         }
     }
 
-    /// The child runs in this thread's place once it is awaited, or at once where it is.
+    /// Has the child run in this thread's place once it is awaited, or at once if it is.
     fn place(&mut self, child: Thread<'p>) -> Result<(), JobFault>
         requires pending { IsPlacing (pause_of self.old.thread) }
         requires child { MayBePlaced self.old.thread child }
@@ -389,37 +396,40 @@ impl<'p> Job<'p> {
         Ok(())
     }
 
-    /// Awaits the outcome of a child at this end too.
-    fn expect(&mut self, awaited: Awaited) -> Result<(), PushRefused>
-        requires { IsOf (program_of self.old.thread) awaited.receiver.opening.key }
+    /// Awaits the outcome of one more child, at this end.
+    fn expect(&mut self, receiver: OutcomeReceiver) -> Result<(), JobFault>
+        requires { IsOf (program_of self.old.thread) receiver.opening.key }
         ensures { self.new ≡ self.old }
     {
-        awaited.push(&mut self.ties.ends)
+        self.ties.ends.try_reserve(1)?;
+        self.ties.ends.push_reserved(End::Awaits(receiver));
+        Ok(())
     }
 
-    /// Joins the child that it awaits, if that has ended, and runs it in place, if it waits still. Else it can't go on.
-    fn join(&mut self, spares: &mut JobSpares<'p>) -> Result<Option<Unended>, JobFault>
+    /// Joins the child that it awaits if that has ended, or runs it in place if it still waits. Returns whether it did
+    /// either: if not, the job can't go on.
+    fn join(&mut self, spares: &mut JobSpares<'p>) -> Result<bool, JobFault>
         requires { IsAwaiting self.old.thread }
         ensures tag { tag_of self.new.thread ≡ tag_of self.old.thread }
         ensures parent { self.new.parent ≡ self.old.parent }
-        ensures joined { IfOk result (λ missed. missed ≡ None → IsGoing self.new.thread) }
-        ensures answered { IfOk result (λ missed. missed ≡ None → IsJoined self.old.thread self.new.thread) }
-        ensures same { IfOk result (λ missed. IfSome missed (λ _. self.new ≡ self.old)) }
+        ensures joined { IfOk result (λ goes. goes ≡ true → IsGoing self.new.thread) }
+        ensures answered { IfOk result (λ goes. goes ≡ true → IsJoined self.old.thread self.new.thread) }
+        ensures same { IfOk result (λ goes. goes ≡ false → self.new ≡ self.old) }
     {
         match self.find(spares)? {
             Found::Outcome(outcome) => {
                 self.thread.joined_into(outcome, &mut spares.threads)?;
-                Ok(None)
+                Ok(true)
             }
             Found::Child(child) => {
                 self.place(child)?;
-                Ok(None)
+                Ok(true)
             }
-            Found::Nothing(unended) => Ok(Some(unended)),
+            Found::Nothing => Ok(false),
         }
     }
 
-    /// What is in the cell of the child that it awaits. Where that is something, the cell is used up.
+    /// Takes what is in the cell of the child that it awaits, and uses it up. If nothing is there, the cell stays.
     fn find(&mut self, spares: &mut JobSpares<'p>) -> Result<Found<'p>, JobFault>
         ensures same { self.new ≡ self.old }
         ensures found { IfOk result (IsFoundOf (program_of self.old.thread)) }
@@ -428,22 +438,23 @@ impl<'p> Job<'p> {
             return Err(JobFault::Foreign);
         };
         match end {
-            End::Awaits(receiver) => match look_at(receiver) {
+            End::Awaits(receiver) => match receiver.fetch() {
                 Ok((outcome, cell)) => {
                     spares.cells.give(cell);
                     Ok(Found::Outcome(outcome))
                 }
-                Err((awaited, unended)) => {
-                    awaited.push_reserved(&mut self.ties.ends);
-                    Ok(Found::Nothing(unended))
+                Err(receiver) => {
+                    self.ties.ends.push_reserved(End::Awaits(receiver));
+                    Ok(Found::Nothing)
                 }
             },
             End::Waits => match self.waits.pop() {
-                Some(WaitEnd { cell, end: None }) => match look_in(cell) {
+                Some(WaitEnd { cell, end: None }) => match cell.find() {
                     Ok(found) => Ok(found),
-                    Err((awaited, unended)) => {
-                        awaited.push_reserved(&mut self.ties.ends, &mut self.waits);
-                        Ok(Found::Nothing(unended))
+                    Err(_) => {
+                        self.waits.push_reserved(WaitEnd { cell, end: None });
+                        self.ties.ends.push_reserved(End::Waits);
+                        Ok(Found::Nothing)
                     }
                 },
                 _ => Err(JobFault::Foreign),
@@ -451,4 +462,15 @@ impl<'p> Job<'p> {
             End::Leaves(_) => Err(JobFault::Foreign),
         }
     }
+}
+
+/// Makes room for one more in each of two lists.
+fn reserve_both<A: Drop, B: Drop>(one: &mut Vec<A>, other: &mut Vec<B>) -> Result<(), AllocError>
+    ensures one { one.new.items ≡ one.old.items }
+    ensures other { other.new.items ≡ other.old.items }
+    ensures room { OnOk result ((vec_len one.new < vec_capacity one.new) × (vec_len other.new < vec_capacity other.new)) }
+{
+    one.try_reserve(1)?;
+    other.try_reserve(1)?;
+    Ok(())
 }

@@ -1,5 +1,4 @@
-//! What lies in the cell of a child that waits for a place.
-use crate::unended::Unended;
+//! The content of the cell of a child that waits for a place.
 use crate::wanted::Wanted;
 use arachne_core::ThreadId;
 use arachne_join::Fits;
@@ -12,7 +11,7 @@ pub struct Waiting<'p> {
     pub(crate) parent: ThreadId,
 }
 
-/// What lies in a cell.
+/// The content of a cell.
 #[derive(Drop)]
 pub enum LeftInCell<'p> {
     /// The child, which has not begun.
@@ -29,13 +28,13 @@ impl<'p> Fits<Wanted> for LeftInCell<'p> {
     ghost may_wait = { MayWait };
 }
 
-/// What a parent finds in the cell of a child that it awaits.
+/// The result of a parent's look into the cell of a child that it awaits.
 #[derive(Drop)]
 pub enum Found<'p> {
     /// The child has ended.
     Outcome(DetachedOutcome),
-    /// The child waited still, and waits no longer.
+    /// The child still waited, and no longer does.
     Child(Thread<'p>),
     /// The child is at a place of its own, or on the way to one.
-    Nothing(Unended),
+    Nothing,
 }

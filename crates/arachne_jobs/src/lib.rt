@@ -1,24 +1,20 @@
-//! What a context holds in a run: a thread of a task program with the cells of its children, and how workers see it.
+//! The values of contexts in a run, threads of a task program with the cells of their children, and how workers see
+//! them.
 #![tactic(auto)]
 
-mod awaited;
 mod classes;
 mod due;
 mod ends;
 mod fault;
 mod job;
 mod left;
-mod left_behind;
 mod openings;
-mod places;
 mod queued;
-mod refusal;
 mod room;
 mod slice;
 mod spares;
 mod tags;
 mod ties;
-mod unended;
 mod waiting;
 mod wanted;
 
@@ -27,14 +23,10 @@ pub use due::Due;
 pub use fault::JobFault;
 pub use job::Job;
 pub use openings::Openings;
-pub use places::{PlaceLeft, claim_again, finish, give_back};
-pub use queued::{
-    NoRoom, RoomMade, TicketPut, TicketTaken, has_room, make_room, next_ticket, put_ticket,
-};
+pub use queued::{make_room, next_ticket, put_ticket};
 pub use room::Room;
 pub use slice::{JobOf, RunJob, RunSpares, RunThread, RunTicket, Slice};
 pub use spares::JobSpares;
 pub use tags::{BLOCK, Tags};
-pub use unended::Unended;
 pub use waiting::Ticket;
 pub use wanted::{OutcomeReceiver, OutcomeSender, Wanted};

@@ -14,16 +14,16 @@ use arachne_machine::Placing;
 pub struct Openings {
     pub tags: Tags,
     pub draws: u64,
-    /// Whether the child that was forked last has much to do.
+    /// Set if the child that was forked last has much to do.
     pub is_large: bool,
     pub due: Due,
 }
 
-/// How many turns of a sweep a child has at least that is worth room in the queue.
+/// The least number of turns of a sweep for which a child is worth room in the queue.
 const LARGE: u64 = 1024;
 
 impl Openings {
-    /// No tag is drawn yet, no word is owed, and nothing is due.
+    /// Returns means without a tag, with no word owed and nothing due.
     pub fn new() -> Openings
         ensures { (result.tags.left ≡ 0) × (result.draws ≡ 0) × (result.is_large ≡ false) × (result.due.amount ≡ 0) }
     {
@@ -35,7 +35,7 @@ impl Openings {
         }
     }
 
-    /// A fork is no pause where its child may have no place: then a word of the chooser is owed.
+    /// Owes a word of the chooser, unless the fork's child `may` have a place. Then the fork is no pause.
     #[inline(always)]
     fn owe_unless(&mut self, may: bool)
         ensures { self.new ≡ record self.old { draws = if may then self.old.draws else (self.old.draws + 1) % 2 ^ 64 } }
@@ -45,7 +45,7 @@ impl Openings {
         }
     }
 
-    /// The child that is forked has so many turns to make.
+    /// Notes how many turns the child that is forked has to make.
     #[inline(always)]
     fn note_turns(&mut self, turns: u64)
         ensures others { self.new ≡ record self.old { is_large = self.new.is_large } }
@@ -55,7 +55,7 @@ impl Openings {
     }
 }
 
-/// What a thread asks at its forks: whether its child may get a place or wait for one, and else a tag for it.
+/// The answers to a thread at its forks: whether its child may get a place or wait for one, and otherwise a tag for it.
 #[derive(Drop)]
 pub(crate) struct ForkPlacing<'a> {
     pub(crate) room: &'a Room,
@@ -63,8 +63,8 @@ pub(crate) struct ForkPlacing<'a> {
 }
 
 impl<'a> ForkPlacing<'a> {
-    /// Whether a child with so many turns to make may get a place or wait for one. If not, a word of the chooser is
-    /// owed.
+    /// Returns whether a child with this many turns to make may get a place or wait for one. If not, a word of the
+    /// chooser is owed.
     #[inline(always)]
     fn may_have_a_place(&mut self, class: Class, turns: u64) -> bool
         ensures exclusive { class ≡ Class.Exclusive → IsTrue result }

@@ -1,99 +1,90 @@
-//! Words that all workers of a run share, and look at before each fork: free places, children that wait, tags.
+//! Words that all workers of a run share and read before each fork: free places, children that wait, tags.
 ghost use Rattle.std.specs.Prelude.{◌≡◌, ◌↔◌, ◌+◌, ◌<◌, ◌≤◌, ◌*◌, ◌%◌, ◌^◌, IsTrue};
 ghost use Rattle.arachne_jobs.specs.declared.tags.TheConstants.{BLOCK};
 
-use crate::places::PlaceLeft;
-use crate::queued::{TicketPut, TicketTaken};
 use crate::tags::BLOCK;
 use crossbeam_utils::CachePadded;
 use std::sync::atomic::{AtomicU64, Ordering};
 
-/// How many children may wait at most.
-#[derive(Clone, Copy)]
-struct Limit {
-    most: u64,
-}
-
-impl Limit {
-    /// Whether one more may wait beside so many.
-    #[inline(always)]
-    fn allows(self, waiting: u64) -> bool
-        ensures { IsTrue result ↔ waiting < self.most }
-    {
-        waiting < self.most
-    }
-}
-
-/// How many places of a machine are free and how many children wait for one, or a little more or less, and how many
-/// blocks of tags are drawn. They say whether a fork is worth a look: what is claimed, and which child goes on, is
-/// decided by the table and by the child's cell. Each number has a cache line of its own.
+/// The numbers of free places, of children that wait for one, and of blocks of tags that are drawn.
+///
+/// The first two may be a little off, and only say whether a fork is worth a look: the table decides who gets a place,
+/// and a child's cell who runs the child. Each number has a cache line of its own.
 #[derive(Drop)]
 pub struct Room {
     free: CachePadded<AtomicU64>,
     waiting: CachePadded<AtomicU64>,
-    limit: Limit,
+    /// The most children that may wait.
+    most: u64,
     blocks: CachePadded<AtomicU64>,
 }
 
 impl Room {
-    /// All places of so many cores are free, of each so many, and no child waits, of at most so many. No block of tags
-    /// is drawn: the root's tag, 0, is in none.
+    /// Returns words by which all places of these cores are free, no child waits, of `most_waiting` at most, and no
+    /// block of tags is drawn. The root's tag, 0, is in no block.
     pub fn new(cores: u8, slots: u8, most_waiting: u64) -> Room
-        ensures { result.limit.most ≡ most_waiting }
+        ensures { result.most ≡ most_waiting }
     {
         Room {
             free: CachePadded::new(AtomicU64::new(places_of(cores, slots))),
             waiting: CachePadded::new(AtomicU64::new(0)),
-            limit: Limit { most: most_waiting },
+            most: most_waiting,
             blocks: CachePadded::new(AtomicU64::new(0)),
         }
     }
 
-    /// Whether a place seems to be free. A place of a closed core, and of one that a thread has alone, counts too.
+    /// Returns whether a place seems to be free. A place of a closed core, or of a core that a thread has alone, counts
+    /// too.
     #[inline(always)]
     pub fn has_free_place(&self) -> bool {
         seen(&self.free) > 0
     }
 
-    /// A place was claimed.
+    /// Counts a place that was claimed.
     pub fn place_was_claimed(&self) {
         self.free.fetch_sub(1, Ordering::SeqCst);
     }
 
-    /// A place was given back, or its thread has ended.
+    /// Counts a place that was given back, or whose thread has ended.
     #[inline(always)]
-    pub fn place_was_left(&self, left: PlaceLeft) {
-        left.counted();
+    pub fn place_was_left(&self) {
         self.free.fetch_add(1, Ordering::SeqCst);
     }
 
-    /// Whether a child seems to wait.
+    /// Returns whether a child seems to wait.
     #[inline(always)]
     pub fn is_any_waiting(&self) -> bool {
         seen(&self.waiting) > 0
     }
 
-    /// Whether one more child may wait.
+    /// Returns whether one more child may wait.
     #[inline(always)]
     pub fn may_wait(&self) -> bool {
-        self.limit.allows(seen(&self.waiting))
+        self.is_room_beside(seen(&self.waiting))
     }
 
-    /// A child begins to wait.
+    /// Returns whether one more child may wait beside these.
     #[inline(always)]
-    pub fn child_waits(&self, put: TicketPut) {
-        put.counted();
+    fn is_room_beside(&self, waiting: u64) -> bool
+        ensures { IsTrue result ↔ waiting < self.now.most }
+    {
+        waiting < self.most
+    }
+
+    /// Counts a child that begins to wait.
+    #[inline(always)]
+    pub(crate) fn child_waits(&self) {
         self.waiting.fetch_add(1, Ordering::SeqCst);
     }
 
-    /// A child's ticket was taken.
+    /// Counts a child's ticket that was taken.
     #[inline(always)]
-    pub fn ticket_was_taken(&self, taken: TicketTaken) {
-        taken.counted();
+    pub(crate) fn ticket_was_taken(&self) {
         self.waiting.fetch_sub(1, Ordering::SeqCst);
     }
 
-    /// The first tag of a whole block, which no other thread of the run has, as long as fewer than 2^58 are drawn.
+    /// Draws a block and returns its first tag. No other thread of the run has a tag of it, if fewer than 2^58 are
+    /// drawn.
     pub fn next_block(&self) -> u64
         ensures { result % BLOCK ≡ 1 }
     {
@@ -101,7 +92,7 @@ impl Room {
     }
 }
 
-/// The first tag of the block of this number. Blocks follow one another without a gap, from the tag 1 on.
+/// Returns the first tag of the block of this number. Blocks follow one another without a gap, from the tag 1 on.
 #[inline(always)]
 fn first_tag(block: u64) -> u64
     ensures { result ≡ BLOCK * (block % 2 ^ 58) + 1 }
@@ -109,20 +100,20 @@ fn first_tag(block: u64) -> u64
     BLOCK * (block % (1 << 58)) + 1
 }
 
-/// How many places so many cores have, each so many.
+/// Returns how many places these cores have.
 fn places_of(cores: u8, slots: u8) -> u64
     ensures { result ≡ cores * slots }
 {
     u64::from(cores) * u64::from(slots)
 }
 
-/// A number of things that may be taken before they are counted: then it is below 0 for a moment.
+/// Reads a number, which is below 0 for a moment if something is taken before it was counted.
 #[inline(always)]
 fn seen(number: &AtomicU64) -> u64 {
     or_zero(number.load(Ordering::SeqCst))
 }
 
-/// What a number is that may be below 0, and then wraps round: 0 there.
+/// Returns the number, or 0 if it has wrapped below 0.
 #[inline(always)]
 fn or_zero(number: u64) -> u64
     ensures above { number < 2 ^ 63 → result ≡ number }

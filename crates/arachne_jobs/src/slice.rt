@@ -1,8 +1,7 @@
-//! What a worker does with a job: it runs a part of a slice, and answers what that asks for.
-ghost use Rattle.std.specs.Prelude.{◌≡◌, ◌≤◌, [], false, IfOk, IfSome, IsSome, OnOk};
+//! The traits by which workers see jobs: a worker runs a part of a job's slice, and replies to its pause.
+ghost use Rattle.std.specs.Prelude.{◌≡◌, ◌≤◌, ℕ, List, [], Option, false, IfOk, IfSome, IsSome, None, OnOk, Some};
 ghost use Rattle.arachne_lang.specs.Program.{source_of};
 ghost use Rattle.arachne_lang.specs.Checked.{IsChecked};
-ghost use Rattle.std.specs.Prelude.{ℕ, List, Option, None, Some};
 ghost use Rattle.arachne_core.specs.declared.thread_id.ThreadId.{ThreadId};
 ghost use Rattle.arachne_machine.specs.declared.pause.Pending.{Pending};
 ghost use Rattle.arachne_machine.specs.declared.pause.Pending.TheVariants as pause;
@@ -11,36 +10,34 @@ ghost use Rattle.arachne_jobs.specs.Slices.{IsLeft, IsRequest, MayRest, UsesStep
 use crate::fault::JobFault;
 use crate::openings::Openings;
 use crate::room::Room;
-use crate::unended::Unended;
 use crate::wanted::OutcomeReceiver;
 use arachne_contexts::Tagged;
 use arachne_core::{Rest, ThreadId};
 use arachne_lang::{Class, Name, Program};
 use std::alloc::{AllocError, Global};
 
-/// Where a job stops.
+/// The reason for which a job stops.
 #[derive(Drop)]
 pub enum Slice<Child> {
     /// It goes on.
     Goes,
-    /// It forks this child, and goes on once it is answered.
+    /// It forks this child, and goes on once that is replied to.
     Forks(Class, Child),
     /// It awaits a child that has not ended.
-    Blocks(Unended),
-    /// It asks for this lock, and goes on once it is answered.
+    Blocks,
+    /// It asks for this lock, and goes on once that is replied to.
     Asks(u64),
-    /// It has asked for this lock before, and is not answered yet.
+    /// It has asked for this lock before, and has no reply yet.
     Awaits(u64),
-    /// It frees this lock, and goes on once it is answered.
+    /// It frees this lock, and goes on once that is replied to.
     Frees(u64),
-    /// It adds to this ledger this amount, while another's is due, and goes on once it is answered.
+    /// It adds this amount to this ledger while one for another is due, and goes on once that is replied to.
     Tallies(u64, u64),
     /// It has ended.
     Ends,
 }
 
-/// A thread that runs, as its workers see it: its name, whose turn it is, how it rests, and the answer to what it asks
-/// for.
+/// A thread that runs, as its workers see it: its name, whose turn it is, how it rests, and the reply to its pause.
 pub trait RunThread: Tagged + Drop {
     /// The numbers of the forks that lead to it from the root.
     ghost name_of: { Self → List ℕ };
@@ -51,23 +48,24 @@ pub trait RunThread: Tagged + Drop {
     /// The id under which its parent runs. The root has none.
     ghost parent_of: { Self → Option ThreadId };
 
-    /// The pause that is not answered.
+    /// The pause that has no reply yet.
     ghost pause_of: { Self → Option Pending };
 
-    /// Its name. A thread that runs in its place has another one.
+    /// Returns its name. A thread that runs in its place has another one.
     fn name(&self) -> &Name
         ensures { result.now ≡ name_of self.now };
 
-    /// The tag of the thread that goes on next, and whose the pause is that is not answered.
+    /// Returns the tag of the thread that goes on next, which is the one that has paused.
     fn running_tag(&self) -> u64
         ensures { result ≡ running_tag_of self.now };
 
-    /// How it rests: ready where its pause was answered, blocked where it waits. None where it can't rest.
+    /// Returns how it rests: ready if its pause has a reply, blocked if it waits. Returns `None` if it can't rest.
     fn rest(&self) -> Option<Rest>
         ensures { IfSome result (λ rest. MayRest rest (pause_of self.now)) };
 
-    /// What it asks for is done: it holds the lock that it asked for, the lock is free, or the amount was added.
-    /// `Foreign` where it asks for nothing.
+    /// Replies that its request is done: it holds the lock, the lock is free, or the amount was added.
+    ///
+    /// The error is `Foreign` if it asks for nothing.
     fn answer(&mut self) -> Result<(), JobFault>
         ensures tag { Self.tag_of self.new ≡ Self.tag_of self.old }
         ensures parent { parent_of self.new ≡ parent_of self.old }
@@ -75,34 +73,36 @@ pub trait RunThread: Tagged + Drop {
         ensures answered { OnOk result (pause_of self.new ≡ None) };
 }
 
-/// What stands for a child that waits for a place.
+/// A ticket, which stands for a child that waits for a place.
 pub trait RunTicket: Tagged + Drop {
-    /// Whether its child waits still. Nothing is taken.
+    /// Returns whether its child still waits. It takes nothing.
     fn still_waits(&self) -> bool;
 }
 
-/// What a worker keeps of ended threads for those that begin.
+/// The memory of ended threads that a worker keeps for those that begin.
 pub trait RunSpares: Drop {
-    /// Nothing is kept yet. It takes no memory.
+    /// Returns nothing kept. It takes no memory.
     fn none(alloc: Global) -> Self;
 }
 
-/// What a context holds in a run: a thread with all that its slices and its forks need.
+/// The value of a context in a run: a thread with all that its slices and its forks need.
 pub trait RunJob: RunThread {
     /// A thread that was forked and has no place yet.
     type Child: Drop;
 
-    /// What stands for a child that waits for a place.
+    /// The ticket of a child that waits for a place.
     type Ticket: RunTicket;
 
-    /// What a worker keeps of ended threads for those that begin.
+    /// The memory of ended threads that a worker keeps.
     type Spares: RunSpares;
 
-    /// The job forks this child, and is not answered.
+    /// The job forks this child, and has no reply yet.
     ghost forks: { Self → Self.Child → Type 0 };
 
-    /// Goes on for at most as many steps as are left, of which fewer are left then. A thread that waits makes none. A
-    /// child for which there is no place runs in this job's. What it tallies is due then.
+    /// Runs it for at most `left` steps, from which those that it makes are taken.
+    ///
+    /// A thread that waits makes none. A child for which there is no place runs in this job's. The amounts that it
+    /// tallies are due then.
     fn slice(
         &mut self,
         left: &mut u32,
@@ -116,7 +116,7 @@ pub trait RunJob: RunThread {
         ensures parent { Self.parent_of self.new ≡ Self.parent_of self.old }
         ensures left { IfOk result (λ slice. IsLeft forks Self.pause_of slice self.new) };
 
-    /// The child becomes a job of its own with this tag, whose parent runs under this id.
+    /// Makes the child a job of its own with this tag, whose parent runs under this id.
     fn fork_off(
         &mut self,
         alloc: Global,
@@ -132,8 +132,9 @@ pub trait RunJob: RunThread {
         ensures childs_parent { IfOk result (λ job. Self.parent_of job ≡ Some me) }
         ensures answered { OnOk result (Self.pause_of self.new ≡ None) };
 
-    /// The child waits with this tag for a place, or until this job, which runs under this id, awaits it. The ticket
-    /// for it; none where it is not to wait or memory is refused, and the child runs in this job's place.
+    /// Has the child wait with this tag for a place, or until this job, which runs under this id, awaits it.
+    ///
+    /// Returns its ticket, or `None` if not `waits` or memory is refused: then the child runs in this job's place.
     fn put_aside(
         &mut self,
         alloc: Global,
@@ -149,13 +150,15 @@ pub trait RunJob: RunThread {
         ensures ticket { IfOk result (λ made. IfSome made (λ ticket. Self.Ticket.tag_of ticket ≡ tag)) }
         ensures asked { waits ≡ false → IfOk result (λ made. made ≡ None) };
 
-    /// The job of a ticket's child, if that waits still, which has a parent. Where memory is refused there is none, and
-    /// the child waits on for its parent.
+    /// Returns the job of a ticket's child, if that still waits. Returns `None` also if memory is refused: then the
+    /// child waits on for its parent.
     fn of_ticket(alloc: Global, ticket: Self::Ticket, spares: &mut Self::Spares) -> Option<Self>
         ensures parent { IfSome result (λ job. IsSome (Self.parent_of job)) }
         ensures tag { IfSome result (λ job. Self.tag_of job ≡ Self.Ticket.tag_of ticket) };
 
-    /// Leaves the outcome for its parent, which is to be woken; the root has none. `Foreign` where it has not ended.
+    /// Leaves the outcome for its parent, and returns the id of the parent, which must be woken. The root has none.
+    ///
+    /// The error is `Foreign` if the thread has not ended.
     fn leave(self, spares: &mut Self::Spares) -> Result<Option<ThreadId>, JobFault>
         ensures ended { OnOk result (Self.pause_of self ≡ Some pause.Ended) }
         ensures parent { IfOk result (λ parent. parent ≡ Self.parent_of self) };
@@ -163,7 +166,7 @@ pub trait RunJob: RunThread {
 
 /// The jobs of a program's threads.
 pub trait JobOf<'p>: RunJob {
-    /// The root's job, which has the tag 0, and the end that its outcome comes to.
+    /// Returns the root's job, which has the tag 0, and the end at which its outcome is got.
     fn begin(
         alloc: Global,
         program: &'p Program,

@@ -3,10 +3,10 @@ ghost use Rattle.std.specs.Prelude.{◌≡◌, ◌+◌, ◌<◌, ◌%◌};
 
 use crate::room::Room;
 
-/// How many tags a worker draws at once: a block.
+/// The number of tags that a worker draws at once: a block.
 pub const BLOCK: u64 = 64;
 
-/// The tags that a worker has drawn and not given yet: so many in a row from the next one on.
+/// The tags that a worker has drawn and not given yet, in a row from the next one on.
 #[derive(Debug, Drop)]
 pub struct Tags {
     pub next: u64,
@@ -14,14 +14,14 @@ pub struct Tags {
 }
 
 impl Tags {
-    /// None is drawn yet.
+    /// Returns no tags.
     pub fn new() -> Tags
         ensures { result.left ≡ 0 }
     {
         Tags { next: 0, left: 0 }
     }
 
-    /// The next tag of the block, or the first of a new one where none is left.
+    /// Returns the next tag of the block, or the first of a new one if none is left.
     pub fn take(&mut self, room: &Room) -> u64
         ensures of_block { 0 < self.old.left → result ≡ self.old.next }
         ensures next { result < u64.MAX → self.new.next ≡ result + 1 }

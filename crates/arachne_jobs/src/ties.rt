@@ -1,8 +1,7 @@
-//! What ties a job to others, in one box, and what ended jobs leave of it.
-ghost use Rattle.std.specs.Prelude.{◌≡◌, ◌≤◌, ◌+◌, [], IfOk, Some, vec_len, vec_capacity};
+//! The ties of a job to others, in one box, and the ties of ended jobs.
+ghost use Rattle.std.specs.Prelude.{◌≡◌, ◌≤◌, ◌+◌, [], IfOk, vec_len, vec_capacity};
 
 use crate::ends::End;
-use crate::left_behind::OutcomeLeft;
 use arachne_core::ThreadId;
 use std::alloc::{AllocError, Global};
 use std::marker::Model;
@@ -11,20 +10,10 @@ use std::marker::Model;
 #[derive(Drop)]
 pub struct Ties {
     pub(crate) ends: Vec<End>,
-    parent: Option<ThreadId>,
+    pub(crate) parent: Option<ThreadId>,
 }
 
-impl Ties {
-    /// They are those of a child of this parent.
-    #[inline(always)]
-    pub(crate) fn set_parent(&mut self, parent: ThreadId)
-        ensures { self.new ≡ record self.old { parent = Some parent } }
-    {
-        self.parent = Some(parent);
-    }
-}
-
-/// How many ties are kept at most.
+/// The most ties that are kept.
 const MOST: usize = 64;
 
 /// The ties of ended jobs, with the room of their lists, for jobs that begin.
@@ -44,14 +33,14 @@ impl Model for SpareTies {
 }
 
 impl SpareTies {
-    /// None so far. It allocates nothing.
+    /// Returns no ties. It takes no memory.
     pub(crate) fn new(alloc: Global) -> SpareTies {
         SpareTies {
             ties: Vec::new(alloc),
         }
     }
 
-    /// Ties to this parent and to no cell, with room for an end.
+    /// Returns ties to this parent and to no cell, with room for an end.
     #[inline(always)]
     pub(crate) fn take(
         &mut self,
@@ -76,17 +65,6 @@ impl SpareTies {
         ties.ends.try_reserve(2)?;
         ties.parent = parent;
         Ok(ties)
-    }
-
-    /// Keeps the ties of a job that has left its outcome. The id under which its parent runs, which is had only so.
-    #[inline(always)]
-    pub(crate) fn keep_ended(&mut self, ties: Box<Ties>, left: OutcomeLeft) -> Option<ThreadId>
-        ensures { result ≡ ties.value.parent }
-    {
-        left.told();
-        let parent = ties.parent;
-        self.keep(ties);
-        parent
     }
 
     /// Keeps the ties of an ended job, unless there are enough.

@@ -1,26 +1,25 @@
 //! A child that waits in its join cell, for a place or for its parent.
-ghost use Rattle.std.specs.Prelude.{◌≡◌, ◌≢◌, ◌↔◌, ◌+◌, ◌≤◌, IfOk, IfErr, IfSome, IsTrue, Some, vec_capacity, vec_len};
+ghost use Rattle.std.specs.Prelude.{◌≡◌, ◌≢◌, ◌↔◌, IfOk, IfErr, IfSome, IsTrue, Some};
 ghost use Rattle.std.specs.Arc.{arc_value};
 ghost use Rattle.arachne_join.specs.Views.{shown};
 ghost use Rattle.arachne_join.specs.declared.view.Role.TheVariants.{Left as HasLeft, Saw};
 ghost use Rattle.arachne_jobs.specs.Cells.{HasNotBegun, IsFor, IsFoundFor, IsTold, IsWanted};
 ghost use Rattle.arachne_jobs.specs.Threads.{tag_of};
 
-use crate::awaited::{AwaitedIn, OwedIn};
-use crate::ends::WaitEnd;
 use crate::left::{Found, LeftInCell, Waiting};
 use crate::slice::RunTicket;
-use crate::ties::Ties;
 use crate::wanted::Wanted;
 use arachne_contexts::Tagged;
 use arachne_core::ThreadId;
 use arachne_join::{CellState, JoinCell, Missed, Receipt, SendingEnd};
-use arachne_machine::{Contents, DetachedOutcome, Thread};
+use arachne_machine::{DetachedOutcome, Thread};
 use std::alloc::{AllocError, Global};
 use std::marker::Model;
 use std::sync::Arc;
 
 type Cell<'p> = JoinCell<LeftInCell<'p>, Wanted>;
+
+type CellEnd<'p> = SendingEnd<LeftInCell<'p>, Wanted>;
 
 /// A share of a cell. Contracts see the cell: what it is for, and its table.
 #[derive(Drop)]
@@ -43,7 +42,7 @@ impl<'p> Model for WaitCell<'p> {
     ghost view = { λ c. arc_value c.cell };
 }
 
-/// What lies in the queue for a child that waits: its cell and its tag. Contracts see the cell.
+/// The ticket of a child that waits: its cell and its tag. Contracts see the cell.
 #[derive(Drop)]
 pub struct Ticket<'p> {
     cell: Arc<Cell<'p>>,
@@ -77,14 +76,14 @@ impl<'p> Tagged for Ticket<'p> {
 }
 
 impl<'p> WaitCell<'p> {
-    /// A child begins to wait, and the ticket for it. Where memory is refused the child comes back.
+    /// Puts a child into a cell, where it waits. Returns the cell and a ticket, or the child if memory is refused.
     pub(crate) fn wait(
         alloc: Global,
         child: Thread<'p>,
         parent: ThreadId,
-    ) -> Result<(AwaitedIn<'p>, Ticket<'p>), Thread<'p>>
+    ) -> Result<(WaitCell<'p>, Ticket<'p>), Thread<'p>>
         requires { HasNotBegun child }
-        ensures cell { IfOk result (λ made. IsFor child.entry made.0.cell.key) }
+        ensures cell { IfOk result (λ made. IsFor child.entry made.0.key) }
         ensures tag { IfOk result (λ made. made.1.key.tag.value ≡ tag_of child.entry) }
         ensures parent { IfOk result (λ made. made.1.key.parent.value ≡ Some parent) }
         ensures handed_back { IfErr result (λ back. back ≡ child.entry) }
@@ -101,12 +100,11 @@ impl<'p> WaitCell<'p> {
                 parent,
             }),
         );
-        let cell = AwaitedIn::of(WaitCell { cell });
-        Ok((cell, Ticket { cell: ticket, tag }))
+        Ok((WaitCell { cell }, Ticket { cell: ticket, tag }))
     }
 
-    /// What the parent that awaits the child finds. Where there is nothing, the cell was seen in a state in which no
-    /// child waited.
+    /// Takes the outcome or the child out of the cell, for the parent that awaits it. If there is neither, the cell was
+    /// seen in a state in which no child waited.
     pub(crate) fn find(&self) -> Result<Found<'p>, Missed<Wanted>>
         ensures found { IfOk result (IsFoundFor self.now.key) }
         ensures missed { IfErr result (λ missed. (missed.state ≢ CellState.Waiting) × (missed.receipt ≡ shown self.now.table (Saw missed.state))) }
@@ -129,15 +127,9 @@ impl<'p> WaitCell<'p> {
             Err(missed) => Err(missed),
         }
     }
-}
 
-impl<'p> WaitCell<'p> {
-    /// Leaves the child's outcome, with the sending end of this cell. What shows that it did.
-    pub(crate) fn leave(
-        self,
-        end: SendingEnd<LeftInCell<'p>, Wanted>,
-        outcome: DetachedOutcome,
-    ) -> Receipt<Wanted>
+    /// Leaves the child's outcome, with the sending end of this cell. Returns the receipt.
+    pub(crate) fn leave(self, end: CellEnd<'p>, outcome: DetachedOutcome) -> Receipt<Wanted>
         requires end { end ≡ self.table }
         requires outcome { IsWanted self.key outcome }
         ensures { result ≡ shown self.entry.table HasLeft }
@@ -146,7 +138,7 @@ impl<'p> WaitCell<'p> {
     }
 }
 
-/// Whether a child waits in a cell of this state.
+/// Returns whether a child waits in a cell of this state.
 #[inline(always)]
 fn is_waiting(state: CellState) -> bool
     ensures { IsTrue result ↔ (state ≡ CellState.Waiting) }
@@ -162,28 +154,16 @@ impl<'p> RunTicket for Ticket<'p> {
 }
 
 impl<'p> Ticket<'p> {
-    /// The child, if it waits still, with its cell and the end with which it leaves its outcome there. It is taken only
-    /// where all that its job takes memory for is there: room in the list of its cells, ties with room for an end, and
-    /// the box of its outcome.
-    pub(crate) fn take(
-        self,
-        waits: &Vec<WaitEnd<'p>>,
-        ties: &Box<Ties>,
-        contents: &Box<Contents>,
-    ) -> Option<(Waiting<'p>, OwedIn<'p>)>
-        requires waits { vec_len waits.now + 1 ≤ vec_capacity waits.now }
-        requires ties { vec_len ties.now.value.ends + 1 ≤ vec_capacity ties.now.value.ends }
-        ensures child { IfSome result (λ taken. IsFor taken.0.thread taken.1.cell.key × HasNotBegun taken.0.thread) }
+    /// Takes the child, if it still waits, with its cell and the end with which it leaves its outcome there.
+    pub(crate) fn take(self) -> Option<(Waiting<'p>, WaitCell<'p>, CellEnd<'p>)>
+        ensures child { IfSome result (λ taken. IsFor taken.0.thread taken.1.key × HasNotBegun taken.0.thread) }
         ensures told { IfSome result (λ taken. IsTold taken.0 self.entry.key) }
-        ensures end { IfSome result (λ taken. taken.1.end ≡ taken.1.cell.table) }
+        ensures end { IfSome result (λ taken. taken.2 ≡ taken.1.table) }
     {
-        let _ = waits;
-        let _ = ties;
-        let _ = contents;
         let Ticket { cell, tag: _ } = self;
         match cell.take_back() {
             Ok((left, end)) => match left {
-                LeftInCell::Child(waiting) => Some((waiting, OwedIn::of(WaitCell { cell }, end))),
+                LeftInCell::Child(waiting) => Some((waiting, WaitCell { cell }, end)),
                 LeftInCell::Outcome(_) => unreachable!(),
             },
             Err(_) => None,
@@ -191,18 +171,11 @@ impl<'p> Ticket<'p> {
     }
 }
 
-/// An empty cell with two owners, and its sending end.
+/// Returns an empty cell with two owners, and its sending end.
 fn shared_cell<'p>(
     alloc: Global,
     wanted: &Wanted,
-) -> Result<
-    (
-        Arc<Cell<'p>>,
-        SendingEnd<LeftInCell<'p>, Wanted>,
-        Arc<Cell<'p>>,
-    ),
-    AllocError,
->
+) -> Result<(Arc<Cell<'p>>, CellEnd<'p>, Arc<Cell<'p>>), AllocError>
     ensures cell { IfOk result (λ made. (arc_value made.0).key ≡ wanted.now) }
     ensures end { IfOk result (λ made. made.1 ≡ (arc_value made.0).table) }
     ensures other { IfOk result (λ made. arc_value made.2 ≡ arc_value made.0) }

@@ -1,4 +1,4 @@
-//! What a fork's child leaves for its parent.
+//! The outcome that a fork's child leaves for its parent.
 ghost use Rattle.std.specs.Prelude.{◌≡◌};
 ghost use Rattle.arachne_jobs.specs.Cells.{IsFor};
 ghost use Rattle.arachne_jobs.specs.Threads.{tag_of};
@@ -9,7 +9,7 @@ use arachne_lang::{Name, Program};
 use arachne_machine::{DetachedOutcome, Thread};
 use std::snapshot::Snapshot;
 
-/// What a cell is for: the outcome of the thread of this name in this program. It has no bytes.
+/// The purpose of a cell: the outcome of the thread of this name in this program. It has no bytes.
 #[derive(Drop)]
 pub struct Wanted {
     /// The program that the thread is of.
@@ -23,7 +23,7 @@ pub struct Wanted {
 }
 
 impl Wanted {
-    /// The outcome of this thread is wanted, by this parent.
+    /// Returns the purpose of a cell for the outcome of this thread, which this parent awaits.
     #[inline(always)]
     pub(crate) fn of(thread: &Thread<'_>, parent: Option<ThreadId>) -> Wanted
         ensures thread { IsFor thread.now result }
@@ -45,8 +45,8 @@ impl Fits<Wanted> for DetachedOutcome {
     ghost fits = { IsWanted };
 }
 
-/// The end that leaves the outcome of a thread.
+/// The end at which a thread's outcome is left.
 pub type OutcomeSender = Sender<DetachedOutcome, Wanted>;
 
-/// The end that the outcome of a thread comes to.
+/// The end at which a thread's outcome is got.
 pub type OutcomeReceiver = Receiver<DetachedOutcome, Wanted>;

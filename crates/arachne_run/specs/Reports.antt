@@ -24,8 +24,8 @@ tags_of report = map (λ line. line.tag) report.threads
 abbrev pub histories_in : Report → List (List LockEvent)
 histories_in report = map (λ history. history.items) report.histories.items
 
--- It is a report of this program, where there were so many orders: what the program means on one thread; its threads,
--- each once; and for each lock a lawful history with one holder at a time, whose grants are the holds of the threads.
+-- It is a report of this program, for this many orders: the program's meaning on one thread; its threads, each once;
+-- and for each lock a lawful history with one holder at a time, whose grants are the holds of the threads.
 pub record IsReportOf (program : Program) (orders : ℕ) (report : Report) : Type 0 where
   pub meaning : meaning_in report ≡ meaning_of (source_of program)
   pub tags : AreDistinct (tags_of report)

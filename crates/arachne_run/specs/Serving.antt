@@ -1,4 +1,4 @@
--- What a thread asks for, what may come of it, and where it stops.
+-- A thread's request, its result, and how the thread stops.
 use Rattle.std.specs.Prelude.{◌≡◌, ◌≢◌, ℕ, Bool, false, true, if◌then◌else◌, List, Option, None, Some, Result}
 use Rattle.arachne_machine.specs.declared.pause.Pending.{Pending}
 use Rattle.arachne_machine.specs.declared.pause.Pending.TheVariants as pause
@@ -49,7 +49,7 @@ IsServed (Frees lock) who (Freed freed) = Unit {0}
 IsServed (Tallies ledger amount) who Added = Unit {0}
 IsServed _ who _ = ⊥
 
--- A share has got what was due, once: where something was, its sum for that ledger is raised by it.
+-- A share has got what was due, once: if something was due, its sum for that ledger is raised by it.
 pub record IsSettled (due : Due) (old new : List ℕ) : Type 0 where
   pub none : due.amount ≡ 0 → new ≡ old
   pub some : due.amount ≢ 0 → new ≡ raised old due.ledger due.amount
@@ -68,7 +68,7 @@ IsWantOf (Awaits lock) pending = pending ≡ Some (pause.Asks lock)
 IsWantOf (Frees lock) pending = pending ≡ Some (pause.Frees lock)
 IsWantOf (Tallies ledger amount) pending = pending ≡ Some (pause.Tallies ledger amount)
 
--- A thread with this pause stops so: it waits for the lock that it asks for, awaits a child or has ended, and else it
+-- A thread with this pause stops so: it waits for the lock that it asks for, awaits a child, or has ended. Otherwise it
 -- goes on.
 abbrev pub StopsAt : ThreadStop → Option Pending → Type 0
 StopsAt (stop.Waits lock) pending = pending ≡ Some (pause.Asks lock)
@@ -89,7 +89,7 @@ is_wait stop.Spilled = false
 is_wait (stop.Posted post) = false
 is_wait (stop.Wakes next) = false
 
--- whether a thread has a lock once what it asks for is done, or it waits for that, where it had one before or not
+-- true if a thread has a lock once its request is done, or waits, whether it had one before or not
 abbrev pub has_lock_after : Want → (waits had : Bool) → Bool
 has_lock_after (Asks lock) waits had = if waits then had else true
 has_lock_after (Awaits lock) waits had = if waits then had else true

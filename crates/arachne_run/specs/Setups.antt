@@ -20,23 +20,22 @@ use Rattle.arachne_policy.specs.Orders.{IsFirstFault}
 abbrev pub is_within : ℕ → ℕ → ℕ → Bool
 is_within least most n = nat_le least n && nat_le n most
 
--- what is wrong with so many cores, this quantum, so many places a core and so many choosers: the first of these that
--- is
+-- the first fault in these numbers: cores, steps of a slice, places of a core, choosers
 abbrev pub refusal_of : ℕ → ℕ → ℕ → ℕ → Option RunFault
 refusal_of cores quantum slots choosers =
     if is_within 1 CORES cores then
     (if is_within 1 10000 quantum then (if is_within 1 SLOTS slots then (if choosers == cores then None else Some Choosers) else Some Slots) else Some Quantum)
     else Some Cores
 
--- what is wrong with the numbers of a setup where there are so many choosers
+-- the first fault in the numbers of a setup with this many choosers
 abbrev pub refusal_in : Setup → ℕ → Option RunFault
 refusal_in setup choosers = refusal_of setup.cores setup.quantum setup.slots choosers
 
--- it is the first fault of these orders on so many cores
+-- it is the first fault of these orders on this many cores
 abbrev pub IsFirstOrderFault : ℕ → List CoreOrder → RunFault → Type 0
 IsFirstOrderFault cores orders fault = (first : OrderFault) × IsFirstFault cores orders first × (fault ≡ Orders first)
 
--- It is what is wrong with a setup: with its numbers, or with its orders where nothing is wrong with its numbers.
+-- It is the first fault of a setup: in its numbers, or in its orders if its numbers have none.
 abbrev pub IsSetupFault : ℕ → ℕ → ℕ → ℕ → List CoreOrder → RunFault → Type 0
 IsSetupFault cores quantum slots choosers orders fault =
     (refusal_of cores quantum slots choosers ≡ Some fault)
@@ -65,17 +64,17 @@ numbered n =
     if n == 0 then worker.Memory else (if n == 1 then worker.Foreign else (if n == 2 then worker.Threads
     else (if n == 3 then worker.Ledgers else (if n == 5 then worker.KernelThread else worker.Token))))
 
--- what a worker stops for where a job can't go on
+-- the fault of a worker whose job can't go on
 abbrev pub as_worker_fault : JobFault → WorkerFault
 as_worker_fault job.Memory = worker.Memory
 as_worker_fault job.Foreign = worker.Foreign
 
--- what the workers stop for where a kernel thread does not begin
+-- the fault of the workers if a kernel thread does not begin
 abbrev pub of_team : TeamFault → WorkerFault
 of_team team.Memory = worker.Memory
 of_team team.KernelThread = worker.KernelThread
 
--- what a worker stops for where an ask for a lock is refused
+-- the fault of a worker if an ask for a lock is refused
 abbrev pub of_ask : AskFault → WorkerFault
 of_ask ask.AlreadyIn = worker.Threads
 of_ask ask.Memory = worker.Memory

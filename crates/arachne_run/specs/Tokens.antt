@@ -65,7 +65,7 @@ IsAnyLeft {Thread} settles = (first : Thread) × (others : List Thread) × settl
 abbrev pub thread_in : {C T H : Type 0} → (T → ℕ) → Held T H → Out C H
 thread_in tag held = Thread held.hold (tag held.value)
 
--- what is out where this thread, or none, is held
+-- what is out while this thread, or none, is held
 abbrev pub in_hand : {C T H : Type 0} → (T → ℕ) → Option (InHand T H) → List (Out C H)
 in_hand tag None = []
 in_hand tag (Some thread) = thread_in tag thread.held ∷ []
@@ -78,7 +78,7 @@ IsSpent {Seat} {C} {H} has out old new = (outs : List (Out C H)) → has old (ou
 abbrev pub IsOutWith : {C H : Type 0} → (List (Out C H) → Type 0) → List C → Option C → Type 0
 IsOutWith has kept place = MatchOption place (has (map Claim kept)) (λ claim. has (Claim claim ∷ map Claim kept))
 
--- a machine of so many cores and places, this quantum and so many orders, with the locks and ledgers of the program;
+-- a machine of these numbers of cores, places and orders, with this quantum and the locks and ledgers of the program;
 -- its workers may move threads unless the program has a fork for a whole core
 abbrev pub IsMachineFor : {Table Ticket : Type 0} → (cores slots quantum orders : ℕ) → Program → Machine Table Ticket → Type 0
 IsMachineFor cores slots quantum orders program machine =

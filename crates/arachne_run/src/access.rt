@@ -9,11 +9,10 @@ ghost use Rattle.arachne_run.specs.Tokens.{AreHoldingsOf};
 ghost use Rattle.arachne_workers.specs.declared.desk.ThreadStop.TheVariants as stopped;
 ghost use Rattle.arachne_run.specs.declared.fault.WorkerFault.TheVariants.{Foreign};
 ghost use Rattle.arachne_run.specs.declared.granted.Got.TheVariants as got;
-ghost use Rattle.arachne_run.specs.declared.granted.LockCall.TheVariants as calls;
 ghost use Rattle.arachne_run.specs.declared.granted.Granted.{Granted};
 
 use crate::fault::WorkerFault;
-use crate::granted::{self, Got, Granted};
+use crate::granted::{self, Got, Granted, LockCall};
 use crate::resources::{Holdings, Resources};
 use arachne_arbiter::Pace;
 use arachne_core::ThreadId;
@@ -25,7 +24,7 @@ use std::marker::Model;
 use std::sync::Wait;
 use std::time::Clock;
 
-/// What a thread asks for.
+/// A thread's request.
 #[derive(Clone, Copy)]
 pub(crate) enum Want {
     /// This lock.
@@ -38,7 +37,7 @@ pub(crate) enum Want {
     Tallies(u64, u64),
 }
 
-/// What came of what a thread asked for.
+/// The result of a thread's request.
 pub(crate) enum Served {
     /// It waits for this lock.
     Waits(u64),
@@ -144,11 +143,11 @@ impl<'a> Access<'a> {
         ensures sums { OnOk result (self.new.sums ≡ sums_after want self.old.sums) }
     {
         match want {
-            Want::Asks(lock) => match self.ask(rt, pace, lock, who)? {
+            Want::Asks(lock) => match self.get(rt, pace, LockCall::Ask, lock, who)? {
                 Some(granted) => Ok(Served::Holds(granted)),
                 None => Ok(Served::Waits(lock)),
             },
-            Want::Awaits(lock) => match self.check(rt, pace, lock, who)? {
+            Want::Awaits(lock) => match self.get(rt, pace, LockCall::Check, lock, who)? {
                 Some(granted) => Ok(Served::Holds(granted)),
                 None => Ok(Served::Waits(lock)),
             },
@@ -160,48 +159,24 @@ impl<'a> Access<'a> {
         }
     }
 
-    /// Asks for a lock. Returns `None` if the thread waits for it.
-    pub(crate) fn ask<H: Wait + Clock>(
+    /// Tries to get a lock by this call, until it is answered. Returns `None` if the thread waits for the lock.
+    pub(crate) fn get<H: Wait + Clock>(
         &mut self,
         rt: &H,
         pace: &mut Pace,
+        call: LockCall,
         lock: u64,
         who: Who,
     ) -> Result<Option<Granted>, WorkerFault>
         ensures same { self.new ≡ self.old }
-        ensures granted { IfOk result (λ found. IfSome found (IsGrantBy calls.Ask lock who)) }
+        ensures granted { IfOk result (λ found. IfSome found (IsGrantBy call lock who)) }
     {
         let mut tries: u32 = 0;
         for _ in rt.forever() {
-            match self.try_ask(lock, who)? {
+            match self.try_get(call, lock, who)? {
                 Got::Granted(granted) => return Ok(Some(granted)),
                 Got::Waits => return Ok(None),
                 Got::Refused(fault) => return Err(WorkerFault::from(fault)),
-                Got::Contended => {}
-            }
-            stand_by(rt, pace, tries);
-            tries = tries.saturating_add(1);
-        }
-        unreachable!()
-    }
-
-    /// Checks whether a thread that has asked for a lock holds it now. Returns `None` if it still waits.
-    pub(crate) fn check<H: Wait + Clock>(
-        &mut self,
-        rt: &H,
-        pace: &mut Pace,
-        lock: u64,
-        who: Who,
-    ) -> Result<Option<Granted>, WorkerFault>
-        ensures same { self.new ≡ self.old }
-        ensures granted { IfOk result (λ found. IfSome found (IsGrantBy calls.Check lock who)) }
-    {
-        let mut tries: u32 = 0;
-        for _ in rt.forever() {
-            match self.try_check(lock, who)? {
-                Got::Granted(granted) => return Ok(Some(granted)),
-                Got::Waits => return Ok(None),
-                Got::Refused(_) => return Err(WorkerFault::Threads),
                 Got::Contended => {}
             }
             stand_by(rt, pace, tries);
@@ -233,24 +208,18 @@ impl<'a> Access<'a> {
         unreachable!()
     }
 
-    /// Makes one attempt to ask for a lock. In a checked program a pause names a lock that exists.
-    fn try_ask(&mut self, lock: u64, who: Who) -> Result<Got, WorkerFault>
+    /// Makes one attempt to get a lock by this call. In a checked program a pause names a lock that exists.
+    fn try_get(&mut self, call: LockCall, lock: u64, who: Who) -> Result<Got, WorkerFault>
         ensures same { self.new ≡ self.old }
-        ensures pass { (granted : Granted) → result ≡ Ok (got.Granted granted) → IsGrantBy calls.Ask lock who granted }
+        ensures pass { (granted : Granted) → result ≡ Ok (got.Granted granted) → IsGrantBy call lock who granted }
     {
         let locks = &self.resources.locks;
         let lock = number_of(locks, lock)?;
-        Ok(granted::ask(locks, &mut self.holdings.lock_seats, lock, who))
-    }
-
-    /// Makes one attempt to check whether a thread that has asked for a lock holds it now.
-    fn try_check(&mut self, lock: u64, who: Who) -> Result<Got, WorkerFault>
-        ensures same { self.new ≡ self.old }
-        ensures pass { (granted : Granted) → result ≡ Ok (got.Granted granted) → IsGrantBy calls.Check lock who granted }
-    {
-        let locks = &self.resources.locks;
-        let lock = number_of(locks, lock)?;
-        Ok(granted::check(locks, &mut self.holdings.lock_seats, lock, who))
+        let seats = &mut self.holdings.lock_seats;
+        match call {
+            LockCall::Ask => Ok(granted::ask(locks, seats, lock, who)),
+            LockCall::Check => Ok(granted::check(locks, seats, lock, who)),
+        }
     }
 
     /// Makes one attempt to free a lock.
@@ -289,7 +258,7 @@ impl<'a> Access<'a> {
     }
 }
 
-/// Returns where a thread stops that has freed a lock: it goes on, and who holds the lock next is woken.
+/// Returns how a thread stops that has freed a lock: it goes on, and the lock's next holder is woken.
 #[inline(always)]
 fn stop_after(freed: Freed) -> ThreadStop
     ensures next { MatchOption freed.next (result ≡ stopped.Goes) (λ next. result ≡ stopped.Wakes next.id) }

@@ -10,14 +10,12 @@ ghost use Rattle.arachne_run.specs.Serving.{StopsAt};
 ghost use Rattle.arachne_run.specs.Tokens.{IsOutWith, IsSetUp, IsSpent, thread_in};
 
 use crate::access::{Access, Want};
-use crate::claims::Claims;
 use crate::fault::WorkerFault;
 use crate::machine::Machine;
+use crate::stack::Stack;
 use arachne_arbiter::{Cores, Pace};
 use arachne_contexts::{Contexts, Held, Identified, Placed};
-use arachne_jobs::{
-    Openings, PlaceLeft, RunJob, Slice, give_back, has_room, make_room, put_ticket,
-};
+use arachne_jobs::{Openings, RunJob, Slice, make_room, put_ticket};
 use arachne_lang::Class;
 use arachne_spill::SpillPass;
 use arachne_workers::{PostedThread, ThreadStop};
@@ -26,13 +24,13 @@ use std::alloc::{AllocError, Global};
 use std::sync::Wait;
 use std::time::Clock;
 
-/// What a worker has for the forks of threads.
+/// A worker's means for the forks of threads.
 #[derive(Drop)]
 pub(crate) struct ForkSupplies<R, P> {
     /// The core's chooser.
     pub(crate) chooser: R,
     pub(crate) openings: Openings,
-    /// What is kept of ended threads for those that begin.
+    /// The memory of ended threads, for those that begin.
     pub(crate) spares: P,
 }
 
@@ -78,7 +76,7 @@ pub(crate) fn go_on<H: Wait + Clock, T: RunJob, C: Contexts<T>, R: Rng>(
                 rt, alloc, machine, seat, pass, held, class, child, forks,
             );
         }
-        Slice::Blocks(_) => return Ok(ThreadStop::Blocks),
+        Slice::Blocks => return Ok(ThreadStop::Blocks),
         Slice::Ends => return Ok(ThreadStop::Ends),
         Slice::Asks(lock) => Want::Asks(lock),
         Slice::Awaits(lock) => Want::Awaits(lock),
@@ -133,13 +131,13 @@ fn answer_fork<H: Wait, T: RunJob, C: Contexts<T>, R: Rng>(
         let post = post_at::<H, T, C>(rt, machine, seat, claim, job)?;
         return Ok(ThreadStop::Posted(post));
     }
+    let tickets = &machine.tickets;
     let wants_room = is_worth_room(class, forks.openings.is_large);
-    let made = make_room(rt, &machine.tickets, room, pass, wants_room);
-    let waits = may_wait(class, has_room(rt, &machine.tickets, pass, made));
+    make_room(rt, tickets, room, pass, wants_room);
+    let waits = may_wait(class, !tickets.is_full(rt, pass));
     if let Some(ticket) = held.value.put_aside(alloc, me, child, tag, waits)? {
-        // Where the queue was filled meanwhile, the child waits without a ticket, for its parent.
-        if let Ok(put) = put_ticket(rt, &machine.tickets, pass, ticket) {
-            room.child_waits(put);
+        // If others have filled the queue meanwhile, the child waits without a ticket, for its parent.
+        if put_ticket(rt, tickets, room, pass, ticket).is_ok() {
             return Ok(ThreadStop::Spilled);
         }
     }
@@ -182,20 +180,20 @@ fn is_worth_room(class: Class, is_large: bool) -> bool
     class == Class::Normal && is_large
 }
 
-/// Gives back a place at which nothing was posted. It is to be counted then.
+/// Gives back a place at which nothing was posted. The caller counts it as free.
 pub(crate) fn give_place_back<H: Wait, T: RunJob, C: Contexts<T>>(
     rt: &H,
     machine: &Machine<C, T::Ticket>,
     spare: &mut C::Seat,
     claim: C::Claim,
-) -> Result<PlaceLeft, WorkerFault>
+) -> Result<(), WorkerFault>
     requires seat { C.sits machine.now.table spare.old }
     requires out { HasOut (C.has machine.now.table) (a_claim claim) spare.old }
     ensures seat { C.sits machine.now.table spare.new }
     ensures out { OnOk result (IsSpent (C.has machine.now.table) (a_claim claim) spare.old spare.new) }
 {
-    match give_back::<H, T, C>(rt, &machine.table, spare, claim) {
-        Ok(left) => Ok(left),
+    match machine.table.give_back(rt, spare, claim) {
+        Ok(()) => Ok(()),
         Err(_) => Err(WorkerFault::Token),
     }
 }
@@ -205,7 +203,7 @@ pub(crate) fn free_place<H: Wait, T: RunJob, C: Contexts<T>>(
     rt: &H,
     machine: &Machine<C, T::Ticket>,
     spare: &mut C::Seat,
-    kept: &mut Claims<C::Claim>,
+    kept: &mut Stack<C::Claim>,
     core: u8,
 ) -> Result<Option<C::Claim>, WorkerFault>
     requires seat { C.sits machine.now.table spare.old }
@@ -215,7 +213,7 @@ pub(crate) fn free_place<H: Wait, T: RunJob, C: Contexts<T>>(
     ensures seat { C.sits machine.now.table spare.new }
     ensures out { IfOk result (IsOutWith (C.has machine.now.table spare.new) kept.new) }
 {
-    if let Some(claim) = kept.take() {
+    if let Some(claim) = kept.pop() {
         return Ok(Some(claim));
     }
     let claim = machine.cores::<H, T>(rt).claim_on(spare, core)?;
@@ -266,8 +264,8 @@ pub(crate) fn post_waiting<H: Wait, T: RunJob, C: Contexts<T>>(
     match job {
         Some(job) => Ok(Some(post_at::<H, T, C>(rt, machine, spare, claim, job)?)),
         None => {
-            let left = give_place_back::<H, T, C>(rt, machine, spare, claim)?;
-            machine.shared.room().place_was_left(left);
+            give_place_back::<H, T, C>(rt, machine, spare, claim)?;
+            machine.shared.room().place_was_left();
             Ok(None)
         }
     }

@@ -20,8 +20,10 @@ pub(crate) enum LockCall {
     Check,
 }
 
-/// The thread in hand holds the lock that it asked for, by this pass. Only [`ask`] and [`check`] return one, for a pass
-/// that the lock gave in that call, and a thread goes on after an ask only with one. It has no bytes.
+/// Shows that the thread in hand holds the lock that it asked for, by this pass. It has no bytes.
+///
+/// Only [`ask`] and [`check`] return one, for a pass that the lock gave in that call. A thread goes on after an ask only
+/// with one.
 #[derive(Drop)]
 pub(crate) struct Granted {
     pass: Snapshot<Pass>,
@@ -41,7 +43,7 @@ impl Granted {
     }
 }
 
-/// What came of one attempt to get a lock.
+/// The result of one attempt to get a lock.
 #[derive(Drop)]
 pub(crate) enum Got {
     Granted(Granted),

@@ -8,7 +8,7 @@ use arachne_core::Rest;
 #[derive(Drop)]
 pub(crate) struct InHand<T, H> {
     pub(crate) held: Held<T, H>,
-    /// Whether it was granted a lock since it was taken, and has freed none since.
+    /// Set if it was granted a lock since it was taken, and has freed none since.
     pub(crate) has_lock: bool,
 }
 

@@ -4,8 +4,6 @@
 mod access;
 mod audit;
 mod both;
-mod choosers;
-mod claims;
 mod fault;
 mod forking;
 mod gate;
@@ -18,6 +16,7 @@ mod running;
 mod seat;
 mod setup;
 mod shared;
+mod stack;
 mod tokens;
 mod workers;
 

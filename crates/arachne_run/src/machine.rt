@@ -1,6 +1,7 @@
-//! What the workers of a run share.
-ghost use Rattle.std.specs.Prelude.{◌≡◌, ◌≢◌, ◌≤◌, ◌⊎◌, ◌↔◌, ◌%◌, ◌^◌, [], All, Err, IfErr, IfOk, IfSome, IsOk, IsSome, IsTrue, None, OnOk, length, map};
+//! The state that the workers of a run share.
+ghost use Rattle.std.specs.Prelude.{◌≡◌, ◌≢◌, ◌≤◌, ◌⊎◌, ◌↔◌, ◌%◌, ◌^◌, [], false, true, All, Err, IfErr, IfOk, IfSome, IsOk, IsSome, IsTrue, None, OnOk, length, map};
 ghost use Rattle.arachne_lang.specs.Program.{tree_of};
+ghost use Rattle.arachne_core.specs.Occupancy.{count_of};
 ghost use Rattle.arachne_jobs.specs.Classes.{forks_exclusive};
 ghost use Rattle.arachne_policy.specs.Orders.{AreInOrder};
 ghost use Rattle.arachne_workers.specs.Keeping.{MayKeepPlaces};
@@ -21,12 +22,12 @@ use crate::shared::SharedState;
 use crate::tokens::Tokens;
 use arachne_arbiter::{Arbiter, Cores};
 use arachne_contexts::{Contexts, Seats, Tagged};
-use arachne_core::{CORES, SLOTS};
+use arachne_core::{CORES, OccWord, SLOTS};
 use arachne_jobs::has_exclusive;
 use arachne_lang::Program;
 use arachne_policy::CoreOrder;
 use arachne_spill::{CAPACITY, SpillPass, SpillQueue};
-use arachne_workers::may_keep_places;
+use arachne_workers::{keeps_place, may_keep_places};
 use std::alloc::{AllocError, Global};
 use std::marker::PhantomData;
 use std::sync::Wait;
@@ -40,19 +41,29 @@ pub(crate) struct Machine<C, K: Tagged + Drop> {
     pub(crate) tickets: SpillQueue<K>,
     pub(crate) table: C,
     pub(crate) cores: u8,
-    /// How many places each core has.
+    /// The number of places of each core.
     pub(crate) slots: u8,
     pub(crate) quantum: u32,
-    /// How many orders there are.
+    /// The number of orders.
     pub(crate) orders: usize,
-    /// Whether workers may keep places.
+    /// Set if workers may keep places.
     pub(crate) may_keep: bool,
-    /// Whether workers may move threads to their own cores: not if a thread may want a whole core, since a move takes a
+    /// Set if workers may move threads to their own cores: not if a thread may want a whole core, since a move takes a
     /// place there while it is made.
     pub(crate) may_pull: bool,
 }
 
 impl<C: Seats, K: Tagged + Drop> Machine<C, K> {
+    /// Returns whether a worker may keep the place that a thread leaves: workers may keep places, and the core, which
+    /// looked like `before`, was full.
+    #[inline(always)]
+    pub(crate) fn keeps_place(&self, before: OccWord) -> bool
+        ensures { IsTrue result ↔ (self.now.may_keep ≡ true) × (self.now.slots ≤ count_of before.occupied)
+            × (before.closed ≡ false) × (before.exclusive ≡ false) }
+    {
+        self.may_keep && keeps_place(before, self.slots)
+    }
+
     /// Returns the cores of the table.
     pub(crate) fn cores<'a, H, T>(&'a self, rt: &'a H) -> Cores<'a, H, T, C>
         requires { IsSetUp C.core_count C.slot_count self.now }

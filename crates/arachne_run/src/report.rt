@@ -1,4 +1,4 @@
-//! What a run returns.
+//! The report of a run.
 ghost use Rattle.std.specs.Prelude.{◌≡◌, ◌≢◌, [], All, Err, IfOk, length, map};
 ghost use Rattle.arachne_lang.specs.Program.{source_of};
 ghost use Rattle.arachne_lang.specs.Meaning.{meaning_of};
@@ -15,7 +15,7 @@ use arachne_machine::{DetachedOutcome, ThreadLines};
 use arachne_sleep::History;
 use std::alloc::Global;
 
-/// What a run returns.
+/// The result of a run.
 #[derive(Debug, Drop)]
 pub struct Report {
     /// The value of the program.
@@ -26,7 +26,7 @@ pub struct Report {
     pub threads: ThreadLines,
     /// For each lock all that was asked, granted and freed, oldest first.
     pub histories: Vec<History>,
-    /// How many of the orders were applied.
+    /// The number of orders that were applied.
     pub applied: usize,
 }
 

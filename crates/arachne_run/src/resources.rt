@@ -28,7 +28,7 @@ pub(crate) struct Holdings {
     pub(crate) lock_seats: LockSeats,
 }
 
-/// What is left of the ledgers and the locks once all workers have ended.
+/// The rest of the ledgers and the locks once all workers have ended.
 #[derive(Drop)]
 pub(crate) struct Remains {
     /// The words of the ledgers.

@@ -7,12 +7,12 @@ ghost use Rattle.arachne_run.specs.Reports.{IsReportOf};
 ghost use Rattle.arachne_run.specs.Setups.{IsFirstOrderFault, IsSetupFault, is_of_setup, refusal_in};
 ghost use Rattle.arachne_run.specs.declared.fault.RunFault.{RunFault};
 
-use crate::choosers::Choosers;
 use crate::fault::{RunFault, WorkerFault};
 use crate::gate::Gate;
 use crate::machine::Machine;
 use crate::report::Report;
 use crate::setup::Setup;
+use crate::stack::Stack;
 use crate::workers::work_all;
 use arachne_contexts::Contexts;
 use arachne_jobs::{JobOf, RunSpares};
@@ -58,7 +58,7 @@ where
     ensures order_refused { refusal_in setup (vec_len choosers) ≡ None → (AreInOrder setup.cores setup.orders.items → ⊥) → IfErr result (IsFirstOrderFault setup.cores setup.orders.items) }
 {
     setup.check(choosers.len())?;
-    let choosers = Choosers::of(choosers);
+    let choosers = Stack::of(choosers);
     let (root, receiver) = T::begin(alloc, program, &mut T::Spares::none(alloc))?;
     let (machine, tokens) = Machine::<C, T::Ticket>::new(
         alloc,

@@ -9,19 +9,17 @@ ghost use Rattle.arachne_contexts.specs.Out.{Claim as a_claim, KeepsOut};
 ghost use Rattle.arachne_run.specs.Tokens.{AreIdle, IsSetUp, ground_of};
 
 use crate::access::Access;
-use crate::claims::{Claims, may_keep};
 use crate::fault::WorkerFault;
 use crate::forking::{ForkSupplies, free_place, give_place_back, go_on, post_waiting};
 use crate::gate::Gate;
 use crate::in_hand::{InHand, has_lock, rests_so};
 use crate::machine::Machine;
+use crate::stack::Stack;
 use crate::tokens::Tokens;
 use arachne_arbiter::{Arbiter, Cores, Pace, Parking, SliceCounts};
-use arachne_contexts::{Contexts, Moved, Placed, Tagged, Taken, Woken};
+use arachne_contexts::{Claimed, Contexts, Moved, Placed, Tagged, Taken, Woken};
 use arachne_core::{MarkWord, OccWord, Place, Rest, ThreadId};
-use arachne_jobs::{
-    Openings, PlaceLeft, RunJob, RunSpares, RunThread, RunTicket, claim_again, finish, next_ticket,
-};
+use arachne_jobs::{Openings, RunJob, RunSpares, RunThread, RunTicket, next_ticket};
 use arachne_spill::SpillPass;
 use arachne_workers::{
     Desk, Grip, Halt, PostedThread, ThreadStop, TicketResult, WorkerEvent, is_drained,
@@ -42,14 +40,14 @@ pub(crate) struct RunSeat<'a, H, T: RunJob, C: Contexts<T>, R, G> {
     pub(crate) alloc: Global,
     pub(crate) machine: &'a Machine<C, T::Ticket>,
     pub(crate) core: u8,
-    /// Whether something else may be out with the seats, since the table did not know a token. Then the worker ends.
+    /// Set if something else may be out with the seats, since the table did not know a token. Then the worker ends.
     pub(crate) is_broken: bool,
     /// The thread in hand is out with it.
     pub(crate) seat: C::Seat,
     pub(crate) held: Option<InHand<T, C::Hold>>,
     /// The kept places are out with it.
     pub(crate) spare: C::Seat,
-    pub(crate) kept: Claims<C::Claim>,
+    pub(crate) kept: Stack<C::Claim>,
     pub(crate) pass: SpillPass<T::Ticket>,
     pub(crate) arbiter: Option<Arbiter>,
     pub(crate) forks: ForkSupplies<R, T::Spares>,
@@ -106,7 +104,7 @@ impl<'a, H: Wait, T: RunJob, C: Contexts<T>, R: Rng + Drop, G: Gate> RunSeat<'a,
             seat,
             held: None,
             spare,
-            kept: Claims::new(alloc),
+            kept: Stack::new(alloc),
             pass,
             arbiter,
             forks: ForkSupplies {
@@ -143,28 +141,31 @@ impl<'a, H: Wait, T: RunJob, C: Contexts<T>, R: Rng + Drop, G: Gate> RunSeat<'a,
 
     /// Keeps a place for the one that a thread has left, if the core, which looked like `before`, was full. Otherwise
     /// counts that one as free.
-    fn keep_or_count(&mut self, left: PlaceLeft, before: OccWord) -> Result<(), Halt>
+    fn keep_or_count(&mut self, before: OccWord) -> Result<(), Halt>
         ensures { self.new ≡ self.old }
     {
-        let (machine, room) = (self.machine, self.machine.shared.room());
-        if self.is_broken || !may_keep(machine, before) {
-            room.place_was_left(left);
+        let (rt, machine) = (self.rt, self.machine);
+        let room = machine.shared.room();
+        if self.is_broken || !machine.keeps_place(before) {
+            room.place_was_left();
             return Ok(());
         }
-        self.is_broken = true;
-        let spare = &mut self.spare;
-        let left = match claim_again::<H, T, C>(self.rt, &machine.table, spare, self.core, left) {
-            Ok(claim) => match self.kept.keep(claim) {
-                Ok(()) => None,
-                Err(claim) => Some(give_place_back::<H, T, C>(self.rt, machine, spare, claim)?),
+        match machine.table.claim(rt, &mut self.spare, self.core) {
+            Ok(Claimed::Place(claim)) => match self.kept.push(claim) {
+                Ok(()) => Ok(()),
+                Err(claim) => {
+                    self.is_broken = true;
+                    give_place_back::<H, T, C>(rt, machine, &mut self.spare, claim)?;
+                    self.is_broken = false;
+                    room.place_was_left();
+                    Ok(())
+                }
             },
-            Err(left) => Some(left),
-        };
-        self.is_broken = false;
-        if let Some(left) = left {
-            room.place_was_left(left);
+            _ => {
+                room.place_was_left();
+                Ok(())
+            }
         }
-        Ok(())
     }
 }
 
@@ -254,10 +255,13 @@ impl<'a, H: Wait + Clock, T: RunJob, C: Contexts<T>, R: Rng + Drop, G: Gate> Des
         let Some(InHand { held, has_lock }) = self.held.take() else {
             return Err(Halt::from(WorkerFault::Token));
         };
-        match finish(self.rt, &self.machine.table, &mut self.seat, held) {
-            Ok((job, left)) => {
+        let table = &self.machine.table;
+        match table.finish(self.rt, &mut self.seat, held) {
+            Ok(job) => {
+                // The place is free before the outcome is left, as only `finish` returns the job, and is kept or counted
+                // before the parent is woken: then others would already go for it.
                 let parent = job.leave(&mut self.forks.spares);
-                self.keep_or_count(left, before)?;
+                self.keep_or_count(before)?;
                 match parent {
                     Ok(None) => {
                         self.machine.shared.stop();
@@ -275,20 +279,20 @@ impl<'a, H: Wait + Clock, T: RunJob, C: Contexts<T>, R: Rng + Drop, G: Gate> Des
     }
 
     fn kept(&self) -> usize {
-        self.kept.count()
+        self.kept.len()
     }
 
     fn give_one_back(&mut self) -> Result<bool, Halt> {
         if self.is_broken {
             return Err(Halt::from(WorkerFault::Token));
         }
-        let Some(claim) = self.kept.take() else {
+        let Some(claim) = self.kept.pop() else {
             return Ok(false);
         };
         let (rt, machine) = (self.rt, self.machine);
         match give_place_back::<H, T, C>(rt, machine, &mut self.spare, claim) {
-            Ok(left) => {
-                machine.shared.room().place_was_left(left);
+            Ok(()) => {
+                machine.shared.room().place_was_left();
                 Ok(true)
             }
             Err(fault) => {
@@ -345,7 +349,7 @@ impl<'a, H: Wait + Clock, T: RunJob, C: Contexts<T>, R: Rng + Drop, G: Gate> Des
         if !self.machine.shared.room().is_any_waiting() {
             return false;
         }
-        let kept = self.kept.count();
+        let kept = self.kept.len();
         may_take_ticket(self.look(), kept, self.machine.slots)
     }
 
@@ -353,19 +357,19 @@ impl<'a, H: Wait + Clock, T: RunJob, C: Contexts<T>, R: Rng + Drop, G: Gate> Des
         if self.is_broken {
             return Err(Halt::from(WorkerFault::Token));
         }
-        let Some((ticket, taken)) = next_ticket(self.rt, &self.machine.tickets, &mut self.pass)
-        else {
+        let (rt, machine) = (self.rt, self.machine);
+        let room = machine.shared.room();
+        let Some(ticket) = next_ticket(rt, &machine.tickets, room, &mut self.pass) else {
             return Ok(TicketResult::None);
         };
-        self.machine.shared.room().ticket_was_taken(taken);
         if !ticket.still_waits() {
             return Ok(TicketResult::Gone);
         }
         self.is_broken = true;
         let posted = post_child::<H, T, C>(
-            self.rt,
+            rt,
             self.alloc,
-            self.machine,
+            machine,
             &mut self.spare,
             &mut self.kept,
             self.core,
@@ -432,14 +436,12 @@ fn tend_by<H: Wait, T: Tagged, C: Contexts<T>>(
 {
     let before = arbiter.applied();
     let receivers = arbiter.tend(cores, seat, parking, slices);
-    (news_of(before, arbiter.applied()), receivers)
-}
-
-/// Returns how many orders are applied now, if one was applied since `before`.
-fn news_of(before: usize, after: usize) -> Option<usize>
-    ensures { result ≡ (if after == before then None else Some after) }
-{
-    if after != before { Some(after) } else { None }
+    let after = arbiter.applied();
+    if after == before {
+        (None, receivers)
+    } else {
+        (Some(after), receivers)
+    }
 }
 
 /// Returns whether there is an arbiter that has not applied all orders.
@@ -458,7 +460,7 @@ fn post_child<H: Wait, T: RunJob, C: Contexts<T>>(
     alloc: Global,
     machine: &Machine<C, T::Ticket>,
     spare: &mut C::Seat,
-    kept: &mut Claims<C::Claim>,
+    kept: &mut Stack<C::Claim>,
     core: u8,
     ticket: T::Ticket,
     spares: &mut T::Spares,

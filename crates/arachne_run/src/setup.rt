@@ -13,9 +13,9 @@ const MAX_QUANTUM: u64 = 10_000;
 /// The machine of a run, and what happens to its cores.
 #[derive(Debug, Drop)]
 pub struct Setup {
-    /// How many cores there are, 1 to 64.
+    /// The number of cores, 1 to 64.
     pub cores: u64,
-    /// How many threads each core has places for, 1 to 56.
+    /// The number of places of each core, 1 to 56.
     pub slots: u64,
     /// The most steps of a slice, 1 to 10,000.
     pub quantum: u64,

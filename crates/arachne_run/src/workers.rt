@@ -4,12 +4,12 @@ ghost use Rattle.arachne_run.specs.Choosers.{IsFirstOf};
 ghost use Rattle.arachne_run.specs.Tokens.{AreIdle, IsSetUp, ground_of};
 ghost use Rattle.arachne_run.specs.declared.fault.WorkerFault.TheVariants.{KernelThread, Token};
 
-use crate::choosers::Choosers;
 use crate::fault::WorkerFault;
 use crate::gate::Gate;
 use crate::machine::Machine;
 use crate::seat::RunSeat;
 use crate::shared::Failed;
+use crate::stack::Stack;
 use crate::tokens::Tokens;
 use arachne_arbiter::Pace;
 use arachne_contexts::{Contexts, Tagged};
@@ -22,7 +22,7 @@ use std::sync::Wait;
 use std::thread::Threads;
 use std::time::Clock;
 
-/// What the workers of a run have in common.
+/// The means that the workers of a run have in common.
 #[derive(Drop)]
 struct Workers<'a, C, K: Tagged + Drop, G> {
     alloc: Global,
@@ -30,7 +30,7 @@ struct Workers<'a, C, K: Tagged + Drop, G> {
     gate: &'a G,
 }
 
-/// What one of them begins with, and returns.
+/// The values with which a worker begins, and which it returns.
 #[derive(Drop)]
 struct WorkerShare<S, T: RunJob, R> {
     tokens: Tokens<S, T::Ticket>,
@@ -38,7 +38,7 @@ struct WorkerShare<S, T: RunJob, R> {
     root: Option<T>,
     chooser: Option<R>,
     /// The choosers of the workers that are split off.
-    choosers: Choosers<R>,
+    choosers: Stack<R>,
 }
 
 impl<'a, T: RunJob, C: Contexts<T>, R: Rng + Drop, G: Gate> Team<WorkerShare<C::Seat, T, R>>
@@ -80,8 +80,8 @@ impl<'a, T: RunJob, C: Contexts<T>, R: Rng + Drop, G: Gate> Team<WorkerShare<C::
             Some(tokens) => Some(WorkerShare {
                 tokens,
                 root: None,
-                chooser: choosers.next(),
-                choosers: Choosers::none(self.alloc),
+                chooser: choosers.pop(),
+                choosers: Stack::new(self.alloc),
             }),
             None => None,
         };
@@ -134,7 +134,7 @@ impl<'a, T: RunJob, C: Contexts<T>, R: Rng + Drop, G: Gate> Team<WorkerShare<C::
             tokens: tokens.join::<H, C>(rt, self.machine, other.tokens),
             root: None,
             chooser: None,
-            choosers: Choosers::none(self.alloc),
+            choosers: Stack::new(self.alloc),
         })
     }
 
@@ -156,7 +156,7 @@ pub(crate) fn work_all<
     machine: &Machine<C, T::Ticket>,
     gate: &G,
     root: T,
-    choosers: Choosers<R>,
+    choosers: Stack<R>,
     tokens: Tokens<C::Seat, T::Ticket>,
 ) -> Option<Tokens<C::Seat, T::Ticket>>
 where
@@ -174,7 +174,7 @@ where
     let share = WorkerShare {
         tokens,
         root: Some(root),
-        chooser: choosers.next(),
+        chooser: choosers.pop(),
         choosers,
     };
     let workers = Workers {
@@ -266,7 +266,7 @@ fn into_tokens<'a, H: Wait, T: RunJob, C: Contexts<T>, R: Rng + Drop, G: Gate>(
         ..
     } = desk;
     let mut kept = kept;
-    if is_broken || held.is_some() || kept.take().is_some() {
+    if is_broken || held.is_some() || kept.pop().is_some() {
         return Err(machine.shared.fail(rt, WorkerFault::Token));
     }
     Ok(Tokens {

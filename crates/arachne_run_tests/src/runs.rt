@@ -28,6 +28,7 @@ mod locks;
 mod orders;
 mod places;
 mod programs;
+mod refused;
 mod reports;
 mod rows;
 mod shortage;

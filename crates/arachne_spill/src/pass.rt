@@ -1,22 +1,22 @@
-//! What one thread has pushed and popped.
+//! The pass of one thread, with the tags that it has pushed and popped.
 use arachne_weights::{Token, Weight};
 use crossbeam_queue::Pass;
 use std::collections::LinkedList;
 use std::marker::Model;
 
-/// What a pass knows: the tags that it has pushed and popped, each in order.
+/// The tags that were pushed and popped by a pass, each in order.
 pub struct Known {
     pub pushed: LinkedList<u64>,
     pub popped: LinkedList<u64>,
 }
 
-/// What the queue's rule sees of a pass. No value of it is made.
+/// The view of a pass in the queue's rule. No value of it is made.
 pub type View = Token<Known>;
 
 /// A part of the right to a queue, with the tags that were pushed and popped through it.
 ///
-/// It is used and joined with the queue that it came from. A pass that is dropped takes its weight with it, so that no
-/// pass is whole any more.
+/// It is used and joined only with its own queue. If a pass is dropped, its weight is lost, and no pass is whole any
+/// more.
 #[derive(Drop)]
 pub struct SpillPass<T> {
     pub(crate) pass: Pass<T, View>,

@@ -12,7 +12,7 @@ use std::alloc::{AllocError, Global};
 use std::marker::Model;
 use std::sync::Wait;
 
-/// How many items a queue has room for.
+/// The number of items for which a queue has room.
 pub const CAPACITY: usize = 256;
 
 /// A queue of at most 256 items, first in first out.
@@ -33,7 +33,7 @@ impl<T: Tagged + Drop> Model for SpillQueue<T> {
 }
 
 impl<T: Tagged + Drop> SpillQueue<T> {
-    /// An empty queue, and the whole pass.
+    /// Returns an empty queue, and the whole pass.
     pub fn new(alloc: Global) -> Result<(SpillQueue<T>, SpillPass<T>), AllocError>
         ensures { IfOk result (λ made. made.1 ≡ record { table = made.0.table; weight = whole; pushed = []; popped = [] }) }
     {
@@ -45,8 +45,9 @@ impl<T: Tagged + Drop> SpillQueue<T> {
         Ok((SpillQueue { ring }, pass))
     }
 
-    /// Puts an item at the back. It comes back only where the queue was full at one moment of the call: the clauses say
-    /// so of the whole pass alone, since of another one they tell nothing of the queue.
+    /// Puts an item at the back. Returns it if the queue was full at one moment of the call.
+    ///
+    /// The clauses on a full queue are of use only for the whole pass: nothing ties other passes to this queue.
     pub fn push<R: Wait>(&self, rt: &R, pass: &mut SpillPass<T>, item: T) -> Result<(), T>
         requires own { IsPassOf self.now pass.old }
         ensures pushed { OnOk result (pass.new ≡ record pass.old { pushed = pass.old.pushed ++ T.tag_of item ∷ [] }) }
@@ -58,8 +59,9 @@ impl<T: Tagged + Drop> SpillQueue<T> {
         self.ring.push_as::<Push, R>(rt, &mut pass.pass, item)
     }
 
-    /// Takes the item at the front. There is none only where the queue was empty at one moment of the call: the clauses
-    /// say so of the whole pass alone, since of another one they tell nothing of the queue.
+    /// Takes the item at the front. Returns `None` if the queue was empty at one moment of the call.
+    ///
+    /// The clauses on an empty queue are of use only for the whole pass, as with [`SpillQueue::push`].
     pub fn pop<R: Wait>(&self, rt: &R, pass: &mut SpillPass<T>) -> Option<T>
         requires own { IsPassOf self.now pass.old }
         ensures popped { IfSome result (λ item. pass.new ≡ record pass.old { popped = pass.old.popped ++ T.tag_of item ∷ [] }) }
@@ -70,8 +72,9 @@ impl<T: Tagged + Drop> SpillQueue<T> {
         self.ring.pop_as::<Pop, R>(rt, &mut pass.pass)
     }
 
-    /// How many items the queue held at one moment of the call. What is said of it is of use for the whole pass alone.
-    /// It looks again while others push, and changes nothing.
+    /// Returns the number of items in the queue at one moment of the call. It looks again while others push.
+    ///
+    /// The clauses on the number are of use only for the whole pass, as with [`SpillQueue::push`].
     pub fn len<R: Wait>(&self, rt: &R, pass: &mut SpillPass<T>) -> usize
         requires own { IsPassOf self.now pass.old }
         ensures same { pass.new ≡ pass.old }
@@ -82,7 +85,7 @@ impl<T: Tagged + Drop> SpillQueue<T> {
         self.ring.len_as::<Push, R>(rt, &mut pass.pass)
     }
 
-    /// Whether the queue was full at one moment of the call, as [`SpillQueue::len`] sees it.
+    /// Returns whether the queue was full at one moment of the call, by [`SpillQueue::len`].
     pub fn is_full<R: Wait>(&self, rt: &R, pass: &mut SpillPass<T>) -> bool
         requires own { IsPassOf self.now pass.old }
         ensures same { pass.new ≡ pass.old }
@@ -91,7 +94,7 @@ impl<T: Tagged + Drop> SpillQueue<T> {
         self.len(rt, pass) == CAPACITY
     }
 
-    /// Whether the queue was empty at one moment of the call, as [`SpillQueue::len`] sees it.
+    /// Returns whether the queue was empty at one moment of the call, by [`SpillQueue::len`].
     pub fn is_empty<R: Wait>(&self, rt: &R, pass: &mut SpillPass<T>) -> bool
         requires own { IsPassOf self.now pass.old }
         ensures same { pass.new ≡ pass.old }
@@ -101,7 +104,7 @@ impl<T: Tagged + Drop> SpillQueue<T> {
         self.len(rt, pass) == 0
     }
 
-    /// Halves the weight, rounded up for the first pass, which keeps what is known. At weight 1 or 0 neither gets any.
+    /// Halves the weight, rounded up for the first pass, which keeps the tags. A weight of 1 or 0 gives two of 0.
     pub fn split<R: Wait>(&self, _rt: &R, pass: SpillPass<T>) -> (SpillPass<T>, SpillPass<T>)
         requires own { IsPassOf self.now pass }
         ensures first { result.0 ≡ record pass { weight = first_part pass.weight } }
@@ -122,7 +125,7 @@ impl<T: Tagged + Drop> SpillQueue<T> {
         )
     }
 
-    /// Adds up the weights, to at most the whole, and what both know.
+    /// Joins two passes: adds up their weights, to at most the whole, and their tags.
     pub fn join_passes<R: Wait>(
         &self,
         _rt: &R,
@@ -145,7 +148,7 @@ impl<T: Tagged + Drop> SpillQueue<T> {
         }
     }
 
-    /// Whether all other passes were joined into this one.
+    /// Returns whether all other passes were joined into this one.
     pub fn is_whole(&self, pass: &SpillPass<T>) -> bool
         ensures { IsTrue result ↔ IsWhole pass.now }
     {

@@ -1,4 +1,4 @@
-//! The rule of the queue, and the kinds of step on it. These types are for proofs alone.
+//! The rule of the queue, and the kinds of step on it. These types are only for proofs.
 use crate::pass::View;
 use arachne_contexts::Tagged;
 use crossbeam_queue::protocol::{Join, Lesson, Outcome, Protocol, Split};

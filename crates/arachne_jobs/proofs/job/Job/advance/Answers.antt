@@ -1,8 +1,7 @@
-use Rattle.std.proofs.Common.{◌≡◌, Option, IfSome, ap, refl, subst, inl, inr}
+use Rattle.std.proofs.Common.{ap, refl, subst, inl, inr}
 use Rattle.arachne_machine.specs.Advance.{Moves}
 use Rattle.arachne_machine.specs.declared.pause.Pause.{Pause}
 use Rattle.arachne_jobs.specs.Threads.{Posted}
-use Rattle.arachne_jobs.specs.declared.unended.Unended.{Unended}
 use Rattle.arachne_jobs.proofs.job.Job.advance.Goals as goal
 
 pub returns-in-Budget-clause-tallied : goal.returns-in-Budget-clause-tallied
@@ -23,21 +22,21 @@ returns-in-Tallies-clause-tallied c = record { paused = c.advance_over.new.self.
 pub returns-in-Ended-clause-tallied : goal.returns-in-Ended-clause-tallied
 returns-in-Ended-clause-tallied c = record { paused = c.advance_over.new.self.thread; gives = c.in_ok-advance_over.field-0; over = c.in_ok-advance_over.ensures.over; last = inl refl }
 
-pub returns-in-None-clause-tallied : goal.returns-in-None-clause-tallied
-returns-in-None-clause-tallied c = record {
+pub returns-then-branch-clause-tallied : goal.returns-then-branch-clause-tallied
+returns-then-branch-clause-tallied c = record {
   paused = c.advance_over.new.self.thread;
   gives = c.in_ok-advance_over.field-0;
   over = c.in_ok-advance_over.ensures.over;
   last = inr (
     (subst (λ (gives : Pause). Moves c.args.left.now c.args.self.now.thread gives c.advance_over.new.self.thread) c.in-Joins.is c.in_ok-advance_over.ensures.moves).pending,
-    c.in_ok-join-in-Joins.ensures.answered c.in-None.is,
+    c.in_ok-join-in-Joins.ensures.answered c.if-branch.true,
   );
 }
 
-pub returns-in-Some-clause-tallied : goal.returns-in-Some-clause-tallied
-returns-in-Some-clause-tallied c = record {
+pub returns-else-branch-clause-tallied : goal.returns-else-branch-clause-tallied
+returns-else-branch-clause-tallied c = record {
   paused = c.advance_over.new.self.thread;
   gives = c.in_ok-advance_over.field-0;
   over = c.in_ok-advance_over.ensures.over;
-  last = inl (ap (λ (p : Posted). p.thread) (subst (λ (missed : Option Unended). IfSome missed (λ u. c.join.new.self ≡ c.advance_over.new.self)) c.in-Some.is c.in_ok-join-in-Joins.ensures.same));
+  last = inl (ap (λ (p : Posted). p.thread) (c.in_ok-join-in-Joins.ensures.same c.if-branch.false));
 }

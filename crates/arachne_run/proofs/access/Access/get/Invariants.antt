@@ -1,5 +1,5 @@
 use Rattle.std.proofs.Common.{◌≡◌}
-use Rattle.arachne_run.proofs.access.Access.ask.Given as goal
+use Rattle.arachne_run.proofs.access.Access.get.Given as goal
 
 abbrev pub invariant-loop : goal.invariant-loop
 invariant-loop g l = l.self ≡ l.initial.self

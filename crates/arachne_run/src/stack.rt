@@ -1,0 +1,66 @@
+//! Values that are taken one at a time, the newest first.
+ghost use Rattle.std.specs.Prelude.{◌≡◌, [], ◌∷◌, IfErr, MatchOption, OnErr, OnOk, length};
+
+use std::alloc::Global;
+use std::marker::Model;
+
+/// A stack of values. Contracts see them in the order in which they are taken.
+#[derive(Drop)]
+pub(crate) struct Stack<T> {
+    items: Vec<T>,
+}
+
+impl<T> Model for Stack<T> {
+    ghost use Rattle.std.specs.Prelude.{List, reverse};
+
+    ghost Value = { List T };
+
+    ghost view = { λ s. reverse s.items.items };
+}
+
+impl<T> Stack<T> {
+    /// Returns an empty stack. It takes no memory.
+    pub(crate) fn new(alloc: Global) -> Stack<T>
+        ensures { result ≡ [] }
+    {
+        Stack {
+            items: Vec::new(alloc),
+        }
+    }
+
+    /// Returns a stack from which these values are taken in their order.
+    pub(crate) fn of(items: Vec<T>) -> Stack<T>
+        ensures { result ≡ items.items }
+    {
+        let mut items = items;
+        items.reverse();
+        Stack { items }
+    }
+
+    /// Returns how many values there are.
+    pub(crate) fn len(&self) -> usize
+        ensures { result ≡ length self.now }
+    {
+        self.items.len()
+    }
+
+    /// Adds a value. Returns it if memory is refused.
+    pub(crate) fn push(&mut self, item: T) -> Result<(), T>
+        ensures pushed { OnOk result (self.new ≡ item ∷ self.old) }
+        ensures refused { OnErr result (self.new ≡ self.old) }
+        ensures handed_back { IfErr result (λ back. back ≡ item) }
+    {
+        if self.items.try_reserve(1).is_err() {
+            return Err(item);
+        }
+        self.items.push_reserved(item);
+        Ok(())
+    }
+
+    /// Takes the next value, if there is one.
+    pub(crate) fn pop(&mut self) -> Option<T>
+        ensures { MatchOption result (self.old ≡ [] × self.new ≡ []) (λ first. self.old ≡ first ∷ self.new) }
+    {
+        self.items.pop()
+    }
+}

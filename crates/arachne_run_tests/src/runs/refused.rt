@@ -1,0 +1,109 @@
+//! Memory that is refused to the job of a child that waits: the child stays in its cell until its job has all of it.
+ghost use Rattle.arachne_lang.specs.Checked.{IsChecked};
+ghost use Rattle.arachne_lang.specs.Program.{source_of};
+
+use super::{Source, program_of};
+use arachne_core::ThreadId;
+use arachne_jobs::{Job, JobOf, JobSpares, Openings, Room, RunJob, RunSpares, Slice, Ticket};
+use arachne_lang::Program;
+use arachne_shortage::Hoard;
+use std::alloc::Global;
+use std::test::Fail;
+
+/// One fork.
+const FORK: Source = Source {
+    ledgers: 0,
+    locks: 0,
+    forks: 0,
+    expr: "(fork n (num 2) (num 3) (sub (var 0) (var 1)))",
+};
+
+/// More steps and slices than a thread of the fork needs.
+const STEPS: u32 = 100;
+
+const SLICES: usize = 10;
+
+/// The numbers of bytes that are left for the child's job. The first is too few, and the last is enough.
+const LEFT: &[usize] = &[0, 40, 80, 120, 160, 200, 240, 320, 400, 800, 1_600, 100_000];
+
+/// A worker's means for the two threads of a fork.
+#[derive(Drop)]
+struct Means<'p> {
+    room: Room,
+    spares: JobSpares<'p>,
+    openings: Openings,
+}
+
+impl<'p> Means<'p> {
+    /// Runs a thread until it ends. Returns whether it does: nobody else runs a child that it awaits.
+    fn ends(&mut self, job: &mut Job<'p>) -> bool {
+        for _ in 0..SLICES {
+            let mut left = STEPS;
+            match job.slice(&mut left, &mut self.spares, &self.room, &mut self.openings) {
+                Ok(Slice::Goes) => {}
+                Ok(Slice::Ends) => return true,
+                _ => return false,
+            }
+        }
+        false
+    }
+
+    /// Runs the root until it forks, and has its child wait. Returns the child's ticket.
+    fn ticket_of(&mut self, alloc: Global, root: &mut Job<'p>) -> Option<Ticket<'p>> {
+        let me = ThreadId {
+            context: 0,
+            generation: 0,
+        };
+        let mut left = STEPS;
+        match root.slice(&mut left, &mut self.spares, &self.room, &mut self.openings) {
+            Ok(Slice::Forks(_, child)) => root.put_aside(alloc, me, child, 1, true).ok()?,
+            _ => None,
+        }
+    }
+}
+
+/// Has the root's child wait, and makes its job with this many bytes. Returns whether the job was refused, if both
+/// threads end.
+fn is_refused(alloc: Global, program: &Program, bytes: usize) -> Option<bool>
+    requires { IsChecked (source_of program.now) }
+{
+    let mut means = Means {
+        room: Room::new(1, 1, 1),
+        spares: JobSpares::none(alloc),
+        openings: Openings::new(),
+    };
+    let (mut root, _receiver) = Job::begin(alloc, program, &mut means.spares).ok()?;
+    let ticket = means.ticket_of(alloc, &mut root)?;
+    let mut hoard = Hoard::take(alloc).ok()?;
+    hoard.give_back(bytes);
+    let job = Job::of_ticket(alloc, ticket, &mut means.spares);
+    drop(hoard);
+    let is_refused = job.is_none();
+    if let Some(mut child) = job {
+        if !means.ends(&mut child) || child.leave(&mut means.spares).is_err() {
+            return None;
+        }
+    }
+    if means.ends(&mut root) {
+        Some(is_refused)
+    } else {
+        None
+    }
+}
+
+#[test]
+fn a_child_waits_on_if_its_job_is_refused_memory(rt: HostRuntime) -> Result<(), Fail> {
+    let alloc = rt.alloc();
+    let program = program_of(alloc, &FORK)?;
+    for (nth, &bytes) in LEFT.iter().enumerate() {
+        let refused = is_refused(alloc, &program, bytes);
+        let (is_first, is_last) = (nth == 0, nth + 1 == LEFT.len());
+        if refused.is_none()
+            || is_first && refused != Some(true)
+            || is_last && refused != Some(false)
+        {
+            return Err(Fail::new(format_args!("{bytes}: {refused:?}")));
+        }
+    }
+    Ok(())
+}
