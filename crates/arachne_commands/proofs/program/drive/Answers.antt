@@ -1,14 +1,15 @@
 use Rattle.std.proofs.Common.{map, refl}
-use Rattle.arachne_commands.specs.CommandLine.{asked_by}
-use Rattle.arachne_commands.specs.declared.fault.Fault.TheVariants as fault
+use Rattle.arachne_cli.specs.CommandLine.{asked_by}
+use Rattle.arachne_cli.specs.declared.fault.Fault.TheVariants.{Memory}
+use Rattle.arachne_commands.specs.declared.fault.Fault.TheVariants.{Cli}
 use Rattle.arachne_commands.proofs.Causes.{memory_is_wanting}
-use Rattle.arachne_commands.proofs.KnownBytes.{keeps_same}
-use Rattle.arachne_commands.proofs.Refusals.{refused_asks_nothing, refused_tells_no_order}
+use Rattle.arachne_cli.proofs.KnownBytes.{keeps_same}
+use Rattle.arachne_cli.proofs.Refusals.{refused_asks_nothing, refused_tells_no_order}
 use Rattle.arachne_commands.proofs.program.drive.Goals as goal
 
 pub returns-in-Err-clause-fault : goal.returns-in-Err-clause-fault
 returns-in-Err-clause-fault g c = λ status. (
-  fault.Memory,
+  Cli Memory,
   (
     memory_is_wanting (g.I.Read.remaining c.args.input.now) (asked_by (map g.S.AsStr.text c.args.words.now)),
     (λ differs. keeps_same (g.W.Write.contents c.args.output.now)),
