@@ -11,7 +11,7 @@ use Rattle.arachne_policy.specs.declared.orders.CoreOrder.{CoreOrder}
 use Rattle.arachne_policy.specs.declared.orders.OrderKind.{OrderKind}
 use Rattle.arachne_policy.specs.declared.orders.OrderKind.TheVariants.{Grant, Release}
 use Rattle.arachne_cli.specs.Orders.{FitsWords, kind_word, order_word, grant_or, kind_at, release_at, with_after, with_core, with_kind, order_of}
-use Rattle.arachne_cli.proofs.Figures.{word_again, word_taken, figures_read, figures_again}
+use Rattle.arachne_cli.proofs.Figures.{word_taken, figures_read, figures_again}
 
 abbrev pub Spells : List ℕ → CoreOrder → Type 0
 Spells bytes order = FitsWords order × (order_word order ≡ bytes)

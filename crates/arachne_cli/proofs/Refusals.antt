@@ -1,17 +1,17 @@
 -- Facts about words that are refused with status 2.
-use Rattle.std.proofs.Common.{◌≡◌, ◌⊎◌, ℕ, List, Bool, true, false, Option, Some, None, Result, Ok, Err, refl, sym, ap, ◌∙◌, subst, inl, inr}
-use Rattle.std.specs.Prelude.{codes, option_and_then, if◌then◌else◌}
+use Rattle.std.proofs.Common.{◌≡◌, ℕ, List, Bool, true, false, Option, Some, None, Result, Ok, Err, refl, sym, ◌∙◌, subst, inl, inr}
+use Rattle.std.specs.Prelude.{codes, option_and_then}
 use Rattle.std.specs.Str.{bytes_eq}
 use Rattle.std.specs.Result.{result_err, result_ok}
 use Rattle.std.specs.Option.{IsSome}
-use Rattle.clap.specs.Words.{Row, Text, kind_of}
+use Rattle.clap.specs.Words.{Row, Text}
 use Rattle.arachne_policy.specs.declared.orders.CoreOrder.{CoreOrder}
 use Rattle.arachne_cli.specs.declared.command_line.Request.{Request}
 use Rattle.arachne_cli.specs.declared.command_line.NotAsked.{NotAsked}
 use Rattle.arachne_cli.specs.declared.command_line.NotAsked.TheVariants.{NoOrder, Refused}
 use Rattle.arachne_cli.specs.declared.fault.Fault.TheVariants as fault
 use Rattle.clap.specs.Words.{subcommand_of}
-use Rattle.arachne_cli.specs.CommandLine.{IsUnasked, asked_by, is_taken, no_order_in, no_order_met, no_order_under, order_words, program, request_met, request_of, run_asked, with_orders}
+use Rattle.arachne_cli.specs.CommandLine.{IsUnasked, asked_by, is_taken, no_order_in, no_order_met, no_order_under, order_words, program, request_met, request_of, with_orders}
 use Rattle.arachne_cli.specs.Orders.{orders_of}
 use Rattle.arachne_cli.specs.Fault.{fault_line}
 use Rattle.arachne_cli.specs.Ends.{AppendsFront, IsTold}

@@ -1,5 +1,5 @@
 -- The request that the words of the command line make, by the grammar of the command line.
-use Rattle.std.specs.Prelude.{ℕ, ◌-◌, ◌^◌, ◌==◌, ◌&&◌, not, nat_lt, nat_le, length, Bool, true, false, List, [], ◌∷◌, Option, Some, None, option_and_then, option_map, unwrap_or, if◌then◌else◌, codes, ◌≡◌, ◌⊎◌, ◌≤◌, IsSome, ⊤, Result, Ok, Err}
+use Rattle.std.specs.Prelude.{ℕ, ◌-◌, ◌^◌, ◌==◌, ◌&&◌, not, nat_lt, nat_le, length, Bool, true, false, List, [], ◌∷◌, Option, Some, None, option_and_then, option_map, unwrap_or, if◌then◌else◌, codes, ◌≡◌, ◌⊎◌, ◌≤◌, IsSome, ⊤}
 use Rattle.std.specs.Option.{option_map_or}
 use Rattle.std.specs.Result.{result_ok, result_err}
 use Rattle.std.specs.List.{list_all}

@@ -5,4 +5,4 @@ use Rattle.arachne_cli.proofs.output.write_thread.Given as goal
 
 -- the counts so far are written
 abbrev pub invariant-loop-hold : goal.invariant-loop-hold
-invariant-loop-hold g l = string_bytes l.text ≡ string_bytes l.initial.text ++ after_spaces (map decimal (take l.hold-index l.hold-items))
+invariant-loop-hold l = string_bytes l.text ≡ string_bytes l.initial.text ++ after_spaces (map decimal (take l.hold-index l.holds))

@@ -6,4 +6,4 @@ use Rattle.arachne_cli.proofs.output.write_threads.Given as goal
 
 -- the lines of the threads so far are written
 abbrev pub invariant-loop-thread : goal.invariant-loop-thread
-invariant-loop-thread l = string_bytes l.text ≡ string_bytes l.initial.text ++ flat_map thread_line (take l.thread-index l.thread-items)
+invariant-loop-thread l = string_bytes l.text ≡ string_bytes l.initial.text ++ flat_map thread_line (take l.thread-index l.threads)
