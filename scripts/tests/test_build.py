@@ -26,8 +26,11 @@ if [ -n "$WAITS" ]; then sleep 60 & echo $! > "$WAITS"; wait; fi
 for crate in $(sed 's/[ :].*//' crates.txt); do
   if [ -e "$KEPT" ]; then echo "rt: $crate is kept: an earlier run on this machine proved the same files"; else echo "rt: $crate proved"; fi
 done
-mkdir -p crates/arachne/out
-printf '#!/bin/sh\\necho value 5\\n' > crates/arachne/out/arachne && chmod +x crates/arachne/out/arachne
+for name in arachne arachne_eval; do
+  [ -e crates/$name ] || continue
+  mkdir -p crates/$name/out
+  printf '#!/bin/sh\\necho value 5\\n' > crates/$name/out/$name && chmod +x crates/$name/out/$name
+done
 [ -z "$FAILS" ] || { echo "rt: arachne NOT PROVED"; echo "2 passed, 1 failed"; exit 1; }
 echo "3 passed, 0 failed"
 """
@@ -102,11 +105,11 @@ class Builds(unittest.TestCase):
         held = tempfile.TemporaryDirectory()
         self.addCleanup(held.cleanup)
         self.top = Path(held.name) / "repository"
-        for name in ("lower", "arachne"):
+        for name in ("lower", "upper", "arachne", "arachne_eval"):
             (self.top / "crates" / name / "src").mkdir(parents=True)
             (self.top / "crates" / name / "src/lib.rt").touch()
         shutil.copytree(TOP / "tests/help", self.top / "tests/help")
-        (self.top / "crates.txt").write_text("lower:\narachne may_wait=1: lower\nunused: lower\n")
+        (self.top / "crates.txt").write_text("lower:\nupper: lower\narachne may_wait=1: upper\narachne_eval: lower\nunused: lower\n")
         (self.top / "HANDLES").write_text("Handles allowed: Wait.\n")
         for name in ("scripts", "bench"):
             (self.top / name).mkdir()
@@ -134,7 +137,7 @@ class Builds(unittest.TestCase):
     def test_it_proves_elsewhere_and_leaves_the_program(self) -> None:
         ran = self.call("scripts/build")
         self.assertEqual(ran.returncode, 0, ran.stderr)
-        self.assertIn("arachne: lower is proved (1 of 2)", ran.stderr)
+        self.assertIn("arachne: lower is proved (1 of 3)", ran.stderr)
         self.assertTrue((self.top / "crates/arachne/out/.speed").exists(), "the next call counts from this one")
         self.assertTrue((self.top / "crates/arachne/out/arachne").exists())
         marked = self.top / "crates/arachne/out/.built"
@@ -218,9 +221,10 @@ class Builds(unittest.TestCase):
 
     def test_what_the_gate_built_is_taken_unless_a_source_is_younger(self) -> None:
         crates, then = self.top / "crates", time.time() - 100
-        for it in (self.top / "crates.txt", crates / "lower/src/lib.rt", crates / "arachne/src/lib.rt"):
+        for it in (self.top / "crates.txt", *crates.glob("*/src/lib.rt")):
             os.utime(it, (then, then))
-        (crates / "lower/out").mkdir()
+        for it in ("lower", "upper"):
+            (crates / it / "out").mkdir()
         time.sleep(1.1)
         (crates / "arachne/out").mkdir()
         for it in ("stdout", "out/stdout", "out/stdout.by-rattle"):
@@ -237,6 +241,24 @@ class Builds(unittest.TestCase):
         os.utime(crates / "lower/src/lib.rt", (int(born) - 0.01, int(born) - 0.01))
         self.assertEqual(self.call("arachne", "run").returncode, 0)
         self.assertEqual([it.split()[0] for it in self.seen()], ["ci"])
+
+    def test_what_needs_no_run_is_proved_by_itself_until_the_whole_program_is_built(self) -> None:
+        for command in ("eval", "check", "policy"):
+            ran = self.call("arachne", command)
+            self.assertEqual((ran.returncode, ran.stdout), (0, "value 5\n"), ran.stderr)
+        self.assertEqual([it.split()[0] for it in self.seen()], ["try", "ci"])
+        self.assertTrue(self.seen()[0].endswith("/crates/arachne_eval"))
+        self.assertEqual(self.call("arachne", "run").returncode, 0)
+        self.assertEqual([it.split()[0] for it in self.seen()], ["try", "ci", "try", "ci"])
+        (self.top / "crates/arachne_eval/out/.built").unlink()
+        self.assertEqual(self.call("arachne", "eval").stdout, "value 5\n")
+        self.assertEqual(len(self.seen()), 4, "the whole program has each command")
+
+    def test_a_crate_of_runs_alone_leaves_the_others_built(self) -> None:
+        self.assertEqual(self.call("arachne", "eval").returncode, 0)
+        time.sleep(0.02)
+        (self.top / "crates/upper/src/lib.rt").write_text("changed")
+        self.assertEqual(self.call("arachne", "eval").stderr, "")
 
     def test_other_sources_get_a_look(self) -> None:
         Path(self.call("arachne", "run", FAILS="yes").stderr.split()[-1]).unlink()

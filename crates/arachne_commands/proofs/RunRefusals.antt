@@ -9,7 +9,7 @@ use Rattle.arachne_run.specs.declared.report.Report.{Report}
 use Rattle.arachne_policy.specs.declared.orders.CoreOrder.{CoreOrder}
 use Rattle.arachne_policy.specs.Orders.{AreInOrder}
 use Rattle.arachne_run.specs.Setups.{IsFirstOrderFault, IsSetupFault, is_of_setup, is_within, refusal_of}
-use Rattle.arachne_commands.specs.declared.command_line.RunSettings.{RunSettings}
+use Rattle.arachne_cli.specs.declared.command_line.RunSettings.{RunSettings}
 use Rattle.arachne_run.specs.declared.setup.Setup.{Setup}
 use Rattle.arachne_commands.specs.Running.{IsRefusal, IsSetUpBy, MayRun, chooser_of, choosers_of}
 

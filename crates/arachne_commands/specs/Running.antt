@@ -10,7 +10,7 @@ use Rattle.arachne_run.specs.Setups.{IsFirstOrderFault, IsSetupFault, is_of_setu
 use Rattle.arachne_run.specs.declared.fault.RunFault.{RunFault}
 use Rattle.arachne_run.specs.declared.fault.RunFault.TheVariants.{Worker}
 use Rattle.arachne_run.specs.declared.fault.WorkerFault.TheVariants.{Memory}
-use Rattle.arachne_commands.specs.declared.command_line.RunSettings.{RunSettings}
+use Rattle.arachne_cli.specs.declared.command_line.RunSettings.{RunSettings}
 
 -- Settings that are refused are refused for their first fault, or for their orders' first fault if they have no other,
 -- or because memory was refused. A fault of settings is reported only for settings that have it. Nothing is said of

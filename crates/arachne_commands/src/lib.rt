@@ -2,22 +2,12 @@
 //! language, and judges samples of a load.
 #![tactic(auto)]
 
-mod command_line;
 mod fault;
-mod judging;
-mod numbers;
-mod orders;
-mod output;
 mod process;
 mod program;
+mod report;
 mod running;
-mod samples;
-mod stream;
 
-pub use fault::Fault;
-pub use orders::read_order;
-pub use output::{PrintedThreads, render};
+pub use arachne_cli::{read_order, read_samples, refuse_words};
 pub use process::{Status, run, run_on, run_without_words};
-pub use program::{drive, refuse, refuse_words};
-pub use samples::read_samples;
-pub use stream::INPUT_LIMIT;
+pub use program::drive;

@@ -3,15 +3,18 @@ ghost use Rattle.std.specs.Prelude.{◌≡◌, ◌≢◌, ◌≤◌, ◌+◌, Li
 ghost use Rattle.std.specs.Io.KnownBytes.{Consumes, Keeps};
 ghost use Rattle.std.specs.IoError.{error_kind};
 ghost use Rattle.std.specs.Process.{exit_status};
-ghost use Rattle.arachne_commands.specs.CommandLine.{asked_by, is_taken};
-ghost use Rattle.arachne_commands.specs.Fault.{fault_line};
-ghost use Rattle.arachne_commands.specs.Drive.{AppendsFront, HasToldFault, HasToldNoOrder, IsAnswered, input_limit};
-ghost use Rattle.arachne_commands.specs.declared.fault.Fault.{Fault};
+ghost use Rattle.arachne_cli.specs.CommandLine.{asked_by, is_taken};
+ghost use Rattle.arachne_cli.specs.Fault.{fault_line};
+ghost use Rattle.arachne_cli.specs.Answers.{input_limit};
+ghost use Rattle.arachne_cli.specs.Ends.{AppendsFront};
+ghost use Rattle.arachne_cli.specs.declared.fault.Fault.{Fault};
+ghost use Rattle.arachne_commands.specs.Drive.{HasToldFault, HasToldNoOrder, IsAnswered};
 
-use crate::program::{drive, refuse_words};
+use crate::program::drive;
+use arachne_cli::{process_words, refuse_words};
 use std::alloc::{Alloc, Global};
 use std::convert::AsStr;
-use std::env::{self, Env};
+use std::env::Env;
 use std::io::{self, Eprint, ErrorKind, Input, Print, Read, Write};
 use std::process::{ExitCode, Termination};
 use std::sync::Wait;
@@ -38,16 +41,10 @@ pub fn run<R: Threads + Wait + Clock + Sync + Env + Alloc<A = Global> + Input + 
     faults: &mut E,
 ) -> Status {
     let (input, output) = (&mut rt.reader(), &mut io::writer(rt));
-    match words(rt) {
+    match process_words(rt) {
         Ok(words) => run_on(rt, rt.alloc(), words.as_slice(), input, output, faults),
         Err(error) => run_without_words(&error, faults),
     }
-}
-
-/// Returns the words of the process's command line.
-fn words<R: Env + Alloc<A = Global>>(rt: &R) -> io::Result<Vec<String>> {
-    let words = env::args(rt)?;
-    Ok(words.collect(rt.alloc())?)
 }
 
 /// Runs the program on these words and streams. The status and the clauses are those of `drive`.

@@ -1,39 +1,24 @@
 //! One run of the program on any words and streams, and its status.
-ghost use Rattle.std.specs.Prelude.{◌≡◌, ◌⊎◌, ◌≢◌, ◌≤◌, length, IfOk, IfErr, IfSome, OnOk, OnErr, IsSome, ◌+◌, Bool, List, ℕ, map, Some, None, true, string_bytes};
-ghost use Rattle.std.specs.Io.KnownBytes.{Appends, Consumes, Keeps};
-ghost use Rattle.std.specs.IoError.{error_kind};
-ghost use Rattle.arachne_lang.specs.Program.{source_of};
-ghost use Rattle.arachne_commands.specs.CommandLine.{IsAllowed, asked_by, is_taken};
-ghost use Rattle.arachne_commands.specs.declared.command_line.RunSettings.{RunSettings as RunBy};
-ghost use Rattle.arachne_commands.specs.Fault.{fault_line};
-ghost use Rattle.arachne_commands.specs.Drive.{AppendsFront, HasToldFault, HasToldNoOrder, IsAnswer, IsAnswered, IsCause, IsProgramOf, IsTold, input_limit};
+ghost use Rattle.std.specs.Prelude.{◌≡◌, ◌≢◌, ◌≤◌, length, IfOk, IfErr, IfSome, ◌+◌, List, ℕ, map, None, true, string_bytes};
+ghost use Rattle.std.specs.Io.KnownBytes.{Consumes, Keeps};
+ghost use Rattle.arachne_cli.specs.declared.fault.Fault.TheVariants.{Read as ReadFailed, Write as WriteFailed};
+ghost use Rattle.arachne_cli.specs.CommandLine.{IsAllowed, asked_by, is_taken};
+ghost use Rattle.arachne_cli.specs.Answers.{input_limit};
+ghost use Rattle.arachne_commands.specs.Drive.{HasToldFault, HasToldNoOrder, IsAnswer, IsAnswered, IsCause};
 
-use crate::command_line::{NotAsked, Request, RunSettings, read_words};
 use crate::fault::Fault;
-use crate::judging::judgement;
-use crate::output::render;
+use crate::report::render_report;
 use crate::running::run_program;
-use crate::stream::{read_input, write_bytes};
-use arachne_lang::{Program, check, eval, parse};
-use arrayvec::ArrayString;
-use clap::error::ErrorKind;
+use arachne_cli::{
+    DONE, Request, RunSettings, checked_program, finish, read_input, read_words, refuse,
+    refuse_request,
+};
 use std::alloc::Global;
 use std::convert::AsStr;
-use std::fmt::Write as _;
-use std::io::{self, ErrorKind as StreamFault, Read, Write};
+use std::io::{Read, Write};
 use std::sync::Wait;
 use std::thread::Threads;
 use std::time::Clock;
-
-/// The statuses of the program: all went well, there was a fault, or the words make no request.
-pub const DONE: u8 = 0;
-
-pub const FAULT: u8 = 1;
-
-pub const WORDS: u8 = 2;
-
-/// Room for the line of any fault.
-const LINE: usize = 64;
 
 /// Reads the input, and returns the output for a request on it.
 fn answer<R: Threads + Wait + Clock + Sync, I: Read>(
@@ -44,15 +29,15 @@ fn answer<R: Threads + Wait + Clock + Sync, I: Read>(
 ) -> Result<String, Fault>
     requires { IsAllowed request }
     ensures answers { IfOk result (λ text. IfSome (I.remaining input.old) (λ known. IsAnswer request known (string_bytes text))) }
-    ensures cause { IfErr result (λ fault. (fault ≢ Fault.Write) × IfSome (I.remaining input.old) (λ known. IsCause request known fault)) }
+    ensures cause { IfErr result (λ fault. (fault ≢ Fault.Cli WriteFailed) × IfSome (I.remaining input.old) (λ known. IsCause request known fault)) }
     ensures reads { (bytes : List ℕ) × Consumes (I.remaining input.old) (I.remaining input.new) bytes × (length bytes ≤ input_limit + 1) }
 {
-    let text = read_input(alloc, input)?;
     match request {
-        Request::Run(settings) => run_of(rt, alloc, text.as_slice(), settings),
-        Request::Eval { names } => evaluation(alloc, text.as_slice(), names),
-        Request::Check => verdict(alloc, text.as_slice()),
-        Request::Policy(settings) => judgement(alloc, text.as_slice(), settings),
+        Request::Run(settings) => {
+            let text = read_input(alloc, input)?;
+            run_of(rt, alloc, text.as_slice(), settings)
+        }
+        Request::Serial(request) => Ok(arachne_cli::answer(alloc, request, input)?),
     }
 }
 
@@ -65,127 +50,14 @@ fn run_of<R: Threads + Wait + Clock + Sync>(
 ) -> Result<String, Fault>
     requires { length text.now ≤ input_limit }
     ensures answers { IfOk result (λ output. IsAnswer (Request.Run settings) text.now (string_bytes output)) }
-    ensures cause { IfErr result (λ fault. (fault ≢ Fault.Write) × IsCause (Request.Run settings) text.now fault) }
-    ensures not_read { IfErr result (λ fault. fault ≢ Fault.Read) }
+    ensures cause { IfErr result (λ fault. (fault ≢ Fault.Cli WriteFailed) × IsCause (Request.Run settings) text.now fault) }
+    ensures not_read { IfErr result (λ fault. fault ≢ Fault.Cli ReadFailed) }
 {
     let program = checked_program(alloc, text)?;
     let names = settings.names;
     let report = run_program(rt, alloc, &program, settings)?;
-    let output = render(
-        alloc,
-        report.value,
-        report.totals.as_slice(),
-        &report.threads,
-        names,
-    )?;
+    let output = render_report(alloc, &report, names)?;
     Ok(output)
-}
-
-/// Returns the output of an evaluation of the text's program.
-fn evaluation(alloc: Global, text: &[u8], names: bool) -> Result<String, Fault>
-    requires { length text.now ≤ input_limit }
-    ensures answers { IfOk result (λ output. IsAnswer (Request.Eval names) text.now (string_bytes output)) }
-    ensures cause { IfErr result (λ fault. (fault ≢ Fault.Write) × IsCause (Request.Eval names) text.now fault) }
-    ensures not_read { IfErr result (λ fault. fault ≢ Fault.Read) }
-{
-    let program = checked_program(alloc, text)?;
-    let meaning = eval(alloc, &program)?;
-    let output = render(
-        alloc,
-        meaning.value,
-        meaning.totals.as_slice(),
-        &meaning.threads,
-        names,
-    )?;
-    Ok(output)
-}
-
-/// Returns the output of a check of the text's program.
-fn verdict(alloc: Global, text: &[u8]) -> Result<String, Fault>
-    requires { length text.now ≤ input_limit }
-    ensures answers { IfOk result (λ output. IsAnswer Request.Check text.now (string_bytes output)) }
-    ensures cause { IfErr result (λ fault. (fault ≢ Fault.Write) × IsCause Request.Check text.now fault) }
-    ensures not_read { IfErr result (λ fault. fault ≢ Fault.Read) }
-{
-    let _program = checked_program(alloc, text)?;
-    let output = String::from_str(alloc, "ok\n")?;
-    Ok(output)
-}
-
-/// Returns the program that a text spells, if it may run.
-fn checked_program(alloc: Global, text: &[u8]) -> Result<Program, Fault>
-    requires { length text.now ≤ input_limit }
-    ensures program { IfOk result (λ program. IsProgramOf text.now (source_of program)) }
-    ensures check { IfErr result (λ fault. (fault ≢ Fault.Write) × IsCause Request.Check text.now fault) }
-    ensures not_read { IfErr result (λ fault. fault ≢ Fault.Read) }
-    ensures eval { (names : Bool) → IfErr result (λ fault. IsCause (Request.Eval names) text.now fault) }
-    ensures run { (settings : RunBy) → IfErr result (λ fault. IsCause (Request.Run settings) text.now fault) }
-{
-    let program = parse(alloc, text)?;
-    check(&program)?;
-    Ok(program)
-}
-
-/// Writes the whole output, and flushes it once. Fails at the first error of the writer.
-fn finish<W: Write>(output: &mut W, text: &str) -> Result<(), Fault>
-    ensures ok { OnOk result (Appends (W.contents output.old) (W.contents output.new) text.now) }
-    ensures front { OnErr result (AppendsFront (W.contents output.old) (W.contents output.new) text.now) }
-    ensures err { IfErr result (λ fault. fault ≡ Fault.Write) }
-{
-    write_bytes(output, text.as_bytes())?;
-    match output.flush() {
-        Ok(()) => Ok(()),
-        Err(_) => Err(Fault::Write),
-    }
-}
-
-/// Writes the line of a fault, as far as the writer takes it. Returns the status of a fault. Takes no memory.
-pub fn refuse<W: Write>(faults: &mut W, fault: Fault) -> u8
-    ensures status { result ≡ 1 }
-    ensures line { AppendsFront (W.contents faults.old) (W.contents faults.new) (fault_line fault) }
-{
-    let mut line = ArrayString::<LINE>::new();
-    if let Ok(()) = writeln!(line, "{fault}") {
-        let _ = write_bytes(faults, line.as_bytes());
-    }
-    FAULT
-}
-
-/// Writes why the words of the command line could not be read. Returns the status, which is that of a fault if memory
-/// was refused.
-pub fn refuse_words<W: Write>(faults: &mut W, error: &io::Error) -> u8
-    ensures memory { error_kind error.now ≡ StreamFault.OutOfMemory
-        → (result ≡ 1) × AppendsFront (W.contents faults.old) (W.contents faults.new) (fault_line Fault.Memory) }
-    ensures other { error_kind error.now ≢ StreamFault.OutOfMemory → result ≡ 2 }
-{
-    if error.kind() == StreamFault::OutOfMemory {
-        return refuse(faults, Fault::Memory);
-    }
-    let _ = writeln!(faults, "error: {error}");
-    WORDS
-}
-
-/// Writes why the words of the command line make no request. Returns the status, which is that of a fault if memory was
-/// refused.
-fn refuse_request<W: Write>(faults: &mut W, why: &NotAsked) -> u8
-    ensures some { 1 ≤ result }
-    ensures most { result ≤ 2 }
-    ensures memory { result ≡ 1 → AppendsFront (W.contents faults.old) (W.contents faults.new) (fault_line Fault.Memory) }
-    ensures told { result ≡ 2 → IsTold why.now (W.contents faults.old) (W.contents faults.new) }
-{
-    match why {
-        NotAsked::NoOrder { index } => {
-            refuse(faults, Fault::NoOrder { index: *index });
-            WORDS
-        }
-        NotAsked::Refused(error) if error.kind() == ErrorKind::OutOfMemory => {
-            refuse(faults, Fault::Memory)
-        }
-        NotAsked::Refused(error) => {
-            let _ = write!(faults, "{error}");
-            WORDS
-        }
-    }
 }
 
 /// Runs the program on the words of the command line and on these streams. Returns the status.
@@ -224,10 +96,10 @@ pub fn drive<R: Threads + Wait + Clock + Sync, S: AsStr, I: Read, W: Write, E: W
     };
     let text = match answer(rt, alloc, request, input) {
         Ok(text) => text,
-        Err(fault) => return refuse(faults, fault),
+        Err(fault) => return refuse(faults, fault.line()),
     };
     match finish(output, text.as_str()) {
         Ok(()) => DONE,
-        Err(fault) => refuse(faults, fault),
+        Err(fault) => refuse(faults, fault.line()),
     }
 }

@@ -7,7 +7,7 @@ ghost use Rattle.arachne_lang.specs.Checked.{IsChecked};
 ghost use Rattle.arachne_run.specs.Reports.{meaning_in};
 ghost use Rattle.arachne_commands.specs.Running.{IsRefusal, IsSetUpBy, MayRun, choosers_of};
 
-use crate::command_line::RunSettings;
+use arachne_cli::RunSettings;
 use arachne_core::CORES;
 use arachne_lang::Program;
 use arachne_run::{Job, OpenGate, Report, RunFault, Setup, run};

@@ -71,6 +71,17 @@ fn runs_end_with_their_status(rt: HostRuntime) {
     }
 }
 
+/// The program without runs refuses one before it reads anything.
+#[test]
+fn a_run_is_refused_by_the_program_without_runs(rt: HostRuntime) {
+    let (mut output, mut faults) = (Tray::new(rt.alloc()), Tray::new(rt.alloc()));
+    let mut input = Script::of(b"");
+    let words = ["arachne", "run"];
+    let status = arachne_cli::drive(rt.alloc(), &words, &mut input, &mut output, &mut faults);
+    let is_refused = status == 2 && faults.kept.starts_with(b"error: ");
+    assert!(rt; is_refused && input.reads == 0 && output.writes == 0);
+}
+
 /// The error with which the words cannot be read, the exit code, and the beginning of the printed text.
 const NO_WORDS: &[(ErrorKind, u8, &str)] = &[
     (ErrorKind::OutOfMemory, 1, "fault 30\n"),

@@ -2,7 +2,7 @@
 use super::endings::{Told, assert_ends, ends, fault, status_of, told_by};
 use super::fakes::{Failure, Script, Tray};
 use super::spelling::spelled;
-use arachne_commands::{Fault, INPUT_LIMIT, refuse};
+use arachne_cli::{Fault, INPUT_LIMIT, refuse};
 use arachne_lang::{CheckFault, TextFault};
 use std::alloc::{AllocError, Global};
 use std::io::ErrorKind;
@@ -356,7 +356,7 @@ fn the_longest_fault_lines_are_written_whole(rt: HostRuntime) {
         for &step in STEPS {
             let mut faults = Tray::new(rt.alloc());
             faults.step = step;
-            let status = refuse(&mut faults, fault);
+            let status = refuse(&mut faults, fault.line());
             assert!(rt; status == 1 && faults.kept.as_slice() == line.as_bytes());
         }
     }

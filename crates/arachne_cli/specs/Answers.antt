@@ -1,0 +1,79 @@
+-- The output for a request that one thread answers, and the causes of its faults.
+use Rattle.std.specs.Prelude.{ℕ, Bool, ◌≡◌, ◌<◌, ◌≤◌, List, [], ◌∷◌, ◌++◌, codes, length, Err, ⊤}
+use Rattle.arachne_lang.specs.declared.text_fault.TextFault.{TextFault}
+use Rattle.arachne_lang.specs.declared.text_fault.TextFault.TheVariants as text
+use Rattle.arachne_lang.specs.declared.check_fault.CheckFault.{CheckFault}
+use Rattle.arachne_lang.specs.Tree.{Source}
+use Rattle.arachne_lang.specs.Spelling.{text_of}
+use Rattle.arachne_lang.specs.Text.{IsAccepted, IsFirstFault}
+use Rattle.arachne_lang.specs.Checked.{IsChecked, verdict_of}
+use Rattle.arachne_lang.specs.Meaning.{meaning_of}
+use Rattle.arachne_policy.specs.declared.samples.Sample.{Sample}
+use Rattle.arachne_cli.specs.declared.command_line.SerialRequest.{SerialRequest}
+use Rattle.arachne_cli.specs.declared.command_line.SerialRequest.TheVariants.{Eval, Check, Policy}
+use Rattle.arachne_cli.specs.declared.judging.Settings.{Settings}
+use Rattle.arachne_cli.specs.Samples.{AreInRange, samples_text}
+use Rattle.arachne_cli.specs.Samples as samples
+use Rattle.arachne_cli.specs.Judging.{AreGood, IsFirstBadLine, advice_lines}
+use Rattle.arachne_cli.specs.Output.{output_of}
+use Rattle.arachne_cli.specs.declared.fault.Fault.{Fault}
+use Rattle.arachne_cli.specs.declared.fault.Fault.TheVariants.{InText, InProgram, BadSample, NoOrder, Memory, TooLong, Read, Write}
+
+-- the maximum number of bytes of an input
+abbrev pub input_limit : ℕ
+input_limit = 33554432
+
+-- The input is the text of this program, which may run.
+pub record IsProgramOf (input : List ℕ) (source : Source) : Type 0 where
+  pub within : length input ≤ input_limit
+  pub accepted : IsAccepted source
+  pub spelled : text_of source ≡ input
+  pub checked : IsChecked source
+
+-- The input is the text of these samples, which can be judged with these settings.
+pub record AreSamplesOf (input : List ℕ) (settings : Settings) (judged : List Sample) : Type 0 where
+  pub within : length input ≤ input_limit
+  pub in_range : AreInRange judged
+  pub spelled : samples_text judged ≡ input
+  pub good : AreGood settings judged
+
+-- the output for the meaning of the input's program
+abbrev pub IsPrintedMeaning : Bool → List ℕ → List ℕ → Type 0
+IsPrintedMeaning names input output = (source : Source) × IsProgramOf input source × (output ≡ output_of names (meaning_of source))
+
+-- the output for this request and this input
+abbrev pub IsAnswer : SerialRequest → List ℕ → List ℕ → Type 0
+IsAnswer (Eval names) input output = IsPrintedMeaning names input output
+IsAnswer Check input output = (source : Source) × IsProgramOf input source × (output ≡ codes "ok" ++ 10 ∷ [])
+IsAnswer (Policy settings) input output = (judged : List Sample) × AreSamplesOf input settings judged × (output ≡ advice_lines settings judged)
+
+-- the first fault of the input, which is the text of a program or of samples
+abbrev pub IsTextFault : SerialRequest → List ℕ → TextFault → Type 0
+IsTextFault (Eval names) input fault = IsFirstFault input fault
+IsTextFault Check input fault = IsFirstFault input fault
+IsTextFault (Policy settings) input fault = samples.IsFirstFault input fault
+
+-- the fault of the input's program
+abbrev pub IsProgramFault : SerialRequest → List ℕ → CheckFault → Type 0
+IsProgramFault (Eval names) input fault = (source : Source) × IsAccepted source × (text_of source ≡ input) × (verdict_of source ≡ Err fault)
+IsProgramFault Check input fault = (source : Source) × IsAccepted source × (text_of source ≡ input) × (verdict_of source ≡ Err fault)
+IsProgramFault (Policy settings) input fault = ⊥
+
+-- the line of the first bad sample of the input
+abbrev pub IsSampleFault : SerialRequest → List ℕ → ℕ → Type 0
+IsSampleFault (Eval names) input line = ⊥
+IsSampleFault Check input line = ⊥
+IsSampleFault (Policy settings) input line =
+    (judged : List Sample) × AreInRange judged × (samples_text judged ≡ input) × IsFirstBadLine settings judged line
+
+-- The cause of a fault that is reported for this request. Nothing is said of refused memory and of streams that fail.
+abbrev pub IsCause : SerialRequest → List ℕ → Fault → Type 0
+IsCause request input (InText text.Memory) = ⊤
+IsCause request input (InText fault) = (length input ≤ input_limit) × IsTextFault request input fault
+IsCause request input (InProgram fault) = (length input ≤ input_limit) × IsProgramFault request input fault
+IsCause request input (BadSample line) = (length input ≤ input_limit) × IsSampleFault request input line
+IsCause request input (NoOrder index) = ⊥
+IsCause request input TooLong = input_limit < length input
+IsCause request input Memory = ⊤
+IsCause request input Read = ⊤
+IsCause request input Write = ⊤

@@ -1,0 +1,9 @@
+pub mod CommandLine
+pub mod Output
+pub mod Fault
+pub mod Answers
+pub mod Ends
+pub mod Samples
+pub mod Orders
+pub mod Reading
+pub mod Judging

@@ -1,0 +1,41 @@
+//! Reads the words of core orders.
+
+ghost use Rattle.std.specs.Prelude.{◌≡◌, ◌↔◌, ℕ, List, Some, option_map};
+ghost use Rattle.arachne_policy.specs.declared.orders.CoreOrder.{CoreOrder as Order};
+ghost use Rattle.arachne_policy.specs.declared.orders.OrderKind.{OrderKind as Kind};
+ghost use Rattle.arachne_cli.specs.Orders.{FitsWords, HasReadKind, order_word};
+
+use crate::numbers::{figures, number, word};
+use arachne_policy::{CoreOrder, OrderKind};
+
+/// Returns the order that a word of the command line spells, such as `250:grant:3`, if it spells one.
+pub fn read_order(spelled: &str) -> Option<CoreOrder>
+    ensures { (order : Order) → (result ≡ Some order) ↔ (FitsWords order × (order_word order ≡ spelled.now)) }
+{
+    let Ok((after, rest)) = number(spelled.as_bytes(), b":") else {
+        return None;
+    };
+    let Some((kind, rest)) = kind(rest) else {
+        return None;
+    };
+    let Ok((core, rest)) = figures(rest) else {
+        return None;
+    };
+    if !rest.is_empty() {
+        return None;
+    }
+    Some(CoreOrder { after, kind, core })
+}
+
+/// Reads the kind of an order and its colon. Returns the kind and the text after the colon.
+fn kind(text: &[u8]) -> Option<(OrderKind, &[u8])>
+    ensures { HasReadKind text.now (option_map {U = Kind × List ℕ} (λ read. (read.0, read.1.now)) result) }
+{
+    if let Ok(rest) = word(text, b"grant:") {
+        Some((OrderKind::Grant, rest))
+    } else if let Ok(rest) = word(text, b"release:") {
+        Some((OrderKind::Release, rest))
+    } else {
+        None
+    }
+}

@@ -1,0 +1,90 @@
+//! The printed output for the meaning of a program.
+ghost use Rattle.std.specs.Prelude.{◌≡◌, ◌++◌, OnOk, IfOk, string_bytes};
+ghost use Rattle.std.specs.List.{flat_map};
+ghost use Rattle.arachne_cli.specs.Output.{output_of, summary_of, ledger_lines, thread_line, name_text};
+
+use arachne_lang::{Line, Meaning, Name};
+use std::alloc::{AllocError, Global};
+use std::fmt::Write;
+
+/// Returns the output for a meaning. With `names` it has a line for each thread.
+pub fn render(alloc: Global, meaning: &Meaning, names: bool) -> Result<String, AllocError>
+    ensures { IfOk result (λ text. string_bytes text ≡ output_of names meaning.now) }
+{
+    let threads = meaning.threads.as_slice();
+    let mut text = summary(
+        alloc,
+        meaning.value,
+        meaning.totals.as_slice(),
+        threads.len(),
+    )?;
+    if names {
+        write_threads(&mut text, threads)?;
+    }
+    Ok(text)
+}
+
+/// Returns the lines for a value, the totals of the ledgers and the number of threads.
+pub fn summary(
+    alloc: Global,
+    value: u64,
+    totals: &[u64],
+    threads: usize,
+) -> Result<String, AllocError>
+    ensures { IfOk result (λ text. string_bytes text ≡ summary_of value totals.now threads) }
+{
+    let mut text = String::new(alloc);
+    writeln!(text, "value {}", value)?;
+    write_totals(&mut text, totals)?;
+    writeln!(text, "threads {}", threads)?;
+    Ok(text)
+}
+
+/// Writes a line for each thread.
+fn write_threads(text: &mut String, threads: &[Line]) -> Result<(), AllocError>
+    ensures { OnOk result (string_bytes text.new ≡ string_bytes text.old ++ flat_map thread_line threads.now) }
+{
+    for thread in threads {
+        write_thread(text, &thread.name, thread.holds.as_slice())?;
+    }
+    Ok(())
+}
+
+/// Writes a line for each ledger.
+#[tactic(auto, using(crate::proofs::Lines::ledger_lines_append))]
+fn write_totals(text: &mut String, totals: &[u64]) -> Result<(), AllocError>
+    ensures { OnOk result (string_bytes text.new ≡ string_bytes text.old ++ ledger_lines 0 totals.now) }
+{
+    for (ledger, total) in totals.iter().enumerate() {
+        writeln!(text, "ledger {ledger} {total}")?;
+    }
+    Ok(())
+}
+
+/// Writes the line of the thread with this name, which held each lock so many times.
+#[tactic(auto, using(crate::proofs::Lines::after_spaces_append))]
+pub fn write_thread(text: &mut String, name: &Name, holds: &[u64]) -> Result<(), AllocError>
+    ensures { OnOk result (string_bytes text.new ≡ string_bytes text.old ++ thread_line (record { name = name.now; holds = holds.now })) }
+{
+    text.push_str("thread ")?;
+    write_name(text, name)?;
+    for hold in holds {
+        write!(text, " {hold}")?;
+    }
+    text.push_str("\n")?;
+    Ok(())
+}
+
+/// Writes a thread's name.
+fn write_name(text: &mut String, name: &Name) -> Result<(), AllocError>
+    ensures { OnOk result (string_bytes text.new ≡ string_bytes text.old ++ name_text name.now) }
+{
+    if name.len() == 0 {
+        text.push_str("/")?;
+    }
+    for k in 0..name.len() {
+        let fork = name.number(k);
+        write!(text, "/{fork}")?;
+    }
+    Ok(())
+}

@@ -1,0 +1,10 @@
+//! The words of the process.
+use std::alloc::{Alloc, Global};
+use std::env::{self, Env};
+use std::io;
+
+/// Returns the words of the process's command line.
+pub fn process_words<R: Env + Alloc<A = Global>>(rt: &R) -> io::Result<Vec<String>> {
+    let words = env::args(rt)?;
+    Ok(words.collect(rt.alloc())?)
+}

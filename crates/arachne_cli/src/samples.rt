@@ -1,0 +1,61 @@
+//! Reads the text of samples.
+
+ghost use Rattle.std.specs.Prelude.{◌≡◌, ◌⊎◌, List, IfOk, IfErr, IsErrAnd, MatchResult};
+ghost use Rattle.arachne_lang.specs.declared.text_fault.TextFault.{TextFault as Fault};
+ghost use Rattle.arachne_policy.specs.declared.samples.Sample.{Sample as Measured};
+ghost use Rattle.arachne_cli.specs.Samples.{AreInRange, IsFirstFault, IsOfMemory, samples_text};
+ghost use Rattle.arachne_cli.specs.Reading.{Gives, sample_at};
+
+use crate::numbers::{ReadingStop, number};
+use arachne_lang::TextFault;
+use arachne_policy::Sample;
+use std::alloc::Global;
+
+/// Reads the samples of the whole text, a line of five numbers each.
+///
+/// Takes time linear in the bytes, and memory only for the samples.
+pub fn read_samples(alloc: Global, text: &[u8]) -> Result<Vec<Sample>, TextFault>
+    // The text is the spelling of the samples, whose numbers are in range.
+    ensures accepted { IfOk result (λ samples. AreInRange samples.items × (samples_text samples.items ≡ text.now)) }
+    // Any spelling of samples in range is read, unless memory is refused.
+    ensures every_text { (samples : List Measured) → AreInRange samples → samples_text samples ≡ text.now
+        → MatchResult result (λ read. read.items ≡ samples) IsOfMemory }
+    // A fault is the first one of the text, unless memory is refused.
+    ensures first_fault { IfErr result (λ fault. (fault ≡ TextFault.Memory) ⊎ IsFirstFault text.now fault) }
+    // A text with a first fault is refused with that fault, unless memory is refused.
+    ensures every_fault { (first : Fault) → IsFirstFault text.now first → IsErrAnd result (λ fault. (fault ≡ TextFault.Memory) ⊎ (fault ≡ first)) }
+{
+    let mut samples = Vec::new(alloc);
+    let mut rest = text;
+    while !rest.is_empty() {
+        let (sample, behind) = match line(rest) {
+            Ok(read) => read,
+            Err(stop) => return Err(stop.fault(text)),
+        };
+        let Ok(()) = samples.push(sample) else {
+            return Err(TextFault::Memory);
+        };
+        rest = behind;
+    }
+    Ok(samples)
+}
+
+/// Reads the sample of a line. Returns the sample and the text after it.
+#[tactic(auto, unfolding(crate::specs::Reading::sample_at))]
+fn line(text: &[u8]) -> Result<(Sample, &[u8]), ReadingStop<'_>>
+    ensures { Gives (λ read. (read.0, read.1.now)) result (sample_at text.now) }
+{
+    let (cores, rest) = number(text, b" ")?;
+    let (runnable, rest) = number(rest, b" ")?;
+    let (scans, rest) = number(rest, b" ")?;
+    let (busy, rest) = number(rest, b" ")?;
+    let (elapsed, rest) = number(rest, b"\n")?;
+    let sample = Sample {
+        cores,
+        runnable,
+        scans,
+        busy,
+        elapsed,
+    };
+    Ok((sample, rest))
+}

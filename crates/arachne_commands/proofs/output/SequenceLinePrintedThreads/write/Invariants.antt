@@ -1,9 +1,0 @@
-use Rattle.std.proofs.Common.{◌≡◌, ◌++◌, take}
-use Rattle.std.specs.Prelude.{string_bytes}
-use Rattle.std.specs.List.{flat_map}
-use Rattle.arachne_commands.specs.Output.{thread_line}
-use Rattle.arachne_commands.proofs.output.SequenceLinePrintedThreads.write.Given as goal
-
--- the lines of the threads so far are written
-abbrev pub invariant-loop-thread : goal.invariant-loop-thread
-invariant-loop-thread l = string_bytes l.text ≡ string_bytes l.initial.text ++ flat_map thread_line (take l.thread-index l.thread-items)

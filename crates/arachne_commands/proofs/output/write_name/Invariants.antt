@@ -1,8 +1,0 @@
-use Rattle.std.proofs.Common.{◌≡◌, ◌++◌, ◌∷◌, take}
-use Rattle.std.specs.Prelude.{string_bytes, decimal}
-use Rattle.std.specs.List.{flat_map}
-use Rattle.arachne_commands.proofs.output.write_name.Given as goal
-
--- the forks so far are written
-abbrev pub invariant-loop-k : goal.invariant-loop-k
-invariant-loop-k l = string_bytes l.text ≡ string_bytes l.initial.text ++ flat_map (λ fork. 47 ∷ decimal fork) (take l.k l.name)

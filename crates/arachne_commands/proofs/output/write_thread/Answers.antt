@@ -1,5 +1,0 @@
-use Rattle.arachne_commands.proofs.Lines.{numbers_step}
-use Rattle.arachne_commands.proofs.output.write_thread.Goals as goal
-
-pub loop-hold-preserved : goal.loop-hold-preserved
-loop-hold-preserved g c = numbers_step _ _ _ _ _ c.loop-hold-test.true c.loop-hold.invariant c.in_ok-write.ensures.bytes

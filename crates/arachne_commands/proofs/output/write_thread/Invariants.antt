@@ -1,8 +1,0 @@
-use Rattle.std.proofs.Common.{◌≡◌, ◌++◌, take}
-use Rattle.std.specs.Prelude.{string_bytes, map, decimal}
-use Rattle.arachne_lang.specs.Spelling.{after_spaces}
-use Rattle.arachne_commands.proofs.output.write_thread.Given as goal
-
--- the counts so far are written
-abbrev pub invariant-loop-hold : goal.invariant-loop-hold
-invariant-loop-hold g l = string_bytes l.text ≡ string_bytes l.initial.text ++ after_spaces (map decimal (take l.hold-index l.hold-items))
