@@ -1,4 +1,4 @@
--- What a pointer that C holds owns.
+-- The ownership of a pointer that C holds.
 use base.Fml.{Fml, feq}
 use denote.RattleType.{RattleType}
 use denote.RawPtr.{Ptr, null_ptr}

@@ -11,7 +11,7 @@ use std::marker::Model;
 use std::ptr::null_mut;
 
 /// The pointer of a box, or null, which holds nothing. A clause reads what it holds as `value`. It can't be dropped,
-/// since what it is made from takes it apart: `into_box` ends it.
+/// since it is only a box taken apart: `into_box` ends it.
 pub struct Handle<T> {
     pub at: *mut T,
     pub alloc: Global,
@@ -23,7 +23,7 @@ impl<T> Model for Handle<T> {
 }
 
 impl<T> Handle<T> {
-    /// One that holds nothing.
+    /// Returns a handle that holds nothing.
     pub fn empty(alloc: Global) -> Handle<T>
         ensures { result.value ≡ None }
     {
@@ -54,14 +54,14 @@ impl<T> Handle<T> {
 }
 
 impl<T: Drop> Handle<T> {
-    /// One that holds what the box did.
+    /// Returns a handle that holds the content of the box `value`.
     pub fn of(value: Box<T>) -> Handle<T>
         ensures { result.value ≡ Some value.value }
     {
         Handle::of_loose(Loose::of(value))
     }
 
-    /// The box again, if it holds anything.
+    /// Returns the box, or `None` if the handle holds nothing.
     pub fn into_box(self) -> Option<Box<T>>
         ensures nothing { IfNone result (self.value ≡ None) }
         ensures value { IfSome result (λ value. self.value ≡ Some value.value) }

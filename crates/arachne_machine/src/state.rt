@@ -246,7 +246,7 @@ impl<'p> State<'p> {
         }
     }
 
-    /// Makes it the next action to begin this expression, if there is one.
+    /// Sets the next action: it begins the expression in `begins`. If there is none, the next action stays.
     #[inline(always)]
     fn settle(&mut self, begins: Option<&'p Expr>)
         ensures { self.new ≡ current_in begins.entry self.old }
