@@ -51,7 +51,7 @@ impl Own {
         }
     }
 
-    /// Puts back the thread's line. The place at which the thread ran is not taken from it.
+    /// Puts back the name and the holds of the thread's line. The tag, and the place at which the thread ran, stay.
     pub fn put_back(&mut self, line: ThreadLine)
         ensures name { self.new.name ≡ line.name }
         ensures holds { self.new.holds.items ≡ line.holds }
