@@ -88,7 +88,9 @@ const NO_WORDS: &[(ErrorKind, u8, &str)] = &[
     (ErrorKind::InvalidData, 2, "error: "),
 ];
 
-/// Checks the code and the text for words that cannot be read, by the call itself and as a process.
+/// Checks the exit code and the printed text if the words cannot be read.
+///
+/// `refuse_words` returns the code and writes the text, and the report of `run_without_words` has the same code.
 fn assert_without_words<R: Abort + Eprint>(
     rt: &R,
     alloc: Global,

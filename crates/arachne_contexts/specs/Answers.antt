@@ -57,7 +57,7 @@ WakesAs id (woken.Already word) = ShowsWoken id word
 WakesAs id woken.Gone = Unit {0}
 WakesAs id (woken.Lost word) = Unit {0}
 
--- whether the thread was woken; None if the wake was lost
+-- true if the call woke the thread, false if that was woken already or has ended, None if the wake was lost
 abbrev pub settled_wake : Woken → Option Bool
 settled_wake woken.Woken = Some true
 settled_wake (woken.Already word) = Some false

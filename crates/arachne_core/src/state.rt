@@ -24,7 +24,7 @@ pub enum State {
     Spent,
 }
 
-/// How a carrier puts a thread back.
+/// The ways in which a carrier puts a thread back.
 #[derive(Clone, Copy, Debug, PartialEq, Eq)]
 pub enum Rest {
     /// The thread may be taken again.

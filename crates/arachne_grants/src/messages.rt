@@ -44,10 +44,10 @@ pub enum ClientMessage {
     },
 }
 
-/// Why bytes begin with no message: the first number that none has.
+/// The reason why bytes begin with no message: the first number that no message has there.
 #[derive(Clone, Copy, Debug, PartialEq, Eq)]
 pub enum MessageFault {
-    /// There are fewer than `MESSAGE_BYTES`.
+    /// There are fewer than `MESSAGE_BYTES` bytes.
     Short,
     /// There is no such kind of message.
     Kind,

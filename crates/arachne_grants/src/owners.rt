@@ -1,4 +1,4 @@
-//! Which cores change hands.
+//! The cores that are taken from clients, and given to others.
 ghost use Rattle.std.specs.Prelude.{◌≡◌, ℕ, ◌+◌, ◌^◌, ◌<◌, ◌≤◌, ◌⊎◌, true, if◌then◌else◌, is_some, None, length, max, slice_index, sum};
 ghost use Rattle.arachne_grants.specs.Grants.{target_at, IsHigher};
 ghost use Rattle.arachne_grants.specs.Owners.{is_of, held_by, owned, owner_at, AreAmong, AreHeld, GivesOnly, IsGiven, IsGivenByPriority, IsNextShort, IsSettled, IsShort, IsWithin, KeepsTargets, MovesLeast, TakesOnly};
@@ -8,7 +8,7 @@ use crate::claims::Client;
 /// The most clients that a machine may have: one for each number that an owner may be.
 pub const MAX_OWNERS: usize = 256;
 
-/// Moves cores so that each client has its target: no core of a client's that has no more than that.
+/// Moves cores so that each client has its target. A client that has no more than its target keeps its cores.
 pub fn moves(owners: &mut [Option<u8>], clients: &[Client], targets: &[u32])
     requires cores { length owners.old < 2 ^ 32 }
     requires clients { length clients.now ≤ 256 }

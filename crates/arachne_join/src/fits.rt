@@ -5,6 +5,6 @@ pub trait Fits<K> {
     /// The value may be left in a cell with this key. A fetch returns only such values.
     ghost fits: { K → Self → Type 0 };
 
-    /// The value may be put back into a cell with this key until it is taken back. By default none may.
+    /// The value may be put back into a cell with this key until it is taken back. By default no value may be put back.
     ghost may_wait: { K → Self → Type 0 } = { λ _ _. ⊥ };
 }

@@ -372,7 +372,7 @@ impl<'r> Case<'r> {
         }
     }
 
-    /// A slice has ended after `steps` steps. If they are more than the quantum, a rule is broken.
+    /// Judges the end of a slice, after `steps` steps. If they are more than the quantum, a rule is broken.
     fn sliced(&mut self, core: u8, steps: u32, end: SliceEnd)
         ensures { self.old.run.quantum < steps → IsSome self.new.broken }
     {
@@ -414,7 +414,7 @@ impl<'r> Case<'r> {
         }
     }
 
-    /// A core's worker has moved a thread to the core from another one.
+    /// Judges the move of a thread to `core` from the core `from`, by the worker of `core`.
     fn pulled(&mut self, core: u8, id: ThreadId, from: u8)
         ensures { self.new.broken ≡ broken_by_pull self.old.run.has_exclusive (from == core) self.old.broken self.old.at }
     {
@@ -428,8 +428,8 @@ impl<'r> Case<'r> {
         }
     }
 
-    /// A core parks. At some time since its last entry it has found itself closed and empty. Since then it may have
-    /// been granted, closed again and given threads.
+    /// Judges a park of `core`. At some time since its last entry the core has found itself closed and empty. Since
+    /// then it may have been granted, closed again and given threads.
     fn parks(&mut self, core: u8) {
         self.counts(Rule::Parks);
         let mut known = self.core(core);

@@ -19,10 +19,10 @@ pub(crate) struct Scans {
     due: Option<u32>,
     /// The number of threads known to be on the core.
     threads: u64,
-    /// The number of other threads that must be on the core, since a child waits for a place. Each of them has its
+    /// The number of other threads that must be on the core, because a child waits for a place. Each of them has its
     /// first turn before the next scan ends.
     unseen: u64,
-    /// The number of scans begun since a child waits for a place.
+    /// The number of scans that began since a child began to wait for a place.
     scans: u32,
 }
 

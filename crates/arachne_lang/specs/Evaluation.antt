@@ -96,8 +96,8 @@ pub record IsHalfRun (program : Source) (reduction : Reduction) (grain : ℕ) (b
   pub ended : (fuel : ℕ) → n ≤ fuel → HasEnded program.locks (halved_effects program reduction grain body shared.environment.items fuel first n)
       name shared.sums.items shared.lines.items shared'.sums.items shared'.lines.items
 
--- The number of the next fork stays in range. Each thread that was forked has a line, or its line is still to be
--- pushed. For each level of an expression at most 65 are still to be pushed, since a range of less than 2 ^ 64 numbers
+-- The number of the next fork stays in range. Each thread that was forked has a line, or its line has yet to be
+-- pushed. For each level of an expression at most 65 have yet to be pushed, since a range of less than 2 ^ 64 numbers
 -- is halved at most 64 times.
 abbrev pub MayFork : Tree → ℕ → List Line → Type 0
 MayFork tree forks lines = (nesting tree ≤ 64) × (forks + 65 * nesting tree ≤ length lines + 65 * 64)

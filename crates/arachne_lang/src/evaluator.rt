@@ -410,7 +410,8 @@ impl Evaluator<'_> {
 
     /// Evaluates `n` iterations of a fold, over the numbers from `from` on, with `first` as the first value.
     ///
-    /// The number and the value so far are the two newest variables. Each iteration overwrites those of the one before.
+    /// In each iteration the two newest variables are its number and the value so far. They overwrite those of the
+    /// iteration before.
     #[cycle(evaluation)]
     fn turns(
         &self,

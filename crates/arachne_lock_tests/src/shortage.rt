@@ -29,7 +29,7 @@ fn is_held_and_freed(locks: &Locks, seat: &mut LockSetSeat, lock: usize) -> bool
     )
 }
 
-/// Has the crowd ask for a lock, each task until there is memory for it.
+/// Has each task of the crowd ask for `lock`, again and again until there is memory for it.
 ///
 /// Returns the number of refusals, if the lock was as before each time.
 fn all_ask(locks: &Locks, seat: &mut LockSetSeat, lock: usize, hoard: &mut Hoard) -> Option<u64>

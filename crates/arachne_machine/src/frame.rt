@@ -84,14 +84,14 @@ pub enum Frame<'p> {
         number: u64,
         reduction: Reduction,
     },
-    /// The child of this number begins in this place. Once it has ended, the expression `after` is next.
+    /// The child of this number begins in its parent's place. Once it has ended, the expression `after` is next.
     JoinHere {
         number: u64,
         child: &'p Expr,
         after: &'p Expr,
     },
-    /// The value is that of the right half of a part of a sweep. The child of this number begins the left half in this
-    /// place.
+    /// The value is that of the right half of a part of a sweep. The child of this number begins the left half in its
+    /// parent's place.
     MergeHere {
         number: u64,
         left: Stretch<'p>,

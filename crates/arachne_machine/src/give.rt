@@ -23,8 +23,8 @@ impl<'p> State<'p> {
 
     /// Hands a value on from frame to frame until one of them says what is next, or none is left.
     ///
-    /// A value of a child that ran in this place goes on to its parent. If memory is refused, the value is still to be
-    /// handed on.
+    /// A value of a child that ran in this place goes on to its parent. If memory is refused, the value still has
+    /// to be handed on.
     #[inline(always)]
     pub fn give<P: Placing>(
         &mut self,
@@ -80,7 +80,7 @@ impl<'p> State<'p> {
         self.join_here(value, left)
     }
 
-    /// Notes that the value is still to be handed on, as memory was refused.
+    /// Records that the value still has to be handed on, since memory was refused, and returns the error.
     #[cold]
     #[inline(never)]
     pub fn refused(&mut self, value: u64) -> Result<Progress<'p>, AllocError>

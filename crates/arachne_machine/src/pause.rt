@@ -9,15 +9,15 @@ use thiserror::Error;
 pub enum Pause<'p> {
     /// The budget is used up. Advance the thread again.
     Budget,
-    /// It forks a child of this class. Give the child away and answer `forked`, or hand it to `in_place`.
+    /// It forks a child of this class. Give the child away and call `forked`, or hand it to `in_place`.
     Forks(Class, Thread<'p>),
-    /// It awaits the outcome of a child. Answer `joined`, or hand the child to `in_place`.
+    /// It awaits the outcome of a child. Hand that to `joined`, or hand the child to `in_place`.
     Joins,
-    /// It asks for this lock. Answer `granted` once it has it.
+    /// It asks for this lock. Call `granted` once the thread has it.
     Asks(u64),
-    /// It releases this lock. Answer `freed`.
+    /// It releases this lock. Call `freed`.
     Frees(u64),
-    /// It adds this amount to this ledger. Answer `tallied`.
+    /// It adds to the ledger of the first number the second number. Call `tallied`.
     Tallies(u64, u64),
     /// It has ended. Call `finish`.
     Ended,

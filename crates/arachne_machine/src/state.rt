@@ -51,7 +51,7 @@ impl Own {
         }
     }
 
-    /// Puts back the thread's line. The place at which the thread ran is not taken from it.
+    /// Puts back the name and the holds of the thread's line. The tag, and the place at which the thread ran, stay.
     pub fn put_back(&mut self, line: ThreadLine)
         ensures name { self.new.name ≡ line.name }
         ensures holds { self.new.holds.items ≡ line.holds }
@@ -246,7 +246,7 @@ impl<'p> State<'p> {
         }
     }
 
-    /// Makes it the next action to begin this expression, if there is one.
+    /// Sets the next action: it begins the expression in `begins`. If there is none, the next action stays.
     #[inline(always)]
     fn settle(&mut self, begins: Option<&'p Expr>)
         ensures { self.new ≡ current_in begins.entry self.old }

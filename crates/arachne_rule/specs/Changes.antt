@@ -54,7 +54,7 @@ taken_context x m tag = record {
 abbrev pub claimed_again : Carried → Carried
 claimed_again c = record c { held = false; tag = 0; generation = c.generation + 1; away = false; shown = c.place }
 
--- after a thread took its place: it stands at p, and its mark word still shows the place that it had
+-- a context after a moved thread took its place: it stands at p, and its mark word still shows the place that it had
 abbrev pub left_context : Carried → Place → Carried
 left_context c p = record c { place = p; named = false }
 

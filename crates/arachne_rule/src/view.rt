@@ -20,7 +20,7 @@ pub struct Carried {
     pub alone: bool,
     /// True if the place word of its place names it.
     pub named: bool,
-    /// True if its slot is out with the seat.
+    /// True if its slot is out with the seat, and not home in the table.
     pub away: bool,
 }
 

@@ -47,7 +47,7 @@ abbrev pub AreOfSeats : ℕ → List Entry → Type 0
 AreOfSeats n [] = Unit {0}
 AreOfSeats n (e ∷ es) = (e.seat < n) × AreOfSeats n es
 
--- the trace leads to the word as it is, and the steps that a seat in use has noted are exactly its own
+-- the trace leads to the number that is in the guard word, and each seat in use has noted exactly its own steps
 pub record Tells (trace : List Entry) (words : List ℕ) (views : List (Token Known)) : Type 0 where
   pub lawful : IsTrace trace
   pub word : slice_index words guard_word ≡ word_after trace

@@ -51,7 +51,7 @@ home_of seat = record { table = seat.table; number = seat.log.number }
 abbrev pub whole_seat : SleepLockView → SeatView
 whole_seat lock = record { table = lock.table; weight = whole; log = blank_log lock.number }
 
--- the halves of a seat: the first keeps what it has done, and the second has seen what the first has
+-- the halves of a seat: the first has what the seat has done and seen, and the second only what it has seen
 abbrev pub first_half : SeatView → SeatView
 first_half seat = record { table = seat.table; weight = first_part seat.weight; log = seat.log }
 

@@ -140,8 +140,8 @@ impl SleepLock {
 
     /// Splits a seat in two, each with half of its weight, rounded up for the first.
     ///
-    /// The first keeps what it has done. The second has seen what the first has. If the weight is 1 or 0, both get
-    /// weight 0.
+    /// The first keeps what `seat` has done and seen, the second only what `seat` has seen. If the weight is 1 or 0,
+    /// both get weight 0.
     pub fn split(&self, seat: LockSeat) -> (LockSeat, LockSeat)
         requires { IsSeatOf self.now seat }
         ensures first { result.0 ≡ first_half seat }

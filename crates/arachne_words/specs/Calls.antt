@@ -72,7 +72,7 @@ sum_of alone index = if alone then 2 ^ 63 + index_sum index else index_sum index
 
 -- ---- claims
 
--- Q is true of each context, with its generation, as which the claim may be out with the seat
+-- Q is true of each context and generation with which the claim may be out with the seat
 abbrev pub EachContextOf : Contexts → Known → ClaimView → (ℕ → ℕ → Type 0) → Type 0
 EachContextOf c k claim Q = (x g : ℕ) → x < c.table.slots → Carries k (claimed_by claim x g) → Q x g
 

@@ -64,8 +64,9 @@ impl PoolJob for Heap {
     }
 }
 
-/// A pool of two cores of 8 places each, over any form of table, its worker, and the handle of a heap that it is to
-/// count.
+/// Returns a pool of two cores of 8 places each, its worker, and the handle of the heap to count.
+///
+/// The pool may be over any form of table. Returns `None` if memory is refused.
 fn begin<C: Contexts<Spawned<Heap>> + Drop, R: Wait>(
     rt: &R,
     alloc: Global,
@@ -84,7 +85,9 @@ fn begin<C: Contexts<Spawned<Heap>> + Drop, R: Wait>(
     Some((pool, worker, handle))
 }
 
-/// The grains that were counted, and how many heaps were not.
+/// Ends the pool, and returns the number of grains that were counted, and that of the heaps that are left.
+///
+/// Returns `None` if the pool can't be closed or the heap has no result.
 fn end<C: Contexts<Spawned<Heap>> + Drop, R: Wait>(
     rt: &R,
     alloc: Global,
@@ -100,8 +103,9 @@ fn end<C: Contexts<Spawned<Heap>> + Drop, R: Wait>(
     Some((count, left.placed.len() + left.near.len()))
 }
 
-/// Counts a heap by two kernel threads. This one function has the table's type written out: `proofs/run` shows that
-/// what a kernel thread takes along may cross.
+/// Counts a heap by two kernel threads.
+///
+/// Only this function names the table's type: `proofs/run` shows that what a kernel thread takes along may cross.
 fn run<R: Threads + Wait + Clock + Sync>(rt: &R, alloc: Global) -> Option<(u64, usize)>
     ensures { IfSome result (λ counted. counted.0 ≡ 10000) }
 {

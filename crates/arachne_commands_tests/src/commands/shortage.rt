@@ -43,7 +43,7 @@ fn is_told<R: Threads + Wait + Clock + Sync>(
     None
 }
 
-/// Words, an input, and their end on it, as rows spell them.
+/// The words of a command line, its input, and its expected end (status, output and faults), as rows spell them.
 type Row = (&'static str, &'static str, &'static str);
 
 const ROWS: &[Row] = &[

@@ -14,7 +14,7 @@ pub enum Stop<'t> {
     Departs(&'t [u8]),
     /// A digit brings a number over its range.
     Overflows(&'t [u8]),
-    /// An opening bracket is at a level that is too deep.
+    /// An opening bracket is nested too deep.
     TooDeep(&'t [u8]),
 }
 

@@ -10,7 +10,7 @@ use arachne_core::SLOTS;
 use arachne_policy::{CoreOrder, OrderKind};
 use std::test::Fail;
 
-/// Machines whose table hands back each thread that is to be finished, so that the first one to end is a fault.
+/// Machines whose table hands back each thread that `finish` gets, so that the first thread that ends is a fault.
 const HANDING_BACK: &[Machine] = &[(5, 1, 5), (5, 100, 5)];
 
 /// Machines whose table refuses memory to a claim on a core that is in use.

@@ -188,7 +188,7 @@ const THREE_WAIT: Row = Row {
     told: "",
 };
 
-/// Of the 1,000 threads of a sweep 134 get a place when they are forked. If places were kept, 56 would.
+/// Of the 1,000 threads of a sweep 134 get a place when they are forked. If places were kept, only 56 would get one.
 const NONE_KEPT: Row = Row {
     shows: "no place is kept where an order may close the core",
     source: Source {

@@ -117,7 +117,7 @@ fn pass<C: Contexts<TagOnly>, R: Wait>(
 
 /// Passes a thread through each context of one core, whose contexts begin at the last generation.
 ///
-/// Returns the core's word then, its word once the core is closed, and whether it is drained.
+/// Returns the core's word before the core is closed, its word after that, and whether it is drained.
 pub(super) fn spend_core<C: Contexts<TagOnly> + Drop, R: Wait>(
     rt: &R,
     alloc: Global,
