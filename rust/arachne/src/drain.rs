@@ -270,7 +270,8 @@ impl Signal {
     /// Catches the signal of this number from now on; 15 is SIGTERM, 2 is SIGINT.
     ///
     /// It stays caught once this value is dropped. If an earlier `Signal` caught it already, only the new one hears it
-    /// from then on. Fails for a number that is no signal's, or that can't be caught, such as 9.
+    /// from then on. Fails for a number that is no signal's, or that can't be caught, such as 9; so do 4, 7, 8 and 11
+    /// (SIGILL, SIGBUS, SIGFPE, SIGSEGV), since a real fault must end the process.
     ///
     /// ```
     /// # fn main() -> std::io::Result<()> {
@@ -291,7 +292,7 @@ impl Signal {
     ///
     /// This is the form for tasks; `wait` blocks its thread, and in `spawn_blocking` would hold up the runtime's end.
     /// If several tasks wait, one of them gets the signal. Like a socket it belongs to the runtime in which it first
-    /// waits.
+    /// waits; for a later runtime make a new one.
     ///
     /// ```
     /// # fn main() -> std::io::Result<()> {
@@ -303,7 +304,7 @@ impl Signal {
     /// ```
     ///
     /// # Errors
-    /// If it has to wait outside of a runtime.
+    /// If it has to wait outside of a runtime, or once its runtime has ended.
     pub async fn recv(&self) -> io::Result<()> {
         let not_yet = || io::Error::from(io::ErrorKind::WouldBlock);
         let take = |event: &Event| sys::take_event(event.0).then_some(()).ok_or_else(not_yet);

@@ -34,7 +34,8 @@ impl Door {
         }
     }
 
-    fn turns(&self) -> u64 {
+    /// Returns how often it was opened or closed, which tells the runtimes of one state apart.
+    pub(crate) fn turns(&self) -> u64 {
         self.0.load(SeqCst) / TURN
     }
 

@@ -104,6 +104,9 @@ impl Interval {
     /// Waits for the next tick, and returns the time at which it was due.
     ///
     /// No tick is lost if this future is dropped. See the example at `interval`.
+    ///
+    /// # Panics
+    /// The future panics if it has to wait outside of a runtime.
     pub async fn tick(&mut self) -> Instant {
         poll_fn(|cx: &mut Context<'_>| self.poll_tick(cx)).await
     }

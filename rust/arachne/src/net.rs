@@ -1,6 +1,7 @@
 //! Sockets and other descriptors over the runtime's epoll.
 //!
-//! A socket belongs to the runtime in which it first waits. Once that has ended, to wait for it fails.
+//! A socket belongs to the runtime in which it first waits. Once that has ended, to wait for it fails, in whatever
+//! runtime; `from_std(socket.into_std()?)` makes it anew.
 //!
 //! Names are std's. `bind` and `from_std` don't wait, so they aren't `async`. Reads and writes take `&self`, so tasks
 //! may share a socket (by an `Arc`, say). Any number of them may wait for it in its methods; an event wakes all. Of
@@ -50,6 +51,8 @@ pub use unix::{UnixListener, UnixStream};
 #[derive(Clone)]
 struct Registered {
     shared: &'static Shared,
+    /// Those of the runtime's door: a later runtime with the same state has others.
+    turns: u64,
     io: Arc<Io>,
     key: Key,
 }
@@ -181,8 +184,9 @@ impl<S: AsRawFd> Source<S> {
         if at.get().is_none() {
             let outside = || io::Error::new(io::ErrorKind::Other, "a socket outside of a runtime");
             let shared = here().ok_or_else(outside)?;
+            let turns = shared.door.turns();
             let (io, key) = shared.reactor.add(self.of.fd, shared.table)?;
-            at.set(Registered { shared, io, key });
+            at.set(Registered { shared, turns, io, key });
         }
         Ok(at.get().expect("registered"))
     }
@@ -259,7 +263,7 @@ impl<S: AsRawFd> Source<S> {
                 register(io, cx.waker());
                 state = io.state.load(SeqCst);
                 if state & (ready | closed) == 0 {
-                    if at.shared.has_ended() {
+                    if at.shared.has_ended(at.turns) {
                         let ended = io::Error::new(io::ErrorKind::Other, "the runtime of this socket has ended");
                         return Poll::Ready(Err(ended));
                     }
@@ -369,6 +373,8 @@ pub struct Async<S: AsRawFd>(Source<S>);
 
 impl<S: AsRawFd> Async<S> {
     /// Takes a descriptor, and makes it non-blocking. `source` must keep the same descriptor.
+    ///
+    /// If epoll can't watch it, the first read or write that has to wait fails, with `PermissionDenied`.
     ///
     /// ```
     /// # fn main() -> std::io::Result<()> {

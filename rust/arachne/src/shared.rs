@@ -334,11 +334,13 @@ impl Shared {
         (self.spawned() - background - ended).max(0) as u64
     }
 
-    /// Returns true if the runtime has ended, or is about to, so that nobody looks for its events any more.
+    /// Returns true if the runtime of these turns of the door has ended, or is about to, so that nobody looks for its
+    /// events any more.
     ///
     /// Returns false in a poll of one of its own tasks, which is dropped instead.
-    pub(crate) fn has_ended(&self) -> bool {
-        self.stop.load(SeqCst) && !Context::with(|worker| worker.map_or(false, |worker| ptr::eq(worker.shared, self)))
+    pub(crate) fn has_ended(&self, turns: u64) -> bool {
+        let in_own_task = || Context::with(|worker| worker.map_or(false, |worker| ptr::eq(worker.shared, self)));
+        self.door.turns() != turns || self.stop.load(SeqCst) && !in_own_task()
     }
 
     /// Wakes those who wait for its sockets and timers in another runtime, or in blocking work, after its end.

@@ -301,8 +301,17 @@ extern "C" fn handler(number: i32) {
     }
 }
 
-/// Makes a signal raise this event, instead of its previous action or event.
+/// The signals of faults: SIGILL, SIGBUS, SIGFPE and SIGSEGV.
+///
+/// A handler that returns would begin the instruction that failed again, for ever.
+const FAULTS: [i32; 4] = [4, 7, 8, 11];
+
+/// Makes a signal raise this event, instead of its previous action or event. Fails for a signal of a fault.
 pub(crate) fn raise_at(number: i32, event: RawFd) -> io::Result<()> {
+    const INVALID: i32 = 22;
+    if FAULTS.contains(&number) {
+        return Err(io::Error::from_raw_os_error(INVALID));
+    }
     let kept = SIGNALLED.get(number as usize).ok_or(io::ErrorKind::InvalidInput)?;
     kept.store(event, SeqCst);
     // SAFETY: the handler is a function of C's convention that lives for ever, and makes one call that a handler may.

@@ -126,6 +126,9 @@ pub struct Sleep {
 /// arachne::Runtime::new(1).block_on(arachne::sleep(Duration::from_millis(5)));
 /// assert!(begin.elapsed() >= Duration::from_millis(5));
 /// ```
+///
+/// # Panics
+/// The future panics if it has to wait outside of a runtime. It may be made there.
 pub fn sleep(duration: Duration) -> Sleep {
     let nanos = duration.as_nanos().min(u64::MAX as u128 / 4) as u64;
     Sleep { at: now().saturating_add(nanos), waits: None }
@@ -139,6 +142,9 @@ pub fn sleep(duration: Duration) -> Sleep {
 /// arachne::Runtime::new(1).block_on(arachne::sleep_until(moment));
 /// assert!(Instant::now() >= moment);
 /// ```
+///
+/// # Panics
+/// As for `sleep`.
 pub fn sleep_until(moment: Instant) -> Sleep {
     sleep(moment.saturating_duration_since(Instant::now()))
 }
@@ -250,6 +256,9 @@ pub struct Timeout<F> {
 /// let never = arachne::timeout(Duration::from_millis(2), std::future::pending::<()>());
 /// assert_eq!(arachne::Runtime::new(1).block_on(never), Err(arachne::Elapsed));
 /// ```
+///
+/// # Panics
+/// As for `sleep`, unless the future is ready at once.
 pub fn timeout<F: Future>(duration: Duration, future: F) -> Timeout<F> {
     Timeout { future, sleep: sleep(duration) }
 }

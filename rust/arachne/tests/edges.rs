@@ -1,7 +1,7 @@
 //! Futures, tasks and runtimes that are dropped, aborted or ended early: nothing leaks, and nobody waits for ever.
 use arachne::{
     block_on, channel, net, sleep, spawn, spawn_blocking, stopping, timeout, yield_now, Builder, JoinError, Lock,
-    Runtime, Semaphore,
+    Runtime, Semaphore, Signal,
 };
 use std::future::Future;
 use std::io::Read;
@@ -555,4 +555,25 @@ fn a_sleep_outlives_its_runtime() {
     drop(ends);
     block_on(waits).unwrap();
     runtime.block_on(moved);
+}
+
+/// A later runtime has the state of the ended one, if it has the same size. No other test has one of 7 workers.
+#[test]
+fn a_socket_of_an_ended_runtime_waits_in_no_later_one() {
+    let (ends, signal) = (Runtime::new(7), Signal::heard(10).unwrap());
+    let socket = net::UdpSocket::bind("127.0.0.1:0").unwrap();
+    assert!(ends.block_on(timeout(MS, socket.recv_from(&mut [0; 8]))).is_err());
+    assert!(ends.block_on(timeout(MS, signal.recv())).is_err());
+    drop(ends);
+    let later = Runtime::new(7);
+    let message = |got: std::io::Result<()>| got.unwrap_err().to_string();
+    let got = later.block_on(timeout(LONG, socket.recv_from(&mut [0; 8]))).unwrap();
+    assert_eq!(message(got.map(drop)), "the runtime of this socket has ended");
+    let got = later.block_on(timeout(LONG, signal.recv())).unwrap();
+    assert_eq!(message(got), "the runtime of this socket has ended");
+    // Made anew they wait there.
+    let socket = net::UdpSocket::from_std(socket.into_std().unwrap()).unwrap();
+    assert!(later.block_on(timeout(MS, socket.recv_from(&mut [0; 8]))).is_err());
+    let signal = Signal::heard(10).unwrap();
+    assert!(later.block_on(timeout(MS, signal.recv())).is_err());
 }

@@ -472,6 +472,13 @@ fn a_signal_is_heard() {
     assert!(signal.wait());
 }
 
+/// A fault whose signal were caught would come again and again.
+#[test]
+fn signals_of_faults_are_refused() {
+    let error = |number| Signal::heard(number).unwrap_err().raw_os_error();
+    [4, 7, 8, 9, 11, 19].into_iter().for_each(|number| assert_eq!(error(number), Some(22), "{number}"));
+}
+
 fn raise(signal: &str) {
     let kill = format!("kill -{signal} {}", std::process::id());
     assert!(std::process::Command::new("sh").args(["-c", &kill]).status().unwrap().success());

@@ -656,3 +656,14 @@ fn a_host_is_looked_up_beside_the_workers() {
     assert_eq!(found, [([127, 0, 0, 1], 80).into()]);
     assert!(runtime.block_on(arachne::net::lookup_host("no such host:80")).is_err());
 }
+
+/// That epoll can't watch a descriptor is only seen once it has to wait.
+#[test]
+fn a_descriptor_that_cannot_be_watched_fails_at_its_first_wait() {
+    let file = arachne::net::Async::new(std::fs::File::open("/proc/self/exe").unwrap()).unwrap();
+    let runtime = Runtime::new(1);
+    let mut buffer = [0; 4];
+    assert_eq!(runtime.block_on(file.read_with(|mut file| file.read(&mut buffer))).unwrap(), 4);
+    let waits = runtime.block_on(file.read_with(|_| Err::<(), _>(std::io::ErrorKind::WouldBlock.into())));
+    assert_eq!(waits.unwrap_err().kind(), std::io::ErrorKind::PermissionDenied);
+}
