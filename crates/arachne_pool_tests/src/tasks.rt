@@ -6,25 +6,25 @@ use arachne_pool::{PoolJob, Step};
 use std::alloc::Global;
 use std::sync::Arc;
 
-/// What a job does: it forks children, joins them, sleeps until answers come, goes on for some steps and ends.
+/// A kind of job: it forks children, joins them, sleeps until answers come, goes on for some steps and ends.
 #[derive(Clone, Copy)]
 pub(crate) struct Sort {
-    /// How many generations there are below it.
+    /// The number of generations below it.
     pub(crate) depth: u32,
-    /// How many children it forks.
+    /// The number of children that it forks.
     pub(crate) forks: u32,
-    /// How many answers it wants, once it has forked the last one and joined them: it sleeps until so many have come. A
-    /// child wants one fewer.
+    /// The number of answers for which it sleeps once it has forked and joined its children. A child sleeps for one
+    /// fewer.
     pub(crate) answers: u64,
-    /// How many steps it goes on before each fork, and before it ends.
+    /// The number of steps that it goes on before each fork, and before it ends.
     pub(crate) steps: u32,
     /// The most steps of a slice.
     pub(crate) bound: u32,
-    /// How many values it has, which take their time to be dropped.
+    /// The number of its values, which take their time to be dropped.
     pub(crate) luggage: usize,
     pub(crate) joins: Joins,
     pub(crate) is_exclusive: bool,
-    /// Its first child is exclusive, whatever it is itself.
+    /// Its first child is exclusive, also if it is not.
     pub(crate) is_first_exclusive: bool,
     /// Its first step lasts until an answer has come, so that its kernel thread comes to no other job meanwhile.
     pub(crate) is_held: bool,
@@ -37,9 +37,9 @@ pub(crate) enum Joins {
     InTurn,
     /// All, once it has forked the last one.
     AtLast,
-    /// The newest alone, once it has forked it.
+    /// Only the newest, once it has forked it.
     Newest,
-    /// None.
+    /// No child.
     Never,
 }
 
@@ -64,8 +64,8 @@ pub(crate) const PARENT: Sort = Sort {
     ..LEAF
 };
 
-/// A job in a pool: whether it has made a step, how many children it has forked and not joined, how many steps it has
-/// gone on, and how many jobs it has counted.
+/// A job in a pool, with the numbers of children that it has forked and not joined, of steps that it has gone on, and
+/// of jobs that it has counted.
 #[derive(Drop)]
 pub(crate) struct Task {
     board: Arc<Board>,
@@ -79,7 +79,7 @@ pub(crate) struct Task {
 }
 
 impl Task {
-    /// A job of this sort. None where memory is refused, or too many have the board.
+    /// Returns a job of this sort, or `None` if memory is refused, or too many have the board.
     pub(crate) fn new(sort: Sort, board: &Arc<Board>) -> Option<Task> {
         Some(Task {
             board: board.clone().ok()?,
@@ -93,7 +93,7 @@ impl Task {
         })
     }
 
-    /// The child that it forks next.
+    /// Returns the child that it forks next.
     fn child(&mut self) -> Option<Task> {
         if self.sort.depth == 0 || self.forked >= self.sort.forks {
             return None;
@@ -112,7 +112,7 @@ impl Task {
         Some(child)
     }
 
-    /// Whether it is to join a child before it goes on.
+    /// Returns whether it joins a child before it goes on.
     fn is_to_join(&self) -> bool {
         match self.sort.joins {
             Joins::InTurn => self.awaited > 0,
@@ -123,7 +123,7 @@ impl Task {
     }
 }
 
-/// So many values, each of which has memory of its own.
+/// Returns `count` values, each of which has memory of its own.
 fn luggage(alloc: Global, count: usize) -> Option<Vec<Vec<u64>>> {
     let mut luggage = Vec::new(alloc);
     for _ in 0..count {
