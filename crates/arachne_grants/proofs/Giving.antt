@@ -126,6 +126,7 @@ IsGrant-give sessions new allowed cores client place core thread waited sized al
   free = free.1;
   core = free.0;
   ready = (position-Some is_ready (session_at sessions client).threads place Absent found).1;
+  place = found;
   waited = λ yes. waits-is (thread_at sessions client place) (sym waits ∙ yes);
   unasked = λ idle. waits-not (thread_at sessions client place) (sym waits ∙ idle);
   first = λ other fewer higher.

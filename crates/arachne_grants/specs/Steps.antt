@@ -1,5 +1,5 @@
 -- The changes of the daemon's state.
-use Rattle.std.specs.Prelude.{◌≡◌, ◌≢◌, ℕ, ◌<◌, ◌≤◌, Bool, true, false, Some, List, map, replicate, count_by, slice_index}
+use Rattle.std.specs.Prelude.{◌≡◌, ◌≢◌, ℕ, ◌<◌, ◌≤◌, Bool, true, false, Some, List, map, position, replicate, count_by, slice_index}
 use Rattle.arachne_grants.specs.declared.sessions.Session.{Session}
 use Rattle.arachne_grants.specs.declared.sessions.ClientThread.TheVariants.{Absent, Waits}
 use Rattle.arachne_grants.specs.Grants.{AreGrants, IsAnswer}
@@ -40,6 +40,7 @@ pub record IsGrant (old new : List Session) (allowed : List ℕ) (cores : ℕ) (
   pub free : IsFree old grant.core
   pub core : grant.core < cores
   pub ready : is_ready (thread_at old grant.client grant.place) ≡ true
+  pub place : position is_ready (session_at old grant.client).threads ≡ Some grant.place
   pub waited : grant.waited ≡ true → thread_at old grant.client grant.place ≡ Waits
   pub unasked : grant.waited ≡ false → thread_at old grant.client grant.place ≢ Waits
   pub first : (other : ℕ) → HasFewer old allowed other

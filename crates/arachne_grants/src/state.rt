@@ -48,7 +48,7 @@ pub struct CoreArbiter {
 impl CoreArbiter {
     ghost use Rattle.arachne_grants.specs.Grants.{AreGrants, IsAnswer, IsLeast};
     ghost use Rattle.arachne_grants.specs.Owners.{IsNextShort};
-    ghost use Rattle.arachne_grants.specs.Sessions.{core_of, core_at, held_in, can_wait, session_at, slice_thread, thread_at, wants_of, with_thread, IsFree, IsTaken};
+    ghost use Rattle.arachne_grants.specs.Sessions.{core_of, core_at, gives_way, held_in, can_wait, session_at, slice_thread, thread_at, wants_of, with_thread, IsFree, IsLast, IsTaken};
     ghost use Rattle.arachne_grants.specs.Steps.{new_session, AllGiven, IsGrant, IsTake, KeepsAllowed, StaysAnswered};
     ghost use Rattle.arachne_grants.specs.declared.sessions.ClientThread.TheVariants.{Absent, Runs, Waits, On, Floats, FloatsOn};
 
@@ -57,6 +57,7 @@ impl CoreArbiter {
         requires { cores ≤ 1024 }
         ensures cores { result.cores ≡ cores }
         ensures empty { result.sessions ≡ replicate 64 (new_session false 0 0 0) }
+        ensures none { result.allowed ≡ replicate 64 0 }
     {
         CoreArbiter {
             cores,
@@ -246,6 +247,10 @@ impl CoreArbiter {
             (λ taken. IsTake self.old.sessions self.new.sessions self.old.allowed client late taken) }
         ensures enough { result ≡ None → late ≡ true → client < 64
             → held_in (session_at self.old.sessions client) ≤ slice_index self.old.allowed client }
+        ensures floats { result ≡ None → client < 64
+            → slice_index self.old.allowed client < held_in (session_at self.old.sessions client)
+            → (place : ℕ) × (IsLast (session_at self.old.sessions client).threads 64 place
+                × (gives_way (thread_at self.old.sessions client place) late ≡ false)) }
         ensures kept { KeepsAllowed self.old self.new }
         ensures stands { StaysAnswered self.old self.new }
     {

@@ -52,7 +52,8 @@ impl Options {
             options.cpus = topology::read_list(fs::read_to_string(folder.join("cpuset.cpus")).ok()?.trim())?;
         }
         let one = options.cpuset.is_none() || options.groups.is_empty();
-        (one && options.keep >= 1 && options.keep < options.cores().len()).then_some(options)
+        let kept = options.keep >= 1 && options.keep < options.cores().len();
+        (one && kept && topology::are_there(&options.cpus)).then_some(options)
     }
 
     /// Returns the processors of each core.

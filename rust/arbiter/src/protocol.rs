@@ -2,8 +2,6 @@
 
 pub const VERSION: u32 = 1;
 pub const SIZE: usize = 16;
-/// Priorities: 0 goes first.
-pub const PRIORITIES: u32 = 8;
 
 /// From a client, first on its control connection: version, priority, least and most cores (`least << 16 | most`).
 pub const HELLO: u32 = 1;

@@ -19,6 +19,13 @@ pub fn by_core(cpus: &[usize]) -> Vec<Vec<usize>> {
     cores
 }
 
+/// Returns true if the machine has each of these processors, and none is named twice.
+pub fn are_there(cpus: &[usize]) -> bool {
+    let online = fs::read_to_string("/sys/devices/system/cpu/online").unwrap_or_default();
+    let is_online = |cpu| read_list(online.trim()).map_or(true, |online| online.contains(cpu));
+    cpus.iter().all(is_online) && (1..cpus.len()).all(|nth| !cpus[..nth].contains(&cpus[nth]))
+}
+
 /// Returns the processors of a list as 0,2-5.
 pub fn read_list(text: &str) -> Option<Vec<usize>> {
     let mut cpus = Vec::new();

@@ -144,7 +144,10 @@ impl Arbiter {
             }
             (Role::Control(client), Message::Ask { cores }) => {
                 let id = *client;
-                self.clients.get_mut(&id).ok_or("no client")?.asked = cores;
+                let client = self.clients.get_mut(&id).ok_or("no client")?;
+                if std::mem::replace(&mut client.asked, cores) != cores {
+                    self.say(|| format!("client {id} asks for {cores}"));
+                }
                 self.tell(id);
                 Ok(())
             }

@@ -41,3 +41,14 @@ returns-clause-takes c =
 
 pub returns-clause-stands : goal.returns-clause-stands
 returns-clause-stands c = stay-take c.args.self.now c.set_thread.new.self c.args.client c.args.late _ (returns-clause-takes c) c.set_thread.ensures.kept
+
+pub returns-in_err-place-clause-floats : goal.returns-in_err-place-clause-floats
+returns-in_err-place-clause-floats c = λ none within more. absurd (let empty = c.last_placed.ensures.none c.in_err-place.was in omega arith)
+
+pub returns-in_err-core-clause-floats : goal.returns-in_err-core-clause-floats
+returns-in_err-core-clause-floats c = λ none within more.
+    absurd (not-none (thread_at c.args.self.now.sessions c.args.client c.in_ok-place.place) c.in_ok-place.ensures.last.has c.in_err-core.ensures)
+
+pub returns-then-not-gives_way-clause-floats : goal.returns-then-not-gives_way-clause-floats
+returns-then-not-gives_way-clause-floats c = λ none within more.
+    (c.in_ok-place.place, (c.in_ok-place.ensures.last, sym c.gives_way.ensures ∙ c.if-not-gives_way.true))
