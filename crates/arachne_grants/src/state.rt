@@ -250,7 +250,7 @@ impl CoreArbiter {
         ensures floats { result ≡ None → client < 64
             → slice_index self.old.allowed client < held_in (session_at self.old.sessions client)
             → (place : ℕ) × (IsLast (session_at self.old.sessions client).threads 64 place
-                × (gives_way (thread_at self.old.sessions client place) late ≡ false)) }
+            × (gives_way (thread_at self.old.sessions client place) late ≡ false)) }
         ensures kept { KeepsAllowed self.old self.new }
         ensures stands { StaysAnswered self.old self.new }
     {

@@ -223,7 +223,7 @@ impl Judge {
         } else if advice == Some(Advice::Add) && active < self.most {
             self.added = now;
             adds.fetch_add(shared.want(active + 1) as u64, Relaxed);
-        } else if up {
+        } else if up && calm {
             shared.want(active.max(self.policy.min_cores).min(self.most));
         }
         self.last = totals(shared, shared.active.0.load(Relaxed), now);
