@@ -6,8 +6,8 @@
 //! **Next.** A job that another makes ready or spawns runs next on the same worker, up to `NEXTS` in a row. A job that
 //! it displaces becomes ready in its block. One that yields, or would be beyond `NEXTS`, goes into the worker's line.
 //!
-//! **Order.** Then the worker sweeps its blocks with ready jobs: of each it takes once every job that was ready as the
-//! block's turn came. At the end of a round all jobs in its line run, in order. So a job that is ready again and again
+//! **Order.** Then the worker sweeps its blocks with ready jobs: of each block it runs every job that was ready as the
+//! block's turn came, each of them once. At the end of a round all jobs in its line run, in order. So a job that is ready again and again
 //! makes no other wait for more than a round.
 //!
 //! **Looking out.** After `LOOK_OUT` polls, or by time if polls are long, a worker looks at its timers, and at the
@@ -76,7 +76,7 @@ pub(crate) struct Turn {
     block: usize,
     wanted: u64,
     next: usize,
-    /// Looks at empty blocks that the summary still shows.
+    /// The number of looks at blocks that were empty, though the summary still shows them.
     stale: u32,
     chain: u32,
     /// Polls since the last look or idle time, and the number of polls that take about `LOOK_TIME`.

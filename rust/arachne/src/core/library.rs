@@ -5,7 +5,7 @@
 //! - *A handle is null at first, only the library writes its pointer, and it is never copied*: `Handle` is made by
 //!   `Handle::empty`, moved and never cloned.
 //! - *One thread at a time uses a handle*: no call of the library calls back, and a type that has one is `Send` and not
-//!   `Sync`, except `Crew`. A job in a hand goes with its handle to the one worker that takes it (`hand.rs`).
+//!   `Sync`, except `Crew`. A worker that takes a job out of another's hand gets the job's handle with it (`hand.rs`).
 //! - *Two handles in one call have one origin*: `Root` splits and joins only its own.
 //! - *Pointers are not null*: all are from references.
 //! - *The declarations agree with the archive*: `tests/header.rs` compares each code, field and signature.
@@ -306,7 +306,7 @@ impl Hands {
         unsafe { arachne_exec_shown(self.any(), shard) }
     }
 
-    /// Hides an empty block. Returns true, as it is still shown in this form: only `Parking::park` hides blocks.
+    /// Does nothing, and returns true: the summary goes on showing an empty block until `Parking::park` clears its bit.
     #[inline]
     pub(crate) fn hide(&self, _block: usize) -> bool {
         true

@@ -107,7 +107,7 @@ impl Shared {
         }
     }
 
-    /// Ends the parking of this worker's numbers, and of those of the workers it looks after.
+    /// Clears the idle bits of this worker, and of the workers that it looks after.
     fn wake_up(&self, context: &Context) {
         for owner in std::iter::once(context.me).chain(self.lodgers(context.me)) {
             let parking = self.workers[owner].0.parking.lock().unwrap();
