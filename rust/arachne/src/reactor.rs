@@ -1,10 +1,10 @@
 //! The epoll of a runtime: the events of its sockets, and the waking of the worker that sleeps there.
 //!
-//! One worker waits there. It asks for as many events as run in about 100 us, at most 8; the only worker asks for as many
-//! as its hand, its list of jobs to run next, has room for. Their tasks stay in its hand, in the order of the events. The other events stay
-//! with the kernel for whoever looks next, so that they don't wait for a worker that loses its processor; if there may
-//! be more, a sleeping worker is woken. A worker that has ready jobs of its own looks too; the tasks that it wakes then
-//! become ready in their blocks, unless it is the only worker.
+//! One worker waits there. It asks for as many events as run in about 100 us, at most 8; the only worker asks for as
+//! many as its hand, its list of jobs to run next, has room for. Their tasks stay in its hand, in the order of the
+//! events. The other events stay with the kernel for whoever looks next, so that they don't wait for a worker that
+//! loses its processor; if there may be more, a sleeping worker is woken. A worker that has ready jobs of its own looks
+//! too; the tasks that it wakes then become ready in their blocks, unless it is the only worker.
 
 use crate::sync::atomic::{AtomicU64, AtomicUsize, Ordering::*};
 use crate::sync::{Arc, Condvar, Mutex};

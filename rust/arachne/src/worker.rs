@@ -7,8 +7,8 @@
 //! it displaces becomes ready in its block. One that yields, or would be beyond `NEXTS`, goes into the worker's line.
 //!
 //! **Order.** Then the worker sweeps its blocks with ready jobs: of each block it runs every job that was ready as the
-//! block's turn came, each of them once. At the end of a round all jobs in its line run, in order. So a job that is ready again and again
-//! makes no other wait for more than a round.
+//! block's turn came, each of them once. At the end of a round all jobs in its line run, in order. So a job that is
+//! ready again and again makes no other wait for more than a round.
 //!
 //! **Looking out.** After `LOOK_OUT` polls, or by time if polls are long, a worker looks at its timers, and at the
 //! ready words and the hands of workers that make no progress, of which it takes up to two jobs each; also at the
