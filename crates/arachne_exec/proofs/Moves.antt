@@ -278,16 +278,16 @@ module _ (shards slots id w : ℕ) where
 
     pub frees : x ≡ 0 → Allows (IsLawful shards) slots id (held w k, (q, 0) ∷ xs) (free_at (q / 64)) (λ n. bit_or n (2 ^ (q % 64))) (Frees (step slots (free_at (q / 64)) (2 ^ (q % 64)) 0 none) (held w k, (q, 0) ∷ xs))
     frees nothing s h _ mine small =
-        let i : ℕ = free_at (q / 64) in let n : ℕ = get_or s.words i 0 in let now : ℕ = bit_or n (2 ^ (q % 64)) in let l : Notes = noted i n (laying_down k) in (
+        let i : ℕ = free_at (q / 64) in let n : ℕ = get_or s.words i 0 in let now : ℕ = bit_or n (2 ^ (q % 64)) in let l : Notes = noted i now (laying_down k) in (
           held w l,
           gives,
           tt,
           record {
-            came = comes shards id w s h k mine i l now (set s.homes q (some 0)) (told-found refl (λ block at. inr (q % 64, inr refl)) (refl, refl, refl, refl, refl, refl, refl, refl));
+            came = comes shards id w s h k mine i l now (set s.homes q (some 0)) (record { looks = inr (inl refl); one_bit = λ block at. inr (q % 64, inr refl); spawned = inl refl; ended = inl refl; woken = inl refl; heard = inl refl; blocked = inl refl; unblocked = inl refl; sleeps = inl refl; splits = refl });
             keeper = keeps-free (64 * shards) s h.keeper id (held w k) mine q within (held w l) x 0 refl hand;
             balance = balanced-put s h.balance id (held w k) (held w l) mine _ q 0 (out s h mine) refl refl (hand ∙ ap (λ j. (q, j) ∷ older k.hand) nothing);
             hears = hears-on (64 * shards) s h.hears id (held w k) (held w l) mine _ _ (unmarked s h k mine i now (λ p e. omega (arith, e))) (refl, refl, refl, refl);
-            names = names-on (64 * shards) s h.names id (held w k) (held w l) mine _ _ (ageless s h k mine i now (λ p e. omega (arith, e))) refl (λ p inside has. found-word s.words p i k.looks);
+            names = names-on (64 * shards) s h.names id (held w k) (held w l) mine _ _ (ageless s h k mine i now (λ p e. omega (arith, e))) refl (λ p inside has (e : i ≡ mark_at p). omega (arith, e));
             shows = quiet-shows s h k mine i now l (set s.homes q (some 0)) (λ c e. omega (arith, e)) (λ c e. omega (arith, e)) refl;
             sleep = quiet-sleep s h k mine i now l (set s.homes q (some 0)) (λ e. omega (arith, e)) (λ e. omega (arith, e)) (λ c e. omega (arith, e)) refl refl refl refl;
           },

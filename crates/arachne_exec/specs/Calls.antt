@@ -30,7 +30,7 @@ use Rattle.arachne_exec.specs.Changes.{older, newest_job, gaining, unblocking, l
 abbrev pub worker_at : ℕ → ℕ
 worker_at place = worker_of (place / 4096)
 
--- a bit of a word was found set, and then clear, and the seat has done nothing: another has cleared it
+-- a bit of a word was found set, and then clear, and nothing else was noted
 pub record HasMissed (word : ℕ) (k after : Notes) : Type 0 where
   pub first : ℕ
   pub then : ℕ
@@ -55,7 +55,7 @@ pub record HasPlaced (at : PlacedJob) (block job : ℕ) (k after : Notes) : Type
     looks = (mark_at at.place, mark) ∷ (free_at block, found) ∷ (free_at block, free) ∷ k.looks;
   }
 
--- Full: the block's free word was found empty. Lost: another seat has claimed a place that was found free
+-- Full: the block's free word was found empty. Lost: a place there was found free, and then not
 abbrev pub HasSpawned : JobSpawned → ℕ → ℕ → Notes → Notes → Type 0
 HasSpawned (spawned.Placed at) block job k after = HasPlaced at block job k after
 HasSpawned spawned.Full block job k after = after ≡ noted (free_at block) 0 k
@@ -124,7 +124,7 @@ pub record HasStarted (job : HeldJob) (place : ℕ) (k after : Notes) : Type 0 w
   pub then : ℕ
   pub known : after ≡ using_up mark place then (noted (mark_at place) mark k)
 
--- the ready word was found empty, or another seat has taken a job that was found ready
+-- the ready word was found empty, or a place there was found ready, and then not
 abbrev pub HasTakenNone : ℕ → Notes → Notes → Type 0
 HasTakenNone block k after = (after ≡ noted (ready_at block) 0 k) ⊎ HasMissed (ready_at block) k after
 
@@ -144,9 +144,9 @@ HasRested (rested.Ready unpark) place k after = (mark : ℕ)
     × (((mark % 4 ≢ 0) × (after ≡ rousing unpark (worker_at place) (laying_down (noted (mark_at place) mark k))))
     ⊎ ((then : ℕ) × (then ≢ mark) × (after ≡ rousing unpark (worker_at place) (laying_down (noted (mark_at place) then (noted (mark_at place) mark k))))))
 
--- the place got the next generation, and then its bit in the free word was set
+-- the place got the next generation, and then its bit stood in the free word
 abbrev pub HasFreed : (place mark : ℕ) → List (ℕ × ℕ) → Type 0
-HasFreed place mark looks = (free : ℕ) × (looks ≡ (free_at (place / 64), free) ∷ (mark_at place, 4 * (mark / 4 + 1)) ∷ [])
+HasFreed place mark looks = (free : ℕ) × (bit_at free (place % 64) ≡ 1) × (looks ≡ (free_at (place / 64), free) ∷ (mark_at place, 4 * (mark / 4 + 1)) ∷ [])
 
 -- The job of the newest place has ended, where this mark was found first. A place is retired, that is, blocked for ever,
 -- where no name has the next generation.

@@ -1,7 +1,7 @@
 -- What each kind of step tells the seat that makes it: of the seat before, the number found and the seat after.
 use Rattle.std.specs.Prelude.{◌≡◌, ◌≢◌, ℕ, ◌+◌, ◌-◌, ◌*◌, ◌/◌, ◌%◌, ◌^◌, ◌<◌, ◌++◌, map, true, List, ◌∷◌}
 use Rattle.std.specs.Int.{bit_at}
-use Rattle.std.specs.Int.RustNames.{bit_and}
+use Rattle.std.specs.Int.RustNames.{bit_and, bit_or}
 use Rattle.atomic_table.specs.Table.{Me, Step, rest}
 use Rattle.arachne_weights.specs.declared.token.Token.{Token}
 use Rattle.arachne_weights.specs.Tokens.{held}
@@ -46,9 +46,9 @@ Claims at step before found after = (place : ℕ) → step.word ≡ at (place / 
     → (bit_at found (place % 64) ≡ 1 → after ≡ with before (gained place 0 (noted step.word found before.0.known)) ((place, 0) ∷ before.1))
     × (bit_at found (place % 64) ≡ 0 → after ≡ knowing before (noted step.word found before.0.known))
 
--- the newest place is free, by its bit in the free word; the number is noted
+-- the newest place is free, by its bit in the free word; the number that was put there is noted
 abbrev pub Frees : Step ℕ → Mine → ℕ → Mine → Type 0
-Frees step before found after = (step.word ≡ free_at (newest_place before.0.known.hand / 64)) × (after ≡ with before (noted step.word found (laying_down before.0.known)) (rest before.1))
+Frees step before found after = (step.word ≡ free_at (newest_place before.0.known.hand / 64)) × (after ≡ with before (noted step.word (bit_or found step.first) (laying_down before.0.known)) (rest before.1))
 
 -- the newest place is ready; where its block had no ready job, the bit in the summary word is owed
 abbrev pub Readies : Step ℕ → Mine → ℕ → Mine → Type 0

@@ -95,7 +95,7 @@ impl Executor {
         requires own { seat.old.table ≡ self.now.table }
         requires place { place < 4096 * self.now.shards }
         requires newest { HasNewest place 0 0 seat.old }
-        ensures seat { (n : ℕ) × (seat.new ≡ record seat.old { known = noted (free_at (place / 64)) n (laying_down seat.old.known); slots = rest seat.old.slots }) }
+        ensures seat { (n : ℕ) × (bit_at n (place % 64) ≡ 1) × (seat.new ≡ record seat.old { known = noted (free_at (place / 64)) n (laying_down seat.old.known); slots = rest seat.old.slots }) }
     {
         let _ = self.shards;
         let shared = &self.table.shared;

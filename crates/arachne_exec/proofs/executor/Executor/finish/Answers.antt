@@ -32,5 +32,5 @@ returns-clause-ended c =
     let place : ℕ = c.args.place in let mark : ℕ = c.look-mark.result in let k : Notes = c.args.seat.now.known in
     let found = saw (goal.at.returns-clause-ended c).After-lay-generation in let new = c.renew.ensures.seat in let free = c.put_free.ensures.seat in
     ended place mark new.0 ((free_at (place / 64), free.0) ∷ (mark_at place, 4 * (mark / 4 + 1)) ∷ []) k.blocked k c.put_free.new.seat.known
-    (ap (λ v. v.known) free.1 ∙ ap (λ v. noted (free_at (place / 64)) free.0 (laying_down v.known)) new.1 ∙ ap (λ z. noted (free_at (place / 64)) free.0 (laying_down (noted (mark_at place) (4 * (mark / 4 + 1)) (ending place (hearing (new.0 % 2) place z))))) found)
-    (inl (omega (arith, c.if-generation-ge-LAST_GENERATION.false), refl, (free.0, refl)))
+    (ap (λ v. v.known) free.2 ∙ ap (λ v. noted (free_at (place / 64)) free.0 (laying_down v.known)) new.1 ∙ ap (λ z. noted (free_at (place / 64)) free.0 (laying_down (noted (mark_at place) (4 * (mark / 4 + 1)) (ending place (hearing (new.0 % 2) place z))))) found)
+    (inl (omega (arith, c.if-generation-ge-LAST_GENERATION.false), refl, (free.0, free.1, refl)))
