@@ -634,10 +634,13 @@ fn tasks_and_handles_spawn_in_each_way() {
         let task = arachne::try_spawn(async { 3 }).map_err(drop).unwrap();
         assert_eq!(task.await.unwrap(), 3);
         let mut waiting = Vec::new();
-        while let Ok(task) = arachne::try_spawn(pending::<()>()) {
-            waiting.push(task);
+        while waiting.len() < 4096 {
+            match arachne::try_spawn(pending::<()>()) {
+                Ok(task) => waiting.push(task),
+                // The place of the task before is free a moment after its output is there.
+                Err(_) => arachne::sleep(Duration::from_millis(1)).await,
+            }
         }
-        assert_eq!(waiting.len(), 4096);
         let (dropped, within) = counted();
         let refused = handle.try_spawn(async move { drop(within) }).map(drop).unwrap_err();
         assert_eq!(dropped.load(SeqCst), 0);
