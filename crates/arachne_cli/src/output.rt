@@ -61,7 +61,7 @@ fn write_totals(text: &mut String, totals: &[u64]) -> Result<(), AllocError>
     Ok(())
 }
 
-/// Writes the line of the thread with this name, which held each lock so many times.
+/// Writes the line of the thread with this name. `holds` is the number of times that it held each lock.
 #[tactic(auto, using(crate::proofs::Lines::after_spaces_append))]
 pub fn write_thread(text: &mut String, name: &Name, holds: &[u64]) -> Result<(), AllocError>
     ensures { OnOk result (string_bytes text.new ≡ string_bytes text.old ++ thread_line (record { name = name.now; holds = holds.now })) }

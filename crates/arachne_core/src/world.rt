@@ -37,7 +37,8 @@ impl World {
     ghost use Rattle.arachne_core.specs.Run.{IsOpening};
     ghost use Rattle.arachne_core.specs.ContextTable.{world_of, ShowsCore, IsVacantFrom, marked, Answers};
 
-    /// Creates a World of `cores` cores with `slots` places each, whose contexts are free and of one generation.
+    /// Creates a World of `cores` cores with `slots` places each. All its contexts are free, in generation
+    /// `first_generation`.
     pub fn new(
         alloc: Global,
         cores: u8,

@@ -1,6 +1,6 @@
-//! What calls answer.
+//! The results of an executor's calls.
 
-/// A job in hand: where it stands, its name, and its number.
+/// A job in hand: its place, its name, and its number.
 #[derive(Clone, Copy, Debug, PartialEq, Eq)]
 pub struct HeldJob {
     pub place: usize,
@@ -8,7 +8,7 @@ pub struct HeldJob {
     pub job: u64,
 }
 
-/// Where a job was put, and its name. `unpark` is whether the worker of the place is to be unparked.
+/// The place at which a job was put, and its name. If `unpark` is true, the caller must unpark the worker of the place.
 #[derive(Clone, Copy, Debug, PartialEq, Eq)]
 pub struct PlacedJob {
     pub place: usize,
@@ -16,7 +16,7 @@ pub struct PlacedJob {
     pub unpark: bool,
 }
 
-/// What became of a job that was to be spawned.
+/// The result of `spawn`.
 #[derive(Clone, Copy, Debug, PartialEq, Eq)]
 pub enum JobSpawned {
     Placed(PlacedJob),
@@ -26,7 +26,7 @@ pub enum JobSpawned {
     Lost,
 }
 
-/// What became of a job that was to be spawned into the hand.
+/// The result of `spawn_here`, which spawns a job into the hand.
 #[derive(Clone, Copy, Debug, PartialEq, Eq)]
 pub enum SpawnedHere {
     Held(HeldJob),
@@ -36,31 +36,31 @@ pub enum SpawnedHere {
     Lost,
 }
 
-/// What became of a job that waits.
+/// The result of `rest_blocked`, by which a job waits.
 #[derive(Clone, Copy, Debug, PartialEq, Eq)]
 pub enum JobRested {
     Blocked,
-    /// A wake had come that no take or `start` has used up: it is ready.
+    /// A wake had come that no take or `start` has used up: the job is ready.
     Ready { unpark: bool },
 }
 
-/// What a worker is to do next.
+/// The next action of a worker.
 #[derive(Clone, Copy, Debug, PartialEq, Eq)]
 pub enum Next {
     Run(HeldJob),
-    /// To park: it has set its idle bit, and then found each of its summary words empty.
+    /// It must park: it has set its idle bit, and then found each of its summary words empty.
     Park,
-    /// To ask again.
+    /// It must ask again.
     Again,
 }
 
-/// What a wake found.
+/// The result of `wake`.
 #[derive(Clone, Copy, Debug, PartialEq, Eq)]
 pub enum JobWoken {
     /// The job was blocked, and is ready.
     Ready { unpark: bool },
-    /// The job isn't blocked: its mark says of the wake until a take or `start` uses it up, or the job ends. So it is with
-    /// the name that the next job at a free place will have.
+    /// The job isn't blocked: its mark records the wake until a take or `start` uses it up, or the job ends. A wake by
+    /// the name that the next job at a free place will have is recorded in the same way.
     Marked,
     /// It was marked before.
     Already,
@@ -70,7 +70,7 @@ pub enum JobWoken {
     Lost,
 }
 
-/// What a wake found that takes the job.
+/// The result of `wake_here`, which takes the job into the hand.
 #[derive(Clone, Copy, Debug, PartialEq, Eq)]
 pub enum WokenHere {
     /// The job was blocked, and is in hand.

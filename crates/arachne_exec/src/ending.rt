@@ -9,8 +9,8 @@ use crate::seat::{ExecSeat, SeatInCall};
 use std::alloc::Global;
 
 impl Executor {
-    /// The jobs that were spawned and haven't ended, by place. Where memory for the list is refused, executor and seat
-    /// come back.
+    /// Ends the executor. Returns the jobs that were spawned and haven't ended, by place. If memory for the list is
+    /// refused, returns the executor and the seat.
     pub fn close(self, alloc: Global, seat: ExecSeat) -> Result<Vec<u64>, (Executor, ExecSeat)>
         requires own { seat.table ≡ self.table }
         requires whole { seat.weight ≡ whole }
@@ -25,7 +25,7 @@ impl Executor {
         Ok(self.close_into(seat, left))
     }
 
-    /// The same, where there is room for the list.
+    /// Like `close`, but puts the jobs into `list`, which must be empty and have room for all places.
     pub fn close_into(self, seat: ExecSeat, list: Vec<u64>) -> Vec<u64>
         requires own { seat.table ≡ self.table }
         requires whole { seat.weight ≡ whole }

@@ -13,9 +13,9 @@ use atomic_table::Table;
 use std::alloc::{AllocError, Global};
 use std::marker::Model;
 
-/// Where each job of a host is: words and slots of one table.
+/// The executor of a host: words and slots of one table, which say where each job is.
 ///
-/// Contracts see which table it is, and how many shards it has.
+/// Contracts see which table it is, and the number of its shards.
 // In its methods a line `let _ = self.shards;` opens the table for the prover, which learns its sizes there.
 #[derive(Drop)]
 pub struct Executor {
@@ -34,7 +34,7 @@ impl Model for Executor {
 }
 
 impl Executor {
-    /// An executor with so many shards of 4,096 free places, and the seat with the whole weight.
+    /// Returns an executor with `shards` shards of 4,096 free places each, and the seat with the whole weight.
     pub fn new(alloc: Global, shards: usize) -> Result<(Executor, ExecSeat), AllocError>
         requires { shards ≤ 256 }
         ensures shards { IfOk result (λ made. made.0.shards ≡ shards) }
@@ -54,14 +54,14 @@ impl Executor {
         Ok((Executor { table, shards }, seat))
     }
 
-    /// How many shards of 4,096 places there are.
+    /// Returns the number of shards, which have 4,096 places each.
     pub fn shards(&self) -> usize
         ensures { result ≡ self.now.shards }
     {
         self.shards
     }
 
-    /// How many places there are.
+    /// Returns the number of places.
     pub fn places(&self) -> usize
         ensures { result ≡ 4096 * self.now.shards }
     {
@@ -69,7 +69,7 @@ impl Executor {
         4096 * self.shards
     }
 
-    /// There are at most 256 shards. It does nothing.
+    /// Does nothing. Its contract says that there are at most 256 shards.
     pub(crate) fn few(&self)
         ensures { self.now.shards ≤ 256 }
     {
@@ -96,7 +96,8 @@ impl Executor {
         self.table.shared.join_seat::<Halve>(&mut seat.seat, spent);
     }
 
-    /// A seat for another thread, with half the weight and nothing else. At weight 1 or 0 neither keeps any.
+    /// Returns a seat for another thread, with half the weight and nothing else. At weight 1 or 0, neither seat keeps
+    /// any.
     pub fn split(&self, seat: &mut ExecSeat) -> ExecSeat
         requires own { seat.old.table ≡ self.now.table }
         ensures first { seat.new ≡ record seat.old { weight = first_part seat.old.weight; known = splitting seat.old.known } }
@@ -130,7 +131,7 @@ impl Executor {
         seat.weight = seat.weight.join(added);
     }
 
-    /// Whether all other seats were joined into this one.
+    /// Returns true if all other seats were joined into this one.
     pub fn is_whole(&self, seat: &ExecSeat) -> bool
         ensures { IsTrue result ↔ (seat.now.weight ≡ whole) }
     {

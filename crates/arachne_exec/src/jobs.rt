@@ -1,4 +1,4 @@
-//! The way of a job: spawn, take, rest, finish.
+//! The steps of a job: spawn, take, rest, finish.
 ghost use Rattle.std.specs.Prelude.{◌≡◌, ℕ, ◌*◌, ◌<◌, IsTrue, IsFalse, IfSome, IfNone};
 ghost use Rattle.arachne_exec.specs.Layout.{mark_at, name_of};
 ghost use Rattle.arachne_exec.specs.Changes.{laying_down, noted, rousing, using_up};
@@ -11,7 +11,7 @@ use crate::layout::{LAST_GENERATION, free_word, mark_word, name_at, ready_word};
 use crate::seat::{ExecSeat, SeatInCall};
 use crate::turns::{First, TakenJob, first_from, has_more, lowest_index};
 
-/// The job of this number at a place with this mark.
+/// Returns the job of this number at a place with this mark.
 #[inline(always)]
 pub(crate) fn job_at(place: usize, mark: u64, job: u64) -> HeldJob
     requires { place < 1048576 }
@@ -25,7 +25,7 @@ pub(crate) fn job_at(place: usize, mark: u64, job: u64) -> HeldJob
 }
 
 impl Executor {
-    /// The mark of the newest place says of no wake from now on. The mark that was found.
+    /// Clears the record of a wake in the mark of the newest place. Returns the mark that was found.
     pub(crate) fn refresh(&self, seat: &mut SeatInCall, place: usize) -> u64
         requires own { seat.old.table ≡ self.now.table }
         requires place { place < 4096 * self.now.shards }
@@ -41,7 +41,7 @@ impl Executor {
         mark
     }
 
-    /// Puts a job at a free place of a block, where it is ready: one try.
+    /// Tries once to put a job at a free place of a block. The job is ready there.
     pub fn spawn(&self, seat: &mut ExecSeat, block: usize, job: u64) -> JobSpawned
         requires own { seat.old.table ≡ self.now.table }
         requires block { block < 64 * self.now.shards }
@@ -68,7 +68,7 @@ impl Executor {
         })
     }
 
-    /// Puts a job at a free place of a block and into the seat's hand, where nobody else can take it: one try.
+    /// Tries once to put a job at a free place of a block and into the seat's hand, from which nobody else can take it.
     pub fn spawn_here(&self, seat: &mut ExecSeat, block: usize, job: u64) -> SpawnedHere
         requires own { seat.old.table ≡ self.now.table }
         requires block { block < 64 * self.now.shards }
@@ -90,8 +90,8 @@ impl Executor {
         SpawnedHere::Held(job_at(place, mark, job))
     }
 
-    /// Takes a job that is ready at a block: one try, at the first ready place from this index on, round the block.
-    /// With it whether the block had another behind that place.
+    /// Tries once to take a job that is ready at a block: at the first ready place from the index `from` on, round the
+    /// block. Returns with it whether the block had another ready place behind that one.
     pub(crate) fn take_from(
         &self,
         seat: &mut ExecSeat,
@@ -124,8 +124,8 @@ impl Executor {
         Some(TakenJob::new(job_at(place, mark, job), has_more(ready, index)))
     }
 
-    /// Takes a job that is ready at a block, of any worker: one try, at the first ready place behind the index of the
-    /// one that the seat took last so, round the block.
+    /// Tries once to take a job that is ready at a block of any worker: at the first ready place behind the index of
+    /// the job that this call last took for the seat, round the block.
     pub fn take(&self, seat: &mut ExecSeat, block: usize) -> Option<HeldJob>
         requires own { seat.old.table ≡ self.now.table }
         requires block { block < 64 * self.now.shards }
@@ -140,7 +140,7 @@ impl Executor {
         Some(taken.in_block(begun, &mut seat.take_turn))
     }
 
-    /// The newest job in hand is ready again. Whether the worker of its place is to be unparked.
+    /// Makes the newest job in hand ready again. Returns true if the caller must unpark the worker of its place.
     pub fn rest_ready(&self, seat: &mut ExecSeat, place: usize) -> bool
         requires own { seat.old.table ≡ self.now.table }
         requires place { place < 4096 * self.now.shards }
@@ -150,7 +150,7 @@ impl Executor {
         self.publish(&mut seat.at, place)
     }
 
-    /// The newest place is blocked, unless its mark says of a wake.
+    /// Blocks the newest place, unless its mark records a wake. Returns true if it is blocked.
     fn try_block(&self, seat: &mut SeatInCall, place: usize) -> bool
         requires own { seat.old.table ≡ self.now.table }
         requires place { place < 4096 * self.now.shards }
@@ -166,7 +166,7 @@ impl Executor {
         self.put_blocked(seat, place, mark)
     }
 
-    /// The newest job in hand waits, unless a wake has come that no take or `start` has used up.
+    /// Lets the newest job in hand wait, unless a wake has come that no take or `start` has used up.
     pub fn rest_blocked(&self, seat: &mut ExecSeat, place: usize) -> JobRested
         requires own { seat.old.table ≡ self.now.table }
         requires place { place < 4096 * self.now.shards }
@@ -182,7 +182,7 @@ impl Executor {
         JobRested::Ready { unpark }
     }
 
-    /// The newest job in hand has ended. Its place is free, for a job of the next generation.
+    /// Ends the newest job in hand. Its place is free, for a job of the next generation.
     pub fn finish(&self, seat: &mut ExecSeat, place: usize)
         requires own { seat.old.table ≡ self.now.table }
         requires place { place < 4096 * self.now.shards }

@@ -1,4 +1,4 @@
-//! What holds of an executor between any two steps. The functions do nothing: a law is their contract.
+//! The laws that hold for an executor between any two steps. The functions do nothing: a law is their contract.
 ghost use Rattle.std.specs.Prelude.{◌≡◌, ◌≢◌, Bool, ℕ, ◌+◌, ◌*◌, ◌/◌, ◌<◌, ◌≤◌, min};
 ghost use Rattle.arachne_exec.specs.declared.view.Notes.{Notes};
 ghost use Rattle.arachne_exec.specs.declared.answers.JobRested.{JobRested};
@@ -53,15 +53,16 @@ pub fn sleepers_are_woken()
     ensures { (shards : ℕ) (b : Board) → IsLawful shards b → (worker : ℕ) → IsParked shards worker b → AreOwedTo shards worker b }
 {}
 
-/// Each time that a worker lay down it has risen by itself, or a seat has found its idle bit set and cleared it to wake
-/// it, once; or the bit is set. So a worker whose bit is clear has risen or was roused as often as it lay down.
+/// For each time that a worker lay down, it has risen by itself, or a seat has found its idle bit set and cleared it to
+/// wake it, once; or the bit is still set. So a worker whose bit is clear has risen or was roused as often as it lay
+/// down.
 pub fn sleepers_are_told()
     ensures { (shards : ℕ) (b : Board) → IsLawful shards b → (worker : ℕ) → worker < 64
         → lies worker b.views ≡ rises worker b.views + rouses worker b.views + is_idle b.words worker }
 {}
 
-/// The answers of calls in the words of that law, by the clauses of the calls: a worker is roused exactly where an
-/// answer says to unpark it, once, but for its own `next`, which says it to nobody; and only its own `next` and
+/// The answers of calls in the words of the law above, by the clauses of the calls. A worker is roused, once, exactly
+/// if an answer says to unpark it, except by its own `next`, which says so to nobody. Only its own `next` and
 /// `may_park` let it lie down.
 pub fn calls_say_whom_they_rouse()
     ensures spawn { (answer : JobSpawned) (block job : ℕ) (k after : Notes) → HasSpawned answer block job k after → Rouses (spawn_unparks answer) (worker_of (block / 64)) k after }
@@ -87,15 +88,15 @@ pub fn jobs_are_conserved()
         → spawned_at place job b ≡ ended_at place job b + lives_at place job b }
 {}
 
-/// Each time that a place was blocked, or retired, it was unblocked once, or is blocked. So no step of any kind lets a job
-/// wait, or wakes one, that isn't counted so.
+/// For each time that a place was blocked or retired, it was unblocked once, or is still blocked. So no step of any
+/// kind lets a job wait, or wakes one, without being counted.
 pub fn blocks_are_counted()
     ensures { (shards : ℕ) (b : Board) → IsLawful shards b → (place : ℕ) → place < 4096 * shards
         → blocks place b ≡ unblocks place b + is_blocked b.words place }
 {}
 
-/// Each mark that a wake has set at a place was used up by who had the place in hand, or is there; and none is there
-/// where the job is blocked. So a job that blocks has heard each wake that it was marked with.
+/// Each mark that a wake has set at a place was used up by a seat that had the place in hand, or is still there. If the
+/// job is blocked, no mark is there. So a job that blocks has heard each wake that it was marked with.
 pub fn wakes_are_heard()
     ensures blocked { (shards : ℕ) (b : Board) → IsLawful shards b → (place : ℕ) → place < 4096 * shards → is_blocked b.words place ≡ 1 → is_marked b.words place ≡ 0 }
     ensures heard { (shards : ℕ) (b : Board) → IsLawful shards b → (place : ℕ) → place < 4096 * shards

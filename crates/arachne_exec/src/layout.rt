@@ -1,36 +1,36 @@
-//! Where the words lie, and what they are at first.
+//! The layout of the words, and their first values.
 ghost use Rattle.std.specs.Prelude.{◌≡◌, ℕ, ◌+◌, ◌*◌, ◌/◌, ◌%◌, ◌^◌, ◌<◌, ◌≤◌, IfOk, vec_len, slice_index};
 ghost use Rattle.arachne_exec.specs.Layout.{summary_at, ready_at, free_at, mark_at, others, name_of, worker_of};
 ghost use Rattle.arachne_exec.specs.First.{AreFirstWords, first_word};
 
 use std::alloc::{AllocError, Global};
 
-/// How many places a block has, and how many blocks a shard.
+/// The number of places of a block. A shard has as many blocks.
 pub const PLACES_PER_BLOCK: usize = 64;
 
 pub const BLOCKS_PER_SHARD: usize = 64;
 
-/// How many workers there are at most. Worker `w` looks after the shards `w`, `w + 64`, `w + 128` and so on.
+/// The most workers. Worker `w` looks after the shards `w`, `w + 64`, `w + 128` and so on.
 pub const WORKERS: usize = 64;
 
-/// How many shards an executor has at most.
+/// The most shards of an executor.
 pub const MOST_SHARDS: usize = 256;
 
 pub(crate) const IDLE: usize = 0;
 
 pub(crate) const NUMBERS: usize = 8;
 
-/// The mark of a place where the last job has ended whose name can be said.
+/// The generation in the mark of a retired place: the last job that can have a name has ended there.
 pub(crate) const LAST_GENERATION: u64 = (1 << 44) - 1;
 
-/// The place in a name.
+/// Returns the place in a name.
 pub fn place_of(name: u64) -> usize
     ensures { result ≡ name % 2 ^ 20 }
 {
     (name % (1 << 20)) as usize
 }
 
-/// The worker that looks after a place.
+/// Returns the worker that looks after a place.
 pub fn worker_of_place(place: usize) -> usize
     ensures { result ≡ worker_of (place / 4096) }
 {
@@ -98,7 +98,7 @@ fn first_word_at(index: usize) -> u64
     }
 }
 
-/// The words at first: all places are free, and no seat has a worker number.
+/// Returns the first values of the words: all places are free, and no seat has a worker number.
 pub(crate) fn first_words(alloc: Global, blocks: usize) -> Result<Vec<u64>, AllocError>
     requires { blocks ≤ 16384 }
     ensures { IfOk result (λ words. AreFirstWords blocks words.items) }
@@ -111,7 +111,7 @@ pub(crate) fn first_words(alloc: Global, blocks: usize) -> Result<Vec<u64>, Allo
     Ok(words)
 }
 
-/// Slots with no job in them.
+/// Returns slots with no job in them.
 pub(crate) fn empty_slots(alloc: Global, blocks: usize) -> Result<Vec<u64>, AllocError>
     requires { blocks ≤ 16384 }
     ensures { IfOk result (λ slots. (vec_len slots ≡ 64 * blocks) × ((i : ℕ) → slice_index slots.items i ≡ 0)) }

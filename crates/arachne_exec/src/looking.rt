@@ -1,4 +1,4 @@
-//! Looks at words that say where jobs are ready.
+//! Looks at the words that show which places have ready jobs.
 ghost use Rattle.std.specs.Prelude.{◌≡◌, ◌*◌, ◌<◌};
 ghost use Rattle.arachne_exec.specs.Layout.{summary_at, ready_at};
 ghost use Rattle.arachne_exec.specs.Changes.{noted};
@@ -8,8 +8,8 @@ use crate::layout::{ready_word, summary_word};
 use crate::seat::ExecSeat;
 
 impl Executor {
-    /// The blocks of a shard that may have ready jobs, a bit for each: one load. A block that isn't among them has
-    /// none, or somebody is about to show it.
+    /// Returns the blocks of a shard that may have ready jobs, a bit for each, by one load. A block that isn't among
+    /// them has none, or somebody is about to show it.
     pub fn shown(&self, seat: &mut ExecSeat, shard: usize) -> u64
         requires own { seat.old.table ≡ self.now.table }
         requires shard { shard < self.now.shards }
@@ -19,7 +19,7 @@ impl Executor {
         self.look(&mut seat.at, summary_word(shard))
     }
 
-    /// The places of a block that have a ready job, a bit for each: one load.
+    /// Returns the places of a block that have a ready job, a bit for each, by one load.
     pub fn ready(&self, seat: &mut ExecSeat, block: usize) -> u64
         requires own { seat.old.table ≡ self.now.table }
         requires block { block < 64 * self.now.shards }

@@ -1,4 +1,4 @@
-//! What a worker does next, and when it may park.
+//! The next action of a worker, and the condition under which it may park.
 ghost use Rattle.std.specs.Prelude.{◌≡◌, ℕ, ◌+◌, ◌*◌, ◌<◌, IsTrue, IsFalse, IfSome, IfNone};
 ghost use Rattle.std.specs.Int.{bit_at};
 ghost use Rattle.arachne_exec.specs.Layout.{numbers_at, worker_of};
@@ -11,7 +11,7 @@ use crate::layout::summary_word;
 use crate::rounds::{InTurn, Round};
 use crate::seat::{ExecSeat, SeatInCall};
 
-/// How many of so many shards a worker looks after.
+/// Returns the number of shards that a worker looks after, of `shards` shards.
 fn shards_of(worker: usize, shards: usize) -> usize
     requires { worker < 64 }
     ensures all { (j : ℕ) → worker + 64 * j < shards → j < result }
@@ -25,8 +25,7 @@ fn shards_of(worker: usize, shards: usize) -> usize
 }
 
 impl Executor {
-    /// The seat becomes the worker of this number, where no seat is it. Whether it did: else another seat has the
-    /// number.
+    /// Makes the seat the worker of this number. Returns false if another seat has the number.
     pub fn register(&self, seat: &mut ExecSeat, worker: usize) -> bool
         requires own { seat.old.table ≡ self.now.table }
         requires worker { (seat.old.known.worker ≡ 0) × (worker < 64) }
@@ -37,7 +36,7 @@ impl Executor {
         self.take_number(&mut seat.at, worker)
     }
 
-    /// The seat's number is free again.
+    /// Frees the seat's worker number.
     pub fn leave(&self, seat: &mut ExecSeat, worker: usize)
         requires own { seat.old.table ≡ self.now.table }
         requires worker { (seat.old.known.worker ≡ worker + 1) × (worker < 64) }
@@ -46,7 +45,7 @@ impl Executor {
         self.give_number(&mut seat.at, worker);
     }
 
-    /// The worker is awake, as where it ends its sleep by itself.
+    /// Clears the worker's idle bit. The worker calls this if it ends its sleep by itself.
     pub fn wake_up(&self, seat: &mut ExecSeat, worker: usize)
         requires own { seat.old.table ≡ self.now.table }
         requires worker { (seat.old.known.worker ≡ worker + 1) × (worker < 64) }
@@ -86,8 +85,8 @@ impl Executor {
         self.lie_down(&mut seat.at, worker)
     }
 
-    /// A job that is ready at a shard whose turn it is, the first from the seat's turn on. Bits of blocks that have
-    /// none are cleared in its summary word.
+    /// Takes the first job that is ready at a shard, from the seat's turn on. Clears in the shard's summary word the
+    /// bits of blocks that have none.
     fn take_in_shard(&self, seat: &mut ExecSeat, shard: InTurn) -> Option<HeldJob>
         requires own { seat.old.table ≡ self.now.table }
         requires shard { shard.shard < self.now.shards }
@@ -113,7 +112,7 @@ impl Executor {
         None
     }
 
-    /// What the worker is to do next: a job of its blocks, or to park.
+    /// Returns the worker's next action: it runs a job of its blocks, parks, or asks again.
     pub fn next(&self, seat: &mut ExecSeat, worker: usize) -> Next
         requires own { seat.old.table ≡ self.now.table }
         requires worker { (seat.old.known.worker ≡ worker + 1) × (worker < 64) }
@@ -131,7 +130,7 @@ impl Executor {
         self.end_round(seat, worker, round)
     }
 
-    /// What the worker is to do where all of its shards were searched and no job was found.
+    /// Returns the worker's next action after all of its shards were searched and no job was found.
     #[inline(always)]
     fn end_round(&self, seat: &mut ExecSeat, worker: usize, round: Round) -> Next
         requires own { seat.old.table ≡ self.now.table }

@@ -3,13 +3,13 @@ ghost use Rattle.std.specs.Prelude.{◌≡◌, ℕ, ◌+◌, ◌*◌, ◌/◌, �
 
 use crate::turns::{SearchTurn, shard_in_turn};
 
-/// A shard whose turn it is. [`Round::next`] alone gives one, and none is searched without.
+/// A shard whose turn it is. Only [`Round::next`] gives one, and no shard is searched without it.
 pub(crate) struct InTurn {
     shard: usize,
 }
 
 impl InTurn {
-    /// The shard's number, which is searched now.
+    /// Returns the number of the shard, which is searched now.
     #[inline(always)]
     pub(crate) fn begun(self) -> usize
         ensures { result ≡ self.shard }
@@ -19,7 +19,8 @@ impl InTurn {
     }
 }
 
-/// The shards of a worker that a search has still to look at, from the one of its turn on, round them.
+/// The shards of a worker that a search has not looked at yet: from the one of its turn on, and then round to the one
+/// before.
 #[derive(Drop)]
 pub(crate) struct Round {
     worker: usize,
@@ -32,7 +33,7 @@ pub(crate) struct Round {
 }
 
 impl Round {
-    /// All of a worker's shards, which are so many.
+    /// Returns a search of all of a worker's shards, which are `count`.
     #[inline(always)]
     pub(crate) fn of(turn: &SearchTurn, worker: usize, count: usize) -> Round
         requires { worker + 64 * count ≤ 512 }
@@ -49,7 +50,7 @@ impl Round {
         }
     }
 
-    /// The next shard.
+    /// Returns the next shard.
     #[inline(always)]
     pub(crate) fn next(&mut self) -> Option<InTurn>
         ensures same { (self.new.worker ≡ self.old.worker) × (self.new.count ≡ self.old.count) × (self.new.first ≡ self.old.first) }

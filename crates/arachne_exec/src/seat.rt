@@ -31,9 +31,9 @@ impl Model for SeatInCall {
 pub struct ExecSeat {
     pub(crate) at: SeatInCall,
     pub(crate) weight: Weight,
-    /// Where the next search of its worker's blocks begins.
+    /// The place at which the next search of its worker's blocks begins.
     pub(crate) turn: SearchTurn,
-    /// Where its next `take` begins.
+    /// The index in a block at which its next `take` begins.
     pub(crate) take_turn: TakeTurn,
 }
 

@@ -1,4 +1,4 @@
-//! How a ready job is shown: its bit in the ready word, the bit of its block, and the look that wakes a sleeper.
+//! Shows a ready job: by its bit in the ready word, the bit of its block, and the look that wakes a sleeper.
 ghost use Rattle.std.specs.Prelude.{◌≡◌, ◌≢◌, ℕ, ◌+◌, ◌*◌, ◌/◌, ◌<◌};
 ghost use Rattle.atomic_table.specs.Table.{rest};
 ghost use Rattle.arachne_exec.specs.Layout.{worker_of};
@@ -10,7 +10,8 @@ use crate::seat::SeatInCall;
 use crate::sleepers::Hidden;
 
 impl Executor {
-    /// Looks whether the worker of the shard is idle: where it is, it is no longer, and is to be unparked.
+    /// Makes the look that is owed at the idle word, and clears the idle bit of the shard's worker if it is set.
+    /// Returns true if this call cleared it: then the caller must unpark the worker.
     pub(crate) fn pay(&self, seat: &mut SeatInCall, shard: usize) -> bool
         requires own { seat.old.table ≡ self.now.table }
         requires owed { seat.old.known.owes ≡ shard + 1 }
@@ -22,7 +23,7 @@ impl Executor {
         self.unpark(seat, shard)
     }
 
-    /// Shows a block whose bit is owed. Whether its worker is to be unparked.
+    /// Shows a block whose bit is owed. Returns true if the caller must unpark its worker.
     pub(crate) fn show(&self, seat: &mut SeatInCall, block: usize) -> bool
         requires own { seat.old.table ≡ self.now.table }
         requires block { block < 64 * self.now.shards }
@@ -38,7 +39,7 @@ impl Executor {
         self.pay(seat, block / 64)
     }
 
-    /// The newest place is ready. Whether its worker is to be unparked.
+    /// Makes the newest place ready. Returns true if the caller must unpark its worker.
     pub(crate) fn publish(&self, seat: &mut SeatInCall, place: usize) -> bool
         requires own { seat.old.table ≡ self.now.table }
         requires place { place < 4096 * self.now.shards }
@@ -52,7 +53,7 @@ impl Executor {
         self.show(seat, place / 64)
     }
 
-    /// The same of a place that a job was laid into.
+    /// Like `publish`, for a place that a new job was laid into.
     pub(crate) fn publish_new(&self, seat: &mut SeatInCall, place: usize, job: u64) -> bool
         requires own { seat.old.table ≡ self.now.table }
         requires place { place < 4096 * self.now.shards }
@@ -66,8 +67,8 @@ impl Executor {
         self.show(seat, place / 64)
     }
 
-    /// Clears the bit of a block in its summary word, unless it has a ready job. With the block whether its worker is
-    /// to be unparked.
+    /// Clears the bit of a block in its summary word, unless the block has a ready job. Returns with the block whether
+    /// the caller must unpark its worker.
     pub(crate) fn tidy(&self, seat: &mut SeatInCall, block: usize) -> (Hidden, bool)
         requires own { seat.old.table ≡ self.now.table }
         requires block { block < 64 * self.now.shards }

@@ -12,14 +12,14 @@ use crate::steps::{
     Unregister,
 };
 
-/// A block whose bit was cleared in its summary word. [`Executor::hide`] alone gives one.
+/// A block whose bit was cleared in its summary word. Only [`Executor::hide`] gives one.
 #[derive(Drop)]
 pub(crate) struct Hidden {
     block: usize,
 }
 
 impl Hidden {
-    /// Which block it is.
+    /// Returns the number of the block.
     #[inline(always)]
     pub(crate) fn block(&self) -> usize
         ensures { result ≡ self.now.block }
@@ -29,7 +29,7 @@ impl Hidden {
 }
 
 impl Executor {
-    /// Whether the bit of the block is set in the summary word: then it is no longer owed.
+    /// Returns true if the bit of the block is set in the summary word: then it is no longer owed.
     pub(crate) fn finds_shown(&self, seat: &mut SeatInCall, block: usize) -> bool
         requires own { seat.old.table ≡ self.now.table }
         requires block { block < 64 * self.now.shards }
@@ -43,7 +43,7 @@ impl Executor {
         found >> (block % 64) as u32 & 1 == 1
     }
 
-    /// Sets the bit of the block in the summary word. Whether the look at the idle word is owed.
+    /// Sets the bit of the block in the summary word. Returns true if the look at the idle word is owed.
     pub(crate) fn put_shown(&self, seat: &mut SeatInCall, block: usize) -> bool
         requires own { seat.old.table ≡ self.now.table }
         requires block { block < 64 * self.now.shards }
@@ -74,7 +74,7 @@ impl Executor {
         Hidden { block }
     }
 
-    /// Whether the block has no ready job: then its bit in the summary word is no longer owed.
+    /// Returns true if the block has no ready job: then its bit in the summary word is no longer owed.
     pub(crate) fn has_none(&self, seat: &mut SeatInCall, block: usize) -> bool
         requires own { seat.old.table ≡ self.now.table }
         requires block { block < 64 * self.now.shards }
@@ -87,7 +87,7 @@ impl Executor {
         shared.load::<LookAgain>(&mut seat.seat, ready_word(block)) == 0
     }
 
-    /// Whether the shard's worker is idle. Where it isn't, nothing is owed any more.
+    /// Returns true if the shard's worker is idle. If it isn't, nothing is owed any more.
     pub(crate) fn finds_idle(&self, seat: &mut SeatInCall, shard: usize) -> bool
         requires own { seat.old.table ≡ self.now.table }
         requires owed { seat.old.known.owes ≡ shard + 1 }
@@ -99,7 +99,7 @@ impl Executor {
         found >> (shard % 64) as u32 & 1 == 1
     }
 
-    /// Clears the idle bit of the shard's worker. Whether it was set: then the worker is to be unparked.
+    /// Clears the idle bit of the shard's worker. Returns true if it was set: then the caller must unpark the worker.
     pub(crate) fn unpark(&self, seat: &mut SeatInCall, shard: usize) -> bool
         requires own { seat.old.table ≡ self.now.table }
         requires owed { seat.old.known.owes ≡ shard + 1 }
@@ -111,7 +111,7 @@ impl Executor {
         found >> (shard % 64) as u32 & 1 == 1
     }
 
-    /// The worker is idle from now on.
+    /// Sets the worker's idle bit.
     pub(crate) fn set_idle(&self, seat: &mut SeatInCall, worker: usize)
         requires own { seat.old.table ≡ self.now.table }
         requires worker { (seat.old.known.worker ≡ worker + 1) × (worker < 64) }
@@ -122,7 +122,7 @@ impl Executor {
         shared.fetch_or::<SetIdle>(&mut seat.seat, IDLE, bit(worker));
     }
 
-    /// The worker is idle no longer.
+    /// Clears the worker's idle bit.
     pub(crate) fn clear_idle(&self, seat: &mut SeatInCall, worker: usize)
         requires own { seat.old.table ≡ self.now.table }
         requires worker { (seat.old.known.worker ≡ worker + 1) × (worker < 64) }
@@ -133,7 +133,7 @@ impl Executor {
         shared.fetch_and::<Rise>(&mut seat.seat, IDLE, all_but(worker));
     }
 
-    /// Looks at the worker's next summary word. Whether it is empty.
+    /// Looks at the worker's next summary word. Returns true if it is empty.
     pub(crate) fn sees_none(&self, seat: &mut SeatInCall, worker: usize, next: usize) -> bool
         requires own { seat.old.table ≡ self.now.table }
         requires worker { (seat.old.known.worker ≡ worker + 1) × (worker + 64 * next < self.now.shards) }
@@ -146,7 +146,7 @@ impl Executor {
         shared.load::<LookNext>(&mut seat.seat, summary_word(worker + 64 * next)) == 0
     }
 
-    /// The seat becomes the worker of this number, where no seat is it. Whether it did.
+    /// Makes the seat the worker of this number, unless another seat is. Returns true if it did.
     pub(crate) fn take_number(&self, seat: &mut SeatInCall, worker: usize) -> bool
         requires own { seat.old.table ≡ self.now.table }
         requires worker { (seat.old.known.worker ≡ 0) × (worker < 64) }
@@ -159,7 +159,7 @@ impl Executor {
         found >> worker as u32 & 1 == 1
     }
 
-    /// The seat's number is free again.
+    /// Frees the seat's worker number.
     pub(crate) fn give_number(&self, seat: &mut SeatInCall, worker: usize)
         requires own { seat.old.table ≡ self.now.table }
         requires worker { (seat.old.known.worker ≡ worker + 1) × (worker < 64) }

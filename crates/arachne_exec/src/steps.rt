@@ -1,8 +1,8 @@
-//! The rule of the table, and the kinds of step on it. These types are for proofs alone.
+//! The rule of the table, and the kinds of step on it. These types are only for proofs.
 use crate::view::View;
 use atomic_table::{Join, Play, Split, TableRule};
 
-/// Each place has one keeper, and a sleeper is woken. The table is told how many shards there are.
+/// The rule: each place has one keeper, and a sleeper is woken. The table gets the number of shards.
 pub struct Lawful;
 
 impl TableRule<u64, View, usize> for Lawful {

@@ -12,7 +12,7 @@ use crate::layout::{all_but, bit, ready_word};
 use crate::seat::ExecSeat;
 use crate::turns::lowest_index;
 
-/// So many of the lowest bits that are set in a word, at least one, or all.
+/// Returns the lowest `most` bits that are set in a word, at least one; all, if fewer are set.
 fn lowest(word: u64, most: u32) -> u64
     requires { 0 < word }
     ensures some { 0 < result }
@@ -34,8 +34,8 @@ fn lowest(word: u64, most: u32) -> u64
 }
 
 impl Executor {
-    /// Takes up to so many ready jobs of a block, at least one, into the hand, in one step: one try. The places that
-    /// came, a bit for each: the lowest is the newest.
+    /// Tries once to take up to `most` ready jobs of a block, at least one, into the hand, in one step. Returns the
+    /// places that came, a bit for each: the lowest is the newest.
     pub fn take_many(&self, seat: &mut ExecSeat, block: usize, most: u32) -> u64
         requires own { seat.old.table ≡ self.now.table }
         requires block { block < 64 * self.now.shards }
@@ -52,7 +52,7 @@ impl Executor {
         self.take_bits(&mut seat.at, block, pick)
     }
 
-    /// The newest job in hand is about to run, and a wake that has come since it was ready is used up. Its name and
+    /// Prepares the newest job in hand to run: uses up a wake that has come since it was ready. Returns its name and
     /// number.
     pub fn start(&self, seat: &mut ExecSeat, place: usize) -> HeldJob
         requires own { seat.old.table ≡ self.now.table }

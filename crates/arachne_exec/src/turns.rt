@@ -1,4 +1,4 @@
-//! Where a search begins, so that jobs which are ready again and again don't keep others waiting.
+//! The place at which a search begins, so that jobs which are ready again and again don't keep others waiting.
 ghost use Rattle.std.specs.Prelude.{◌≡◌, ◌≢◌, ◌⊎◌, ◌↔◌, ℕ, ◌+◌, ◌-◌, ◌*◌, ◌/◌, ◌%◌, ◌^◌, ◌<◌, ◌≤◌, false, true, IsTrue, IfSome, IfNone};
 ghost use Rattle.std.specs.Int.{bit_at};
 ghost use Rattle.std.specs.Int.RustNames.{bit_and};
@@ -10,7 +10,7 @@ use crate::layout::all_but;
 use crate::sleepers::Hidden;
 use std::snapshot::Snapshot;
 
-/// The lowest index whose bit is set.
+/// Returns the lowest index whose bit is set.
 pub(crate) fn lowest_index(word: u64) -> usize
     requires { 0 < word }
     ensures low { result < 64 }
@@ -20,7 +20,7 @@ pub(crate) fn lowest_index(word: u64) -> usize
     word.trailing_zeros() as usize
 }
 
-/// The first index from this one on, round the word, whose bit is set.
+/// Returns the first index from `from` on, round the word, whose bit is set.
 pub(crate) fn first_from(word: u64, from: usize) -> usize
     requires { 0 < word }
     ensures { IsFirstFrom word from result }
@@ -34,7 +34,7 @@ pub(crate) fn first_from(word: u64, from: usize) -> usize
     }
 }
 
-/// Whether a bit behind the index is set.
+/// Returns true if a bit behind the index is set.
 pub(crate) fn has_more(word: u64, index: usize) -> bool
     requires { index < 64 }
     ensures { IsTrue result ↔ (2 * 2 ^ index ≤ word) }
@@ -42,7 +42,8 @@ pub(crate) fn has_more(word: u64, index: usize) -> bool
     word >> index as u32 > 1
 }
 
-/// The shard of this index in turn, of so many, where that one is the first.
+/// Returns the shard at an index of the order of turns: of `count` shards, from `first` on, and then round to the one
+/// before it.
 pub(crate) fn shard_in_turn(first: usize, index: usize, count: usize) -> usize
     requires first { first < count }
     requires index { index < count }
@@ -56,7 +57,7 @@ pub(crate) fn shard_in_turn(first: usize, index: usize, count: usize) -> usize
     }
 }
 
-/// The blocks of a shard that a search has still to look at, a bit for each, and the index at which it began.
+/// The blocks of a shard that a search has not looked at yet, a bit for each, and the index at which it began.
 #[derive(Drop)]
 pub(crate) struct Unsearched {
     blocks: u64,
@@ -64,7 +65,7 @@ pub(crate) struct Unsearched {
 }
 
 impl Unsearched {
-    /// The index of the block that is next.
+    /// Returns the index of the next block.
     pub(crate) fn next(&self) -> Option<usize>
         ensures some { IfSome result (λ index. IsFirstFrom self.now.blocks self.now.from index) }
         ensures none { IfNone result (self.now.blocks ≡ 0) }
@@ -75,14 +76,14 @@ impl Unsearched {
         Some(first_from(self.blocks, self.from))
     }
 
-    /// The search goes on behind a block that is shown no longer without a job.
+    /// Lets the search go on behind a block that had no job and whose bit was cleared.
     pub(crate) fn pass(&mut self, hidden: Hidden)
         ensures { self.new ≡ record self.old { blocks = bit_and self.old.blocks (others (hidden.block % 64)) } }
     {
         self.blocks &= all_but(hidden.block() % 64);
     }
 
-    /// Whether there is another block behind the index, before the search comes round.
+    /// Returns true if there is another block behind the index, before the search comes round.
     fn has_more(&self, index: usize) -> bool
         requires { index < 64 }
         ensures { IsTrue result ↔ HasMoreBehind self.now index }
@@ -91,8 +92,8 @@ impl Unsearched {
     }
 }
 
-/// A job that was taken, and whether its block had another ready place behind it. The job is had only by noting where
-/// the next search begins, and none can be let go.
+/// A job that was taken, and whether its block had another ready place behind it. The only way to get the job is to
+/// note the place at which the next search begins, and this value can't be dropped.
 pub(crate) struct TakenJob {
     job: HeldJob,
     more: bool,
@@ -106,7 +107,7 @@ impl TakenJob {
         TakenJob { job, more }
     }
 
-    /// The job, of a search of its worker's blocks. The next one begins behind its place.
+    /// Returns the job that a search of its worker's blocks has taken. The next search begins behind its place.
     pub(crate) fn in_turn(
         self,
         begun: SearchBegun,
@@ -126,7 +127,7 @@ impl TakenJob {
         job
     }
 
-    /// The job, of a take. The next one begins behind its index.
+    /// Returns the job of a take. The next take begins behind its index.
     pub(crate) fn in_block(self, begun: TakeBegun, turn: &mut TakeTurn) -> HeldJob
         ensures job { result ≡ self.job }
         ensures index { turn.new.index ≡ self.job.place % 64 + 1 }
@@ -138,27 +139,29 @@ impl TakenJob {
     }
 }
 
-/// The index at which a search of a block begins. The two turns alone give one, and no block is searched without its
+/// The index at which a search of a block begins. Only the two turns give one, and no block is searched without its
 /// own.
 pub(crate) struct First {
     index: usize,
     block: Snapshot<usize>,
 }
 
-/// A block is taken from where a seat's turn to take says. [`TakeTurn::first_place`] alone gives one.
+/// The proof that a block is taken from at the index of the seat's [`TakeTurn`]. Only [`TakeTurn::first_place`] gives
+/// one.
 #[derive(Drop)]
 pub(crate) struct TakeBegun {
     by: (),
 }
 
-/// A block is searched from where a worker's turn says. [`SearchTurn::first_place`] alone gives one.
+/// The proof that a block is searched from the index of the worker's [`SearchTurn`] on. Only
+/// [`SearchTurn::first_place`] gives one.
 #[derive(Drop)]
 pub(crate) struct SearchBegun {
     by: (),
 }
 
 impl First {
-    /// The index, at which the search begins now.
+    /// Returns the index, at which the search begins now.
     #[inline(always)]
     pub(crate) fn begun(self) -> usize
         ensures { result ≡ self.index }
@@ -208,7 +211,8 @@ impl SearchTurn {
         SearchTurn { place: 0 }
     }
 
-    /// Behind a place that was taken, with whether its block, and its shard, had another ready place behind it.
+    /// Returns the turn behind a place that was taken. `in_block` and `in_shard` are true if its block, and its shard,
+    /// had another ready place behind it.
     pub(crate) fn behind(place: usize, in_block: bool, in_shard: bool) -> SearchTurn
         requires { place < 1048576 }
         ensures in_block { in_block ≡ true → result.place ≡ place + 1 }
@@ -225,7 +229,7 @@ impl SearchTurn {
         SearchTurn { place }
     }
 
-    /// Which of a worker's shards comes first, of so many.
+    /// Returns which of a worker's `count` shards comes first.
     pub(crate) fn first_shard(&self, count: usize) -> usize
         ensures within { (result ≡ 0) ⊎ (result < count) }
         ensures turn { self.now.place / 262144 < count → result ≡ self.now.place / 262144 }
@@ -235,7 +239,7 @@ impl SearchTurn {
         if first < count { first } else { 0 }
     }
 
-    /// The blocks that a shard shows, to be searched in turn.
+    /// Returns the blocks that a shard shows, for a search in turn.
     pub(crate) fn unsearched(&self, shard: usize, shown: u64) -> Unsearched
         ensures blocks { result.blocks ≡ shown }
         ensures turn { self.now.place / 4096 ≡ shard → result.from ≡ self.now.place / 64 % 64 }
@@ -247,7 +251,7 @@ impl SearchTurn {
         }
     }
 
-    /// Which block of a shard comes first.
+    /// Returns the block of a shard that comes first.
     fn first_block(&self, shard: usize) -> usize
         ensures within { result < 64 }
         ensures turn { self.now.place / 4096 ≡ shard → result ≡ self.now.place / 64 % 64 }

@@ -1,4 +1,4 @@
-//! What the table's rule sees of a seat. No value of these types is made.
+//! The view that the table's rule has of a seat. No value of these types is made.
 use arachne_weights::Token;
 use std::collections::LinkedList;
 
@@ -14,14 +14,14 @@ pub enum SleepDeed {
     Roused(u64),
 }
 
-/// What a seat has and knows. Each list has the newest first.
+/// The things that a seat has and knows. Each list has the newest first.
 pub struct Notes {
     /// The places in its hand, each with its job.
     pub hand: LinkedList<(u64, u64)>,
     /// The jobs that were spawned through it, and those that have ended in its hand, each with its place.
     pub spawned: LinkedList<(u64, u64)>,
     pub ended: LinkedList<(u64, u64)>,
-    /// The places whose jobs it has marked as woken, and those where it has used up such a mark.
+    /// The places whose jobs it has marked as woken, and those at which it has used up such a mark.
     pub woken: LinkedList<u64>,
     pub heard: LinkedList<u64>,
     /// The places that it has blocked, or retired, and those that it has found blocked, and got.
@@ -40,9 +40,9 @@ pub struct Notes {
     /// The number of the worker's summary words, from the first on, that it has found empty since it set its idle bit;
     /// 0 if it has cleared the bit since.
     pub seen: u64,
-    /// How often it was split, and each seat that it has taken in.
+    /// The number of times that it was split, plus that number of each seat that it has taken in.
     pub splits: u64,
 }
 
-/// What the table's rule sees of a seat.
+/// The view that the table's rule has of a seat.
 pub type View = Token<Notes>;

@@ -8,7 +8,7 @@ use crate::executor::Executor;
 use crate::layout::{LAST_GENERATION, mark_word, place_of};
 use crate::seat::{ExecSeat, SeatInCall};
 
-/// What a wake found, where the seat may have the place in hand then.
+/// The result of `rouse`. After `Held` the seat has the place in hand.
 enum RouseResult {
     Held(usize),
     Marked,
@@ -18,7 +18,7 @@ enum RouseResult {
 }
 
 impl Executor {
-    /// The job of that generation at a place: where it is blocked it comes into the hand.
+    /// Wakes the job of a generation at a place. If it is blocked, it comes into the hand.
     fn rouse(&self, seat: &mut SeatInCall, place: usize, generation: u64) -> RouseResult
         requires own { seat.old.table ≡ self.now.table }
         ensures answer { IsFound result (4096 * self.now.shards) place generation seat.old seat.new }
@@ -46,7 +46,7 @@ impl Executor {
         RouseResult::Lost
     }
 
-    /// Wakes the job of a name, which may be any: one try.
+    /// Tries once to wake the job of a name, which may be any number.
     pub fn wake(&self, seat: &mut ExecSeat, name: u64) -> JobWoken
         requires own { seat.old.table ≡ self.now.table }
         ensures seat { seat.new ≡ record seat.old { known = seat.new.known } }
@@ -65,7 +65,7 @@ impl Executor {
         }
     }
 
-    /// The same, but a job that was blocked comes into the seat's hand, and nobody else can take it.
+    /// Like `wake`, but a job that was blocked comes into the seat's hand, and nobody else can take it.
     pub fn wake_here(&self, seat: &mut ExecSeat, name: u64) -> WokenHere
         requires own { seat.old.table ≡ self.now.table }
         ensures seat { seat.new ≡ record seat.old { known = seat.new.known } }

@@ -1,4 +1,5 @@
-//! One function for each kind of step on a place's words. What the seat has and knows after it is what each says.
+//! One function for each kind of step on a place's words. The contract of each says what the seat has and knows after
+//! it.
 ghost use Rattle.std.specs.Prelude.{◌≡◌, ◌≢◌, ℕ, ◌+◌, ◌-◌, ◌*◌, ◌/◌, ◌%◌, ◌^◌, ◌<◌, ◌≤◌, ◌∷◌, IsTrue, IsFalse};
 ghost use Rattle.std.specs.Int.{bit_at};
 ghost use Rattle.atomic_table.specs.Table.{rest};
@@ -37,7 +38,7 @@ impl Executor {
         self.table.shared.exchange(&mut seat.seat, place, new)
     }
 
-    /// Clears the ready bit of a place. Whether it was set: then the place is in the seat's hand.
+    /// Clears the ready bit of a place. Returns true if it was set: then the place is in the seat's hand.
     pub(crate) fn take_bit(&self, seat: &mut SeatInCall, place: usize) -> bool
         requires own { seat.old.table ≡ self.now.table }
         requires place { place < 4096 * self.now.shards }
@@ -55,8 +56,8 @@ impl Executor {
         found >> index as u32 & 1 == 1
     }
 
-    /// Clears the ready bits of several places of a block. Those that were set are in the seat's hand, the lowest as
-    /// the newest.
+    /// Clears the ready bits of several places of a block. Returns those that were set: they are in the seat's hand,
+    /// the lowest as the newest.
     pub(crate) fn take_bits(&self, seat: &mut SeatInCall, block: usize, pick: u64) -> u64
         requires own { seat.old.table ≡ self.now.table }
         requires block { block < 64 * self.now.shards }
@@ -72,7 +73,7 @@ impl Executor {
         found & pick
     }
 
-    /// Clears the free bit of a place. Whether it was set: then the place is in the seat's hand.
+    /// Clears the free bit of a place. Returns true if it was set: then the place is in the seat's hand.
     pub(crate) fn claim_bit(&self, seat: &mut SeatInCall, place: usize) -> bool
         requires own { seat.old.table ≡ self.now.table }
         requires place { place < 4096 * self.now.shards }
@@ -90,7 +91,7 @@ impl Executor {
         found >> index as u32 & 1 == 1
     }
 
-    /// The newest place, whose job has ended, is free from now on.
+    /// Frees the newest place, whose job has ended.
     pub(crate) fn put_free(&self, seat: &mut SeatInCall, place: usize)
         requires own { seat.old.table ≡ self.now.table }
         requires place { place < 4096 * self.now.shards }
@@ -102,7 +103,7 @@ impl Executor {
         shared.fetch_or::<PutFree>(&mut seat.seat, free_word(place / 64), bit(place % 64));
     }
 
-    /// The newest place is ready from now on. Whether its block has to be shown.
+    /// Makes the newest place ready. Returns true if its block must be shown.
     pub(crate) fn put_ready(&self, seat: &mut SeatInCall, place: usize) -> bool
         requires own { seat.old.table ≡ self.now.table }
         requires place { place < 4096 * self.now.shards }
@@ -116,7 +117,7 @@ impl Executor {
         shared.fetch_or::<PutReady>(&mut seat.seat, ready_word(place / 64), bit(place % 64)) == 0
     }
 
-    /// The newest place, which a job was laid into, is ready from now on. Whether its block has to be shown.
+    /// Makes the newest place ready, which a new job was laid into. Returns true if its block must be shown.
     pub(crate) fn put_spawned(&self, seat: &mut SeatInCall, place: usize, job: u64) -> bool
         requires own { seat.old.table ≡ self.now.table }
         requires place { place < 4096 * self.now.shards }
@@ -130,7 +131,7 @@ impl Executor {
         shared.fetch_or::<PutSpawned>(&mut seat.seat, ready_word(place / 64), bit(place % 64)) == 0
     }
 
-    /// The newest place has the job that was laid into it from now on, and stays in hand. Its mark.
+    /// Begins the job that was laid into the newest place, which stays in hand. Returns the mark of the place.
     pub(crate) fn begin(&self, seat: &mut SeatInCall, place: usize, job: u64) -> u64
         requires own { seat.old.table ≡ self.now.table }
         requires place { place < 4096 * self.now.shards }
@@ -143,7 +144,7 @@ impl Executor {
             .load::<Begin>(&mut seat.seat, mark_word(place))
     }
 
-    /// The newest place is blocked from now on, where its mark is as expected, which says of no wake.
+    /// Blocks the newest place if its mark is `old`, which must record no wake. Returns true if it was.
     pub(crate) fn put_blocked(&self, seat: &mut SeatInCall, place: usize, old: u64) -> bool
         requires own { seat.old.table ≡ self.now.table }
         requires place { place < 4096 * self.now.shards }
@@ -175,7 +176,7 @@ impl Executor {
         shared.fetch_and::<Hear>(&mut seat.seat, mark_word(place), u64::MAX - 3);
     }
 
-    /// The job of the newest place has ended, and its mark says of this generation, and of no wake.
+    /// Ends the job of the newest place. Its mark gets this generation, and records no wake.
     pub(crate) fn renew(&self, seat: &mut SeatInCall, place: usize, generation: u64)
         requires own { seat.old.table ≡ self.now.table }
         requires place { place < 4096 * self.now.shards }
@@ -188,7 +189,7 @@ impl Executor {
         shared.swap::<Renew>(&mut seat.seat, mark_word(place), 4 * generation);
     }
 
-    /// The newest place is blocked for ever: its job has ended, and no other comes.
+    /// Blocks the newest place for ever: its job has ended, and no other comes.
     pub(crate) fn retire(&self, seat: &mut SeatInCall, place: usize)
         requires own { seat.old.table ≡ self.now.table }
         requires place { place < 4096 * self.now.shards }
@@ -201,7 +202,8 @@ impl Executor {
         shared.swap::<RetirePlace>(&mut seat.seat, mark_word(place), 4 * LAST_GENERATION + 2);
     }
 
-    /// The place is in the seat's hand, where its mark is as expected, which is that of a blocked job.
+    /// Takes a blocked job's place into the seat's hand if its mark is `old`, which must be that of a blocked job.
+    /// Returns true if it was.
     pub(crate) fn wake_mark(&self, seat: &mut SeatInCall, place: usize, old: u64) -> bool
         requires own { seat.old.table ≡ self.now.table }
         requires place { place < 4096 * self.now.shards }
@@ -215,7 +217,8 @@ impl Executor {
         found == old
     }
 
-    /// The mark says of a wake, where it is as expected, which is that of a job that isn't blocked.
+    /// Records a wake in a place's mark if the mark is `old`, which must be that of a job that isn't blocked. Returns
+    /// true if it was.
     pub(crate) fn mark(&self, seat: &mut SeatInCall, place: usize, old: u64) -> bool
         requires own { seat.old.table ≡ self.now.table }
         requires place { place < 4096 * self.now.shards }

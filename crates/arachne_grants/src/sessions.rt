@@ -38,7 +38,7 @@ pub(crate) struct Session {
     pub most: u32,
     /// Cores that it asks for.
     pub asks: u32,
-    /// By place.
+    /// The state of the thread at each of the client's places.
     pub threads: [ClientThread; MAX_THREADS],
 }
 

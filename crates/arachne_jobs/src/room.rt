@@ -33,7 +33,7 @@ impl Room {
         }
     }
 
-    /// Returns whether a place seems to be free. A place of a closed core, or of a core that a thread has alone, counts
+    /// Returns whether a place seems to be free. A place of a core that is closed, or exclusive to a thread, counts
     /// too.
     #[inline(always)]
     pub fn has_free_place(&self) -> bool {

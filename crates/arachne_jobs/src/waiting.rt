@@ -76,7 +76,7 @@ impl<'p> Tagged for Ticket<'p> {
 }
 
 impl<'p> WaitCell<'p> {
-    /// Puts a child into a cell, where it waits. Returns the cell and a ticket, or the child if memory is refused.
+    /// Puts a child into a cell, in which it waits. Returns the cell and a ticket, or the child if memory is refused.
     pub(crate) fn wait(
         alloc: Global,
         child: Thread<'p>,

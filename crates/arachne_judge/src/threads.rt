@@ -19,8 +19,8 @@ pub(crate) struct ThreadFacts {
     pub(crate) end: SliceEnd,
     /// The number of wakes after which the thread has not continued yet.
     pub(crate) woken: u64,
-    /// One more than the number of the last entry of the thread's core before it parked, or 0 if it hasn't parked since
-    /// the thread's last turn. The thread was moved away between that entry and the park.
+    /// If the thread's core has parked since the thread's last turn: 1 plus the number of the core's last entry before
+    /// that park. Otherwise 0. The thread was moved away between that entry and the park.
     pub(crate) left: usize,
 }
 

@@ -1,4 +1,4 @@
-//! How children begin in their parent's place, and how they are joined.
+//! The children that begin in their parent's place, and the ways in which they are joined.
 use crate::contents::Contents;
 use crate::frame::{Control, Frame};
 use crate::level::{Level, Parent, move_parents};
@@ -19,7 +19,7 @@ pub enum Unjoined {
     Memory,
 }
 
-/// How children begin in their parent's place, and how they are joined.
+/// The steps that begin children in their parent's place, and that join them.
 impl<'p> State<'p> {
     ghost use Rattle.std.specs.Prelude.{◌≡◌, ◌≢◌, ◌+◌, ◌≤◌, ◌<◌, ◌^◌, ◌∷◌, ◌++◌, ◌↔◌, [], ℕ, length, reverse, vec_len, vec_capacity, Err, Some, IsTrue, IfOk, OnOk, OnErr};
     ghost use Rattle.arachne_machine.specs.declared.frame.Frame.TheVariants as frames;

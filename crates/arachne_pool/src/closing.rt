@@ -1,4 +1,4 @@
-//! How a pool is made and closed.
+//! Makes and closes a pool.
 ghost use Rattle.std.specs.Prelude.{◌≡◌, ◌+◌, ◌<◌, ◌≤◌, ◌↔◌, [], IfErr, IfOk, IfSome, IsSome, IsTrue, MatchOption, OnErr, OnOk, Some};
 ghost use Rattle.arachne_core.specs.declared.layout.TheConstants.{CORES, SLOTS};
 ghost use Rattle.arachne_policy.specs.Orders.{AreInOrder};

@@ -1,4 +1,4 @@
-//! What the workers of a pool share.
+//! The state that the workers of a pool share.
 ghost use Rattle.std.specs.Prelude.{◌≡◌, ◌<◌, ◌≤◌, IfOk};
 ghost use Rattle.arachne_core.specs.declared.layout.TheConstants.{CORES, SLOTS, LAST_GENERATION};
 ghost use Rattle.arachne_weights.specs.Weight.{whole};
@@ -14,7 +14,7 @@ use std::alloc::{AllocError, Global};
 use std::marker::PhantomData;
 use std::sync::atomic::{AtomicU64, Ordering};
 
-/// What the workers of a pool share: the table, the counts of jobs, and the words that end all work.
+/// The state that the workers of a pool share: the table, the counts of jobs, and the words that end all work.
 #[derive(Drop)]
 pub struct Pool<C: Seats> {
     /// The table of contexts.

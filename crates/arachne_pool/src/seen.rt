@@ -2,9 +2,9 @@
 ghost use Rattle.std.specs.Prelude.{◌≡◌, ◌+◌, ◌<◌};
 ghost use Rattle.arachne_contexts.specs.Words.{ShowsClosed, ShowsFull};
 
-/// The cores that one call has asked for a place, in ascending order, and that had none: how many were full or one
-/// job's alone, and how many were closed. A core is counted only with its word, which shows that none of its places is
-/// free.
+/// The cores that one call has asked for a place, in ascending order, and that had none: the number that were full or
+/// exclusive to one job, and the number that were closed. A core is counted only with its word, which shows that none
+/// of its places is free.
 #[derive(Clone, Copy, Debug, PartialEq, Eq)]
 pub struct NoPlaces {
     /// The core that was asked first.
@@ -18,14 +18,14 @@ pub struct NoPlaces {
 impl NoPlaces {
     ghost use Rattle.arachne_pool.specs.Spawning.{AreSeen, IsNext, closed_in, full_in, slots_in};
 
-    /// Returns how many of them were full, or one job's alone.
+    /// Returns the number of cores that were full, or exclusive to one job.
     pub fn full(&self) -> u8
         ensures { result ≡ full_in self.now }
     {
         self.full
     }
 
-    /// Returns how many of them were closed.
+    /// Returns the number of cores that were closed.
     pub fn closed(&self) -> u8
         ensures { result ≡ closed_in self.now }
     {
@@ -45,7 +45,7 @@ impl NoPlaces {
         }
     }
 
-    /// Counts the next core, whose word shows that it is full, or one job's alone.
+    /// Counts the next core, whose word shows that it is full, or exclusive to one job.
     pub(crate) fn with_full(self, core: u8, word: u64) -> NoPlaces
         requires next { IsNext core self }
         requires below { core < u8.MAX }

@@ -19,7 +19,7 @@ pub(crate) struct Crew<'p, C: Seats> {
     pub(crate) spells: (Spell, Spell),
 }
 
-/// A kernel thread's worker, and the number of kernel threads by which a job has ended so far.
+/// A kernel thread's worker, and the number of kernel threads that have ended a job so far.
 #[derive(Drop)]
 pub(crate) struct Share<S> {
     pub(crate) worker: Worker<S, Task>,

@@ -1,5 +1,5 @@
-//! Tests of pools: what no clause says, as that kernel threads take part, that jobs are woken, and where jobs go. What
-//! they test is proved without them.
+//! Tests of pools for what no clause says: that kernel threads take part, that jobs are woken, and where jobs go. The
+//! crates that they test are proved without them.
 #![tactic(auto)]
 
 #[cfg(test)]

@@ -1,4 +1,4 @@
-//! What is done with a pool by one worker, act by act, and what is seen of it.
+//! The acts of one worker on a pool, one after another, and the checks of their results.
 ghost use Rattle.std.specs.Prelude.{◌≡◌, ◌<◌, ◌≤◌, IfSome};
 ghost use Rattle.arachne_core.specs.declared.layout.TheConstants.{CORES, SLOTS};
 ghost use Rattle.arachne_pool.specs.Workers.{IsWorkerOf};
@@ -16,92 +16,95 @@ use std::alloc::Global;
 use std::sync::{Arc, Wait};
 use std::time::Clock;
 
-/// How many bytes are given back where a growth was refused.
+/// The number of bytes that are given back after memory was refused.
 const FEW: usize = 40;
 
-/// How often something is tried at most.
+/// The most attempts of `ends_in_need`, spawns and rounds together.
 const TRIES: u32 = 100_000;
 
-/// One act.
+/// An act of a row: the worker does something, or checks something. The row fails if the result is not the one that the
+/// act states.
 #[derive(Clone, Copy)]
 pub(crate) enum Act {
     /// A job is spawned.
     Spawns(Sort),
-    /// So many are.
+    /// This number of jobs are spawned.
     SpawnsMany(u32, Sort),
-    /// A job is spawned and joined on core 0, and gives this, or nothing, as in a pool that is stopped.
+    /// A job is spawned and joined on core 0, with this result. If it is `None`, the join must fail because the pool is
+    /// stopped.
     Joins(Sort, Option<u64>),
-    /// A job is spawned, has a round on core 0, and is joined once the pool is stopped. It has ended, and gives this.
+    /// A job is spawned, core 0 has a round, and the job is joined once the pool is stopped. It has ended by then, with
+    /// this result.
     JoinsLate(Sort, u64),
-    /// A job is spawned so, and this comes of it.
+    /// A spawn in this way is tried, with this result.
     Tries(On, Sort, Comes),
-    /// The job of this context and generation is woken, and this comes of it.
+    /// The job of this context and generation is woken, with this result.
     Wakes(u32, u64, Wakes),
-    /// An answer comes for those that sleep. They aren't woken by that.
+    /// An answer comes for the jobs that sleep. It wakes none of them.
     Answers,
-    /// So many have come.
+    /// This number of answers have come.
     Answered(u64),
-    /// A round on a core; whether it finds anything.
+    /// A round on a core. It must find something if the second value is true, and nothing if it is false.
     Turns(u8, bool),
-    /// A round on a core, which is refused memory.
+    /// A round on a core. It must fail because memory is refused.
     TurnsInNeed(u8),
-    /// So many places of a core are taken, and so it is.
+    /// This number of a core's places are taken, and the core is in this state.
     Has(u8, u8, Is),
-    /// From now on these orders.
+    /// From now on the pool has these orders.
     Orders(&'static [Order]),
-    /// So many jobs have not ended.
+    /// This number of jobs have not ended.
     Lives(u64),
-    /// The worker has counted so many that were spawned.
+    /// The worker has counted this number of spawned jobs.
     Counts(u64),
-    /// So many slices, steps, wakes and rests were told of a core.
+    /// A core's statistics have these numbers of slices, steps, wakes and rests.
     Did(u8, u64, u64, u64, u64),
-    /// Kernel threads have slept their time out, though something was there for them, so many times at most.
+    /// Sleeps of kernel threads have timed out, although something was there for them, at most this number of times.
     Overslept(u64),
-    /// So many times at least.
+    /// The same, at least this number of times.
     OversleptAtLeast(u64),
-    /// Jobs are spawned in each way until each place has one, and each of them is, but for want of a place.
+    /// Jobs are spawned in each way until each place has one. A spawn may only fail because no place is free.
     Fills,
-    /// The worker works on a core until no job is left, or it is to stop.
+    /// The worker works on a core until no job is left, or it must stop.
     Works(u8),
     /// A job and those that it forks end while memory is used up.
     EndsInNeed(Sort),
     /// From now on memory is used up.
     Hoards,
-    /// No longer.
+    /// From now on memory is free again.
     Frees,
-    /// From now on more jobs may come though none lives.
+    /// From now on the pool is open for more jobs, even if none lives.
     KeepsOpen,
-    /// The worker is to stop.
+    /// The pool is stopped.
     Stops,
 }
 
 /// How and where a job is spawned.
 #[derive(Clone, Copy)]
 pub(crate) enum On {
-    /// On any core, by a spawn after which a worker may keep it.
+    /// On any core, by `spawn`: if no core has a place, a worker may keep the job.
     AnyKept,
-    /// On any core.
+    /// On any core, by `try_spawn`.
     Any,
-    /// The same, with no handle.
+    /// On any core, by `spawn_detached`, which returns no handle.
     AnyDetached,
-    /// On this one.
+    /// On this core.
     Core(u8),
-    /// On this one, at the place of this index, as is told.
+    /// On this core. The spawn must report the place of this index there.
     At(u8, u8),
 }
 
-/// What comes of that.
+/// The result of an attempt to spawn a job.
 #[derive(Clone, Copy, PartialEq)]
 pub(crate) enum Comes {
-    /// It is spawned.
+    /// The job is spawned.
     Begins,
-    /// So many cores were seen full, or one job's alone, and so many closed.
+    /// No core had a place: the first number of cores were full or exclusive to one job, the second number were closed.
     NoPlace(u8, u8),
     NoMemory,
     NoSeat,
 }
 
-/// What comes of a wake.
+/// The result of a wake.
 #[derive(Clone, Copy, PartialEq)]
 pub(crate) enum Wakes {
     /// The job slept.
@@ -112,18 +115,20 @@ pub(crate) enum Wakes {
     Nobody,
 }
 
-/// How a core is.
+/// The state of a core.
 #[derive(Clone, Copy, PartialEq)]
 pub(crate) enum Is {
     Open,
     Closed,
-    /// One job has it alone.
+    /// It is exclusive to one job.
     Alone,
 }
 
-/// A row: a pool, what its worker does, what two kernel threads do then, for core 0 and core 1, how many of them end a
-/// job at least, what one does after that, how many jobs are left with a place and without, and how many these are with
-/// those that run or wait in their places.
+/// A row: a pool, the acts and the work on it, and the numbers of jobs that must be left.
+///
+/// First one worker does `acts`. Then two kernel threads, for core 0 and core 1, do `spells`; at least `busy` of them
+/// must end a job. After that one worker does `then`. `left` is the number of jobs that are left with a place, and the
+/// number without one. `alive` also counts those that run or wait in the places of these.
 #[derive(Clone, Copy)]
 pub(crate) struct Row {
     pub(crate) shows: &'static str,
@@ -138,7 +143,8 @@ pub(crate) struct Row {
     pub(crate) alive: usize,
 }
 
-/// A row's pool and its worker, which has done the row's first acts. None where one doesn't come out as it says.
+/// Makes a row's pool and its worker, and does the row's first acts. Returns `None` if that fails, or if the result of
+/// an act is not the one that it states.
 pub(crate) fn begin<C: Contexts<Spawned<Task>> + Drop, R: Wait + Clock>(
     rt: &R,
     alloc: Global,
@@ -159,7 +165,8 @@ pub(crate) fn begin<C: Contexts<Spawned<Task>> + Drop, R: Wait + Clock>(
     }
 }
 
-/// Whether the acts that come last do too once both kernel threads have worked, and so many jobs are left.
+/// Does the row's last acts, once both kernel threads have worked, and closes the pool. Returns true if all is as the
+/// row states: the result of each act, the kernel threads that were busy, and the jobs that are left.
 pub(crate) fn end<C: Contexts<Spawned<Task>> + Drop, R: Wait + Clock>(
     rt: &R,
     alloc: Global,
@@ -181,7 +188,7 @@ pub(crate) fn end<C: Contexts<Spawned<Task>> + Drop, R: Wait + Clock>(
     busy >= row.busy && sizes == row.left && count_left(left) == row.alive
 }
 
-/// How many jobs come out of those that are left.
+/// Returns the number of jobs that are left, with those that run or wait in their places.
 fn count_left(left: Left<Task>) -> usize {
     let Left { placed, near } = left;
     let mut count: usize = 0;
@@ -197,7 +204,7 @@ fn count_left(left: Left<Task>) -> usize {
     count
 }
 
-/// How many jobs come out of one.
+/// Returns the number of jobs in one that is left: itself, and those that run or wait in its place.
 fn count_in(job: Spawned<Task>) -> usize {
     let mut jobs = job.into_jobs();
     let mut count: usize = 0;
@@ -207,7 +214,8 @@ fn count_in(job: Spawned<Task>) -> usize {
     count
 }
 
-/// The worker, where each act comes out as it says. A waker has a part of its seat meanwhile.
+/// Does the acts with this worker. Returns it if the result of each act is the one that it states. A waker has a part
+/// of the worker's seat meanwhile.
 fn all_hold<C: Contexts<Spawned<Task>>, R: Wait + Clock>(
     rt: &R,
     alloc: Global,
@@ -248,7 +256,7 @@ fn all_hold<C: Contexts<Spawned<Task>>, R: Wait + Clock>(
     Some(pool.join_waker(rt, worker, waker))
 }
 
-/// What came of a wake.
+/// Returns the result of a wake in the words of a row.
 fn wakes_of(woken: Woken) -> Wakes {
     match woken {
         Woken::Woken => Wakes::It,
@@ -257,7 +265,7 @@ fn wakes_of(woken: Woken) -> Wakes {
     }
 }
 
-/// Whether an act of one worker comes out as it says.
+/// Does an act with one worker. Returns true if the result is the one that the act states.
 fn holds<C: Contexts<Spawned<Task>>, R: Wait + Clock>(
     rt: &R,
     alloc: Global,
@@ -301,7 +309,7 @@ fn holds<C: Contexts<Spawned<Task>>, R: Wait + Clock>(
     }
 }
 
-/// Whether a round came out as its act says.
+/// Returns true if the result of a round is the one that its act states.
 fn is_wanted(act: Act, turned: Result<bool, PoolFault>) -> bool {
     match act {
         Act::Turns(_, finds) => turned == Ok(finds),
@@ -309,7 +317,7 @@ fn is_wanted(act: Act, turned: Result<bool, PoolFault>) -> bool {
     }
 }
 
-/// Whether an act without a worker comes out as it says.
+/// Does an act that needs no worker. Returns true if the result is the one that the act states.
 fn is_so<C: Contexts<Spawned<Task>>, R: Wait>(
     rt: &R,
     pool: &Pool<C>,
@@ -352,7 +360,7 @@ fn is_so<C: Contexts<Spawned<Task>>, R: Wait>(
     }
 }
 
-/// How often kernel threads have slept their time out, though something was there for them.
+/// Returns how often sleeps of kernel threads have timed out, although something was there for them.
 fn overslept<C: Contexts<Spawned<Task>>>(pool: &Pool<C>) -> u64 {
     let mut sum: u64 = 0;
     for core in 0..pool.cores {
@@ -361,7 +369,8 @@ fn overslept<C: Contexts<Spawned<Task>>>(pool: &Pool<C>) -> u64 {
     sum
 }
 
-/// What comes of a spawn, on a core that there is.
+/// Tries to spawn a job. Returns the result, or `None` if the job can't be made, if there is no such core, or if the
+/// job got another place than `on` states.
 fn tried<C: Contexts<Spawned<Task>>, R: Wait>(
     rt: &R,
     pool: &Pool<C>,
@@ -389,7 +398,7 @@ fn tried<C: Contexts<Spawned<Task>>, R: Wait>(
     Some(comes_of(refused))
 }
 
-/// Whether a job that was spawned so may be at this place.
+/// Returns true if a job that was spawned in this way may be at this place.
 fn is_wanted_at(on: On, place: Place) -> bool {
     match on {
         On::At(core, index) => (place.core, place.index) == (core, index),
@@ -397,7 +406,7 @@ fn is_wanted_at(on: On, place: Place) -> bool {
     }
 }
 
-/// Spawns so many jobs. Whether each was spawned.
+/// Spawns `jobs` jobs. Returns true if each was spawned.
 fn spawns_many<C: Contexts<Spawned<Task>>, R: Wait>(
     rt: &R,
     pool: &Pool<C>,
@@ -417,8 +426,8 @@ fn spawns_many<C: Contexts<Spawned<Task>>, R: Wait>(
     true
 }
 
-/// Spawns jobs that no worker keeps until half of the places are taken, and then on each core until it is full. Whether
-/// each was spawned as long as there was a place.
+/// Spawns jobs that no worker keeps until half of the places are taken, and then on each core until it is full. Returns
+/// true if each was spawned as long as there was a place.
 fn fills<C: Contexts<Spawned<Task>>, R: Wait>(
     rt: &R,
     pool: &Pool<C>,
@@ -449,7 +458,7 @@ fn fills<C: Contexts<Spawned<Task>>, R: Wait>(
             == Some(Comes::NoPlace(pool.cores, 0))
 }
 
-/// Spawns jobs on a core until one is not spawned. What comes of that.
+/// Spawns jobs on a core until a spawn fails. Returns the result of that spawn.
 fn fills_core<C: Contexts<Spawned<Task>>, R: Wait>(
     rt: &R,
     pool: &Pool<C>,
@@ -469,7 +478,7 @@ fn fills_core<C: Contexts<Spawned<Task>>, R: Wait>(
     None
 }
 
-/// Why a job came back, if it did.
+/// Returns the result of a spawn: its refusal, if there was one.
 fn comes_of(refused: Option<Refused<Task>>) -> Comes {
     match refused {
         None => Comes::Begins,
@@ -481,8 +490,9 @@ fn comes_of(refused: Option<Refused<Task>>) -> Comes {
     }
 }
 
-/// Spawns a job and joins it on core 0, where it is late once it has had a round there and the pool is stopped. Whether
-/// it gives this, or nothing where the pool is stopped.
+/// Spawns a job and joins it on core 0. If `is_late` is true, core 0 has a round first, and then the pool is stopped.
+/// Returns true if the job's result is `wanted`, or if `wanted` is `None` and the join fails because the pool is
+/// stopped.
 fn joins<C: Contexts<Spawned<Task>>, R: Wait + Clock>(
     rt: &R,
     pool: &Pool<C>,
@@ -512,8 +522,8 @@ fn joins<C: Contexts<Spawned<Task>>, R: Wait + Clock>(
     }
 }
 
-/// Spawns a job where memory is used up, and works on core 0 until all have ended. What is refused is tried again with
-/// a little more. Whether a spawn was refused, and more than 20 rounds were.
+/// Spawns a job while memory is used up, and makes rounds on core 0 until all jobs have ended. After a refusal it tries
+/// again with a little more memory. Returns true if all have ended, and a spawn and more than 20 rounds were refused.
 fn ends_in_need<C: Contexts<Spawned<Task>>, R: Wait + Clock>(
     rt: &R,
     alloc: Global,

@@ -23,7 +23,7 @@ pub(crate) const ALONE: Sort = Sort {
     ..LEAF
 };
 
-/// One that forks another for a core of its own and joins it.
+/// An exclusive job that forks another for a core of its own and joins it.
 pub(crate) const ALONE_PARENT: Sort = Sort {
     is_exclusive: true,
     ..PARENT
@@ -719,7 +719,7 @@ const ROWS: &[Row] = &[
     },
 ];
 
-/// Whether a row comes out as it says.
+/// Does a row, with two kernel threads. Returns true if each result is the one that the row states.
 pub(crate) fn holds<R: Threads + Wait + Clock + Sync>(rt: &R, alloc: Global, row: &Row) -> bool {
     let Some(board) = Board::new(alloc) else {
         return false;

@@ -11,7 +11,7 @@ use std::test::Fail;
 /// One that sleeps until an answer has come.
 const SLEEPER: Sort = Sort { answers: 1, ..LEAF };
 
-/// One that forks another and sleeps then, as that does.
+/// A job that forks another and then sleeps. The other one sleeps too.
 const BESIDE: Sort = Sort {
     joins: Joins::Never,
     answers: 9,
@@ -50,11 +50,11 @@ const LADEN: Sort = Sort {
     ..LEAF
 };
 
-/// How often a kernel thread is woken.
+/// The number of times that a kernel thread is woken.
 const OFTEN: u32 = 100;
 
-/// How often kernel threads may sleep their time out in a row, though something was there for them. Where each signal
-/// is lost of one kind, they do so nearly as often as one is sent.
+/// The most sleeps of kernel threads that may time out in a [`Row`], although something was there for them. If each
+/// signal of one kind is lost, they time out nearly as often as one is sent.
 const FEW: u64 = OFTEN as u64 / 4;
 
 const ROWS: &[Row] = &[
@@ -556,7 +556,7 @@ const AMPLE: &[Row] = &[Row {
     ..NOTHING
 }];
 
-/// How many places a core has in a pool of each number of cores.
+/// The numbers of places of a core. Each is tried with each number of cores.
 const SLOTS_OF: [u8; 4] = [1, 8, 30, 56];
 
 #[test]

@@ -1,4 +1,4 @@
-//! What a kernel thread of a row does.
+//! The work of a row's two kernel threads.
 ghost use Rattle.std.specs.Prelude.{◌≡◌, ◌<◌, IfSome};
 ghost use Rattle.arachne_pool.specs.Workers.{IsWorkerOf};
 
@@ -13,67 +13,71 @@ use std::sync::{Arc, Wait};
 use std::thread::{sleep, yield_now};
 use std::time::{Clock, Duration};
 
-/// How often a kernel thread looks again at once before it yields its processor.
+/// The number of looks that a kernel thread takes at once before it yields its processor.
 const LOOKS: u32 = 1_000;
 
-/// How often it looks, every 5 ms, for what comes at once or never.
+/// The number of looks, one every 5 ms, for something that happens soon or never.
 const GLANCES: u32 = 2000;
 
-/// What a kernel thread does.
+/// The work of one kernel thread.
 #[derive(Clone, Copy)]
 pub(crate) enum Spell {
-    /// Nothing.
+    /// It does nothing.
     Not,
     /// It works on its core until no job is left, or the pool is stopped.
     ToTheEnd,
     /// Like `ToTheEnd`, on this core.
     ToTheEndOn(u8),
-    /// It does so again each time when it is its turn, until the pool is stopped.
+    /// It works as in `ToTheEnd` each time that the turn is passed to it, until the pool is stopped.
     ToTheStop,
-    /// It works so many rounds. Then it stops the pool.
+    /// It makes this number of rounds, or fewer if no job is left before. Then it stops the pool.
     Rounds(u32),
-    /// It works rounds until no job lives, and does not work then.
+    /// It makes rounds until no job lives, and never calls `work`.
     TurnsOut,
-    /// It works rounds on this core until its own is open, for ten seconds at most. Then it stops the pool.
+    /// It makes rounds on this core until its own core is open, for ten seconds at most. Then it stops the pool.
     TurnsUntilOpen(u8),
-    /// Once a job has begun elsewhere it works on its core while memory is used up, until it is refused some. Where
-    /// that is not told, or has not stopped the pool, an answer comes, and it stops it.
+    /// Once a job has begun elsewhere, it works on its core while memory is used up, until memory is refused. If `work`
+    /// does not report that, or if the pool is not stopped by it, an answer comes, and the kernel thread stops the
+    /// pool.
     InNeed,
     /// Like `InNeed`, but it joins a job that it has spawned on its core before.
     JoinsInNeed,
-    /// It spawns so many leaves, which no worker may keep, and works for no core.
+    /// It spawns this number of leaves, which no worker may keep, and works for no core.
     Spawns(u32),
-    /// It spawns so many leaves for core 1, each once that core's kernel thread sleeps and one job alone lives. Then it
-    /// works to the end, and no more come.
+    /// It spawns this number of leaves for core 1, each once that core's kernel thread sleeps and only one job lives.
+    /// Then it calls `finish`, after which no more come, and works to the end.
     Feeds(u32),
-    /// So many times a pool without a job is kept open, the turn is passed, and once core 1's kernel thread sleeps no
-    /// more come, until that comes back from its work. At last it stops the pool.
+    /// This number of times it keeps a pool without a job open, and passes the turn. Once core 1's kernel thread
+    /// sleeps, it calls `finish`, and waits until that kernel thread returns from its work. At last it stops the pool.
     Finishes(u32),
-    /// So many times an answer comes, once the job that wants it sleeps, which is woken then; the kernel thread of core
-    /// 1 sleeps too, or that isn't waited for.
+    /// This number of times an answer comes once the job that wants it is about to sleep, and then the job is woken. If
+    /// the second value is true, the answer only comes once the kernel thread of core 1 sleeps too.
     Wakes(u32, bool),
-    /// So many times it spawns a job on core 1, passes the turn, and once that job has begun there works to the end, or
-    /// looks until no job lives. Then it takes the result, if it is there, as an answer. At last it stops the pool.
+    /// This number of times it spawns a job on core 1 and passes the turn. Once that job has begun there, it works to
+    /// the end, or looks until no job lives. Then it polls the handle, and counts an answer if the result is there. At
+    /// last it stops the pool.
     Polls(u32, Sort, Until),
-    /// Once a job has begun it spawns a leaf on core 1, and comes to rounds of this core until that has begun, or an
-    /// answer has come. One more comes where a round has found something, and the leaf has not begun. Then an answer
-    /// comes, and it works to the end.
+    /// Once a job has begun, it spawns a leaf on core 1, and makes rounds on this core until the leaf has begun or an
+    /// answer has come. It counts an answer if a round has found something and the leaf has not begun. After the rounds
+    /// it counts an answer in any case, and works to the end.
     Fetches(u8),
-    /// This many times it spawns a job on core 0, passes the turn and joins the job on its own core. That is an answer,
-    /// or that the other kernel thread returns from `work` then. At last it stops the pool.
+    /// This number of times it spawns a job on core 0, passes the turn and joins the job on its own core. It counts an
+    /// answer for each join; with `WorkReturns`, only if the other kernel thread returns from `work` then. At last it
+    /// stops the pool.
     JoinsThere(u32, Sort, Until),
-    /// It comes to rounds of its core until one job alone lives, which sleeps, and wakes it with an answer.
+    /// It makes rounds on its core until only one job lives, which sleeps, and wakes that job with an answer.
     WakesLast,
 }
 
-/// How a kernel thread waits until no job lives.
+/// The way in which a kernel thread waits until no job lives.
 #[derive(Clone, Copy, PartialEq)]
 pub(crate) enum Until {
     WorkReturns,
     NoneLives,
 }
 
-/// Does this as the kernel thread of a core, which may be none of the pool's. The worker, if it has its seat still.
+/// Does a spell as the kernel thread of a core, which may be none of the pool's. Returns the worker, if it still has
+/// its seat.
 pub(crate) fn work<C: Contexts<Spawned<Task>>, R: Wait + Clock>(
     rt: &R,
     pool: &Pool<C>,
@@ -137,7 +141,7 @@ pub(crate) fn work<C: Contexts<Spawned<Task>>, R: Wait + Clock>(
     Some(worker)
 }
 
-/// `Spell::ToTheStop`, with a wait before each time.
+/// Does `Spell::ToTheStop`, and waits for the turn before each time.
 fn to_the_stop<C: Contexts<Spawned<Task>>, R: Wait + Clock>(
     rt: &R,
     pool: &Pool<C>,
@@ -161,7 +165,7 @@ fn to_the_stop<C: Contexts<Spawned<Task>>, R: Wait + Clock>(
     }
 }
 
-/// So many rounds, fewer where no job is left before.
+/// Makes `rounds` rounds, or fewer if no job is left before.
 fn turns<C: Contexts<Spawned<Task>>, R: Wait + Clock>(
     rt: &R,
     pool: &Pool<C>,
@@ -181,7 +185,7 @@ fn turns<C: Contexts<Spawned<Task>>, R: Wait + Clock>(
     }
 }
 
-/// `Spell::TurnsUntilOpen`, with rounds on `core` until `own` is open.
+/// Does `Spell::TurnsUntilOpen`, with rounds on `core` until `own` is open.
 fn turns_until_open<C: Contexts<Spawned<Task>>, R: Wait + Clock>(
     rt: &R,
     pool: &Pool<C>,
@@ -206,7 +210,7 @@ fn turns_until_open<C: Contexts<Spawned<Task>>, R: Wait + Clock>(
     pool.stop();
 }
 
-/// `Spell::InNeed`.
+/// Does `Spell::InNeed`.
 fn in_need<C: Contexts<Spawned<Task>>, R: Wait + Clock>(
     rt: &R,
     pool: &Pool<C>,
@@ -227,7 +231,7 @@ fn in_need<C: Contexts<Spawned<Task>>, R: Wait + Clock>(
     }
 }
 
-/// `Spell::JoinsInNeed`.
+/// Does `Spell::JoinsInNeed`.
 fn joins_in_need<C: Contexts<Spawned<Task>>, R: Wait + Clock>(
     rt: &R,
     pool: &Pool<C>,
@@ -253,7 +257,7 @@ fn joins_in_need<C: Contexts<Spawned<Task>>, R: Wait + Clock>(
     pool.stop();
 }
 
-/// `Spell::Spawns`.
+/// Does `Spell::Spawns`.
 fn spawns<C: Contexts<Spawned<Task>>, R: Wait>(
     rt: &R,
     pool: &Pool<C>,
@@ -271,7 +275,7 @@ fn spawns<C: Contexts<Spawned<Task>>, R: Wait>(
     }
 }
 
-/// `Spell::Feeds`: the leaves are spawned in the three ways in turn that name no core.
+/// Does `Spell::Feeds`. It spawns the leaves by the three calls that name no core, in turn.
 fn feeds<C: Contexts<Spawned<Task>>, R: Wait + Clock>(
     rt: &R,
     pool: &Pool<C>,
@@ -302,7 +306,7 @@ fn feeds<C: Contexts<Spawned<Task>>, R: Wait + Clock>(
     let _ = pool.work(rt, worker, 0);
 }
 
-/// `Spell::Finishes`.
+/// Does `Spell::Finishes`.
 fn finishes<C: Seats, R: Wait>(rt: &R, pool: &Pool<C>, board: &Board, times: u32) {
     for time in 0..times {
         let rests = pool.statistics(1).rests;
@@ -317,7 +321,7 @@ fn finishes<C: Seats, R: Wait>(rt: &R, pool: &Pool<C>, board: &Board, times: u32
     board.pass_turn();
 }
 
-/// `Spell::Wakes`.
+/// Does `Spell::Wakes`.
 fn wakes<C: Contexts<Spawned<Task>>, R: Wait + Clock>(
     rt: &R,
     pool: &Pool<C>,
@@ -342,7 +346,7 @@ fn wakes<C: Contexts<Spawned<Task>>, R: Wait + Clock>(
     Some(pool.join_waker(rt, worker, waker))
 }
 
-/// `Spell::Polls`.
+/// Does `Spell::Polls`.
 fn polls<C: Contexts<Spawned<Task>>, R: Wait + Clock>(
     rt: &R,
     pool: &Pool<C>,
@@ -379,7 +383,7 @@ fn polls<C: Contexts<Spawned<Task>>, R: Wait + Clock>(
     board.pass_turn();
 }
 
-/// `Spell::Fetches`.
+/// Does `Spell::Fetches`.
 fn fetches<C: Contexts<Spawned<Task>>, R: Wait + Clock>(
     rt: &R,
     pool: &Pool<C>,
@@ -409,7 +413,7 @@ fn fetches<C: Contexts<Spawned<Task>>, R: Wait + Clock>(
     let _ = pool.work(rt, worker, core);
 }
 
-/// Rounds until one job lives at most, or the pool is stopped.
+/// Makes rounds until at most one job lives, or the pool is stopped.
 fn until_one<C: Contexts<Spawned<Task>>, R: Wait + Clock>(
     rt: &R,
     pool: &Pool<C>,
@@ -428,7 +432,7 @@ fn until_one<C: Contexts<Spawned<Task>>, R: Wait + Clock>(
     }
 }
 
-/// `Spell::JoinsThere`.
+/// Does `Spell::JoinsThere`.
 fn joins_there<C: Contexts<Spawned<Task>>, R: Wait + Clock>(
     rt: &R,
     pool: &Pool<C>,
@@ -474,7 +478,7 @@ fn has_returned<R: Clock>(rt: &R, board: &Board, than: u32) -> bool {
     false
 }
 
-/// Waits until a count of the board is over this, or the pool is stopped.
+/// Waits until a count of the board is greater than `than`, or the pool is stopped.
 fn await_more<C: Seats, R: Wait>(rt: &R, pool: &Pool<C>, count: &AtomicU64, than: u32) {
     let mut looks: u32 = 0;
     for _ in rt.forever() {
@@ -485,7 +489,7 @@ fn await_more<C: Seats, R: Wait>(rt: &R, pool: &Pool<C>, count: &AtomicU64, than
     }
 }
 
-/// Waits until so many jobs live at most, or the pool is stopped.
+/// Waits until at most `most` jobs live, or the pool is stopped.
 fn await_ends<C: Seats, R: Wait>(rt: &R, pool: &Pool<C>, most: u64) {
     let mut looks: u32 = 0;
     for _ in rt.forever() {
@@ -496,7 +500,7 @@ fn await_ends<C: Seats, R: Wait>(rt: &R, pool: &Pool<C>, most: u64) {
     }
 }
 
-/// Waits until the kernel thread of a core has found nothing more often than this, or the pool is stopped.
+/// Waits until more than `than` rounds on a core have found nothing, or the pool is stopped.
 fn await_rest<C: Seats, R: Wait>(rt: &R, pool: &Pool<C>, core: u8, than: u64) {
     let mut looks: u32 = 0;
     for _ in rt.forever() {
@@ -518,7 +522,8 @@ fn await_sleep<C: Seats, R: Wait>(rt: &R, pool: &Pool<C>, core: u8) {
     }
 }
 
-/// Another look is taken, at once for a while, and then after others had the processor. How many there were.
+/// Lets the caller look again: at once for the first `LOOKS` times, and later after a yield of the processor. Returns
+/// the number of looks that were taken at once.
 fn look_again(looks: u32) -> u32 {
     if looks < LOOKS {
         return looks + 1;

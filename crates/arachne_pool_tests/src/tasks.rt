@@ -24,22 +24,22 @@ pub(crate) struct Sort {
     pub(crate) luggage: usize,
     pub(crate) joins: Joins,
     pub(crate) is_exclusive: bool,
-    /// Its first child is exclusive, also if it is not.
+    /// Its first child is exclusive, also if the job itself is not.
     pub(crate) is_first_exclusive: bool,
     /// Its first step lasts until an answer has come, so that its kernel thread comes to no other job meanwhile.
     pub(crate) is_held: bool,
 }
 
-/// Which children a job joins, and when.
+/// The children that a job joins, and the time of the join.
 #[derive(Clone, Copy)]
 pub(crate) enum Joins {
-    /// Each before it forks the next one.
+    /// It joins each child before it forks the next one.
     InTurn,
-    /// All, once it has forked the last one.
+    /// It joins all children once it has forked the last one.
     AtLast,
-    /// Only the newest, once it has forked it.
+    /// It joins only the last child, once it has forked it.
     Newest,
-    /// No child.
+    /// It joins no child.
     Never,
 }
 

@@ -1,4 +1,4 @@
-//! How a run is set up.
+//! Sets up a run.
 ghost use Rattle.std.specs.Prelude.{◌≡◌, None, Some, Err, IfErr, IsOk, vec_len};
 ghost use Rattle.arachne_policy.specs.Orders.{AreInOrder};
 ghost use Rattle.arachne_run.specs.declared.fault.RunFault.{RunFault};

@@ -21,7 +21,7 @@ pub(crate) struct Tokens<S, K> {
 }
 
 impl<S, K: Tagged + Drop> Tokens<S, K> {
-    /// Halves them. The first half has the arbiter. Returns the whole if memory is refused.
+    /// Splits the tokens into two halves. The first half keeps the arbiter. Returns the whole if memory is refused.
     pub(crate) fn split<H: Wait, C: Seats<Seat = S>>(
         self,
         rt: &H,
@@ -55,7 +55,7 @@ impl<S, K: Tagged + Drop> Tokens<S, K> {
         Ok((own, others))
     }
 
-    /// Joins both, with the own arbiter.
+    /// Joins these tokens with others. Keeps only the arbiter of these.
     pub(crate) fn join<H: Wait, C: Seats<Seat = S>>(
         self,
         rt: &H,

@@ -9,7 +9,7 @@ ghost use Rattle.arachne_workers.specs.declared.policy.TheConstants.{STEPS_PAST_
 
 use arachne_core::OccWord;
 
-/// The most threads that run one after another because each goes before all others.
+/// The most threads that run one after another before a scan goes on.
 pub(crate) const MOST_IN_TURN: u32 = 64;
 
 /// The most slices of one turn.

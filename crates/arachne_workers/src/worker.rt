@@ -150,8 +150,8 @@ impl<'a, H: Wait + Clock, D: Desk> CoreWorker<'a, H, D> {
         Ok(found)
     }
 
-    /// Gives a turn to the thread at an index, if it is ready, and then to each thread that goes before all others.
-    /// Returns whether one was ready.
+    /// Gives a turn to the thread at an index, if it is ready. Before the scan goes on, it also gives one to each
+    /// thread that `next` returns then. Returns whether one was ready.
     fn run_at(&mut self, index: u8) -> Result<bool, Halt>
         ensures desk { self.new.desk ≡ self.old.desk }
         ensures scan { self.new.agenda.scan ≡ self.old.agenda.scan }

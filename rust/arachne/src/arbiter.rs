@@ -34,7 +34,7 @@ const REFUSED_AGAIN: Duration = Duration::from_secs(30);
 /// The time until a worker that couldn't use what it heard of the arbiter asks again.
 const SOON: Duration = Duration::from_millis(1);
 
-/// Where the arbiter is, and what it is to know of a runtime.
+/// The path of the arbiter's socket, and the facts about a runtime that are sent to it.
 #[derive(Clone, Debug)]
 pub(crate) struct Wish {
     pub(crate) path: PathBuf,
@@ -42,7 +42,7 @@ pub(crate) struct Wish {
     pub(crate) reserved: usize,
 }
 
-/// What a runtime's kernel threads share of its arbiter.
+/// The state of its arbiter that a runtime's kernel threads share.
 #[derive(Default)]
 pub(crate) struct Client {
     /// The page's number. Once mapped it is never unmapped.
@@ -95,7 +95,8 @@ impl Client {
         *self.state.lock().unwrap() = State::default();
     }
 
-    /// A runtime of this many workers is to have an arbiter. Keeps the processors that this kernel thread may run on.
+    /// Prepares for an arbiter of a runtime of `workers` workers. Notes the processors that this kernel thread may run
+    /// on.
     pub(crate) fn open(&self, workers: usize) {
         let mut state = self.state.lock().unwrap();
         (state.threads, state.cpus) = (vec![0; workers], sys::affinity());

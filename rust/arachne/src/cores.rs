@@ -134,7 +134,7 @@ pub(crate) struct Judge {
     soon: u32,
     /// The time of the last request for a core.
     added: u64,
-    /// A load began within the last sample; the next one is judged.
+    /// True if a load began within the last sample, which was not judged. The next one is judged in any case.
     begins: bool,
 }
 

@@ -187,7 +187,7 @@ struct VTable {
 
 pub(crate) struct Header {
     state: AtomicU32,
-    /// The runtime's number, and the task's name there; written before its first poll.
+    /// The runtime's number. It and `name`, the task's name there, are written before the first poll.
     table: AtomicU32,
     name: AtomicU64,
     vtable: &'static VTable,

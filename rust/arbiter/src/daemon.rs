@@ -63,7 +63,7 @@ struct Client {
     until: Option<Instant>,
     /// The last turn in which it got a core or gave one, or had no thread for one.
     turned: u64,
-    /// By place.
+    /// The thread at each of the client's places.
     threads: BTreeMap<u32, Thread>,
 }
 

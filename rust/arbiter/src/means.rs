@@ -33,7 +33,7 @@ fn numbers(file: PathBuf) -> Vec<u32> {
 impl Means {
     /// Makes cpusets of these processors below `parent`, if one is given; otherwise keeps `groups` on these processors.
     ///
-    /// What an arbiter has left there that was killed is put back first.
+    /// If an arbiter was killed and has left anything below `parent`, that is put back first.
     pub fn new(parent: Option<&Path>, groups: &[PathBuf], cpus: &[usize]) -> io::Result<Means> {
         let parent = match parent {
             Some(parent) => parent,

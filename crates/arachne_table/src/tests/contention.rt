@@ -16,7 +16,7 @@ const THREADS: u64 = 10_000;
 
 /// The state of a kernel thread: its seat, its log, and the numbers of threads that it has posted and moved.
 ///
-/// The log has twice the tag of each thread that it has posted, and twice the tag and 1 of each that it has ended.
+/// The log has twice the tag of each thread that it has posted, and twice the tag plus 1 of each that it has ended.
 #[derive(Drop)]
 struct Work<S> {
     seat: S,
@@ -27,7 +27,8 @@ struct Work<S> {
 
 /// The result of a run: the number of threads that were settled, and the number that were moved.
 ///
-/// A thread is settled if it was posted once, and has ended or is left once. If one is not, `settled` is `None`.
+/// A thread is settled if it was posted exactly once, and if it then either has ended or is left in the table at the
+/// end, exactly once. If one is not, `settled` is `None`.
 #[derive(Clone, Copy)]
 struct ContentionResult {
     settled: Option<usize>,

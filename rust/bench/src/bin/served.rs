@@ -110,7 +110,8 @@ fn connect(port: u16) -> TcpStream {
     stream
 }
 
-/// Each connection has a kernel thread here, which sends as many as were answered.
+/// Keeps `flight` requests in flight on each connection for `time`. Each connection has a kernel thread of the client,
+/// which sends a request for each answer.
 fn client(port: u16, connections: u64, flight: usize, micros: u64, time: Duration) {
     static ANSWERED: AtomicU64 = AtomicU64::new(0);
     static SENT: AtomicU64 = AtomicU64::new(0);
@@ -135,7 +136,7 @@ fn client(port: u16, connections: u64, flight: usize, micros: u64, time: Duratio
     println!("{:.0} answers a second", ANSWERED.load(Relaxed) as f64 / start.elapsed().as_secs_f64());
 }
 
-/// The latencies of the answers, from when each request was due, in nanoseconds.
+/// Adds the latencies of the answers that have come to `times`: the nanoseconds since each request was due.
 fn receive(stream: &mut TcpStream, back: &mut Vec<u8>, start: Instant, times: &mut Vec<u64>) {
     let mut bytes = [0; 4096];
     match stream.read(&mut bytes) {
