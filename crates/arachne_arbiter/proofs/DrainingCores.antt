@@ -1,4 +1,4 @@
--- Which cores are to be drained, as orders are applied.
+-- The cores that must be drained, as orders are applied.
 use Rattle.std.proofs.Common.{◌≡◌, ℕ, ◌+◌, Bool, true, false, cond, eqb, List, refl, arith, ◌∙◌, add-one}
 use Rattle.std.proofs.Math.ListN.{set}
 use Rattle.std.proofs.lemmas.List.{length-set}
@@ -12,13 +12,13 @@ is_closed-next : (p : Progress) (core : ℕ)
     → is_closed_after p.list (p.applied + 1) core ≡ cond (eqb (next_order p).core core) (is_release (next_order p).kind) (is_closed_after p.list p.applied core)
 is_closed-next p core = rw (add-one p.applied) refl
 
--- what closes its core is a release of it
+-- an order that closes a core is a release of that core
 release-closes : (order : CoreOrder) (closed : Bool) (core : ℕ) → effect_of order closed ≡ Closes core
     → (is_release order.kind ≡ true) × (order.core ≡ core)
 release-closes order true core is = grind (arith, common_steps, is)
 release-closes order false core is = grind (arith, common_steps, is)
 
--- a core that an order closes is to be drained
+-- a core that an order closes must be drained
 pub AreDraining-closes : (p : Progress) (waiting : List Bool) (core : ℕ) → AreDraining p waiting → next_effect p ≡ Closes core
     → AreDraining (with_next p) (set waiting core true)
 AreDraining-closes p waiting core draining is = record {
@@ -30,13 +30,13 @@ AreDraining-closes p waiting core draining is = record {
       grind (arith, common_steps, waits, release.0, release.1, next, was);
 }
 
--- what opens its core is a grant of it
+-- an order that opens a core is a grant of that core
 grant-opens : (order : CoreOrder) (closed : Bool) (core : ℕ) → effect_of order closed ≡ Opens core
     → (is_release order.kind ≡ false) × (order.core ≡ core)
 grant-opens order true core is = grind (arith, common_steps, is)
 grant-opens order false core is = grind (arith, common_steps, is)
 
--- a core that an order opens is to be drained no more
+-- a core that an order opens need no longer be drained
 pub AreDraining-opens : (p : Progress) (waiting : List Bool) (core : ℕ) → AreDraining p waiting → next_effect p ≡ Opens core
     → AreDraining (with_next p) (set waiting core false)
 AreDraining-opens p waiting core draining is = record {

@@ -53,7 +53,7 @@ loads_of-push occupancies n candidates loads occupancy load within so_far is is_
     ∙ ap (λ one. loads_of occupancies n ++ one) (load_of-shown n occupancy load is_candidate load_is ∙ ap (load_of n) is)
     ∙ sym (loads_of-next occupancies n)
 
--- another core is not
+-- a core that is no candidate is not listed
 pub loads_of-skip : (occupancies : List Occupancy) (n : ℕ) (occupancy : Occupancy) (front : List CoreLoad)
     → front ≡ loads_of occupancies n → occupancy ≡ get_or occupancies n vacant → is_candidate_at occupancy ≡ false
     → front ≡ loads_of occupancies (n + 1)

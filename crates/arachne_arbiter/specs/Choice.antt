@@ -5,11 +5,11 @@ use Rattle.arachne_contexts.specs.Words.{HasNoPlace}
 use Rattle.arachne_policy.specs.declared.choices.CoreLoad.{CoreLoad}
 use Rattle.arachne_policy.specs.Choice.{chosen_core}
 
--- the core is open, and no thread has it alone
+-- the core is open, and no thread has it exclusively
 abbrev pub is_candidate_at : Occupancy → Bool
 is_candidate_at occupancy = not (occupancy.closed || occupancy.exclusive)
 
--- the core, which has so many places, is open and has one for a thread that shares it
+-- the core, of `slots` places, is open and has one for a thread that shares it
 abbrev pub HasPlace : ℕ → Occupancy → Type 0
 HasPlace slots occupancy = (occupancy.closed ≡ false) × (HasNoPlace slots occupancy → ⊥)
 
@@ -22,7 +22,7 @@ abbrev pub loads_of : List Occupancy → ℕ → List CoreLoad
 loads_of occupancies zero = []
 loads_of occupancies (suc n) = loads_of occupancies n ++ load_of n (slice_index_or occupancies n vacant)
 
--- the core that the word chooses among these, if there are any
+-- the core that the word chooses among these loads, if there are any
 abbrev pub core_chosen : ℕ → List CoreLoad → Option ℕ
 core_chosen word [] = None
 core_chosen word (load ∷ loads) = Some (chosen_core word (load ∷ loads))

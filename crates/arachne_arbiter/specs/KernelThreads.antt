@@ -1,4 +1,4 @@
--- For how many cores there are counts and parkers.
+-- The number of cores for which there are counts and parkers.
 use Rattle.std.specs.Prelude.{ℕ, vec_len}
 use Rattle.arachne_arbiter.specs.declared.slices.SliceCounts.{SliceCounts}
 use Rattle.arachne_arbiter.specs.declared.parking.Parking.{Parking}

@@ -1,11 +1,11 @@
--- How far the orders of a run are applied, and what they have done to its cores.
+-- The orders of a run that were applied, and what they have done to its cores.
 use Rattle.std.specs.Prelude.{◌≡◌, ℕ, zero, suc, ◌+◌, ◌<◌, ◌≤◌, Bool, true, false, ◌==◌, if◌then◌else◌, List, length, slice_index_or, All}
 use Rattle.arachne_policy.specs.declared.orders.CoreOrder.{CoreOrder}
 use Rattle.arachne_policy.specs.Orders.{order_at, is_release}
 use Rattle.arachne_arbiter.specs.declared.orders.Effect.{Effect}
 use Rattle.arachne_arbiter.specs.declared.orders.Effect.TheVariants.{Closes, Opens, Nothing}
 
--- the orders, of how many cores they speak, and how many were applied
+-- the orders, the number of cores, and the number of orders that were applied
 pub record Progress : Type 0 where
   pub list : List CoreOrder
   pub cores : ℕ
@@ -17,12 +17,12 @@ is_closed_after list zero core = false
 is_closed_after list (suc n) core =
     if (order_at list n).core == core then is_release (order_at list n).kind else is_closed_after list n core
 
--- what an order does to its core, which is closed or open
+-- the effect of an order on its core, which is closed (true) or open
 abbrev pub effect_of : CoreOrder → Bool → Effect
 effect_of order true = if is_release order.kind then Nothing else Opens order.core
 effect_of order false = if is_release order.kind then Closes order.core else Nothing
 
--- the effect is on one of so many cores
+-- the effect is on one of `cores` cores
 abbrev pub IsWithin : ℕ → Effect → Type 0
 IsWithin cores (Closes core) = core < cores
 IsWithin cores (Opens core) = core < cores
@@ -32,7 +32,7 @@ IsWithin cores Nothing = Unit {0}
 abbrev pub next_order : Progress → CoreOrder
 next_order p = order_at p.list p.applied
 
--- an order is left, and is due once so many slices have ended
+-- an order is left, and is due once `ended` slices have ended
 abbrev pub IsDue : Progress → ℕ → Type 0
 IsDue p ended = (p.applied < length p.list) × ((next_order p).after ≤ ended)
 
@@ -40,29 +40,29 @@ IsDue p ended = (p.applied < length p.list) × ((next_order p).after ≤ ended)
 abbrev pub IsNoneDue : Progress → ℕ → Type 0
 IsNoneDue p ended = p.applied < length p.list → ended < (next_order p).after
 
--- one order more is applied
+-- one more order is applied
 abbrev pub with_next : Progress → Progress
 with_next p = record p { applied = p.applied + 1 }
 
--- what the next order does
+-- the effect of the next order
 abbrev pub next_effect : Progress → Effect
 next_effect p = effect_of (next_order p) (is_closed_after p.list p.applied (next_order p).core)
 
--- each order that is due once so many slices have ended is applied, and no other
+-- each order that is due once `ended` slices have ended is applied, and no other
 pub record HasAppliedDue (old new : Progress) (ended : ℕ) : Type 0 where
   pub kept : new ≡ record old { applied = new.applied }
   pub rises : old.applied ≤ new.applied
   pub due : (place : ℕ) → old.applied ≤ place → place < new.applied → (order_at old.list place).after ≤ ended
   pub rest : IsNoneDue new ended
 
--- what is kept of the orders: which cores those that were applied have closed
+-- `closed` has, for each core, whether the orders that were applied have left it closed
 pub record AreKept (list : List CoreOrder) (applied : ℕ) (closed : List Bool) : Type 0 where
   pub within : applied ≤ length list
   pub few : length closed < 256
   pub name_cores : All (λ order. order.core < length closed) list
   pub told : (core : ℕ) → core < length closed → slice_index_or closed core false ≡ is_closed_after list applied core
 
--- the cores that are to be drained are cores that the orders have closed
+-- each core that must be drained is one that the orders have closed
 pub record AreDraining (p : Progress) (waiting : List Bool) : Type 0 where
   pub sized : length waiting ≡ p.cores
   pub closed : (core : ℕ) → core < p.cores → slice_index_or waiting core false ≡ true → is_closed_after p.list p.applied core ≡ true

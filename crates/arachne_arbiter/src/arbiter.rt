@@ -1,4 +1,4 @@
-//! What core 0's kernel thread does for the orders of a run.
+//! The part of core 0's kernel thread in the orders of a run.
 ghost use Rattle.std.specs.Prelude.{◌≡◌, ℕ, ◌<◌, ◌≤◌, length, if◌then◌else◌, IfOk, MatchBool};
 ghost use Rattle.arachne_core.specs.declared.layout.TheConstants.{CORES};
 ghost use Rattle.arachne_policy.specs.Orders.{AreInOrder};
@@ -16,10 +16,11 @@ use std::alloc::{AllocError, Global};
 use std::marker::Model;
 use std::sync::Wait;
 
-/// Carries out core orders on a table, and drains the cores that they close. One kernel thread alone has it, and nobody
-/// else closes or opens cores meanwhile.
+/// Applies core orders to a table, and drains the cores that they close.
 ///
-/// Contracts see the orders, of how many cores they speak, and how many were applied.
+/// Only one kernel thread has it, and nobody else closes or opens cores as long as it exists.
+///
+/// Contracts see the orders, the number of cores, and the number of orders that were applied.
 #[derive(Debug, Drop)]
 pub struct Arbiter {
     orders: Orders,
@@ -39,7 +40,9 @@ impl Model for Arbiter {
 impl Arbiter {
     ghost use Rattle.arachne_arbiter.specs.Orders.{with_next, IsDue, IsNoneDue, HasAppliedDue};
 
-    /// Orders of which none was applied yet, on a machine of so many cores, all of which are open.
+    /// Creates an arbiter of `orders`, of which none was applied, for `cores` cores, all of which are open.
+    ///
+    /// The error is a refusal of memory.
     pub fn new(alloc: Global, orders: Vec<CoreOrder>, cores: u8) -> Result<Arbiter, AllocError>
         requires orders { AreInOrder cores orders.items }
         requires cores { cores ≤ CORES }
@@ -50,7 +53,7 @@ impl Arbiter {
         Ok(Arbiter { orders, draining })
     }
 
-    /// How many orders were applied.
+    /// Returns the number of orders that were applied.
     pub fn applied(&self) -> usize
         ensures applied { result ≡ self.now.applied }
         ensures within { result ≤ length self.now.list }
@@ -58,9 +61,10 @@ impl Arbiter {
         self.orders.applied()
     }
 
-    /// Applies the orders that are due, and moves threads away from one closed core. To be called before each slice of
-    /// the kernel thread, and while it finds nothing to run. The counts are read only while an order is left. Answers
-    /// the cores to which threads were moved, a bit for each.
+    /// Applies the orders that are due, and moves threads away from one closed core.
+    ///
+    /// Returns the cores to which threads were moved, a bit for each. The kernel thread must call it before each of its
+    /// slices, and while it finds nothing to run. `slices` is read only while an order is left.
     pub fn tend<H: Wait, T: Tagged, C: Contexts<T>>(
         &mut self,
         cores: &Cores<'_, H, T, C>,
@@ -82,9 +86,10 @@ impl Arbiter {
         self.drain(cores, seat)
     }
 
-    /// Applies the orders that are due once so many slices have ended: a release closes its core, a grant opens its
-    /// core and unparks its kernel thread. A release of a closed core and a grant of an open one count, and change
-    /// nothing.
+    /// Applies the orders that are due once `ended` slices have ended.
+    ///
+    /// A release closes its core; a grant opens its core and unparks its kernel thread. A release of a closed core and
+    /// a grant of an open one are counted, and change nothing.
     pub fn apply_due<H: Wait, T: Tagged, C: Contexts<T>>(
         &mut self,
         cores: &Cores<'_, H, T, C>,
@@ -103,7 +108,7 @@ impl Arbiter {
         while self.apply_next(cores, seat, parking, ended) {}
     }
 
-    /// Applies the next order, if it is due once so many slices have ended. Whether it was.
+    /// Applies the next order, if it is due once `ended` slices have ended. Returns whether it was.
     fn apply_next<H: Wait, T: Tagged, C: Contexts<T>>(
         &mut self,
         cores: &Cores<'_, H, T, C>,
@@ -138,10 +143,11 @@ impl Arbiter {
         true
     }
 
-    /// Moves threads away from one of the cores that orders have closed, each core in its turn: what is at rest goes to
-    /// the first other core in ascending order that has room. What is held, not posted yet or alone on its core stays.
-    /// Looks at nothing once all closed cores are drained. Answers the cores to which threads were moved, a bit for
-    /// each.
+    /// Moves threads away from one of the cores that orders have closed, each core in its turn.
+    ///
+    /// Returns the cores to which threads were moved, a bit for each. A thread at rest goes to the first other core, in
+    /// ascending order, that has room. A thread stays if it is held, not posted yet, or exclusive. Once all closed
+    /// cores are drained, no core is looked at.
     pub fn drain<H: Wait, T: Tagged, C: Contexts<T>>(
         &mut self,
         cores: &Cores<'_, H, T, C>,

@@ -5,15 +5,16 @@ ghost use Rattle.arachne_arbiter.specs.Choice.{core_chosen, HasPlace, is_candida
 use arachne_core::{CORES, OccWord, SLOTS};
 use arachne_policy::{CoreLoad, two_choices};
 
-/// Whether the core takes threads that share it: it is open, and no thread has it alone.
+/// Returns whether a core takes threads that share it: it is open, and no thread has it exclusively.
 fn is_candidate(occupancy: OccWord) -> bool
     ensures { result ≡ is_candidate_at occupancy }
 {
     !occupancy.is_closed() && !occupancy.is_exclusive()
 }
 
-/// Whether the core, which has so many places, has one for a thread that shares it: it is open, no thread has it alone,
-/// and a place is free.
+/// Returns whether a core of `slots` places has one for a thread that shares it.
+///
+/// It has if it is open, no thread has it exclusively, and a place is free.
 pub fn has_place(occupancy: OccWord, slots: u8) -> bool
     requires { slots ≤ SLOTS }
     ensures { IsTrue result ↔ HasPlace slots occupancy }
@@ -21,8 +22,10 @@ pub fn has_place(occupancy: OccWord, slots: u8) -> bool
     is_candidate(occupancy) && occupancy.lowest_free_below(slots).is_some()
 }
 
-/// Of the cores whose occupancies these are, from core 0 on, the one that two random choices among the open cores that
-/// no thread has alone give for this word. None where there is no such core.
+/// Returns the core that two random choices, by `word`, give among the cores that take threads which share them.
+///
+/// `occupancies` are those of the cores from 0 on. A core takes such threads if it is open and no thread has it
+/// exclusively. Returns `None` if there is no such core.
 pub fn first_core(word: u64, occupancies: &[OccWord]) -> Option<u8>
     requires { length occupancies.now ≤ CORES }
     ensures chosen { result ≡ core_chosen word (loads_of occupancies.now (length occupancies.now)) }

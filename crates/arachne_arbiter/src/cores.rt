@@ -8,16 +8,16 @@ use arachne_core::{CORES, OccWord};
 use std::marker::PhantomData;
 use std::sync::Wait;
 
-/// A table, how many cores it has and how many places each of them has, for a kernel thread that steps at it.
+/// A table with its numbers of cores and of places, for a kernel thread that works at it.
 #[derive(Drop)]
 pub struct Cores<'a, H, T, C: Seats> {
     pub rt: &'a H,
     pub table: &'a C,
     /// The number of the table's cores, 1 to 64.
     pub count: u8,
-    /// How many places each of them has, 1 to 56.
+    /// The number of places of each core, 1 to 56.
     pub slots: u8,
-    /// What the table's contexts hold.
+    /// The type of what the table's contexts hold.
     pub of: PhantomData<T>,
     ghost counted: { C.core_count table.now ≡ count },
     ghost few: { count ≤ CORES },
@@ -26,7 +26,7 @@ pub struct Cores<'a, H, T, C: Seats> {
 }
 
 impl<'a, H: Wait, T: Tagged, C: Contexts<T>> Cores<'a, H, T, C> {
-    /// Which indexes of a core are occupied, and whether it is closed or one thread has it alone.
+    /// Returns the occupancy of a core: its occupied indexes, and whether it is closed or exclusive to one thread.
     pub(crate) fn look(&self, seat: &mut C::Seat, core: u8) -> OccWord
         requires seat { C.sits self.now.table.now seat.old }
         requires core { core < self.now.count }

@@ -9,18 +9,18 @@ use arachne_core::Place;
 use std::alloc::{AllocError, Global};
 use std::sync::Wait;
 
-/// Which closed cores may still have threads, and which of them had its turn last.
+/// The closed cores that may still have threads, and the one of them that had its turn last.
 #[derive(Debug, Drop)]
 pub(crate) struct Draining {
     waiting: Vec<bool>,
     last: u8,
-    // No core is waiting. Where it isn't known, this is false.
+    // True only if no core is waiting. It may be false although none is.
     settled: bool,
     ghost rests: { IsSettled settled waiting.items },
 }
 
 impl Draining {
-    /// No core of so many is closed.
+    /// Creates it for `cores` cores, none of which is closed. The error is a refusal of memory.
     pub(crate) fn new(alloc: Global, cores: u8) -> Result<Draining, AllocError>
         ensures { IfOk result (λ draining. draining.waiting.items ≡ replicate cores false) }
     {
@@ -32,7 +32,7 @@ impl Draining {
         })
     }
 
-    /// The core was closed, and is to be drained.
+    /// Adds a core that was closed, and must be drained.
     pub(crate) fn start(&mut self, core: u8)
         requires { core < vec_len self.old.waiting }
         ensures { self.new.waiting.items ≡ slice_set self.old.waiting.items core true }
@@ -41,7 +41,7 @@ impl Draining {
         self.settled = false;
     }
 
-    /// The core was opened, or nothing is left on it.
+    /// Removes a core that was opened, or on which nothing is left.
     pub(crate) fn stop(&mut self, core: u8)
         requires { core < vec_len self.old.waiting }
         ensures { self.new.waiting.items ≡ slice_set self.old.waiting.items core false }
@@ -49,8 +49,9 @@ impl Draining {
         self.waiting[usize::from(core)] = false;
     }
 
-    /// Moves threads away from one of the cores that are to be drained, each in its turn, and adds the cores that they
-    /// were moved to. Looks at nothing where there is none.
+    /// Moves threads away from one of the waiting cores, each core in its turn.
+    ///
+    /// Adds to `receivers` the cores to which threads were moved. Looks at no core if none is waiting.
     pub(crate) fn round<H: Wait, T: Tagged, C: Contexts<T>>(
         &mut self,
         cores: &Cores<'_, H, T, C>,
@@ -77,7 +78,7 @@ impl Draining {
         }
     }
 
-    /// The next core in turn that is to be drained.
+    /// Returns the waiting core whose turn is next, or `None` if no core is waiting.
     fn next_core(&mut self, cores: u8) -> Option<u8>
         requires { vec_len self.old.waiting ≡ cores }
         ensures next { IfSome result (λ core. (core < cores) × (slice_index_or self.old.waiting.items core false ≡ true)) }
@@ -98,9 +99,11 @@ impl Draining {
 }
 
 impl<'a, H: Wait, T: Tagged, C: Contexts<T>> Cores<'a, H, T, C> {
-    /// Moves what is at rest on a closed core to the other cores, the first that has room in ascending order. What is
-    /// held, was claimed and not posted, or met a race is left for a later call, and so is all where there is no room.
-    /// Adds the cores that something was moved to. Whether nothing is left on the core.
+    /// Moves the threads that are at rest on a closed core to other cores. Returns whether the core was empty.
+    ///
+    /// A thread goes to the first other core, in ascending order, that has room, and that core is added to
+    /// `receivers`. A thread is left for a later call if it is held or not posted yet, if its move lost a race, or if
+    /// no core has room.
     pub(crate) fn move_away(&self, seat: &mut C::Seat, core: u8, receivers: &mut u64) -> bool
         requires seat { C.sits self.now.table.now seat.old }
         requires core { core < self.now.count }
@@ -127,8 +130,9 @@ impl<'a, H: Wait, T: Tagged, C: Contexts<T>> Cores<'a, H, T, C> {
         false
     }
 
-    /// Moves the thread at a place to the first other core from this one on that has room, and adds that core. The core
-    /// that is tried first for the next thread: those before it have no room.
+    /// Moves the thread at a place to the first other core, from `from` on, that has room.
+    ///
+    /// Adds that core to `receivers`. Returns the core to try first for the next thread: those before it have no room.
     fn move_from(&self, seat: &mut C::Seat, place: Place, from: u8, receivers: &mut u64) -> u8
         requires seat { C.sits self.now.table.now seat.old }
         requires core { place.core < self.now.count }

@@ -1,5 +1,7 @@
-//! Cores that come and go: where a new thread gets its place, which orders close and open cores, how closed cores are
-//! drained, and how their kernel threads park meanwhile.
+//! Cores that are added and removed while threads run.
+//!
+//! Chooses the place of a new thread, applies the orders that close and open cores, drains closed cores, and parks
+//! their kernel threads until the core is opened again.
 #![tactic(auto)]
 
 mod arbiter;

@@ -1,4 +1,4 @@
-//! Core orders in their turn.
+//! Core orders, taken one after another.
 ghost use Rattle.std.specs.Prelude.{◌≡◌, ◌+◌, ◌<◌, ◌≤◌, ◌↔◌, length, IsTrue, IfOk, IfSome, MatchOption};
 ghost use Rattle.arachne_core.specs.declared.layout.TheConstants.{CORES};
 ghost use Rattle.arachne_policy.specs.Orders.{AreInOrder};
@@ -7,7 +7,7 @@ use arachne_policy::{CoreOrder, OrderKind};
 use std::alloc::{AllocError, Global};
 use std::marker::Model;
 
-/// What an order does.
+/// The effect of an order.
 #[derive(Clone, Copy, Debug, PartialEq, Eq)]
 pub enum Effect {
     /// It closes this core.
@@ -18,9 +18,9 @@ pub enum Effect {
     Nothing,
 }
 
-/// Core orders, how many of them were applied, and which cores they have closed.
+/// Core orders, the number of them that were applied, and the cores that these have closed.
 ///
-/// Contracts see the list, the number of cores, and how many were applied.
+/// Contracts see the list, the number of cores, and the number of orders that were applied.
 #[derive(Debug, Drop)]
 pub struct Orders {
     list: Vec<CoreOrder>,
@@ -42,7 +42,9 @@ impl Model for Orders {
 impl Orders {
     ghost use Rattle.arachne_arbiter.specs.Orders.{is_closed_after, next_effect, with_next, IsDue, IsNoneDue, IsWithin};
 
-    /// Orders of which none was applied yet, on a machine of so many cores, all of which are open.
+    /// Creates it of a list of which no order was applied, for `cores` cores, all of which are open.
+    ///
+    /// The error is a refusal of memory.
     pub fn new(alloc: Global, list: Vec<CoreOrder>, cores: u8) -> Result<Orders, AllocError>
         requires orders { AreInOrder cores list.items }
         requires cores { cores ≤ CORES }
@@ -56,7 +58,7 @@ impl Orders {
         })
     }
 
-    /// How many were applied.
+    /// Returns the number of orders that were applied.
     pub fn applied(&self) -> usize
         ensures applied { result ≡ self.now.applied }
         ensures within { result ≤ length self.now.list }
@@ -64,14 +66,14 @@ impl Orders {
         self.applied
     }
 
-    /// Whether all were applied.
+    /// Returns whether all orders were applied.
     pub fn are_over(&self) -> bool
         ensures { IsTrue result ↔ (self.now.applied ≡ length self.now.list) }
     {
         self.applied == self.list.len()
     }
 
-    /// Whether the orders that were applied have closed a core.
+    /// Returns whether the orders that were applied have left a core closed.
     pub fn has_closed(&self, core: u8) -> bool
         requires { core < self.now.cores }
         ensures { result ≡ is_closed_after self.now.list self.now.applied core }
@@ -79,8 +81,9 @@ impl Orders {
         self.closed[usize::from(core)]
     }
 
-    /// Takes the next order, if it is due once so many slices have ended, and counts it as applied. None where it is
-    /// not due, or where all were applied; then nothing has changed.
+    /// Counts the next order as applied and returns its effect, if it is due once `ended` slices have ended.
+    ///
+    /// Returns `None` and changes nothing if it is not due, or if all orders were applied.
     pub fn next_due(&mut self, ended: u64) -> Option<Effect>
         ensures due { MatchOption result (IsNoneDue self.old ended) (λ _. IsDue self.old ended) }
         ensures effect { IfSome result (λ effect. (effect ≡ next_effect self.old) × IsWithin self.old.cores effect) }

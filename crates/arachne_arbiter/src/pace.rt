@@ -1,4 +1,4 @@
-//! How the kernel thread of a core waits where others have to go on first.
+//! Waiting of a core's kernel thread until others have gone on.
 ghost use Rattle.std.specs.Prelude.{◌≡◌, ◌-◌, ◌↔◌, ◌⊎◌, ℕ, IsTrue};
 ghost use Rattle.arachne_arbiter.specs.declared.pace.TheConstants.{ROUNDS_WITHOUT_YIELDS};
 
@@ -6,19 +6,19 @@ use std::marker::Model;
 use std::thread;
 use std::time::{Clock, Duration, Instant};
 
-/// A yield that takes more microseconds has given away a turn to other work, which is some milliseconds.
+/// A yield that takes more microseconds than this gave other work a whole turn, which is some milliseconds.
 const AT_ONCE: u64 = 2000;
 
-/// In how many rounds that find something a kernel thread doesn't yield after that.
+/// The number of rounds with work for which a kernel thread doesn't yield after such a yield.
 const ROUNDS_WITHOUT_YIELDS: u32 = 4096;
 
-/// Whether a kernel thread that waits may yield its processor.
+/// Decides whether a kernel thread that waits may yield its processor.
 ///
-/// On an idle machine a yield comes back at once. Beside other work it gives a whole turn away, and with it that of all
-/// who wait for what this kernel thread has. So each yield is timed, and after one that didn't come back at once the
-/// next waits do without: they spin for a short time, and then sleep.
+/// On an idle machine a yield returns immediately. Beside other work it gives away a whole turn, which delays all who
+/// wait for what this kernel thread has. So each yield is timed, and after one that took long the next waits don't
+/// yield: they spin for a short time, and then sleep.
 ///
-/// Contracts see in how many rounds more that find something it doesn't yield, and not what the clock said.
+/// Contracts see the number of rounds with work that are left without a yield. They don't see the clock.
 #[derive(Drop)]
 pub struct Pace {
     rounds: u32,
@@ -31,28 +31,28 @@ impl Model for Pace {
 }
 
 impl Pace {
-    /// Yields may come back at once.
+    /// Creates a pace that allows yields.
     pub fn new() -> Pace
         ensures { result ≡ 0 }
     {
         Pace { rounds: 0 }
     }
 
-    /// Whether it may yield.
+    /// Returns whether the kernel thread may yield.
     pub fn may_yield(&self) -> bool
         ensures { IsTrue result ↔ (self.now ≡ 0) }
     {
         self.rounds == 0
     }
 
-    /// A round has found something.
+    /// Records that a round has found work.
     pub fn found(&mut self)
         ensures { self.new ≡ self.old - 1 }
     {
         self.rounds = self.rounds.saturating_sub(1);
     }
 
-    /// Yields the processor once.
+    /// Yields the processor once, and forbids further yields for a while if this one took long.
     pub fn yield_once<H: Clock>(&mut self, rt: &H)
         ensures { (self.new ≡ self.old) ⊎ (self.new ≡ ROUNDS_WITHOUT_YIELDS) }
     {
@@ -62,7 +62,9 @@ impl Pace {
     }
 }
 
-/// Yields the processor. Whether that came back at once. Where the clock can't be read nothing is known of it.
+/// Yields the processor. Returns whether the yield was short.
+///
+/// Returns false if the clock can't be read.
 fn came_back_at_once<H: Clock>(rt: &H) -> bool {
     let Ok(before) = Instant::now(rt) else {
         return false;

@@ -1,4 +1,4 @@
-//! Kernel threads of cores that are closed sleep until their core is granted again.
+//! Parking of the kernel threads of closed cores until their core is granted again.
 ghost use Rattle.std.specs.Prelude.{◌≡◌, ◌<◌, IfOk};
 ghost use Rattle.arachne_contexts.specs.Out.{KeepsOut};
 ghost use Rattle.arachne_arbiter.specs.KernelThreads.{parked_cores};
@@ -10,22 +10,23 @@ use std::alloc::{AllocError, Global};
 use std::sync::Wait;
 use std::thread::Parker;
 
-/// One parker for each core, on which the core's kernel thread sleeps and uses no processor. An unpark before the park
-/// is kept, and the park then returns at once; so a kernel thread that looks why it should park and then parks misses
-/// no unpark that came in between.
+/// One parker for each core, on which the core's kernel thread sleeps.
+///
+/// An unpark before the park is kept, and that park returns immediately. So a kernel thread that checks whether it must
+/// park, and then parks, misses no unpark between the two.
 #[derive(Drop)]
 pub struct Parking {
     parkers: Vec<CachePadded<Parker>>,
 }
 
-/// All kernel threads that were parked go on. [`Parking::unpark_all`] alone gives one.
+/// Evidence that all parked kernel threads were unparked. Only [`Parking::unpark_all`] returns it.
 #[derive(Drop)]
 pub struct Unparked {
     all: (),
 }
 
 impl Parking {
-    /// Parkers for so many cores.
+    /// Creates parkers for `cores` cores. The error is a refusal of memory.
     pub fn new(alloc: Global, cores: u8) -> Result<Parking, AllocError>
         ensures { IfOk result (λ parking. parked_cores parking ≡ cores) }
     {
@@ -36,21 +37,21 @@ impl Parking {
         Ok(Parking { parkers })
     }
 
-    /// Sleeps until the core is unparked. Called by the core's kernel thread alone.
+    /// Sleeps until the core is unparked. Only the core's kernel thread may call it.
     pub fn park<H: Wait>(&self, rt: &H, core: u8)
         requires { core < parked_cores self.now }
     {
         self.parkers[usize::from(core)].park(rt);
     }
 
-    /// Wakes a core's kernel thread, or lets its next park return at once.
+    /// Wakes a core's kernel thread, or makes its next park return immediately.
     pub fn unpark(&self, core: u8)
         requires { core < parked_cores self.now }
     {
         self.parkers[usize::from(core)].unpark();
     }
 
-    /// Wakes all, as at the end of a run.
+    /// Unparks the kernel threads of all cores, as at the end of a run.
     pub fn unpark_all(&self) -> Unparked {
         for parker in &self.parkers {
             parker.unpark();
@@ -60,8 +61,9 @@ impl Parking {
 }
 
 impl<'a, H: Wait, T: Tagged, C: Contexts<T>> Cores<'a, H, T, C> {
-    /// Parks a core's kernel thread if the core is closed and nothing is left on it. Whether it was; then the kernel
-    /// thread was unparked since, and looks again why. Called by the core's kernel thread alone.
+    /// Parks a core's kernel thread if the core is closed and empty. Returns whether it was.
+    ///
+    /// If so, the kernel thread was unparked since, and must look again. Only the core's kernel thread may call it.
     pub fn park_if_drained(&self, seat: &mut C::Seat, parking: &Parking, core: u8) -> bool
         requires seat { C.sits self.now.table.now seat.old }
         requires core { core < self.now.count }

@@ -1,4 +1,4 @@
-//! Where a new thread gets its place.
+//! Places for new threads.
 ghost use Rattle.std.specs.Prelude.{◌≡◌, ◌≢◌, ◌<◌, ◌≤◌};
 ghost use Rattle.rand_core.specs.Stream.{next_u64};
 ghost use Rattle.arachne_contexts.specs.Out.{KeepsOut};
@@ -13,9 +13,11 @@ use std::alloc::AllocError;
 use std::sync::Wait;
 
 impl<'a, H: Wait, T: Tagged, C: Contexts<T>> Cores<'a, H, T, C> {
-    /// Claims a place for a thread that shares its core with others: on the core that two random choices give, else on
-    /// the first of the others that has one. Draws one word from the chooser, whatever comes of it. None where no core
-    /// has a place. The error is want of memory for what is posted at the place.
+    /// Claims a place for a thread that shares its core with others.
+    ///
+    /// Takes it on the core that two random choices give, or else on the first other core that has one. Returns `None`
+    /// if no core has a place. The error is a refusal of memory for what is posted at the place. Draws one word from
+    /// the chooser in each case.
     pub fn claim_normal<R: Rng>(
         &self,
         seat: &mut C::Seat,
@@ -32,14 +34,14 @@ impl<'a, H: Wait, T: Tagged, C: Contexts<T>> Cores<'a, H, T, C> {
         if self.count == 1 {
             return self.claim_on(seat, 0);
         }
-        // No core has a place for most forks of a large program. These keep nothing of what they look at.
+        // For most forks of a large program no core has a place: for them this look must be cheap, and writes nothing.
         if !self.is_any_free() {
             return Ok(None);
         }
         self.claim_on_chosen(seat, word)
     }
 
-    /// A place on the core that two random choices of this word give, else on the first of the others that has one.
+    /// Claims a place on the core that two random choices by `word` give, or else on the first other core that has one.
     fn claim_on_chosen(&self, seat: &mut C::Seat, word: u64) -> Result<Option<C::Claim>, AllocError>
         requires { C.sits self.now.table.now seat.old }
         ensures seat { C.sits self.now.table.now seat.new }
@@ -58,8 +60,9 @@ impl<'a, H: Wait, T: Tagged, C: Contexts<T>> Cores<'a, H, T, C> {
         }
     }
 
-    /// Claims a core for a thread that has it alone: the first that is open and empty. None where there is none. The
-    /// error is want of memory for what is posted at the place.
+    /// Claims the first open and empty core for an exclusive thread.
+    ///
+    /// Returns `None` if there is no such core. The error is a refusal of memory for what is posted at the place.
     pub fn claim_exclusive(&self, seat: &mut C::Seat) -> Result<Option<C::Claim>, AllocError>
         requires { C.sits self.now.table.now seat.old }
         ensures seat { C.sits self.now.table.now seat.new }
@@ -75,8 +78,10 @@ impl<'a, H: Wait, T: Tagged, C: Contexts<T>> Cores<'a, H, T, C> {
         Ok(None)
     }
 
-    /// Whether a core seems to have a place for a thread that shares it. The first that has one is the last that is
-    /// looked at, and with no seat: the claim decides.
+    /// Returns whether a core seems to have a place for a thread that shares it.
+    ///
+    /// It looks without a seat, and only up to the first core that has a place. The result is a hint: only a claim
+    /// decides.
     pub(crate) fn is_any_free(&self) -> bool {
         for core in 0..self.count {
             let seen = OccWord::from_word(self.table.glance(self.rt, core));
@@ -89,7 +94,7 @@ impl<'a, H: Wait, T: Tagged, C: Contexts<T>> Cores<'a, H, T, C> {
         false
     }
 
-    /// Writes down what stands on each of the cores.
+    /// Writes the occupancy of each core into `occupancies`.
     fn look_at_all(&self, seat: &mut C::Seat, occupancies: &mut [OccWord; CORES as usize])
         requires { C.sits self.now.table.now seat.old }
         ensures seat { C.sits self.now.table.now seat.new }
@@ -101,7 +106,9 @@ impl<'a, H: Wait, T: Tagged, C: Contexts<T>> Cores<'a, H, T, C> {
         }
     }
 
-    /// A place on the first core but this one that has one. A core that was seen without a place is not asked.
+    /// Claims a place on the first core other than `tried` that has one.
+    ///
+    /// A core that has no place by `occupancies` is skipped.
     fn claim_on_another(
         &self,
         seat: &mut C::Seat,
@@ -125,7 +132,9 @@ impl<'a, H: Wait, T: Tagged, C: Contexts<T>> Cores<'a, H, T, C> {
         Ok(None)
     }
 
-    /// A place on a core, if it has one. Tries again where another took the place meanwhile. It draws no word.
+    /// Claims a place on a core. Returns `None` if it has none.
+    ///
+    /// Tries again if another claim took the place in the meantime. Draws no word.
     pub fn claim_on(&self, seat: &mut C::Seat, core: u8) -> Result<Option<C::Claim>, AllocError>
         requires seat { C.sits self.now.table.now seat.old }
         requires core { core < self.now.count }
@@ -143,7 +152,9 @@ impl<'a, H: Wait, T: Tagged, C: Contexts<T>> Cores<'a, H, T, C> {
         unreachable!()
     }
 
-    /// A whole core, if it is open and empty. Tries again where its word changed meanwhile.
+    /// Claims a whole core. Returns `None` if it is not both open and empty.
+    ///
+    /// Tries again if the core's word changed in the meantime.
     fn claim_whole(&self, seat: &mut C::Seat, core: u8) -> Result<Option<C::Claim>, AllocError>
         requires seat { C.sits self.now.table.now seat.old }
         requires core { core < self.now.count }

@@ -1,4 +1,4 @@
-//! How many slices ended.
+//! Counts of the slices that have ended.
 ghost use Rattle.std.specs.Prelude.{◌≡◌, ◌<◌, IfOk};
 ghost use Rattle.arachne_arbiter.specs.KernelThreads.{counted_cores};
 
@@ -6,14 +6,14 @@ use crossbeam_utils::CachePadded;
 use std::alloc::{AllocError, Global};
 use std::sync::atomic::{AtomicU64, Ordering};
 
-/// One count of ended slices for each core, on cache lines of its own. A core's kernel thread alone writes its count.
+/// One count of ended slices for each core, on a cache line of its own. Only the core's kernel thread writes it.
 #[derive(Drop)]
 pub struct SliceCounts {
     counts: Vec<CachePadded<AtomicU64>>,
 }
 
 impl SliceCounts {
-    /// Counts of 0 for so many cores.
+    /// Creates a count of 0 for each of `cores` cores. The error is a refusal of memory.
     pub fn new(alloc: Global, cores: u8) -> Result<SliceCounts, AllocError>
         ensures { IfOk result (λ counts. counted_cores counts ≡ cores) }
     {
@@ -24,8 +24,9 @@ impl SliceCounts {
         Ok(SliceCounts { counts })
     }
 
-    /// One slice more ended on a core. The count stays at 2^64 - 1. Called by the core's kernel thread alone: two that
-    /// called it at once would lose a slice.
+    /// Adds one to the count of a core, which stays at 2^64 - 1.
+    ///
+    /// Only the core's kernel thread may call it: two calls at the same time would count one slice.
     pub fn count(&self, core: u8)
         requires { core < counted_cores self.now }
     {
@@ -34,7 +35,7 @@ impl SliceCounts {
         count.store(ended.saturating_add(1), Ordering::SeqCst);
     }
 
-    /// How many slices ended on all cores, at most 2^64 - 1.
+    /// Returns the number of slices that have ended on all cores, at most 2^64 - 1.
     pub fn total(&self) -> u64 {
         let mut total: u64 = 0;
         for count in &self.counts {

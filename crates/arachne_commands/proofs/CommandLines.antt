@@ -1,4 +1,4 @@
--- From what a parse of the command line found to what the words ask for.
+-- The request that the words make, from the result of parsing the command line.
 use Rattle.std.proofs.Common.{◌≡◌, ◌⊎◌, ℕ, List, true, false, refl, ap, sym, ◌∙◌, subst, inl, inr, Option, Some, None}
 use Rattle.std.specs.Option.{IsSome}
 use Rattle.std.specs.Prelude.{codes}
@@ -29,7 +29,7 @@ program_is_simple : is_simple program ≡ true
 unfolding program task_commands machine_command run_command run_alone eval_command check_command policy_command
 program_is_simple = refl
 
--- what a parse met is what the words ask for
+-- the result of a parse is the request that the words make
 pub asked_is_met : (command : Command) (words : List Text) (m : ArgMatches) → app_of command ≡ program → HasMatchesOf (app_of command) words m
     → request_met (subcommand_rows_of m) ≡ asked_by words
 unfolding asked_by

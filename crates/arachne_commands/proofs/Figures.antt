@@ -1,4 +1,4 @@
--- A number and a word at the front of bytes: what reading takes, and what it is read from.
+-- A number and a word at the front of bytes: the result of reading them, and the bytes that have this result.
 use Rattle.std.proofs.Common.{◌≡◌, ℕ, ◌+◌, ◌-◌, ◌*◌, ◌<◌, ◌≤◌, List, [], ◌∷◌, ◌++◌, Some, Ok, Err, refl, sym, ap, ◌∙◌, append_assoc, arith}
 use Rattle.std.specs.Prelude.{◌==◌, ◌&&◌, nat_le, nat_lt, if◌then◌else◌, Bool, true, false}
 use Rattle.std.proofs.lemmas.Bool.{eqb-true, eqb-false, eq-eqb, leb-true, le-leb, ltb-true, lt-ltb, and_parts}
@@ -40,7 +40,7 @@ no_digit_is : (byte : ℕ) → NoDigit byte → (test : Bool) → is_digit byte 
 no_digit_is byte none true e = absurd (none (is_digit-true byte e))
 no_digit_is byte none false e = refl
 
--- ---- what is read
+-- ---- the result of reading
 
 abbrev Reads : Reading ℕ → Reading ℕ → Type 0
 Reads one other = one ≡ other
@@ -92,7 +92,7 @@ figures_read limit n (byte ∷ bytes) rest pos e = at_byte limit n byte bytes re
         (ap (λ (u : List ℕ). u ++ bytes) (sym one) ∙ p.0, p.1)
     at_byte limit n byte bytes rest pos false is false f e = absurd (cc)
 
--- ---- what it is read from
+-- ---- the bytes that have this result
 
 digits_again : (limit v : ℕ) (digits rest : List ℕ) → AreDigits digits → worth v digits < limit → ((byte : ℕ) → first rest ≡ Some byte → NoDigit byte)
     → digits_at limit v (digits ++ rest) ≡ Ok (worth v digits, rest)

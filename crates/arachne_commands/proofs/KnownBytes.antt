@@ -1,4 +1,4 @@
--- What writes and reads one after the other do to known bytes.
+-- The effect of writes and reads, one after another, on known bytes.
 use Rattle.std.proofs.Common.{◌≡◌, refl, ℕ, ◌+◌, ◌-◌, ◌≤◌, List, ◌++◌, length, length-append, take, drop, ap, sym, ◌∙◌, append_assoc, Option, None, Some, arith}
 use Rattle.std.proofs.lemmas.List.{length-drop, length-take}
 use Rattle.std.proofs.Math.Seq.{take-add, take-length}
@@ -27,7 +27,7 @@ take_rest bytes n m =
     let all : take (length bytes - n) rest ≡ rest = ap (λ k. take k rest) (sym (length-drop n bytes)) ∙ take-length rest in
     take-add n m bytes ∙ ap (λ xs. take n bytes ++ take m xs) (sym all)
 
--- a part of what was asked for stays within what there was room for
+-- a part of the bytes that were asked for fits the room
 pub length_read : (before buffer : List ℕ) (n limit : ℕ) → length before + length buffer ≤ limit → length (before ++ take n buffer) ≤ limit
 length_read before buffer n limit room = simp (length-append, length-take) (omega arith)
 

@@ -1,4 +1,4 @@
--- How lines grow with what they list.
+-- The growth of lines with the things that they list.
 use Rattle.std.proofs.Common.{◌≡◌, ℕ, ◌+◌, ◌<◌, List, [], ◌∷◌, ◌++◌, length, take, get_or, refl, ap, sym, ◌∙◌, append_assoc, arith, map}
 use Rattle.std.specs.Prelude.{codes, decimal}
 use Rattle.std.proofs.lemmas.List.{append-nil, take_more, length-take-le, map-append}
@@ -37,7 +37,7 @@ ledger_lines_append k (x ∷ xs) ys =
 two_words : (first second : List ℕ) → first ++ (32 ∷ second ++ 10 ∷ []) ≡ (first ++ (32 ∷ second ++ [])) ++ 10 ∷ []
 two_words first second = ap (λ word. first ++ (32 ∷ word ++ 10 ∷ [])) (sym (append-nil second)) ∙ sym (append_assoc first (32 ∷ second ++ []) (10 ∷ []))
 
--- what the code writes for a ledger is the ledger's line
+-- the code's text for a ledger is the ledger's line
 pub ledger_line : (k x : ℕ) → codes "ledger " ++ (decimal k ++ (32 ∷ decimal x ++ 10 ∷ [])) ≡ line_of (codes "ledger") (k ∷ x ∷ [])
 ledger_line k x = ap (λ words. codes "ledger " ++ words) (two_words (decimal k) (decimal x))
 

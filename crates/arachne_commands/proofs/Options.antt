@@ -54,7 +54,7 @@ pub number_read : (found : Found) (option text : List ℕ) (n : ℕ) → Some te
     → Some n ≡ number_under option (rows_of found)
 number_read found option text n e parsed = number_is text n parsed.0.0 parsed.0.1 parsed.1 ∙ by_text found option text e
 
--- where none is read the option has none
+-- if no number is read, the option has none
 pub number_refused : (found : Found) (option text : List ℕ) → Some text ≡ first_value found option
     → (IsNumeral 10 (without_leading_plus text) × (digits_value 10 (without_leading_plus text) < 2 ^ 64) → ⊥) → None ≡ number_under option (rows_of found)
 number_refused found option text e none = number_is_none text none ∙ by_text found option text e

@@ -1,4 +1,4 @@
--- Which words spell an order, by what each part of the reader finds.
+-- The words that spell an order, by the result of each part of the reader.
 use Rattle.std.proofs.Common.{◌≡◌, ℕ, ◌^◌, ◌<◌, List, [], ◌∷◌, ◌++◌, Option, Some, None, Result, Ok, Err, refl, sym, ap, subst, ◌∙◌, append_assoc, arith, lit<}
 use Rattle.std.proofs.lemmas.List.{append-nil}
 use Rattle.std.specs.Prelude.{codes, ◌↔◌, ◌==◌, length, true, false}
@@ -16,7 +16,7 @@ use Rattle.arachne_commands.proofs.Figures.{word_again, word_taken, figures_read
 abbrev pub Spells : List ℕ → CoreOrder → Type 0
 Spells bytes order = FitsWords order × (order_word order ≡ bytes)
 
--- what the reader of a kind says: the kind and the bytes behind its colon, exactly where they stand
+-- the result of the reader of a kind: the kind and the bytes after its colon, exactly if they are there
 abbrev pub IsKind : Option (OrderKind × List ℕ) → List ℕ → Type 0
 IsKind found bytes = (kind : OrderKind) (rest : List ℕ) → (found ≡ Some (kind, rest)) ↔ (bytes ≡ kind_word kind ++ codes ":" ++ rest)
 
@@ -42,7 +42,7 @@ Same one other = one ≡ other
 abbrev Pair : ℕ × List ℕ → ℕ × List ℕ → Type 0
 Pair one other = one ≡ other
 
--- ---- what an order's word needs
+-- ---- the parts of an order's word
 
 colon_is_no_digit : (rest : List ℕ) (byte : ℕ) → first (58 ∷ rest) ≡ Some byte → NoDigit byte
 colon_is_no_digit rest byte e digit = let same : 58 ≡ byte = cc in omega (arith, same, digit.1)
@@ -58,7 +58,7 @@ needs_core : (bytes : List ℕ) (order : CoreOrder) → Spells bytes order → f
 needs_core bytes order spells =
     ap (figures_at (2 ^ 64)) (sym (append-nil (numeral order.core))) ∙ figures_again (2 ^ 64) order.core [] spells.0.core (λ byte e. absurd (cc))
 
--- ---- where a part is missing
+-- ---- if a part is missing
 
 refuses : (bytes : List ℕ) (order : CoreOrder) → (Spells bytes order → ⊥) → (None ≡ Some order) ↔ Spells bytes order
 refuses bytes order none = (λ e. absurd (cc), λ spells. absurd (none spells))
@@ -66,7 +66,7 @@ refuses bytes order none = (λ e. absurd (cc), λ spells. absurd (none spells))
 pub no_number : (bytes : List ℕ) (halt : Halt) → number_at (2 ^ 64) (codes ":") bytes ≡ Err halt → (order : CoreOrder) → (None ≡ Some order) ↔ Spells bytes order
 no_number bytes halt e order = refuses bytes order (λ spells. let ok = needs_number bytes order spells in absurd (cc))
 
--- the two readings of what stands before the kind are one
+-- the two readings of the part before the kind are one
 same_behind : (bytes rest : List ℕ) (after : ℕ) → number_at (2 ^ 64) (codes ":") bytes ≡ Ok (after, rest) → (order : CoreOrder) → Spells bytes order
     → (after ≡ order.after) × (rest ≡ behind order)
 same_behind bytes rest after e order spells =
@@ -105,7 +105,7 @@ pub none_left : (core : ℕ) (rest : List ℕ) → true ≡ (length rest == 0) �
 none_left core [] e = refl
 none_left core (byte ∷ rest) e = absurd (omega (arith, eqb-true (length (byte ∷ rest)) 0 (sym e)))
 
--- ---- where each part is there
+-- ---- if each part is there
 
 pub is_order : (bytes rest left : List ℕ) (after core : ℕ) (kind : OrderKind) → number_at (2 ^ 64) (codes ":") bytes ≡ Ok (after, rest) → IsKind (Some (kind, left)) rest
     → figures_at (2 ^ 64) left ≡ Ok (core, []) → (order : CoreOrder) → (Some (record { after = after; kind = kind; core = core }) ≡ Some order) ↔ Spells bytes order
@@ -186,7 +186,7 @@ more_left found core byte rest e =
     let parts : (found, byte ∷ rest) ≡ (core, []) = cc in
     not_nil byte rest (ap (λ (p : ℕ × List ℕ). p.1) parts)
 
--- the function says what the words of orders are
+-- the function gives an order exactly for the words that spell one
 pub order_of_spells : (word : List ℕ) (order : CoreOrder) → (order_of word ≡ Some order) ↔ Spells word order
 unfolding order_of
 order_of_spells word order = by_number (number_at (2 ^ 64) (codes ":") word) refl
@@ -208,7 +208,7 @@ order_of_spells word order = by_number (number_at (2 ^ 64) (codes ":") word) ref
     by_number (Err halt) e = no_number word halt e order
     by_number (Ok (after, rest)) e = by_kind after rest e (kind_at rest) refl
 
--- what is the order of a word exactly where the word spells it is the function's
+-- whatever is the order of a word exactly if the word spells it is the function's result
 pub order_is : (word : List ℕ) (found : Option CoreOrder) → ((order : CoreOrder) → (found ≡ Some order) ↔ Spells word order) → order_of word ≡ found
 order_is word found is = by_both found (order_of word) refl refl
   where

@@ -70,7 +70,7 @@ allowed_by_run settings served orders (Ok report) serves same refused ordered ok
     by_refusal None is = is
     by_refusal (Some fault) is = let other : Ok report ≡ Err fault = refused fault is in cc
 
--- each of so many cores has a chooser
+-- each of these cores has a chooser
 served_as_set_up : (settings : RunSettings) (setup : Setup) (made : List (List ℕ)) (served : ℕ) → served ≡ length made → IsSetUpBy settings setup made
     → settings.cores ≤ CORES → served ≡ settings.cores
 served_as_set_up settings setup made served counts is within = counts ∙ ap length (is.choosers within) ∙ choosers_length settings.seed settings.cores

@@ -83,7 +83,7 @@ exact_line bytes =
 
 -- ---- its texts are the lines
 
--- the numbers of a line, each with what ends it
+-- the numbers of a line, each with the byte that ends it
 abbrev parts_of : Sample → List ℕ
 parts_of s =
     (numeral s.cores ++ 32 ∷ []) ++ ((numeral s.runnable ++ 32 ∷ []) ++ ((numeral s.scans ++ 32 ∷ []) ++ ((numeral s.busy ++ 32 ∷ []) ++ ((numeral s.elapsed ++ 10 ∷ []) ++ []))))
@@ -92,7 +92,7 @@ parts_of s =
 behind_space : (a x y z : List ℕ) → x ++ z ≡ y → ((32 ∷ a) ++ x) ++ z ≡ 32 ∷ (a ++ y)
 behind_space a x y z e = ap (λ (u : List ℕ). 32 ∷ u) (append_assoc a x z ∙ ap (λ (u : List ℕ). a ++ u) e)
 
--- one more number of a line, before what ends it
+-- one more number of a line, before the byte that ends it
 before_end : (end : ℕ) (a x y : List ℕ) → x ≡ y → (a ++ end ∷ []) ++ x ≡ a ++ (end ∷ y)
 before_end end a x y e = append_assoc a (end ∷ []) x ∙ ap (λ (u : List ℕ). a ++ (end ∷ u)) e
 

@@ -1,4 +1,4 @@
--- What stops the reading of samples is the first fault of the text.
+-- The reading of samples stops at the first fault of the text.
 use Rattle.std.proofs.Common.{◌≡◌, ℕ, zero, suc, ◌+◌, ◌-◌, ◌<◌, ◌≤◌, List, [], ◌∷◌, ◌++◌, length, take, drop, None, Result, Ok, Err, refl, sym, ap, subst, ◌∙◌, append_assoc, arith, inl, inr, length-append}
 use Rattle.std.specs.Prelude.{◌⊎◌, ◌==◌, true, false}
 use Rattle.std.proofs.Math.Seq.{take-append_seam, take-append-add}
@@ -85,7 +85,7 @@ none_first : (rest : List ℕ) → None ≡ first rest → rest ≡ []
 none_first [] e = refl
 none_first (byte ∷ rest) e = absurd (cc)
 
--- the lines behind those that were read cannot be none where something is left
+-- if something is left, there are lines after those that were read
 no_lines_behind : (front rest x : List ℕ) → (front ++ rest ≡ [] → ⊥) → first x ≡ first rest → [] ≡ front ++ x → ⊥
 no_lines_behind front rest x some agrees e =
     let parts = empty_parts front x e in
@@ -268,7 +268,7 @@ grown before text bytes rest read e some h =
           (λ s y fits other. h.dead s (h.digit ∷ begun.1) (sample_line s) y agrees (range_line s fits) (sym other)) agrees begun.2 is;
     })))
 
--- where the reading of a line stops, behind lines that were read, the text has its first fault
+-- if the reading of a line stops, after lines that were read, the text has its first fault there
 pub stopped : (before : List Sample) (text bytes : List ℕ) (why : ReadingStop) → AreInRange before → text ≡ samples_text before ++ bytes → (bytes ≡ [] → ⊥)
     → sample_at bytes ≡ Err (halt_of why) → IsFirstFault text (fault_within text why)
 stopped before text bytes (stop.Departs rest) read e some at =
@@ -301,7 +301,7 @@ line_read before text bytes rest s read e at =
       shorter = omega (arith, ap length line_split, length-append (sample_line s) rest, some);
     }
 
--- ---- what a reader may answer
+-- ---- the results of a reader
 
 -- the text of samples in range has no fault
 no_fault : (bytes : List ℕ) (samples : List Sample) → AreInRange samples → samples_text samples ≡ bytes → (f : TextFault) → HasFault bytes f → ⊥
@@ -325,7 +325,7 @@ one_first_fault bytes f g one other =
       | inr same ↦ sym same
     ]
 
--- whether something is left
+-- something is left exactly if the rest is not empty
 pub some_left : (rest : List ℕ) → false ≡ (length rest == 0) → rest ≡ [] → ⊥
 some_left [] e none = absurd (cc)
 some_left (byte ∷ rest) e none = absurd (cc)

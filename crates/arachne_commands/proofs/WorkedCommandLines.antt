@@ -1,4 +1,4 @@
--- What the definitions say of words that were worked out by hand: what they ask for, and whether the program takes
+-- Words that were worked out by hand: the request that they make by the definitions, and whether the program takes
 -- them.
 use Rattle.std.proofs.Common.{◌≡◌, List, [], ◌∷◌, Bool, true, false, Option, Some, None, refl}
 use Rattle.std.specs.Prelude.{codes}
@@ -98,7 +98,7 @@ run_by_orders : Asks (codes "run" ∷ codes "0:release:1" ∷ codes "--cores" �
 unfolding asked_by is_taken machine_command run_command run_alone eval_command check_command policy_command task_commands program number_of walked walk_passes order_of number_at
 run_by_orders = record { asked_for = refl; is_taken_so = refl }
 
--- a word that is no order asks for nothing, and is told by its index among the order words
+-- a word that is no order makes no request, and is reported by its index among the order words
 word_that_is_no_order : Asks (codes "run" ∷ codes "--names" ∷ codes "0:grant:1" ∷ codes "0:take:1" ∷ codes "5" ∷ []) None true
 unfolding asked_by is_taken machine_command run_command run_alone eval_command check_command policy_command task_commands program number_of walked walk_passes order_of number_at
 word_that_is_no_order = record { asked_for = refl; is_taken_so = refl }

@@ -141,7 +141,7 @@ no_order_in words = no_order_met (subcommand_of program words)
 unfoldable pub is_taken : List Text → Bool
 is_taken words = takes program words
 
--- samples are judged for no more than 64 cores
+-- samples are judged for at most 64 cores
 abbrev pub IsAllowed : Request → Type 0
 IsAllowed (Run settings) = ⊤
 IsAllowed (Eval names) = ⊤

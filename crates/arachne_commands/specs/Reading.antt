@@ -7,7 +7,7 @@ use Rattle.arachne_policy.specs.declared.samples.Sample.{Sample}
 use Rattle.arachne_commands.specs.declared.numbers.ReadingStop.{ReadingStop}
 use Rattle.arachne_commands.specs.declared.numbers.ReadingStop.TheVariants as stop
 
--- where a reader of the code stopped
+-- the place at which a reader of the code stopped
 abbrev pub halt_of : ReadingStop → Halt
 halt_of (stop.Departs rest) = Departs rest.now
 halt_of (stop.Overflows rest) = Overflows rest.now

@@ -167,7 +167,7 @@ alike-cotrans a b c is is_not =
       ]
     ]
 
--- what goes before a claim, goes before each that doesn't
+-- a claim that goes before another goes before each that doesn't
 pub goes_before-cotrans : (a b c : Claim) → goes_before a c ≡ true → goes_before b c ≡ false → goes_before a b ≡ true
 goes_before-cotrans a b c is is_not =
     level-cotrans a.beyond b.beyond c.beyond (goes_before_alike a c) (goes_before_alike b c) (goes_before_alike a b)
@@ -176,20 +176,20 @@ goes_before-cotrans a b c is is_not =
 pub goes_before-same : (a : Claim) → goes_before a a ≡ false
 goes_before-same a = grind (arith, common_steps)
 
--- the reserve of a client that gets so many
+-- the reserve of a client that gets `gets` cores
 pub level-below : (client : Client) (gets : ℕ) → gets < reserve_of client → (claim_of client gets).beyond ≡ false
 level-below client gets h = grind (arith, common_steps, h)
 
 pub level-beyond : (client : Client) (gets : ℕ) → reserve_of client ≤ gets → (claim_of client gets).beyond ≡ true
 level-beyond client gets h = grind (arith, common_steps, h)
 
--- who has less than its reserve goes before who has not
+-- a client that has less than its reserve goes before one that has not
 pub goes_before-reserve : (client other : Client) (gets before : ℕ) → gets < reserve_of client → reserve_of other ≤ before
     → goes_before (claim_of client gets) (claim_of other before) ≡ true
 goes_before-reserve client other gets before below beyond =
     before-level (claim_of client gets) (claim_of other before) (level-below client gets below) (level-beyond other before beyond)
 
--- what is before where both or neither have their reserves, is before who has its own
+-- a claim that would be before another if both or neither had their reserves is before it if the other has its own
 before-beyond : (client other : Client) (gets before : ℕ) → reserve_of other ≤ before
     → goes_before_alike (claim_of client gets) (claim_of other before) ≡ true → goes_before (claim_of client gets) (claim_of other before) ≡ true
 before-beyond client other gets before beyond is =
@@ -198,7 +198,7 @@ before-beyond client other gets before beyond is =
       | inr has ↦ before-alike (claim_of client gets) (claim_of other before) (level-beyond client gets has ∙ sym (level-beyond other before beyond)) is
     ]
 
--- and so it is where the first is below its own
+-- and so it is if the first is below its own
 before-below : (client other : Client) (gets before : ℕ) → gets < reserve_of client
     → goes_before_alike (claim_of client gets) (claim_of other before) ≡ true → goes_before (claim_of client gets) (claim_of other before) ≡ true
 before-below client other gets before below is =
@@ -207,31 +207,31 @@ before-below client other gets before below is =
       | inr has ↦ goes_before-reserve client other gets before below has
     ]
 
--- who has less than its reserve and a higher priority goes before anyone of a lower one
+-- a client that has less than its reserve and a higher priority goes before each of a lower one
 pub goes_before-short : (client other : Client) (gets before : ℕ) → gets < reserve_of client → client.priority < other.priority
     → goes_before (claim_of client gets) (claim_of other before) ≡ true
 goes_before-short client other gets before below higher =
     before-below client other gets before below (alike-higher (claim_of client gets) (claim_of other before) higher)
 
--- the higher priority goes before who has its reserve
+-- the higher priority goes before a client that has its reserve
 pub goes_before-higher : (client other : Client) (gets before : ℕ) → reserve_of other ≤ before → client.priority < other.priority
     → goes_before (claim_of client gets) (claim_of other before) ≡ true
 goes_before-higher client other gets before beyond higher =
     before-beyond client other gets before beyond (alike-higher (claim_of client gets) (claim_of other before) higher)
 
--- of one priority, who gets fewer goes before who has its reserve
+-- of one priority, a client that gets fewer goes before one that has its reserve
 pub goes_before-fewer : (client other : Client) (gets before : ℕ) → reserve_of other ≤ before → client.priority ≡ other.priority
     → gets < before → goes_before (claim_of client gets) (claim_of other before) ≡ true
 goes_before-fewer client other gets before beyond same fewer =
     before-beyond client other gets before beyond (alike-fewer (claim_of client gets) (claim_of other before) same fewer)
 
--- and who has less than its reserve, before anyone who gets more
+-- and a client that has less than its reserve goes before each that gets more
 pub goes_before-fewer_below : (client other : Client) (gets before : ℕ) → gets < reserve_of client → client.priority ≡ other.priority
     → gets < before → goes_before (claim_of client gets) (claim_of other before) ≡ true
 goes_before-fewer_below client other gets before below same fewer =
     before-below client other gets before below (alike-fewer (claim_of client gets) (claim_of other before) same fewer)
 
--- whether the next core would be one that the client does not hold
+-- `moves` is true if the next core would be one that the client does not hold
 pub moves-held : (client : Client) (gets : ℕ) → gets < client.held → (claim_of client gets).moves ≡ false
 moves-held client gets h = grind (arith, common_steps, h)
 
@@ -262,7 +262,7 @@ goes_before-more client gets =
       | inr beyond ↦ goes_before-fewer client client gets (gets + 1) (omega arith) refl (omega arith)
     ]
 
--- what no earlier claim goes before, no later one does
+-- if an earlier claim doesn't go before this one, no later one does
 pub goes_before-later : (earlier later claim : Claim) → goes_before earlier later ≡ true → goes_before earlier claim ≡ false
     → goes_before later claim ≡ false
 goes_before-later earlier later claim before none =
@@ -271,7 +271,7 @@ goes_before-later earlier later claim before none =
       | inr is ↦ is
     ]
 
--- what goes before no claim, goes before no earlier one
+-- if this claim doesn't go before a later one, it goes before no earlier one
 pub goes_before-earlier : (claim earlier later : Claim) → goes_before earlier later ≡ true → goes_before claim later ≡ false
     → goes_before claim earlier ≡ false
 goes_before-earlier claim earlier later before none =

@@ -1,4 +1,4 @@
--- What clients hold is counted.
+-- The cores that clients hold are counted.
 use Rattle.std.proofs.Common.{◌≡◌, ℕ, ◌+◌, ◌<◌, Option, List, length, set, refl, ap, ◌∙◌, arith, below_more}
 use Rattle.std.proofs.lemmas.List.{get_or-set_same, get_or-set_other}
 use Rattle.arachne_grants.specs.declared.claims.Client.{Client}

@@ -1,4 +1,4 @@
--- No other numbers with the same promises leave more cores where they are.
+-- No other numbers with the same properties let more cores stay with their clients.
 use Rattle.std.proofs.Common.{◌≡◌, ℕ, zero, suc, ◌+◌, ◌-◌, ◌<◌, ◌≤◌, ◌⊎◌, min, List, [], ◌∷◌, length, sum, arith, inl, inr, sym, below_more}
 use Rattle.std.proofs.lemmas.Bool.{cases_lt, cases_order}
 use Rattle.std.proofs.lemmas.List.Sums.{sum_by-cons}

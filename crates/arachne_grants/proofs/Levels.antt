@@ -1,4 +1,4 @@
--- The claims before one, given at once.
+-- All claims before one, given in one step.
 use Rattle.std.proofs.Common.{◌≡◌, ℕ, zero, suc, ◌+◌, ◌<◌, ◌≤◌, ◌⊎◌, true, false, max, min, List, [], ◌∷◌, length, take, sum, sum_by, refl, ap, arith, inl, inr, sym, ◌∙◌}
 use Rattle.std.proofs.lemmas.Grind.{common_steps}
 use Rattle.std.proofs.lemmas.Bool.{cases_Bool, cases_order, cases_lt}
@@ -185,7 +185,7 @@ gets-asks claim client =
       | inr none ↦ (let e = gets-below claim client none in let most = alike-most claim client (reserve_of client) in omega arith)
     ]
 
--- numbers that are given at once are in the order of claims
+-- numbers that are given in one step are in the order of claims
 pub AreSoFar-filled : (clients : List Client) (given : ℕ) (targets : List ℕ) → length targets ≡ length clients → sum targets ≡ given
     → AreFilled clients targets → AreSoFar clients given targets
 AreSoFar-filled clients given targets sized total filled =

@@ -98,7 +98,7 @@ IsInTurn-with_one clients targets next h turn first place other before more afte
       | inr ne ↦ turn place other before was after within (sym (with_one-other targets next other ne) ∙ is)
     ])
 
--- what holds of the numbers once so many cores are given
+-- the properties of the numbers once `given` cores are given
 pub record AreSoFar (clients : List Client) (given : ℕ) (targets : List ℕ) : Type 0 where
   pub sized : length targets ≡ length clients
   pub total : sum targets ≡ given

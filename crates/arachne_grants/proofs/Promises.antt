@@ -1,4 +1,4 @@
--- What follows from the order of claims.
+-- The properties that follow from the order of claims.
 use Rattle.std.proofs.Common.{◌≡◌, ℕ, ◌+◌, ◌-◌, ◌<◌, true, List, length, arith, inl, inr, sym, ◌∙◌}
 use Rattle.std.proofs.lemmas.Bool.{cases_lt, false≢true}
 use Rattle.arachne_grants.specs.declared.claims.Client.{Client}

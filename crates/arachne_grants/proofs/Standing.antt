@@ -1,4 +1,4 @@
--- What clients are allowed stands when a core is given or taken.
+-- The numbers that clients are allowed stay right if a core is given or taken.
 use Rattle.std.proofs.Common.{◌≡◌, ℕ, ◌+◌, ◌<◌, ◌≤◌, Bool, true, false, min, nat_le, cond, is_some, List, [], ◌∷◌, length, map, set, refl, ap, sym, ◌∙◌, subst, inl, inr, arith, count_by}
 use Rattle.std.proofs.lemmas.Bool.{cases_eq, cases_lt, false≢true}
 use Rattle.std.proofs.lemmas.Grind.{common_steps}
@@ -19,7 +19,7 @@ use Rattle.arachne_grants.specs.Steps.{IsGrant, IsTake, KeepsAllowed, StaysAnswe
 use Rattle.arachne_grants.proofs.Giving.{client_at-wants}
 use Rattle.arachne_grants.proofs.Sound.{session_at-other, session_at-same, thread_at-past}
 
--- what a client asks for and holds changed only so that its target stands
+-- a client's request and its cores changed only so that its target stays right
 pub record IsNear (a b : Client) (t : ℕ) : Type 0 where
   pub priority : b.priority ≡ a.priority
   pub reserved : b.reserved ≡ a.reserved

@@ -41,6 +41,6 @@ gives_way-late (On k) = refl
 gives_way-late Floats = refl
 gives_way-late (FloatsOn k) = refl
 
--- what has a core is not without one
+-- a thread that has a core is not without one
 pub not-none : (thread : ClientThread) → has_core thread ≡ true → None ≡ core_of thread → ⊥
 not-none thread has none = false≢true (ap is_some none ∙ has)

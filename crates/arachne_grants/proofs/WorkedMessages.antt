@@ -1,4 +1,4 @@
--- What bytes give that were worked out by hand.
+-- Messages that were worked out by hand.
 use Rattle.std.proofs.Common.{[], ◌∷◌, true, refl, lit<, lit≤}
 use Rattle.arachne_grants.specs.declared.messages.ClientMessage.TheVariants.{Hello, Join, Wait, Ask}
 use Rattle.arachne_grants.specs.declared.messages.MessageFault.TheVariants.{Priority}

@@ -1,4 +1,4 @@
--- A client's claim to one core more.
+-- A client's claim to one more core.
 use Rattle.std.specs.Prelude.{ℕ, ◌+◌, Bool, true, false, not, ◌&&◌, ◌==◌, max, min, nat_le, nat_lt, if◌then◌else◌}
 use Rattle.arachne_grants.specs.declared.claims.Client.{Client}
 use Rattle.arachne_grants.specs.declared.claims.Claim.{Claim}
@@ -16,32 +16,32 @@ claim_of client gets = record {
   moves = nat_le client.held gets;
 }
 
--- of two claims of which both or neither are below the reserve: the higher priority, then who gets fewer, then who
--- holds the core already
+-- of two claims of which both or neither are below the reserve, the first has the higher priority; or else its client
+-- gets fewer cores; or else its client holds the core already
 abbrev pub goes_before_alike : Claim → Claim → Bool
 goes_before_alike claim other =
     if claim.priority == other.priority
     then (if claim.gets == other.gets then not claim.moves && other.moves else nat_lt claim.gets other.gets)
     else nat_lt claim.priority other.priority
 
--- a claim goes before another: first who has less than its reserve
+-- a claim goes before another: first those of clients that have less than their reserve
 abbrev pub goes_before : Claim → Claim → Bool
 goes_before claim other =
     if claim.beyond then (if other.beyond then goes_before_alike claim other else false)
     else (if other.beyond then true else goes_before_alike claim other)
 
--- up to how many cores a client's claims go before another of its priority
+-- the number of cores up to which a client's claims go before another claim of its priority
 abbrev pub level_before : Claim → Client → ℕ
 level_before claim client = if claim.moves && nat_lt claim.gets client.held then claim.gets + 1 else claim.gets
 
--- how many of a client's first `most` cores go before a claim, if all of these or none are below its reserve
+-- the number of a client's first `most` cores that go before a claim, if all of these or none are below its reserve
 abbrev pub before_alike : Claim → Client → ℕ → ℕ
 before_alike claim client most =
     if client.priority == claim.priority
     then min most (level_before claim client)
     else (if nat_lt client.priority claim.priority then most else 0)
 
--- how many cores a client gets by its claims that go before this one
+-- the number of cores that a client gets by its claims that go before this one
 abbrev pub gets_before : Claim → Client → ℕ
 gets_before claim client =
     if claim.beyond then max (reserve_of client) (before_alike claim client client.asks)

@@ -1,4 +1,4 @@
--- How many cores each client gets.
+-- The number of cores that each client gets.
 use Rattle.std.specs.Prelude.{true, ◌≡◌, ℕ, ◌+◌, ◌<◌, ◌≤◌, false, Option, MatchOption, List, [], ◌∷◌, length, min, slice_index, slice_index_or, sum, sum_by}
 use Rattle.arachne_grants.specs.declared.claims.Client.{Client}
 use Rattle.arachne_grants.specs.declared.claims.Claim.{Claim}
@@ -8,11 +8,11 @@ use Rattle.arachne_grants.specs.Claims.{claim_of, gets_before, goes_before, rese
 abbrev pub client_at : List Client → ℕ → Client
 client_at clients place = slice_index_or clients place (record { priority = 0; reserved = 0; asks = 0; held = 0 })
 
--- how many cores the client at a place gets
+-- the number of cores that the client at a place gets
 abbrev pub target_at : List ℕ → ℕ → ℕ
 target_at targets place = slice_index targets place
 
--- the claim of the client at a place to one core more
+-- the claim of the client at a place to one more core
 abbrev pub claim_at : List Client → List ℕ → ℕ → Claim
 claim_at clients targets place = claim_of (client_at clients place) (target_at targets place)
 
@@ -47,7 +47,7 @@ pub record IsFirst (clients : List Client) (targets : List ℕ) (n : ℕ) (next 
 abbrev pub IsServed : List Client → List ℕ → ℕ → Type 0
 IsServed clients targets n = (place : ℕ) → place < n → AsksForMore clients targets place → ⊥
 
--- who of the first n gets the next core, if one asks for more
+-- the client of the first n that gets the next core, if one of them asks for more
 abbrev pub IsNext : List Client → List ℕ → ℕ → Option ℕ → Type 0
 IsNext clients targets n next = MatchOption next (IsServed clients targets n) (IsFirst clients targets n)
 
@@ -66,7 +66,7 @@ IsInTurn clients targets =
     → target_at targets other ≡ before + 1
     → goes_before (claim_of (client_at clients other) before) (claim_at clients targets place) ≡ true
 
--- nobody gets more than it asks for, and all together no more than there are
+-- no client gets more than it asks for, and all together get at most the cores that there are
 pub record IsBounded (clients : List Client) (cores : ℕ) (targets : List ℕ) : Type 0 where
   pub each : (place : ℕ) → place < length clients → target_at targets place ≤ (client_at clients place).asks
   pub together : sum targets ≤ cores
@@ -88,7 +88,8 @@ IsByPriority clients targets =
     (place other : ℕ) → AsksForMore clients targets place → IsHigher clients place other
     → IsBeyondReserve clients targets other → ⊥
 
--- who asks for more gets at most one less than another of its priority, but for what is reserved for that one
+-- a client that asks for more gets at most one core less than another of its priority, if it gets less than its reserve
+-- or the other gets more than its own
 pub record IsFair (clients : List Client) (targets : List ℕ) : Type 0 where
   pub beyond : (place other : ℕ) → AsksForMore clients targets place → IsBeyondReserve clients targets other
       → (client_at clients place).priority ≡ (client_at clients other).priority
@@ -97,7 +98,7 @@ pub record IsFair (clients : List Client) (targets : List ℕ) : Type 0 where
       → (client_at clients place).priority ≡ (client_at clients other).priority
       → target_at targets other ≤ target_at targets place + 1
 
--- what is promised of the numbers of cores that clients get
+-- the properties of the numbers of cores that clients get
 pub record AreGrants (clients : List Client) (cores : ℕ) (targets : List ℕ) : Type 0 where
   pub sized : length targets ≡ length clients
   pub bounded : IsBounded clients cores targets
@@ -106,13 +107,13 @@ pub record AreGrants (clients : List Client) (cores : ℕ) (targets : List ℕ) 
   pub priority : IsByPriority clients targets
   pub fair : IsFair clients targets
 
--- how many cores stay where they are
+-- the number of cores that stay with their clients
 abbrev pub kept : List Client → List ℕ → ℕ
 kept [] targets = 0
 kept (client ∷ clients) [] = 0
 kept (client ∷ clients) (target ∷ targets) = min target client.held + kept clients targets
 
--- no other numbers with these promises leave more cores where they are
+-- no other numbers with these properties let more cores stay with their clients
 abbrev pub IsLeast : List Client → ℕ → List ℕ → Type 0
 IsLeast clients cores targets =
     (other : List ℕ) → AreGrants clients cores other → kept clients other ≤ kept clients targets
@@ -131,7 +132,7 @@ IsDecided clients cores =
     (targets other : List ℕ) → IsAnswer clients cores targets → IsAnswer clients cores other
     → (place : ℕ) → place < length clients → target_at targets place ≡ target_at other place
 
--- no more claims go before this one than there are cores
+-- at most as many claims go before this one as there are cores
 abbrev pub AreEnough : List Client → ℕ → Claim → Type 0
 AreEnough clients cores claim = sum_by (gets_before claim) clients ≤ cores
 

@@ -46,7 +46,7 @@ IsFirstWrong n Unused = ((n.kind ≡ 3) × (0 < n.first + n.second + n.third)) �
 abbrev pub IsMessageOf : List ℕ → ClientMessage → Type 0
 IsMessageOf bytes message = (16 ≤ length bytes) × AreOf (numbers_in bytes) message
 
--- why the bytes begin with no message
+-- the reason why the bytes begin with no message
 abbrev pub IsFaultOf : List ℕ → MessageFault → Type 0
 IsFaultOf bytes fault =
     ((length bytes < 16) × (fault ≡ Short)) ⊎ ((16 ≤ length bytes) × IsFirstWrong (numbers_in bytes) fault)

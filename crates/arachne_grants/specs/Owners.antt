@@ -1,9 +1,9 @@
--- Which client has which core.
+-- The owner of each core.
 use Rattle.std.specs.Prelude.{◌≡◌, ℕ, ◌+◌, ◌<◌, ◌≤◌, ◌⊎◌, ◌==◌, ◌&&◌, Bool, true, false, if◌then◌else◌, Option, Some, None, is_some, MatchOption, List, [], ◌∷◌, length, min, slice_index_or, slice_index, count_by}
 use Rattle.arachne_grants.specs.declared.claims.Client.{Client}
 use Rattle.arachne_grants.specs.Grants.{client_at, target_at, IsHigher}
 
--- whose a core is
+-- the owner of a core, if it has one
 abbrev pub owner_at : List (Option ℕ) → ℕ → Option ℕ
 owner_at owners core = slice_index_or owners core None
 
@@ -12,15 +12,15 @@ abbrev pub is_of : ℕ → Option ℕ → Bool
 is_of client None = false
 is_of client (Some owner) = owner == client
 
--- how many cores a client has
+-- the number of cores that a client has
 abbrev pub held_by : List (Option ℕ) → ℕ → ℕ
 held_by owners client = count_by (is_of client) owners
 
--- how many cores have an owner
+-- the number of cores that have an owner
 abbrev pub owned : List (Option ℕ) → ℕ
 owned owners = count_by is_some owners
 
--- how many cores a client has both before and after
+-- the number of cores that a client has both before and after
 abbrev pub stay_by : List (Option ℕ) → List (Option ℕ) → ℕ → ℕ
 stay_by [] new client = 0
 stay_by (before ∷ old) [] client = 0
@@ -34,7 +34,7 @@ TakesOnly old new = (core : ℕ) → (owner_at new core ≡ owner_at old core) �
 abbrev pub GivesOnly : List (Option ℕ) → List (Option ℕ) → Type 0
 GivesOnly old new = (core : ℕ) → (owner_at new core ≡ owner_at old core) ⊎ (owner_at old core ≡ None)
 
--- each client keeps what it has, up to its target, and no more
+-- each client keeps the cores that it has, up to its target
 abbrev pub KeepsTargets : List (Option ℕ) → List (Option ℕ) → List ℕ → Type 0
 KeepsTargets old new targets = (client : ℕ) → client < 256 → held_by new client ≡ min (held_by old client) (target_at targets client)
 
@@ -72,7 +72,7 @@ pub record IsHighestShort (clients : List Client) (targets held : List ℕ) (n :
   pub short : IsShort clients targets held next
   pub highest : (client : ℕ) → client < n → IsShort clients targets held client → IsHigher clients client next → ⊥
 
--- who of the first n gets a free core, if one has less than its target
+-- the client of the first n that gets a free core, if one of them has less than its target
 abbrev pub IsNextShort : List Client → List ℕ → List ℕ → ℕ → Option ℕ → Type 0
 IsNextShort clients targets held n next =
     MatchOption next ((client : ℕ) → client < n → IsShort clients targets held client → ⊥) (IsHighestShort clients targets held n)

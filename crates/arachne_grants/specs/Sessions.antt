@@ -1,4 +1,4 @@
--- What the threads of the daemon's clients do.
+-- The states of the threads of the daemon's clients.
 use Rattle.std.specs.Prelude.{◌≡◌, ◌⊎◌, ℕ, ◌<◌, Bool, true, false, ◌||◌, Option, Some, None, is_some, MatchOption, List, [], length, min, count_by, slice_index_or, slice_set}
 use Rattle.arachne_grants.specs.declared.claims.Client.{Client}
 use Rattle.arachne_grants.specs.declared.sessions.Session.{Session}
@@ -49,7 +49,7 @@ can_wait (FloatsOn core) = false
 abbrev pub is_usable : ClientThread → Bool
 is_usable thread = has_core thread || is_ready thread
 
--- its core may be taken from it: at once if it floats, else if its client is late
+-- its core may be taken from it: immediately if it floats, and otherwise if its client is late
 abbrev pub gives_way : ClientThread → Bool → Bool
 gives_way Absent late = late || false
 gives_way Runs late = late || false
@@ -58,7 +58,7 @@ gives_way (On core) late = late || false
 gives_way Floats late = late || false
 gives_way (FloatsOn core) late = late || true
 
--- what it does once it has this core
+-- its state once it has this core
 abbrev pub placed : ClientThread → ℕ → ClientThread
 placed Absent core = On core
 placed Runs core = On core
@@ -67,7 +67,7 @@ placed (On other) core = On core
 placed Floats core = FloatsOn core
 placed (FloatsOn other) core = On core
 
--- what it does once its core is taken from it
+-- its state once its core is taken from it
 abbrev pub unplaced : ClientThread → ClientThread
 unplaced Absent = Absent
 unplaced Runs = Runs
@@ -76,11 +76,11 @@ unplaced (On core) = Runs
 unplaced Floats = Floats
 unplaced (FloatsOn core) = Floats
 
--- how many of a client's threads have a core
+-- the number of a client's threads that have a core
 abbrev pub held_in : Session → ℕ
 held_in session = count_by has_core session.threads
 
--- a client as `targets` sees it: it asks for no more than it may, and than it has threads for
+-- a client as `targets` sees it: it asks for at most the cores that it may have, and has threads for
 abbrev pub wants_of : Session → Client
 wants_of session = record {
   priority = session.priority;
@@ -98,7 +98,7 @@ session_at sessions client =
 abbrev pub slice_thread : List ClientThread → ℕ → ClientThread
 slice_thread threads place = slice_index_or threads place Absent
 
--- what a client's thread does
+-- the state of a client's thread
 abbrev pub thread_at : List Session → ℕ → ℕ → ClientThread
 thread_at sessions client place = slice_thread (session_at sessions client).threads place
 
@@ -124,11 +124,11 @@ IsFree sessions core = (client place : ℕ) → core_at sessions client place �
 abbrev pub IsTaken : List Session → ℕ → Type 0
 IsTaken sessions core = (client : ℕ) × ((place : ℕ) × (core_at sessions client place ≡ Some core))
 
--- a session whose thread at a place does this
+-- a session with this state of the thread at a place
 abbrev pub with_thread_in : Session → ℕ → ClientThread → Session
 with_thread_in session place thread = record session { threads = slice_set session.threads place thread }
 
--- a client's thread does this, and all else is as it was
+-- a client's thread has this state, and all else is as it was
 abbrev pub with_thread : List Session → ℕ → ℕ → ClientThread → List Session
 with_thread sessions client place thread = slice_set sessions client (with_thread_in (session_at sessions client) place thread)
 

@@ -1,4 +1,4 @@
--- What a step of the daemon's state changes.
+-- The changes of the daemon's state.
 use Rattle.std.specs.Prelude.{◌≡◌, ◌≢◌, ℕ, ◌<◌, ◌≤◌, Bool, true, false, Some, List, map, replicate, count_by, slice_index}
 use Rattle.arachne_grants.specs.declared.sessions.Session.{Session}
 use Rattle.arachne_grants.specs.declared.sessions.ClientThread.TheVariants.{Absent, Waits}
@@ -23,7 +23,7 @@ new_session taken priority reserved most = record {
 abbrev pub KeepsAllowed : CoreArbiter → CoreArbiter → Type 0
 KeepsAllowed old new = (new.cores ≡ old.cores) × (new.allowed ≡ old.allowed)
 
--- what clients are allowed still has the promises of `targets`, and is its answer, if it was
+-- the numbers that clients are allowed keep the properties of `targets`, and still are its result if they were before
 abbrev pub StaysAnswered : CoreArbiter → CoreArbiter → Type 0
 StaysAnswered old new =
     (AreGrants (map wants_of old.sessions) old.cores old.allowed → AreGrants (map wants_of new.sessions) new.cores new.allowed)
@@ -54,7 +54,7 @@ pub record IsTake (old new : List Session) (allowed : List ℕ) (client : ℕ) (
   pub way : gives_way (thread_at old client taken.place) late ≡ true
   pub unplaced : new ≡ with_thread old client taken.place (unplaced (thread_at old client taken.place))
 
--- no core is free while a client has less than it is allowed, if each is allowed what it has threads for
+-- no core is free while a client has less than it is allowed, if each has threads for what it is allowed
 abbrev pub AllGiven : List Session → List ℕ → ℕ → Type 0
 AllGiven sessions allowed cores =
     ((client : ℕ) → slice_index allowed client ≤ count_by is_usable (session_at sessions client).threads)

@@ -55,7 +55,7 @@ impl Client {
         }
     }
 
-    /// Returns how many cores it gets by its claims that go before this one.
+    /// Returns the number of cores that it gets by its claims that go before this one.
     pub(crate) fn gets_before(&self, claim: &Claim) -> u32
         ensures { result ≡ gets_before claim.now self.now }
     {
@@ -66,7 +66,9 @@ impl Client {
         }
     }
 
-    /// Returns how many of its first `most` cores go before a claim, if all of these or none are below its reserve.
+    /// Returns the number of its first `most` cores that go before a claim.
+    ///
+    /// The number is right if all of these cores, or none, are below its reserve.
     fn before_alike(&self, claim: &Claim, most: u32) -> u32
         ensures { result ≡ before_alike claim.now self.now most }
     {

@@ -4,10 +4,11 @@ ghost use Rattle.arachne_grants.specs.Grants.{AreEnough, AreFilled, AreGrants, I
 
 use crate::claims::{Claim, Client};
 
-/// Returns how many cores each client gets, at its place in `targets`.
+/// Returns the number of cores that each client gets, at its place in `targets`.
 ///
-/// One core at a time goes to who asks for more and has the first claim; of equal claims, the client that came first.
-/// The cores of all claims before one are given at once, so the time grows only by the logarithm of the cores.
+/// One core at a time goes to the client that asks for more and has the first claim; of equal claims, to the client
+/// that came first. The cores of all claims before one are given in one step, so the time grows only by the logarithm
+/// of the cores.
 pub fn targets(clients: &[Client], cores: u32, targets: &mut [u32])
     requires { length targets.old ≡ length clients.now }
     ensures order { IsInOrder clients.now targets.new }
@@ -34,7 +35,7 @@ pub fn targets_are_decided(clients: &[Client], cores: u32)
     ensures { IsDecided clients.now cores }
 {}
 
-/// Gives the cores of all claims before one, the last for which there are enough, and returns how many those are.
+/// Gives the cores of all claims before one, the last for which there are enough, and returns their number.
 fn fill_levels(clients: &[Client], cores: u32, targets: &mut [u32]) -> u32
     requires { length targets.old ≡ length clients.now }
     ensures few { result ≤ cores }

@@ -88,14 +88,14 @@ impl ClientThread {
         self.has_core() || self.is_ready()
     }
 
-    /// Returns true if its core may be taken from it: at once if it floats, else if its client is late.
+    /// Returns true if its core may be taken from it: immediately if it floats, and otherwise if its client is late.
     pub(crate) fn gives_way(self, late: bool) -> bool
         ensures { result ≡ gives_way self late }
     {
         late || matches!(self, ClientThread::FloatsOn(_))
     }
 
-    /// Returns what it does once it has this core.
+    /// Returns its state once it has this core.
     pub(crate) fn placed(self, core: u16) -> ClientThread
         ensures { result ≡ placed self core }
     {
@@ -105,7 +105,7 @@ impl ClientThread {
         }
     }
 
-    /// Returns what it does once its core is taken from it.
+    /// Returns its state once its core is taken from it.
     pub(crate) fn unplaced(self) -> ClientThread
         ensures { result ≡ unplaced self }
     {
@@ -128,7 +128,7 @@ impl Session {
         threads: [ClientThread::Absent; MAX_THREADS],
     };
 
-    /// Returns how many of its threads have a core.
+    /// Returns the number of its threads that have a core.
     pub(crate) fn held(&self) -> u32
         ensures { result ≡ count_by has_core self.now.threads }
     {
@@ -138,7 +138,7 @@ impl Session {
             .count() as u32
     }
 
-    /// Returns how many of its threads have a core or can take one.
+    /// Returns the number of its threads that have a core or can take one.
     fn usable(&self) -> u32
         ensures { result ≡ count_by is_usable self.now.threads }
     {
@@ -148,7 +148,7 @@ impl Session {
             .count() as u32
     }
 
-    /// Returns what is known of it as a client: it asks for no more than it may, and than it has threads for.
+    /// Returns it as `targets` sees it: it asks for at most the cores that it may have, and has threads for.
     pub(crate) fn wants(&self) -> Client
         ensures { result ≡ wants_of self.now }
     {

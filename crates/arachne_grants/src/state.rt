@@ -23,7 +23,7 @@ pub struct Grant {
     pub client: usize,
     pub place: usize,
     pub core: u16,
-    /// True if the thread waited for it, and is to hear of it.
+    /// True if the thread waited for it, and must be notified.
     pub waited: bool,
 }
 
@@ -100,7 +100,7 @@ impl CoreArbiter {
         Ok(())
     }
 
-    /// Sets how many cores a client asks for.
+    /// Sets the number of cores that a client asks for.
     pub fn ask(&mut self, client: usize, cores: u32) -> Result<(), Refused>
         ensures sessions { MatchResult result
             (λ _. self.new.sessions ≡ slice_set self.old.sessions client (record (session_at self.old.sessions client) { asks = cores }))
@@ -203,7 +203,7 @@ impl CoreArbiter {
         }
     }
 
-    /// Decides anew how many cores each client is allowed.
+    /// Decides anew the number of cores that each client is allowed.
     pub fn decide(&mut self)
         ensures promises { AreGrants (map wants_of self.new.sessions) self.new.cores self.new.allowed }
         ensures answer { IsAnswer (map wants_of self.new.sessions) self.new.cores self.new.allowed }
@@ -266,14 +266,14 @@ impl CoreArbiter {
         Some(TakenCore { place, core })
     }
 
-    /// Returns how many cores a client is allowed.
+    /// Returns the number of cores that a client is allowed.
     pub fn allowed_to(&self, client: usize) -> u32
         ensures { result ≡ slice_index self.now.allowed client }
     {
         self.allowed.get(client).copied().unwrap_or(0)
     }
 
-    /// Returns how many cores a client has.
+    /// Returns the number of cores that a client has.
     pub fn held_by(&self, client: usize) -> u32
         ensures { result ≡ held_in (session_at self.now.sessions client) }
     {
@@ -283,7 +283,7 @@ impl CoreArbiter {
         self.sessions[client].held()
     }
 
-    /// Returns what a thread does.
+    /// Returns the state of a thread.
     pub fn thread(&self, client: usize, place: usize) -> ClientThread
         ensures { result ≡ thread_at self.now.sessions client place }
     {
@@ -308,7 +308,7 @@ impl CoreArbiter {
         self.sessions[client] = session;
     }
 
-    /// Changes what a thread does.
+    /// Changes the state of a thread.
     fn set_thread(&mut self, client: usize, place: usize, thread: ClientThread)
         requires client { client < 64 }
         requires place { place < 64 }
@@ -319,7 +319,7 @@ impl CoreArbiter {
         self.sessions[client].threads[place] = thread;
     }
 
-    /// Returns what is known of each client.
+    /// Returns each client as `targets` sees it.
     fn clients(&self) -> [Client; MAX_CLIENTS]
         ensures { result ≡ map wants_of self.now.sessions }
     {
@@ -330,7 +330,7 @@ impl CoreArbiter {
         clients
     }
 
-    /// Returns how many cores each client has.
+    /// Returns the number of cores that each client has.
     fn held(&self) -> [u32; MAX_CLIENTS]
         ensures { result ≡ map held_in self.now.sessions }
     {

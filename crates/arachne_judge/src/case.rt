@@ -2,7 +2,7 @@
 //!
 //! An entry is written just before or just after the event that it reports. So another core may show the effect of an
 //! event first: that a thread was moved, that a core was closed or granted, or that a thread was woken. Core 0 has to
-//! report what it did before its next slice, and each other core at once. Until then the report is owed.
+//! report its actions before its next slice, and each other core immediately. Until then the report is owed.
 ghost use Rattle.std.specs.Prelude.{◌≡◌, ◌≢◌, ◌<◌, ◌==◌, IsSome, not};
 ghost use Rattle.arachne_judge.specs.Rules.{broken_by_pull, broken_if, first_broken};
 ghost use Rattle.arachne_judge.specs.declared.rules.Rule.TheVariants.{CoreZero};
@@ -245,7 +245,7 @@ impl<'r> Case<'r> {
         );
     }
 
-    /// Records as broken what is still owed when core 0 continues, or at the end of the log.
+    /// Records as broken each report that is still owed when core 0 continues, or at the end of the log.
     fn settle(&mut self) {
         if !self.owes {
             return;
@@ -328,8 +328,8 @@ impl<'r> Case<'r> {
 
     /// Judges whether a thread that has waited was woken before this turn. Returns the number of its other wakes.
     ///
-    /// Another core may have woken the thread just now, and has to report it at once. A wake may also be reported just
-    /// before the turn in which it occurs.
+    /// Another core may have woken the thread just now, and has to report it immediately. A wake may also be reported
+    /// just before the turn in which it occurs.
     fn waits(&mut self, before: ThreadFacts) -> u64 {
         if !matches!(before.end, SliceEnd::AwaitsChild | SliceEnd::Awaits(_)) {
             return before.woken;

@@ -54,7 +54,8 @@ struct EntryWords {
 
 /// A log of the events reported to a gate.
 ///
-/// The kernel threads of all cores write to it, each event at once. Events for which there is no room are only counted.
+/// The kernel threads of all cores write to it, each event immediately. Events for which there is no room are only
+/// counted.
 #[derive(Drop)]
 pub struct Log {
     lines: Vec<EntryWords>,

@@ -1,21 +1,21 @@
-//! Each public call once, and refused memory.
+//! Tests of each public call of a join cell once, and of refused memory.
 ghost use Rattle.std.specs.Prelude.{◌≡◌, ◌<◌, IfOk};
 
 use arachne_join::{CellState, Fits, JoinCell, SendingEnd};
 use std::alloc::{AllocError, Global};
 
-// What a cell is for: a number.
+// The number for which a cell is made.
 #[derive(Drop)]
 struct Wanted(u64);
 
-// A value that fits is the number itself, and one that may wait is below it.
+// Only the number itself fits, and a value may wait if it is below the number.
 impl Fits<Wanted> for u64 {
     ghost fits = { λ wanted value. value ≡ wanted.0 };
 
     ghost may_wait = { λ wanted value. value < wanted.0 };
 }
 
-// Under `rt try --test --fail-alloc N` the Nth allocation is refused: the first call answers it, and the second makes
+// Under `rt try --test --fail-alloc N` the Nth allocation is refused: then the first call fails, and the second makes
 // the cell.
 fn make_cell(
     alloc: Global,
@@ -41,8 +41,10 @@ fn gives_nothing_back(cell: &JoinCell<u64, Wanted>) -> bool {
     cell.take_back().is_err()
 }
 
-/// Whether what was put back is taken back, what was left is fetched, and a cell misses a value as it is to: before one
-/// is put back, while it waits, once it is taken back, and once another was left and fetched.
+/// Returns whether a value that was put back is taken back, and one that was left is fetched.
+///
+/// A fetch must fail, each time with the right state: before a value is put back, while it waits, after it was taken
+/// back, and after another was left and fetched.
 fn passes(cell: &JoinCell<u64, Wanted>, end: SendingEnd<u64, Wanted>) -> bool
     requires number { cell.now.key.0 ≡ 7 }
     requires end { end ≡ cell.now.table }

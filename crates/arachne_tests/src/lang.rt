@@ -1,3 +1,3 @@
-//! Texts that are read and printed, what is compared, and what is over a limit.
+//! Tests of reading and printing texts, of comparing meanings, and of limits.
 mod meaning;
 mod reading;

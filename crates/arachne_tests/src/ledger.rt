@@ -1,4 +1,4 @@
-//! What two threads add together, each call once, and ledgers of each number.
+//! Tests of two threads that add to ledgers, of each call once, and of each number of ledgers.
 ghost use Rattle.std.specs.Prelude.{◌≡◌, ◌<◌, IfOk};
 ghost use Rattle.arachne_ledger.specs.Views.{IsShareOf, IsWhole};
 
@@ -7,7 +7,7 @@ use std::alloc::{AllocError, Global};
 use std::thread;
 use std::thread::Threads;
 
-/// Adds 3 and half of 2^64, a thousand times.
+/// Adds 2^63 + 3 a thousand times.
 fn add_threes(ledgers: &Ledgers, mut share: Share) -> Share
     requires share { IsShareOf ledgers.now share }
     requires some_ledger { 0 < ledgers.now.count }
@@ -33,7 +33,7 @@ fn add_in_two_threads<R: Threads>(rt: &R, ledgers: &Ledgers, share: Share) -> Sh
     ledgers.join_shares(first, second)
 }
 
-// Under `rt try --test --fail-alloc N` the Nth allocation is refused. A call that answers so is made once more.
+// Under `rt try --test --fail-alloc N` the Nth allocation is refused. A call that fails by that is made once more.
 fn make_ledgers(alloc: Global, count: usize) -> Result<(Ledgers, Share), AllocError>
     ensures ledgers { IfOk result (λ r. r.0.count ≡ count) }
     ensures share { IfOk result (λ r. IsShareOf r.0 r.1) }
@@ -45,7 +45,7 @@ fn make_ledgers(alloc: Global, count: usize) -> Result<(Ledgers, Share), AllocEr
     }
 }
 
-// After a refusal the ledgers and the share are as before, so it tries once more.
+// After a refusal the ledgers and the share are as before, so that it can try once more.
 fn sums(alloc: Global, ledgers: Ledgers, share: Share) -> Option<Vec<u64>>
     requires share { IsShareOf ledgers share }
     requires whole { IsWhole share }
@@ -56,7 +56,7 @@ fn sums(alloc: Global, ledgers: Ledgers, share: Share) -> Option<Vec<u64>>
     }
 }
 
-/// Whether these sums came out.
+/// Returns whether the sums are these.
 fn are_sums(sums: Option<Vec<u64>>, expected: &[u64]) -> bool {
     match sums {
         Some(sums) => sums.as_slice() == expected,
@@ -73,8 +73,9 @@ fn two_threads_add_up(rt: HostRuntime) -> Result<(), AllocError> {
     Ok(())
 }
 
-/// What two shares of two ledgers read after both have added: what the first added to the second ledger is read through
-/// the second share, and the other way round. The whole share.
+/// Adds to two ledgers through two shares, and reads what each has added through the other share.
+///
+/// Returns both numbers, and the whole share.
 fn add_apart(ledgers: &Ledgers, share: Share) -> ((u64, u64), Share)
     requires share { IsShareOf ledgers.now share }
     requires two { ledgers.now.count ≡ 2 }
@@ -97,7 +98,7 @@ fn a_part_reads_what_another_added(rt: HostRuntime) -> Result<(), AllocError> {
 
 const NUMBERS: [u64; 16] = [1, 2, 3, 4, 5, 6, 7, 8, 9, 10, 11, 12, 13, 14, 15, 16];
 
-/// Adds to each ledger its place among them, from 1.
+/// Adds to each ledger its number, counted from 1.
 fn add_to_each(ledgers: &Ledgers, mut share: Share) -> Share
     requires share { IsShareOf ledgers.now share }
     ensures { IsShareOf ledgers.now result }
@@ -108,7 +109,7 @@ fn add_to_each(ledgers: &Ledgers, mut share: Share) -> Share
     share
 }
 
-/// Whether so many ledgers come to these sums.
+/// Returns whether `count` ledgers have these sums after each was added its number.
 fn come_to(alloc: Global, count: usize, expected: &[u64]) -> Result<bool, AllocError> {
     let (ledgers, share) = make_ledgers(alloc, count)?;
     let share = add_to_each(&ledgers, share);

@@ -1,5 +1,6 @@
-//! Tests of the crates below the commands, by public calls alone, a module for each crate. What they test is proved
-//! without them.
+//! Tests of the crates below the commands, through their public calls only, with a module for each crate.
+//!
+//! The crates are proved without them.
 #![tactic(auto)]
 
 #[cfg(test)]

@@ -1,4 +1,4 @@
-//! What no clause says of threads that are cut anywhere: worked values, and refused memory.
+//! Tests of threads that can be cut at any step: worked values, and refused memory.
 mod family;
 mod shortage;
 mod told;
@@ -10,7 +10,7 @@ use arachne_lang::{Program, parse};
 use arachne_machine::run_alone;
 use std::alloc::Global;
 
-/// The program of an expression, with so many ledgers and locks.
+/// Returns the program of an expression, with `count` ledgers and `count` locks.
 fn program(alloc: Global, count: u8, expression: &str) -> Option<Program> {
     let text = format!(in alloc; "arachne 1\nledgers {count}\nlocks {count}\n{expression}\n").ok()?;
     parse(alloc, text.as_bytes()).ok()
@@ -22,13 +22,15 @@ const COUNTING: &str = "(sweep add 1 (num 0) (num 8) (hold 0 (tally 0 (num 5) (n
 const GROWING: &str =
     "(fork x (fork x (tally 0 (num 3) (fork x (num 20) (num 5) (sub (var 0) (var 1)))) (num 7) (sub (var 0) (var 1))) (num 2) (sub (var 0) (var 1)))";
 
-/// A program: how many ledgers and locks it has, its expression, how the children run of its threads, the sum of the
-/// tags that ask for a lock, and what is told of its threads.
+/// A program: its number of ledgers and of locks, its expression, the way in which children run, the sum of the tags
+/// that ask for a lock, and the text of its outcome.
 type Row = (u8, &'static str, Way, u64, &'static str);
 
-/// The threads with the tags 9 to 16 hold the lock once each, and are told as the ones that ask for it, or those with
-/// the tags 10 to 17. A child that is given away has the tag 0, unless it begins in its parent's place at once: then it
-/// has the one that it gets there, which is 7.
+/// Programs, with the texts of their outcomes.
+///
+/// The threads with the tags 9 to 16, or 10 to 17, hold the lock once each, and are those that ask for it. A child that
+/// is given away has the tag 0, unless it begins in its parent's place immediately: then it has the tag that it gets
+/// there, which is 7.
 const ROWS: &[Row] = &[
     (0, "(num 7)", Way::AtFork, 0, "7 [] []9-[]"),
     (
@@ -89,7 +91,7 @@ const ROWS: &[Row] = &[
     ),
 ];
 
-/// What is told of a program's threads, with no memory where that is short.
+/// Returns the text of a program's outcome. If `is_short`, there is no memory at the beginning of each call.
 fn told_of(alloc: Global, program: &Program, round: &mut Round, is_short: bool) -> Option<String> {
     match parts_of(alloc, program, round, is_short) {
         Some(parts) => told(alloc, &parts),
@@ -97,7 +99,7 @@ fn told_of(alloc: Global, program: &Program, round: &mut Round, is_short: bool) 
     }
 }
 
-/// The same of a program's text behind its first line.
+/// Returns the same for the program of an expression.
 fn told_of_text(
     alloc: Global,
     count: u8,
@@ -111,8 +113,10 @@ fn told_of_text(
     }
 }
 
-/// Whether a row's threads are told as is expected. Where memory is short there is none at each call, which is made
-/// again with a little more each time.
+/// Returns whether a row's outcome is as expected.
+///
+/// If `is_short`, there is no memory at the beginning of each call, and the call is repeated with a little more each
+/// time.
 fn is_right_with(alloc: Global, row: &Row, budget: u32, is_short: bool) -> Option<bool> {
     let &(count, expression, way, asked, expected) = row;
     let mut round = Round::new(way, budget, budget);
@@ -122,8 +126,10 @@ fn is_right_with(alloc: Global, row: &Row, budget: u32, is_short: bool) -> Optio
     Some(text.as_str() == expected && round.heard.asked == asked && is_refused == is_short)
 }
 
-/// The number of the first row that is told otherwise, from 0, and its budget. Run with each allocation refused in turn
-/// (`rt try --test --fail-alloc N`) this gives the same: a row for which memory was refused is tried once more.
+/// Returns the number, from 0, of the first row whose outcome is not as expected, and the budget.
+///
+/// With each allocation refused in turn (`rt try --test --fail-alloc N`) the result is the same: a row for which memory
+/// was refused is tried once more.
 fn first_wrong(alloc: Global, is_short: bool) -> Option<(usize, u32)> {
     for (k, row) in ROWS.iter().enumerate() {
         for budget in [1, 2, 7, 1000] {
@@ -146,7 +152,8 @@ fn threads_are_told(rt: HostRuntime) {
 
 const FOLD: &str = "(fold (num 0) (num 5000) (num 0) (add (var 0) (var 1)))";
 
-/// Expressions, the budgets of the first call and of the others, the pauses, and what is told.
+/// Expressions, the budgets of the first call and of the others, the pauses, and the text of the outcome.
+///
 /// A sum and its two numbers are begun by three steps; the last adds the numbers and ends. A fold takes two steps
 /// beside those of its bounds, of its start and of its 5,000 turns, each a sum of two variables: 15,005 in all.
 const BUDGETS: &[(&str, u32, u32, u64, &str)] = &[
@@ -162,7 +169,7 @@ const BUDGETS: &[(&str, u32, u32, u64, &str)] = &[
     ),
 ];
 
-/// The pauses of a program by these budgets, if its thread is told as is expected.
+/// Returns the pauses of a program with these budgets, if the text of its outcome is as expected.
 fn paused(alloc: Global, expression: &str, first: u32, then: u32, expected: &str) -> Option<u64> {
     let mut round = Round::new(Way::AtFork, first, then);
     let text = told_of_text(alloc, 1, expression, &mut round, false)?;
@@ -179,7 +186,7 @@ fn budgets_up_to_the_greatest(rt: HostRuntime) {
     }
 }
 
-/// Sixty forks within one another.
+/// Returns the text of sixty forks within one another.
 fn chain(alloc: Global) -> Option<String> {
     let mut text = String::new(alloc);
     for _ in 0..60 {
@@ -192,7 +199,9 @@ fn chain(alloc: Global) -> Option<String> {
     Some(text)
 }
 
-/// Whether sixty threads, each forked by the one before it, are told in turn, the last with a name of sixty numbers.
+/// Returns whether the outcome lists sixty threads in order, each forked by the one before it.
+///
+/// The last has a name of sixty numbers.
 fn is_chain(alloc: Global, text: &str) -> Option<bool> {
     let mut round = Round::new(Way::AtFork, 3, 3);
     let told = told_of_text(alloc, 0, text, &mut round, false)?;
@@ -214,12 +223,15 @@ fn a_chain_in_place(rt: HostRuntime) {
     assert!(rt; is_chain_told(rt.alloc()));
 }
 
-/// Three children, one after the other, each of which joins 130 children one after the other, of 1,010 threads each. So
-/// the lines of a thread come to lie in up to 390 lists, and lists come behind none, some and many.
+/// Three children, one after the other, each of which joins 130 children one after the other, of 1,010 threads each.
+///
+/// So the lines of a thread are in up to 390 lists, and a list is put behind none, some and many.
 const LISTS: &str =
     "(fold (num 0) (num 3) (num 0) (fork n (fold (num 0) (num 130) (num 0) (fork n (sweep add 1 (num 0) (num 1010) (num 1)) (num 0) (add (var 3) (var 4)))) (num 0) (add (var 1) (var 2))))";
 
-/// How many threads the program of an expression has. No clause says that memory is enough where none is refused.
+/// Returns the number of threads of an expression's program.
+///
+/// No clause says that memory is enough if none is refused.
 fn threads_of(alloc: Global, expression: &str) -> Option<usize> {
     let program = program(alloc, 0, expression)?;
     let meaning = run_alone(alloc, &program, 1000).ok()?;

@@ -1,10 +1,10 @@
-//! Samples with the advice on each, choices of cores, lists of orders, and the texts of faults.
+//! Tests of samples with the advice on each, of choices of cores, of lists of orders, and of the texts of faults.
 use arachne_policy::{
     Advice, BadSample, CoreLoad, CoreOrder, Estimator, OrderFault, OrderFaultKind, OrderKind,
     Sample, check_orders, two_choices,
 };
 
-/// Five numbers of samples in turn, and what each is answered.
+/// Samples, one after another, each with its result.
 const SAMPLES: &[([u64; 5], Result<Advice, BadSample>)] = &[
     ([2, 151, 100, 1900, 1000], Ok(Advice::Add)),
     ([3, 100, 100, 1810, 1000], Ok(Advice::Stay)),

@@ -1,9 +1,9 @@
-//! Runs of the World, with the words that it shows after each event, and worked values of the words.
+//! Tests of the `World`: the words after each event of a run, and worked values of the words.
 
 use arachne_core::{Event, Mark, MarkWord, NotApplied, OccWord, Place, Rest, ThreadId, World};
 use std::alloc::{AllocError, Global};
 
-/// An event, and the words of core 0 and of context 0 behind it, unless it isn't allowed.
+/// An event, and the words of core 0 and of context 0 after it, or `None` if it isn't allowed.
 type Row = (Event, Option<(u64, u64)>);
 
 const ID: ThreadId = ThreadId {
@@ -60,7 +60,7 @@ const MOVE: Event = Event::Move {
     to: 56,
 };
 
-/// A thread is woken while it is held and while it is blocked, and its core drains. Another has the core alone.
+/// A thread is woken while it is held and while it is blocked. Its core is closed and drained, and then exclusive.
 const ON_ONE_CORE: &[Row] = &[
     (CLAIM, Some((0x100000000000001, 0x0))),
     (Event::Wake { id: ID }, None),
@@ -107,15 +107,16 @@ const TO_ANOTHER: &[Row] = &[
     ),
 ];
 
-/// How many cores there are, for how many posts and retires there is room, and events. Where no room is reserved a post
-/// may be refused for memory, and stays possible.
+/// The number of cores, the posts and the retires for which room is reserved, and the events.
+///
+/// If no room is reserved, a post may be refused for want of memory, and stays possible.
 const RUNS: &[(u8, usize, usize, &[Row])] = &[
     (1, 1, 1, ON_ONE_CORE),
     (1, 0, 0, ON_ONE_CORE),
     (2, 1, 0, TO_ANOTHER),
 ];
 
-/// The words of core 0 and of context 0, if that stands where it is found.
+/// Returns the words of core 0 and of context 0, if the context is at the place that the World gives for it.
 fn shown(world: &World) -> Option<(u64, u64)> {
     let (cores, slots) = (world.cores(), world.slots());
     if u32::from(cores) * u32::from(slots) == 0 {
@@ -131,7 +132,7 @@ fn shown(world: &World) -> Option<(u64, u64)> {
     Some((world.occ(0).word(), world.mark(0).word()))
 }
 
-/// Makes an event. Where memory is refused for it and nothing changed, it is made once more.
+/// Applies an event, and once more if memory was refused and the words have not changed.
 fn make(world: &mut World, event: Event) -> Result<(), NotApplied> {
     let before = shown(world);
     match world.apply(event) {
@@ -140,7 +141,7 @@ fn make(world: &mut World, event: Event) -> Result<(), NotApplied> {
     }
 }
 
-/// Whether an event shows these words, or isn't allowed.
+/// Returns whether an event gives these words, or isn't allowed if there are none.
 fn is_right(world: &mut World, event: Event, words: Option<(u64, u64)>) -> bool {
     match make(world, event) {
         Ok(()) => words.is_some() && shown(world) == words,
@@ -149,7 +150,7 @@ fn is_right(world: &mut World, event: Event, words: Option<(u64, u64)>) -> bool 
     }
 }
 
-/// Whether each event shows its words.
+/// Returns whether each event of a run gives its words.
 fn are_right(world: &mut World, rows: &[Row]) -> bool {
     for &(event, words) in rows {
         if !is_right(world, event, words) {
@@ -159,7 +160,7 @@ fn are_right(world: &mut World, rows: &[Row]) -> bool {
     true
 }
 
-/// The same of a World with so many cores.
+/// Returns the same for a run that begins with a new World.
 fn is_right_run(alloc: Global, run: &(u8, usize, usize, &[Row])) -> Result<bool, AllocError> {
     let &(cores, posts, retires, rows) = run;
     if cores == 0 || cores > 64 {
@@ -178,10 +179,10 @@ fn runs_show_their_words(rt: HostRuntime) -> Result<(), AllocError> {
     Ok(())
 }
 
-/// What a mark word has: the code of its mark, whether it is alone, its core and index, and its generation.
+/// The parts of a mark word: the code of its mark, whether it is exclusive, its core and index, and its generation.
 type Marked = (u64, bool, u8, u8, u64);
 
-/// Numbers, and what each has as a mark word. No mark has the code 6, and no core the index 56.
+/// Numbers, and the parts of each as a mark word. No mark has the code 6, and no core has the index 56.
 const MARKS: &[(u64, Option<Marked>)] = &[
     (0x10850, Some((0, false, 2, 5, 1))),
     (0x10851, Some((1, false, 2, 5, 1))),
@@ -203,8 +204,8 @@ fn marked(number: u64) -> Option<Marked> {
     Some((code, word.is_alone(), core, index, word.generation()))
 }
 
-/// A word as it is, with another mark and with another place, and the word of its layout that the first layout has as
-/// another number.
+/// Returns a word as it is made anew, with another mark, with another place, and read from its number in the first
+/// layout.
 fn changed(number: u64, first: u64) -> Option<(u64, u64, u64, u64)> {
     let word = MarkWord::from_word(number)?;
     let last = Place {
@@ -227,11 +228,11 @@ fn mark_words(rt: HostRuntime) {
     assert!(rt; changed(0x10851, 0x4851) == expected);
 }
 
-/// What an occupancy word has: its mask and its count, whether it is closed, exclusive and empty, and its lowest free
+/// The parts of an occupancy word: its mask and count, whether it is closed, exclusive and empty, and its lowest free
 /// index.
 type Occupied = (u64, u8, bool, bool, bool, Option<u8>);
 
-/// Numbers, and what each has as an occupancy word. The count of the last isn't that of its mask.
+/// Numbers, and the parts of each as an occupancy word. The count of the last isn't that of its mask.
 const OCCUPANCIES: &[(u64, Option<Occupied>)] = &[
     (0, Some((0, 0, false, false, true, Some(0)))),
     (
@@ -258,7 +259,7 @@ fn occupied(number: u64) -> Option<Occupied> {
     ))
 }
 
-/// The word with index 2 and without it, whether that is occupied, and the closed and exclusive word without index 0.
+/// Returns a word with index 2 and without it, whether that is occupied, and the closed exclusive word without index 0.
 fn with_and_without(number: u64) -> Option<(u64, u64, bool, u64)> {
     let occ = OccWord::from_word(number)?;
     let (with, without) = (occ.with_bit(2), occ.without_bit(2));

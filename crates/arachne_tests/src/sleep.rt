@@ -1,4 +1,4 @@
-//! One run of asks, looks and frees, a call a row with its answer.
+//! Tests of sleep locks, and a run of asks, checks and frees that they share, a row for each call and its result.
 mod contended;
 mod long;
 mod several;
@@ -8,7 +8,7 @@ use arachne_core::ThreadId;
 use arachne_sleep::{AskFault, Asked, Freed, LockEvent, NotHolder, Pass, Who};
 use std::test::Fail;
 
-/// A thread of the context and the generation 7, by its tag.
+/// Returns the thread of this tag and context, and of the generation 7.
 fn thread(tag: u64, context: u32) -> Who {
     Who {
         tag,
@@ -43,7 +43,7 @@ const C: Who = Who {
     },
 };
 
-/// What a thread calls.
+/// A call of a thread.
 #[derive(Clone, Copy)]
 enum Call {
     Ask,
@@ -51,13 +51,13 @@ enum Call {
     Free,
 }
 
-/// What is told, the place in the history, and the next thread.
+/// The result of a call: its name, the place in the history, and the next thread.
 type Answer = (&'static str, usize, Option<Who>);
 
-/// Calls, each by a thread, and what it answers.
+/// Calls, each with its thread and its result.
 type Rows = &'static [(Call, Who, Answer)];
 
-/// Three threads ask: one is let in, and two wait. Each frees the lock once it has it.
+/// Three threads ask for the lock: one gets it, and two wait. Each frees it once it has it.
 const ROWS: Rows = &[
     (Call::Ask, A, ("granted", 1, None)),
     (Call::Ask, B, ("queued", 2, None)),
@@ -87,7 +87,7 @@ const WHOLE: &[LockEvent] = &[
     LockEvent::Free(C),
 ];
 
-/// A pass of this lock for this thread.
+/// Returns the result for a pass, which must be one of this lock for this thread.
 fn told_pass(told: &'static str, lock: u8, who: Who, pass: Pass) -> Answer {
     if pass.lock == lock && pass.who == who {
         return (told, pass.at, None);

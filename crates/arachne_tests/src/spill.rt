@@ -1,4 +1,4 @@
-//! A queue that is filled, refuses and is emptied, and tickets that pass between two kernel threads.
+//! Tests of a queue that is filled, refuses and is emptied, and of tickets that pass between two kernel threads.
 ghost use Rattle.std.specs.Prelude.{IfOk};
 ghost use Rattle.arachne_spill.specs.Views.{IsPassOf};
 
@@ -28,7 +28,7 @@ type Queue = SpillQueue<Ticket>;
 
 type Pass = SpillPass<Ticket>;
 
-// Under `rt try --test --fail-alloc N` the Nth allocation is refused. A call that answers so is made once more.
+// Under `rt try --test --fail-alloc N` the Nth allocation is refused. A call that fails by that is made once more.
 fn make(alloc: Global) -> Result<(Queue, Pass), AllocError>
     ensures { IfOk result (λ made. IsPassOf made.0 made.1) }
 {
@@ -38,7 +38,7 @@ fn make(alloc: Global) -> Result<(Queue, Pass), AllocError>
     }
 }
 
-/// Pushes tickets with the tags from 0 on, until one comes back: its tag.
+/// Pushes tickets with the tags from 0 on until one is refused, and returns its tag.
 fn fill<R: Wait>(rt: &R, queue: &Queue, pass: &mut Pass) -> Option<u64>
     requires { IsPassOf queue.now pass.old }
     ensures { IsPassOf queue.now pass.new }
@@ -51,7 +51,9 @@ fn fill<R: Wait>(rt: &R, queue: &Queue, pass: &mut Pass) -> Option<u64>
     None
 }
 
-/// Pops until there is none: how many came, if they came with the tags from 0 on.
+/// Pops until the queue is empty, and returns the number of tickets.
+///
+/// Returns `None` if their tags are not those from 0 on.
 fn drain<R: Wait>(rt: &R, queue: &Queue, pass: &mut Pass) -> Option<u64>
     requires { IsPassOf queue.now pass.old }
     ensures { IsPassOf queue.now pass.new }
@@ -66,7 +68,7 @@ fn drain<R: Wait>(rt: &R, queue: &Queue, pass: &mut Pass) -> Option<u64>
     None
 }
 
-/// Whether the queue is empty, and whether it is full.
+/// Returns whether the queue is empty, and whether it is full.
 fn looks<R: Wait>(rt: &R, queue: &Queue, pass: &mut Pass) -> (bool, bool)
     requires { IsPassOf queue.now pass.old }
     ensures { IsPassOf queue.now pass.new }
@@ -87,7 +89,7 @@ fn the_257th_ticket_comes_back(rt: HostRuntime) -> Result<(), AllocError> {
     Ok(())
 }
 
-/// Pushes a ticket, and again while the queue is full.
+/// Pushes a ticket, and tries again while the queue is full.
 fn push_at_last<R: Wait>(rt: &R, queue: &Queue, pass: &mut Pass, ticket: Ticket)
     requires { IsPassOf queue.now pass.old }
     ensures { IsPassOf queue.now pass.new }
@@ -102,7 +104,7 @@ fn push_at_last<R: Wait>(rt: &R, queue: &Queue, pass: &mut Pass, ticket: Ticket)
     }
 }
 
-/// The next ticket's tag.
+/// Pops the next ticket, waiting while the queue is empty, and returns its tag.
 fn pop_at_last<R: Wait>(rt: &R, queue: &Queue, pass: &mut Pass) -> u64
     requires { IsPassOf queue.now pass.old }
     ensures { IsPassOf queue.now pass.new }
@@ -126,7 +128,7 @@ fn send<R: Wait>(rt: &R, queue: &Queue, mut pass: Pass) -> Pass
     pass
 }
 
-/// How many tickets came in order.
+/// Receives all tickets, and returns the number of those that came in order.
 fn receive<R: Wait>(rt: &R, queue: &Queue, mut pass: Pass) -> (Pass, u64)
     requires { IsPassOf queue.now pass }
     ensures { IsPassOf queue.now result.0 }

@@ -1,6 +1,7 @@
 //! A scheduler: what the kernel thread of a core does next, whatever its table and its threads are.
 #![tactic(auto)]
 
+mod deferral;
 mod desk;
 mod hints;
 mod policy;

@@ -1,4 +1,4 @@
--- The one job in hand is the newest.
+-- If one job is in hand, it is the newest.
 use Rattle.std.proofs.Common.{◌≡◌, ℕ, List, [], ◌∷◌, sym, ap, ◌∙◌}
 use Rattle.arachne_exec.specs.declared.view.Notes.{Notes}
 use Rattle.arachne_exec.specs.Changes.{older}

@@ -1,4 +1,4 @@
-//! Jobs that wait for one another, run by two and by four kernel threads over the core of an executor.
+//! Jobs that wait for one another, run by two and then by four kernel threads over `arachne_exec`.
 #![tactic(auto)]
 
 mod relay;
@@ -7,7 +7,7 @@ use crate::relay::Relay;
 use anyhow::{Result, bail};
 use arachne_team::work_together;
 
-/// How many jobs there are for each kernel thread.
+/// The number of jobs for each kernel thread.
 const JOBS: usize = 500;
 
 fn main(rt: HostRuntime) -> Result<()> {

@@ -1,4 +1,4 @@
-//! A relay: each job ends once the one before it has, and waits until then.
+//! A relay: each job waits until the job before it has ended, and then ends itself.
 ghost use Rattle.std.specs.Prelude.{◌≡◌, ◌*◌, ◌<◌, IfOk};
 ghost use Rattle.example_exec.specs.Relay.{IsFree, HasOne, HasNone};
 
@@ -13,20 +13,20 @@ use std::sync::atomic::{AtomicU64, Ordering};
 use std::thread::Parker;
 use std::time::Clock;
 
-/// Jobs that are numbered from 1.
+/// A relay of jobs, numbered from 1.
 #[derive(Drop)]
 pub struct Relay {
     executor: Executor,
-    /// How many kernel threads there are. Each is the worker of one shard.
+    /// The number of kernel threads. Each is the worker of one shard.
     team: u8,
-    /// The name of each job.
+    /// The executor's name of each job.
     names: Vec<AtomicU64>,
-    /// The last job that has ended.
+    /// The number of the last job that has ended.
     last: AtomicU64,
     parkers: Vec<Parker>,
 }
 
-/// Spawns so many jobs at each shard. The name of each.
+/// Spawns `jobs` jobs at each shard, and returns their names.
 fn spawn_all(
     alloc: Global,
     executor: &Executor,
@@ -51,7 +51,9 @@ fn spawn_all(
 }
 
 impl Relay {
-    /// A relay of so many jobs for each of its kernel threads, and a seat for the first of these.
+    /// Creates a relay of `jobs` jobs for each of `team` kernel threads.
+    ///
+    /// Returns it with the seat of the first kernel thread. The error is a refusal of memory.
     pub fn new(alloc: Global, team: u8, jobs: usize) -> Result<(Relay, ExecSeat), AllocError>
         ensures seat { IfOk result (λ made. IsFree made.0.executor made.1) }
         ensures team { IfOk result (λ made. made.0.team ≡ team) }
@@ -72,12 +74,14 @@ impl Relay {
         Ok((relay, seat))
     }
 
-    /// How many jobs have ended.
+    /// Returns the number of jobs that have ended.
     pub fn ended(&self) -> u64 {
         self.last.load(Ordering::SeqCst)
     }
 
-    /// How many jobs are left.
+    /// Closes the relay, and returns the number of jobs that are left.
+    ///
+    /// Returns `None` if the seat is not whole or if memory is refused.
     pub fn close(self, alloc: Global, seat: ExecSeat) -> Option<usize>
         requires { IsFree self.executor seat }
     {
@@ -94,7 +98,7 @@ impl Relay {
         }
     }
 
-    /// Wakes a job, if there is one of this index.
+    /// Wakes the job at an index of `names`, if there is one.
     fn wake<R: Wait>(&self, rt: &R, seat: &mut ExecSeat, index: usize)
         requires { HasNone self.now.executor seat.old }
         ensures { HasNone self.now.executor seat.new × (seat.new.known.worker ≡ seat.old.known.worker) }
@@ -115,7 +119,7 @@ impl Relay {
         }
     }
 
-    /// Ends a job if it is its turn, and has it wait if not.
+    /// Ends a job and wakes the one after it, if the job before it has ended; otherwise blocks it.
     fn run<R: Wait>(&self, rt: &R, seat: &mut ExecSeat, job: HeldJob)
         requires own { HasOne self.now.executor job seat.old }
         requires place { job.place < 4096 * self.now.executor.shards }
@@ -133,7 +137,7 @@ impl Relay {
         }
     }
 
-    /// Has all kernel threads look whether they are done.
+    /// Unparks all kernel threads, so that each checks whether all jobs have ended.
     fn unpark_all(&self) {
         for parker in &self.parkers {
             parker.unpark();
@@ -184,7 +188,7 @@ impl Team<ExecSeat> for Relay {
         Some(share)
     }
 
-    /// The others can't end without it: they wait for jobs of its shard. So the relay is said to be over.
+    /// Ends the relay early: without this kernel thread the others would wait forever for the jobs of its shard.
     fn fail<R: Wait>(&self, _rt: &R, _fault: TeamFault) {
         self.last.store(self.names.len() as u64, Ordering::SeqCst);
         self.unpark_all();

@@ -1,5 +1,6 @@
-//! A fork and its join: a child on another kernel thread leaves its result in a join cell, and the parent fetches it
-//! there.
+//! A fork and its join, by a join cell.
+//!
+//! A child on another kernel thread leaves its result in the cell, and the parent fetches it there.
 
 ghost use Rattle.std.specs.Prelude.{◌≡◌, ◌*◌, ◌%◌, ◌^◌, IfOk};
 
@@ -14,17 +15,17 @@ use std::thread::{Parker, Threads};
 #[derive(Drop)]
 struct Square(u64);
 
-/// What fits a cell that was made for a number: the square of that number. So a square of another can't be left there.
+/// Only the square of a number fits a cell that was made for that number. No other can be left there.
 impl Fits<u64> for Square {
     ghost fits = { λ number square. square.0 ≡ number * number % 2 ^ 64 };
 }
 
 type Cell = JoinCell<Square, u64>;
 
-/// How many squares are added up in the end, each by a kernel thread of its own.
+/// The number of squares that are added up in the end, each computed by a kernel thread of its own.
 const MANY: u64 = 10_000;
 
-/// The child's part. Its sending end is used up, and the parent is woken.
+/// Leaves the square of `number` in the cell, and wakes the parent. Uses up the sending end.
 fn leave(cell: &Cell, end: SendingEnd<Square, u64>, number: u64, left: &Parker)
     requires place { end ≡ cell.now.table }
     requires what_for { cell.now.key ≡ number }
@@ -33,7 +34,7 @@ fn leave(cell: &Cell, end: SendingEnd<Square, u64>, number: u64, left: &Parker)
     left.unpark();
 }
 
-/// The parent's part: it sleeps until the value is there.
+/// Sleeps until the cell has a value, and returns it.
 fn fetch<R: Wait>(rt: &R, cell: &Cell, left: &Parker) -> u64
     ensures { result ≡ cell.now.key * cell.now.key % 2 ^ 64 }
 {
@@ -46,7 +47,9 @@ fn fetch<R: Wait>(rt: &R, cell: &Cell, left: &Parker) -> u64
     unreachable!()
 }
 
-/// The square of a number, which a thread of its own computes.
+/// Returns the square of `number`, computed on another kernel thread.
+///
+/// The error is a refusal of memory.
 fn square_beside<R: Threads + Wait + Sync>(
     rt: &R,
     alloc: Global,

@@ -10,14 +10,14 @@ use arachne_lang::{CheckFault, Meaning, TextFault, check, eval, parse};
 use std::alloc::{AllocError, Global};
 use thiserror::Error;
 
-/// Two threads hold lock 0 in turn, and add to ledger 0.
+/// A program of two threads that hold lock 0 in turn and add to ledger 0.
 const TEXT: &str = "arachne 1
 ledgers 1
 locks 1
 (fork n (hold 0 (tally 0 (num 5) (num 1))) (hold 0 (tally 0 (num 7) (num 2))) (add (var 0) (var 1)))
 ";
 
-/// Why a text has no meaning.
+/// The reason why a text has no meaning.
 #[derive(Debug, Drop, Error)]
 enum Refused {
     #[error(transparent)]
@@ -28,7 +28,7 @@ enum Refused {
     Memory(#[from(alloc)] AllocError),
 }
 
-/// What the program of a text means.
+/// Returns the meaning of the program that a text spells.
 fn meaning(alloc: Global, text: &[u8]) -> Result<Meaning, Refused>
     ensures { IfOk result (λ meaning. (program : Source) × (text_of program ≡ text.now) × (meaning ≡ meaning_of program)) }
 {

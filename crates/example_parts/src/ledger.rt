@@ -1,4 +1,4 @@
-//! Two kernel threads add the halves of a list to one ledger, and its word is then the sum of the list.
+//! Two kernel threads add the halves of a list to one ledger, which then has the sum of the list.
 
 ghost use Rattle.std.specs.Prelude.{◌≡◌, ◌%◌, ◌^◌, [], ◌∷◌, IfSome, sum};
 ghost use Rattle.arachne_ledger.specs.Views.{IsShareOf};
@@ -9,7 +9,7 @@ use std::alloc::Global;
 use std::thread;
 use std::thread::Threads;
 
-/// Adds each number to the one ledger, through a share that has added nothing yet.
+/// Adds each number to the only ledger. The share has added nothing yet.
 fn add_all(ledgers: &Ledgers, mut share: Share, numbers: &[u64]) -> Share
     requires own { IsShareOf ledgers.now share }
     requires one { ledgers.now.count ≡ 1 }
@@ -22,7 +22,7 @@ fn add_all(ledgers: &Ledgers, mut share: Share, numbers: &[u64]) -> Share
     share
 }
 
-/// The sum of the numbers, modulo 2^64. None where memory is refused.
+/// Returns the sum of the numbers, modulo 2^64, or `None` if memory is refused.
 fn sum_of<R: Threads>(rt: &R, alloc: Global, numbers: &[u64]) -> Option<u64>
     ensures { IfSome result (λ total. total ≡ sum numbers.now % 2 ^ 64) }
 {
@@ -35,7 +35,7 @@ fn sum_of<R: Threads>(rt: &R, alloc: Global, numbers: &[u64]) -> Option<u64>
         || add_all(&ledgers, second, right),
     );
     let mut share = ledgers.join_shares(first, second);
-    // Whoever has the whole share reads the sum of all that was added.
+    // Only a whole share may read: then nobody else can still add.
     if !share.is_whole() {
         return None;
     }

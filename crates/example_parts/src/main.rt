@@ -1,4 +1,4 @@
-//! What the crates that stand alone give, one part each: a module to copy.
+//! One module to copy for each crate that can be used on its own.
 #![tactic(auto)]
 
 mod join;

@@ -17,7 +17,7 @@ enum JudgeError {
     Memory(#[from(alloc)] AllocError),
 }
 
-/// The advice on each sample after those before it.
+/// Returns the advice on each sample, given the samples before it.
 fn judge_all(
     alloc: Global,
     mut estimator: Estimator,
@@ -33,7 +33,7 @@ fn judge_all(
     Ok(answers)
 }
 
-/// What was measured over a second, in milliseconds, on so many cores.
+/// Returns a sample of one second on `cores` cores. Times are in milliseconds.
 fn sample(cores: u64, runnable: u64, busy: u64) -> Sample {
     Sample {
         cores,
@@ -45,7 +45,7 @@ fn sample(cores: u64, runnable: u64, busy: u64) -> Sample {
 }
 
 pub fn show(rt: &impl Print, alloc: Global) -> Result<()> {
-    // On two cores there was too much to run, so a third was asked for; there the work of 1.8 cores is left.
+    // Two cores had too much to run, so that a third was requested. Now there is work for only 1.8 cores.
     let samples = [
         sample(2, 151, 1900),
         sample(3, 100, 1810),

@@ -13,7 +13,9 @@ use std::thread;
 use std::thread::Threads;
 use std::time::{Clock, Duration};
 
-/// Asks for the lock, and comes back once the thread holds it. None where memory is refused.
+/// Asks for the lock, and returns once the thread holds it.
+///
+/// Returns `None` if memory is refused.
 fn enter<R: Wait + Clock>(rt: &R, lock: &SleepLock, seat: &mut LockSeat, who: Who) -> Option<()>
     requires { IsSeatOf lock.now seat.old }
     ensures { IsSeatOf lock.now seat.new }
@@ -21,10 +23,10 @@ fn enter<R: Wait + Clock>(rt: &R, lock: &SleepLock, seat: &mut LockSeat, who: Wh
     for _ in rt.forever() {
         match lock.ask(seat, who) {
             Tried::Answered(Ok(Asked::Granted(_))) => return Some(()),
-            // Its turn comes: who frees the lock is told the next in line, and may wake it.
+            // It has a place in the queue: whoever frees the lock learns who is next, and may wake that thread.
             Tried::Answered(Ok(Asked::Queued { .. })) => break,
             Tried::Answered(Err(_)) => return None,
-            // Another seat is at the lock for a moment, and nothing has changed: try again.
+            // Another seat is using the lock at the moment, and nothing has changed: try again.
             Tried::Contended => thread::sleep(rt, Duration::from_micros(50)),
         }
     }
@@ -37,7 +39,7 @@ fn enter<R: Wait + Clock>(rt: &R, lock: &SleepLock, seat: &mut LockSeat, who: Wh
     unreachable!()
 }
 
-/// Frees the lock. None where the thread didn't hold it.
+/// Frees the lock. Returns `None` if the thread didn't hold it.
 fn leave<R: Wait>(rt: &R, lock: &SleepLock, seat: &mut LockSeat, who: Who) -> Option<()>
     requires { IsSeatOf lock.now seat.old }
     ensures { IsSeatOf lock.now seat.new }
@@ -70,7 +72,9 @@ fn take_turns<R: Wait + Clock>(
     Some(seat)
 }
 
-/// The history of a lock that nobody uses any more.
+/// Closes a lock that nobody uses any more, and returns its history.
+///
+/// Returns `None` if the seat is not whole.
 fn history(lock: SleepLock, seat: LockSeat) -> Option<History>
     requires { IsSeatOf lock seat }
     ensures { IfSome result (λ history. HasOneHolderAtATime history.items) }

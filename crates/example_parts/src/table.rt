@@ -10,12 +10,12 @@ use std::thread;
 use std::thread::Threads;
 use std::time::{Clock, Duration};
 
-/// How many places the core has.
+/// The number of places of the core.
 const PLACES: u8 = 8;
 
 const NUMBERS: u64 = 1000;
 
-/// What the table keeps: any type with a tag, which stays the same while the table has the value.
+/// A value for the table. Any type can be one that has a tag which doesn't change while the table has the value.
 #[derive(Drop)]
 struct Parcel(u64);
 
@@ -27,7 +27,9 @@ impl Tagged for Parcel {
     }
 }
 
-/// Posts all numbers, each once there is a place for it. None where memory is refused.
+/// Posts all numbers, each as soon as there is a place for it.
+///
+/// Returns the seat, or `None` if memory is refused.
 fn post<C: Contexts<Parcel>, R: Wait + Clock>(rt: &R, table: &C, seat: C::Seat) -> Option<C::Seat>
     requires seat { C.sits table.now seat × C.idle table.now seat }
     requires core { 0 < C.core_count table.now }
@@ -51,7 +53,9 @@ fn post<C: Contexts<Parcel>, R: Wait + Clock>(rt: &R, table: &C, seat: C::Seat) 
     unreachable!()
 }
 
-/// Takes what is ready until all numbers have come. Their sum.
+/// Takes what is ready until all numbers were taken.
+///
+/// Returns the seat and the sum of the numbers, or `None` if memory is refused.
 fn take_all<C: Contexts<Parcel>, R: Wait + Clock>(
     rt: &R,
     table: &C,

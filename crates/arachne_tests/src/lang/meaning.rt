@@ -1,8 +1,8 @@
-//! What programs mean, and which of them may not run.
+//! Tests of the meanings of programs, and of programs that may not run.
 use arachne_lang::{CheckFault, Expr, Line, Meaning, Name, Operation, Program, check, eval, parse};
 use std::alloc::{AllocError, Global};
 
-/// The meaning of a program, if it may run and there is memory.
+/// Returns the meaning of a program, or `None` if it may not run or memory is refused.
 fn meaning_in(alloc: Global, program: &Program) -> Option<Meaning> {
     if check(program).is_err() {
         return None;
@@ -10,7 +10,7 @@ fn meaning_in(alloc: Global, program: &Program) -> Option<Meaning> {
     eval(alloc, program).ok()
 }
 
-/// The meaning of a text's program.
+/// Returns the meaning of a text's program, or `None` if it has none or memory is refused.
 fn meaning_of(alloc: Global, text: &[u8]) -> Option<Meaning> {
     match parse(alloc, text) {
         Ok(program) => meaning_in(alloc, &program),
@@ -18,7 +18,7 @@ fn meaning_of(alloc: Global, text: &[u8]) -> Option<Meaning> {
     }
 }
 
-/// The name of a thread whose forebears were each forked first, so many of them.
+/// Returns the name of a thread that is `forks` forks below the root, each of them the first of its parent.
 fn first_of(alloc: Global, forks: usize) -> Option<Name> {
     let mut name = Name::root(alloc);
     for _ in 0..forks {
@@ -27,7 +27,7 @@ fn first_of(alloc: Global, forks: usize) -> Option<Name> {
     Some(name)
 }
 
-/// Whether each of 901 threads has held a lock once, the first being the root, and the last having this name.
+/// Returns whether there are 901 threads, the first the root and the last named `last`, that each held a lock once.
 fn are_many(lines: &[Line], last: &Name) -> bool {
     if lines.len() != 901 {
         return false;
@@ -40,8 +40,10 @@ fn are_many(lines: &[Line], last: &Name) -> bool {
     lines[0].name.len() == 0 && lines[900].name == *last
 }
 
-/// Whether there is a thread for each of 901 numbers. The child of each fork has the left half, so the last line's name
-/// is of the halves 450, 225, 112, 56, 28, 14, 7, 3, 1.
+/// Returns whether a meaning has a thread for each of 901 numbers.
+///
+/// The child of each fork has the left half, so the last line's name is of the halves 450, 225, 112, 56, 28, 14, 7, 3,
+/// 1.
 fn is_of_many(alloc: Global, meaning: &Meaning) -> bool {
     if meaning.value != 405_450 || meaning.totals.as_slice() != [4505].as_slice() {
         return false;
@@ -67,7 +69,7 @@ fn many_threads_have_a_line_each(rt: HostRuntime) {
     assert!(rt; mean_many(rt.alloc(), MANY));
 }
 
-/// A number at the end of so many sums, at each of which a number is added to it.
+/// Returns an expression of `sums` sums within one another, around a number.
 fn nested(alloc: Global, sums: u64) -> Result<Expr, AllocError> {
     let mut root = Expr::Num(0);
     for _ in 0..sums {
@@ -78,14 +80,14 @@ fn nested(alloc: Global, sums: u64) -> Result<Expr, AllocError> {
     Ok(root)
 }
 
-/// Drops an expression from above, and not by the recursion of its own drop.
+/// Drops an expression from the outside in, without the recursion of its own drop.
 fn take_apart(mut expr: Expr) {
     while let Expr::Binary(_, a, _) = expr {
         expr = Box::into_inner(a);
     }
 }
 
-/// What is judged of a program of so many ledgers and of so many sums.
+/// Returns the check's verdict on a program of `ledgers` ledgers and of `sums` nested sums.
 fn judged_when_nested(
     alloc: Global,
     ledgers: u8,
@@ -122,7 +124,7 @@ const BY_TWOS: &[u8] = b"arachne 1\nledgers 0\nlocks 0\n(sweep add 2 (num 0) (nu
 
 const BY_ONES: &[u8] = b"arachne 1\nledgers 0\nlocks 0\n(sweep add 1 (num 0) (num 8) (var 0))\n";
 
-/// Whether two programs have the same meaning.
+/// Returns whether two texts have the same meaning, or `None` if one has none.
 fn mean_the_same(alloc: Global, some: &[u8], other: &[u8]) -> Option<bool> {
     Some(meaning_of(alloc, some)? == meaning_of(alloc, other)?)
 }

@@ -1,4 +1,4 @@
-//! Texts that are read and printed, and texts at fault.
+//! Tests of texts that are read and printed, and of texts that have a fault.
 ghost use Rattle.std.specs.Prelude.{◌≤◌};
 ghost use Rattle.arachne_lang.specs.Program.{tree_of};
 ghost use Rattle.arachne_lang.specs.Text.{nesting};
@@ -7,10 +7,10 @@ use arachne_lang::{Program, TextFault, parse, print};
 use std::alloc::{AllocError, Global};
 use std::string::ToString;
 
-/// The lines of a program with no ledgers and no locks.
+/// The first lines of a program without ledgers and locks.
 const LINES: &str = "arachne 1\nledgers 0\nlocks 0\n";
 
-/// A text that has each form, each reduction and arrays.
+/// A text that has each form, each reduction, and arrays.
 const WHOLE: &[u8] = b"arachne 1\n\
 array\n\
 array 0 18446744073709551615 7\n\
@@ -22,7 +22,7 @@ locks 10\n\
 (fold (num 0) (num 10) (fork x (num 1) (num 2) (num 3)) \
 (add (sweep add 1 (num 0) (num 1) (var 0)) (add (sweep mul 2 (num 0) (num 1) (var 0)) (add (sweep xor 3 (num 0) (num 1) (var 0)) (add (sweep min 4 (num 0) (num 1) (var 0)) (sweep max 50 (num 0) (num 1) (var 0))))))))\n";
 
-/// Texts, and whether each is printed as it was read, or its fault.
+/// Texts, each with whether it is printed as it was read, or with its fault.
 const TEXTS: &[(&[u8], Result<bool, TextFault>)] = &[
     (WHOLE, Ok(true)),
     (
@@ -43,7 +43,7 @@ const TEXTS: &[(&[u8], Result<bool, TextFault>)] = &[
     ),
 ];
 
-/// Whether a program is printed as this text.
+/// Returns whether a program is printed as `text`.
 fn is_printed_as(alloc: Global, program: &Program, text: &[u8]) -> Result<bool, TextFault>
     requires { nesting (tree_of program.now.root) ≤ 64 }
 {
@@ -53,13 +53,13 @@ fn is_printed_as(alloc: Global, program: &Program, text: &[u8]) -> Result<bool, 
     }
 }
 
-/// Whether a text is read, and printed as it was read.
+/// Returns whether a text is printed as it was read, or its fault.
 fn is_read_and_printed(alloc: Global, text: &[u8]) -> Result<bool, TextFault> {
     let program = parse(alloc, text)?;
     is_printed_as(alloc, &program, text)
 }
 
-/// The same. Where memory is refused it is tried once more.
+/// Returns the same, and tries once more if memory is refused.
 fn answer(alloc: Global, text: &[u8]) -> Result<bool, TextFault> {
     match is_read_and_printed(alloc, text) {
         Err(TextFault::Memory) => is_read_and_printed(alloc, text),
@@ -67,8 +67,8 @@ fn answer(alloc: Global, text: &[u8]) -> Result<bool, TextFault> {
     }
 }
 
-/// Run with each allocation refused in turn this gives the same: a refusal is no fault of the text, makes no other
-/// text, and changes nothing at the next call.
+/// With each allocation refused in turn, this passes too: a refusal is no fault of the text, changes no text, and
+/// changes nothing for the next call.
 #[test]
 fn texts_are_read_and_printed_or_end_at_their_first_fault(rt: HostRuntime) {
     for &(text, expected) in TEXTS {
@@ -76,7 +76,7 @@ fn texts_are_read_and_printed_or_end_at_their_first_fault(rt: HostRuntime) {
     }
 }
 
-/// A front, an opening so many times, a middle, a closing as many times, and an end of line.
+/// Returns a text: `front`, `opening` as often as `times`, `middle`, `closing` as often, and an end of line.
 fn repeated(
     alloc: Global,
     front: &str,
@@ -97,7 +97,7 @@ fn repeated(
     Ok(text)
 }
 
-/// Fronts, openings, how often each opening stands, middles, closings, and the faults of these texts.
+/// Fronts, openings with the number of times, middles and closings, and the results of these texts.
 const LONG: &[(&str, (&str, usize), &str, &str, Result<bool, TextFault>)] = &[
     (LINES, ("(let (num 0) ", 63), "(num 0)", ")", Ok(true)),
     (

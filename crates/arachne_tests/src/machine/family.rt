@@ -1,4 +1,4 @@
-//! Runs all threads of a program, whose children are handed back, or are given away and joined.
+//! Runs all threads of a program: children are handed back to their parents, or are given away and joined.
 ghost use Rattle.std.specs.Prelude.{◌≡◌, Some, false, IsTrue};
 ghost use Rattle.arachne_lang.specs.Program.{source_of};
 ghost use Rattle.arachne_machine.specs.declared.pause.Pending.TheVariants as pause;
@@ -11,13 +11,13 @@ use arachne_machine::{
 };
 use std::alloc::Global;
 
-/// How often a call is made at most, and how many calls there are at most.
+/// The most attempts of a call, and the most calls.
 const MOST: u64 = 100_000;
 
-/// How the children run of threads that fork.
+/// The way in which children run.
 #[derive(Clone, Copy, Debug, PartialEq, Eq)]
 pub(super) enum Way {
-    /// In its parent's place: a child is handed back at its fork.
+    /// In the parent's place: a child is handed back at its fork.
     AtFork,
     /// The same, but the root's first child has then handed one back itself.
     GrownAtFork,
@@ -25,14 +25,14 @@ pub(super) enum Way {
     AtJoin,
     /// The same, but it has gone on before, with others in its place.
     GrownAtJoin,
-    /// By itself. It is joined once it has ended.
+    /// On its own. It is joined once it has ended.
     Alone,
-    /// The same, but there is a place for exclusive children alone: others begin in their parent's place at once.
+    /// The same, but only for exclusive children: others begin immediately in their parent's place.
     AloneIfExclusive,
 }
 
 impl Way {
-    /// Whether each call is made again where memory is refused.
+    /// Returns whether each call is repeated if memory is refused.
     pub(super) fn may_be_short(self) -> bool {
         self != Way::GrownAtFork && self != Way::GrownAtJoin
     }
@@ -50,8 +50,8 @@ impl Placing for Way {
     }
 }
 
-/// What was heard of threads: their pauses, the sum of the tags that asked for a lock, and the tag of the next child
-/// that is handed back at its fork.
+/// Records of a run: the pauses of its threads, the sum of the tags that asked for a lock, and the tag of the next
+/// child that is handed back at its fork.
 #[derive(Clone, Copy)]
 pub(super) struct Heard {
     pub(super) pauses: u64,
@@ -59,7 +59,7 @@ pub(super) struct Heard {
     pub(super) next: u64,
 }
 
-/// How a run goes: the way of its children, the budgets of the next call and of those behind it, and what is heard.
+/// A run: the way of its children, the budgets of the next call and of those after it, its memory, and its records.
 #[derive(Drop)]
 pub(super) struct Round {
     way: Way,
@@ -69,8 +69,10 @@ pub(super) struct Round {
     pub(super) heard: Heard,
 }
 
-/// A pause as decimal digits: 1 for a used budget, 2 for a fork, 3 and the lock that is asked for, 4 and the lock that
-/// is freed, 5 with the ledger and the amount of a tally, 6 for the end, 7 for a join.
+/// Returns a pause as decimal digits, with 10 to the power of their number.
+///
+/// The digits are 1 for a used budget, 2 for a fork, 3 and the lock that is asked for, 4 and the lock that is freed, 5
+/// with the ledger and the amount of a tally, 6 for the end, 7 for a join.
 fn digits(pause: &Pause) -> (u64, u64) {
     match pause {
         Pause::Budget => (10, 1),
@@ -104,7 +106,7 @@ impl Round {
         }
     }
 
-    /// Writes down a pause of a thread with this tag.
+    /// Records a pause of the thread with this tag.
     fn hear(&mut self, pause: &Pause, tag: u64) {
         let (places, number) = digits(pause);
         self.heard.pauses = self.heard.pauses.wrapping_mul(places).wrapping_add(number);
@@ -114,7 +116,7 @@ impl Round {
         self.budget = self.then;
     }
 
-    /// The tag of the next child.
+    /// Returns the tag of the next child, and counts it up.
     fn next_tag(&mut self) -> u64 {
         let next = self.heard.next;
         self.heard.next = next.wrapping_add(1);
@@ -122,8 +124,10 @@ impl Round {
     }
 }
 
-/// Threads that wait for a child, the last one being the one that runs; children that were given away and have not
-/// begun; and the outcome that is to be joined. There is room for all.
+/// The threads, children and outcomes of a run, with room for all.
+///
+/// Each of `threads` waits for a child, but the last, which runs. `children` were given away and have not begun.
+/// `outcomes` has the outcome that must be joined next.
 #[derive(Drop)]
 struct Family<'p> {
     threads: Vec<Thread<'p>>,
@@ -139,14 +143,14 @@ fn make_family<'p>(alloc: Global) -> Option<Family<'p>> {
     })
 }
 
-/// Whether the two are the same program.
+/// Returns whether two programs are the same.
 fn are_same(some: &Program, other: &Program) -> bool
     ensures { IsTrue result → source_of some.now ≡ source_of other.now }
 {
     *some == *other
 }
 
-/// Puts a child in its parent's place with the next tag. A call that is refused memory is made once more.
+/// Puts a child in its parent's place, with the next tag. Tries once more if memory is refused.
 fn place<'p>(thread: &mut Thread<'p>, child: Thread<'p>, round: &mut Round) -> bool
     requires forks { pending_in thread.old ≡ Some pause.Forks }
     requires child { IsChildOf thread.old child }
@@ -166,7 +170,7 @@ fn place<'p>(thread: &mut Thread<'p>, child: Thread<'p>, round: &mut Round) -> b
     }
 }
 
-/// Goes on to the next pause. A child that is forked is handed back at once.
+/// Runs a thread to its next pause. A forked child is handed back to it immediately.
 fn go_on_in_place(thread: &mut Thread, round: &mut Round) -> bool {
     if round.budget == 0 || thread.pending().is_some() {
         return false;
@@ -182,7 +186,7 @@ fn go_on_in_place(thread: &mut Thread, round: &mut Round) -> bool {
     }
 }
 
-/// Goes on to the next pause. A child that is forked is given away.
+/// Runs a thread to its next pause. A forked child is given away.
 fn go_on_apart<'p>(
     alloc: Global,
     thread: &mut Thread<'p>,
@@ -204,7 +208,7 @@ fn go_on_apart<'p>(
     }
 }
 
-/// Answers a pause that no other thread has a part in.
+/// Replies to a pause in which no other thread has a part.
 fn answer(thread: &mut Thread) {
     match thread.pending() {
         Some(Pending::Asks(_)) => thread.granted(),
@@ -215,7 +219,7 @@ fn answer(thread: &mut Thread) {
     }
 }
 
-/// Goes on with a child until two threads were handed back to it, in the place of one of which the other is to run.
+/// Runs a child until two threads were handed back to it, so that one runs in the place of the other.
 fn grow(child: &mut Thread, round: &mut Round) -> bool {
     for _ in 0..MOST {
         if round.heard.next == 12 {
@@ -229,7 +233,7 @@ fn grow(child: &mut Thread, round: &mut Round) -> bool {
     false
 }
 
-// What is let go at an error is dropped in a function of its own, and not at each exit.
+// At an error a value is dropped in a function of its own, and not at each exit.
 
 fn lose_thread(_thread: Thread) -> bool {
     false
@@ -239,7 +243,9 @@ fn lose_outcome(_outcome: Outcome) -> bool {
     false
 }
 
-/// Hands the newest child to a thread that awaits it, to go on in its place. Where memory is refused it comes back.
+/// Hands the newest child to the thread that awaits it, in whose place it runs then.
+///
+/// If memory is refused, the child is put back among `children`.
 fn begin<'p>(thread: &mut Thread<'p>, children: &mut Vec<Thread<'p>>, round: &mut Round) -> bool {
     let (Some(Pending::Joins), Some(child)) = (thread.pending(), children.pop()) else {
         return false;
@@ -257,7 +263,9 @@ fn begin<'p>(thread: &mut Thread<'p>, children: &mut Vec<Thread<'p>>, round: &mu
     }
 }
 
-/// Hands its child's outcome to a thread. Where memory is refused it comes back.
+/// Hands a child's outcome to the thread that awaits it.
+///
+/// If memory is refused, the outcome is put back among `outcomes`.
 fn join<'p>(
     thread: &mut Thread<'p>,
     outcome: Outcome<'p>,
@@ -280,7 +288,7 @@ fn join<'p>(
     }
 }
 
-/// The newest child goes on by itself.
+/// Starts the newest child on its own.
 fn begin_apart(family: &mut Family) -> bool {
     match family.children.pop() {
         Some(child) => family.threads.push(child).is_ok(),
@@ -288,7 +296,7 @@ fn begin_apart(family: &mut Family) -> bool {
     }
 }
 
-/// The child that is awaited goes on, by itself or in the place of the thread that awaits it.
+/// Starts the awaited child, on its own or in the place of the thread that awaits it.
 fn await_child(family: &mut Family, round: &mut Round) -> bool {
     if round.way == Way::Alone || round.way == Way::AloneIfExclusive {
         return begin_apart(family);
@@ -307,7 +315,7 @@ fn await_child(family: &mut Family, round: &mut Round) -> bool {
     begin(thread, children, round)
 }
 
-/// The outcome of the last thread, which has ended.
+/// Takes the outcome of the last thread, if it has ended.
 fn end(family: &mut Family) -> bool {
     let Some(thread) = family.threads.pop() else {
         return false;
@@ -318,7 +326,7 @@ fn end(family: &mut Family) -> bool {
     family.outcomes.push(thread.finish()).is_ok()
 }
 
-/// Makes one call of the last thread.
+/// Makes one call on the last thread.
 fn step(alloc: Global, family: &mut Family, round: &mut Round) -> bool {
     let Family {
         threads,
@@ -345,7 +353,7 @@ fn step(alloc: Global, family: &mut Family, round: &mut Round) -> bool {
     }
 }
 
-/// Hands a thread's first child back at its fork, which has handed one back itself before.
+/// Hands a thread's first child back at its fork, after that child's own first child was handed back to it.
 fn hand_grown(thread: &mut Thread) -> bool {
     if thread.pending().is_some() {
         return false;
@@ -359,7 +367,7 @@ fn hand_grown(thread: &mut Thread) -> bool {
     child.in_place(grandchild).is_ok() && thread.in_place(child).is_ok()
 }
 
-/// The root thread of a program. Where memory is refused it is asked for again, with a little more each time.
+/// Starts the root thread of a program. If memory is refused, tries again with a little more each time.
 fn start<'p>(alloc: Global, program: &'p Program, round: &mut Round) -> Option<Thread<'p>> {
     for _ in 0..MOST {
         match Thread::start(alloc, program, 9) {
@@ -370,7 +378,7 @@ fn start<'p>(alloc: Global, program: &'p Program, round: &mut Round) -> Option<T
     None
 }
 
-/// Begins with the root thread, and hands its first child back if that is to have grown.
+/// Starts the root thread, and hands its first child back to it if the way is `GrownAtFork`.
 fn set_off<'p>(
     alloc: Global,
     program: &'p Program,
@@ -386,7 +394,7 @@ fn set_off<'p>(
     threads.push(root).is_ok()
 }
 
-/// An outcome taken apart. A call that is refused memory is made again, with a little more each time.
+/// Takes an outcome apart. If memory is refused, tries again with a little more each time.
 fn parts(outcome: Outcome, round: &mut Round) -> Option<OutcomeParts> {
     let mut outcome = outcome;
     for _ in 0..MOST {
@@ -399,7 +407,7 @@ fn parts(outcome: Outcome, round: &mut Round) -> Option<OutcomeParts> {
     None
 }
 
-/// Goes on until the root has ended, with the outcome that it brings.
+/// Makes calls until the root has ended, and returns the parts of its outcome.
 fn run(alloc: Global, family: &mut Family, round: &mut Round) -> Option<OutcomeParts> {
     for _ in 0..MOST {
         round.memory.begin_call()?;
@@ -413,7 +421,9 @@ fn run(alloc: Global, family: &mut Family, round: &mut Round) -> Option<OutcomeP
     None
 }
 
-/// What a program's root, whose tag is 9, brings in the end, with no memory where that is short.
+/// Runs a program, whose root has the tag 9, and returns the parts of its outcome.
+///
+/// If `is_short`, there is no memory at the beginning of each call.
 pub(super) fn parts_of(
     alloc: Global,
     program: &Program,

@@ -1,16 +1,15 @@
-//! The memory of a run: ample, or none at each call, which is then made again with a little more each time.
+//! The memory of a run: ample, or none at each call, which is then repeated with a little more each time.
 use super::first_wrong;
 use arachne_shortage::Hoard;
 use std::alloc::Global;
 
-/// How many bytes are given back where a growth was refused: so few that the next growth of the same call is refused
-/// too.
+/// The bytes that are given back if a growth was refused: few, so that the next growth of the same call is refused too.
 const FEW: usize = 40;
 
-/// Enough for any one growth.
+/// Bytes that are enough for any one growth.
 const MANY: usize = 20_000;
 
-/// The memory of a run, how often some was given back, and whether the last call was refused.
+/// The memory of a run, with the number of refusals, and whether the last call was refused.
 #[derive(Drop)]
 pub(super) struct Memory {
     hoard: Option<Hoard>,
@@ -19,7 +18,7 @@ pub(super) struct Memory {
 }
 
 impl Memory {
-    /// All that there is.
+    /// Returns memory that is ample.
     pub(super) fn ample() -> Memory {
         Memory {
             hoard: None,
@@ -28,13 +27,13 @@ impl Memory {
         }
     }
 
-    /// Takes all that there is, until it is given back.
+    /// Takes all memory that there is, until it is given back.
     pub(super) fn use_up(&mut self, alloc: Global) -> Option<()> {
         self.hoard = Some(Hoard::take(alloc).ok()?);
         Some(())
     }
 
-    /// Ample again.
+    /// Gives all memory back.
     pub(super) fn give_all_back(&mut self) {
         self.hoard = None;
     }
@@ -47,17 +46,17 @@ impl Memory {
         }
     }
 
-    /// A little, as a growth was refused.
+    /// Gives a little memory back, after a growth was refused.
     pub(super) fn spare(&mut self) {
         self.give_back(FEW);
     }
 
-    /// Enough for one growth, as that was refused.
+    /// Gives back enough for one growth, after it was refused.
     pub(super) fn spare_much(&mut self) {
         self.give_back(MANY);
     }
 
-    /// None again, unless the last call was refused.
+    /// Takes what was given back, unless the last call was refused.
     pub(super) fn begin_call(&mut self) -> Option<()> {
         if self.lately {
             self.lately = false;
@@ -66,7 +65,7 @@ impl Memory {
         self.take_again()
     }
 
-    /// None again.
+    /// Takes what was given back.
     pub(super) fn take_again(&mut self) -> Option<()> {
         if let Some(hoard) = &mut self.hoard {
             hoard.take_again().ok()?;
@@ -74,7 +73,7 @@ impl Memory {
         Some(())
     }
 
-    /// How often growths were refused.
+    /// Returns the number of refused growths.
     pub(super) fn refused(&self) -> u64 {
         self.refused
     }

@@ -1,9 +1,9 @@
-//! What is told of the threads of an outcome.
+//! The text of an outcome, with an entry for each thread.
 use arachne_lang::Name;
 use arachne_machine::{OutcomeParts, Ran, ThreadLine};
 use std::alloc::Global;
 
-/// The numbers of a name.
+/// Returns the numbers of a name.
 fn numbers(alloc: Global, name: &Name) -> Option<Vec<u64>> {
     let mut numbers = Vec::new(alloc);
     for k in 0..name.len() {
@@ -12,7 +12,7 @@ fn numbers(alloc: Global, name: &Name) -> Option<Vec<u64>> {
     Some(numbers)
 }
 
-/// A thread's name, its tag, where it ran, and its holds.
+/// Returns a text of a thread's name, its tag, a mark for where it ran, and its holds.
 fn told_line(alloc: Global, line: &ThreadLine) -> Option<String> {
     let mark = match line.ran {
         Ran::Slot => "-",
@@ -24,7 +24,7 @@ fn told_line(alloc: Global, line: &ThreadLine) -> Option<String> {
     format!(in alloc; " {name:?}{tag}{mark}{holds:?}").ok()
 }
 
-/// An outcome's value and sums, and what is told of each thread.
+/// Returns a text of an outcome's value, its sums, and each thread.
 pub(super) fn told(alloc: Global, parts: &OutcomeParts) -> Option<String> {
     let (value, sums) = (parts.value, parts.sums.as_slice());
     let mut text = format!(in alloc; "{value} {sums:?}").ok()?;

@@ -1,9 +1,9 @@
-//! Programs that run by steps as they are evaluated.
+//! Tests that a program run by steps gives the same as its evaluation.
 use arachne_lang::{Meaning, Program, check, eval, parse};
 use arachne_machine::run_alone;
 use std::alloc::Global;
 
-/// Texts that have each form between them, of which the tests of the commands say what is evaluated.
+/// Texts that together have each form. The tests of the commands have their values.
 const TEXTS: &[&[u8]] = &[
     b"arachne 1\nledgers 2\nlocks 2\n(fork x (tally 1 (num 18446744073709551615) (hold 1 (num 1))) (hold 0 (tally 0 (num 4) (num 2))) (tally 1 (num 3) (hold 1 (add (var 0) (var 1)))))\n",
     b"arachne 1\nledgers 0\nlocks 0\n(sweep xor 3 (num 1) (num 8) (fork n (var 0) (num 1) (mul (var 1) (var 2))))\n",
@@ -15,7 +15,7 @@ const TEXTS: &[&[u8]] = &[
     b"arachne 1\nledgers 1\nlocks 1\n(fork n (sweep add 1 (num 0) (num 8) (hold 0 (tally 0 (num 5) (num 1)))) (num 3) (add (var 0) (var 1)))\n",
 ];
 
-/// Whether a program runs by steps to this meaning, whatever the steps. None where memory is refused.
+/// Returns whether a program has this meaning for each of several budgets, or `None` if memory is refused.
 fn runs_to(alloc: Global, program: &Program, meaning: &Meaning) -> Option<bool> {
     for budget in [0, 1, 7, 100, 10_000, u32::MAX] {
         let Ok(found) = run_alone(alloc, program, budget) else {
@@ -28,7 +28,7 @@ fn runs_to(alloc: Global, program: &Program, meaning: &Meaning) -> Option<bool> 
     Some(true)
 }
 
-/// The same of a program that may run and its own meaning.
+/// Returns the same for the meaning to which the program evaluates, if it may run.
 fn runs_as_evaluated(alloc: Global, program: &Program) -> Option<bool> {
     if check(program).is_err() {
         return Some(false);
@@ -39,7 +39,7 @@ fn runs_as_evaluated(alloc: Global, program: &Program) -> Option<bool> {
     }
 }
 
-/// The same of a text.
+/// Returns the same for the program of a text.
 fn is_run_as_evaluated(alloc: Global, text: &[u8]) -> Option<bool> {
     match parse(alloc, text) {
         Ok(program) => runs_as_evaluated(alloc, &program),
@@ -47,8 +47,8 @@ fn is_run_as_evaluated(alloc: Global, text: &[u8]) -> Option<bool> {
     }
 }
 
-/// Run with each allocation refused in turn this gives the same: no answer changes but to want of memory, and at the
-/// next call all is as before.
+/// With each allocation refused in turn, this passes too: a call without memory returns an error, and changes nothing
+/// for the next call.
 #[test]
 fn every_way_means_the_same(rt: HostRuntime) {
     for &text in TEXTS {

@@ -1,4 +1,6 @@
-//! Two kernel threads that contend for two locks. That the closed histories are lawful is proved.
+//! Test of two kernel threads that contend for two locks.
+//!
+//! It is proved that the histories are lawful; the test compares them with the grants that the threads saw.
 ghost use Rattle.std.specs.Prelude.{◌<◌, IfSome, length};
 ghost use Rattle.arachne_sleep.specs.SleepLocks.{AreSeatsOf};
 
@@ -8,23 +10,23 @@ use std::alloc::Global;
 use std::thread;
 use std::thread::Threads;
 
-/// How often each thread holds a lock.
+/// The number of times that each thread holds each lock.
 const ROUNDS: usize = 10_000;
 
-/// How many calls each thread makes at most that don't bring it on.
+/// The most polls of a thread.
 const MOST_POLLS: u64 = 100_000_000;
 
-/// Lets other kernel threads run. None where there were too many polls.
+/// Lets other kernel threads run. Returns `None` if there were too many polls.
 fn poll(polls_left: &mut u64) -> Option<()> {
     *polls_left = polls_left.checked_sub(1)?;
     thread::yield_now();
     Some(())
 }
 
-/// The places of a thread's grants, at the first lock and at the second in turn.
+/// The places of a thread's grants in the histories of the first lock and of the second, in turn.
 type Places = Option<Vec<usize>>;
 
-/// Room for the places of a thread's grants. Where memory is refused it is asked for once more.
+/// Returns room for the places of a thread's grants. Tries once more if memory is refused.
 fn room(alloc: Global) -> Places {
     match Vec::with_capacity(alloc, 2 * ROUNDS) {
         Ok(places) => Some(places),
@@ -32,7 +34,7 @@ fn room(alloc: Global) -> Places {
     }
 }
 
-/// Whether each second place, from the front on, is that of a grant to the thread, and no two are the same.
+/// Returns whether every other place, from the first on, is that of a grant to the thread, in ascending order.
 fn are_grants_in_order(history: &[LockEvent], who: Who, places: &[usize]) -> bool {
     let mut least = 0usize;
     for &at in places.iter().step_by(2) {
@@ -44,7 +46,7 @@ fn are_grants_in_order(history: &[LockEvent], who: Who, places: &[usize]) -> boo
     true
 }
 
-/// Asks for a lock of several, and looks until the thread holds it. The place of its grant.
+/// Asks for a lock, and polls until the thread holds it. Returns the place of its grant.
 fn enter_one(
     locks: &SleepLocks,
     seats: &mut LockSeats,
@@ -72,7 +74,7 @@ fn enter_one(
     None
 }
 
-/// Frees a lock of several. None where the thread didn't hold it.
+/// Frees a lock. Returns `None` if the thread didn't hold it, or after too many polls.
 fn leave_one(
     locks: &SleepLocks,
     seats: &mut LockSeats,
@@ -93,7 +95,7 @@ fn leave_one(
     None
 }
 
-/// Holds each of two locks in turn, so many times as there are rounds. The places of the grants.
+/// Holds each of two locks in turn, `ROUNDS` times each. Returns the places of the grants.
 fn hold_each(alloc: Global, locks: &SleepLocks, seats: &mut LockSeats, who: Who) -> Places
     requires own { AreSeatsOf locks.now seats.old }
     requires two { 1 < length locks.now }
@@ -125,7 +127,7 @@ fn work_on_each(
     (seats, places)
 }
 
-/// A and B contend for two locks. The joined seats, and the places of A's grants and of B's.
+/// Lets A and B contend for two locks. Returns the joined seats, and the places of A's grants and of B's.
 fn contend_for_each<R: Threads + Sync>(
     rt: &R,
     alloc: Global,
@@ -145,14 +147,14 @@ fn contend_for_each<R: Threads + Sync>(
     Some((locks.join_seats(own, theirs), of_a, of_b))
 }
 
-/// Whether the histories of two locks tell of these grants to the thread at each, and of as many as there are rounds.
+/// Returns whether the histories of two locks have a thread's grants at these places, `ROUNDS` in each.
 fn tell_of(first: &[LockEvent], second: &[LockEvent], who: Who, places: &[usize]) -> bool {
     places.len() == 2 * ROUNDS
         && are_grants_in_order(first, who, places)
         && are_grants_in_order(second, who, &places[1..])
 }
 
-/// Whether the histories of two locks tell of all grants to A and to B, and of nothing else.
+/// Returns whether the histories of two locks have all grants to A and to B, and no further events but asks and frees.
 fn tell_all(first: &[LockEvent], second: &[LockEvent], of_a: &[usize], of_b: &[usize]) -> bool {
     tell_of(first, second, A, of_a)
         && tell_of(first, second, B, of_b)
@@ -160,7 +162,7 @@ fn tell_all(first: &[LockEvent], second: &[LockEvent], of_a: &[usize], of_b: &[u
         && second.len() == 6 * ROUNDS
 }
 
-/// The events of a history. Where memory is refused it is asked for once more.
+/// Returns the events of a history. Tries once more if memory is refused.
 fn listed(alloc: Global, history: &History) -> Option<Vec<LockEvent>> {
     match history.to_vec(alloc) {
         Ok(events) => Some(events),
@@ -168,7 +170,7 @@ fn listed(alloc: Global, history: &History) -> Option<Vec<LockEvent>> {
     }
 }
 
-/// Whether A and B have held each lock so many times as there are rounds, as the histories tell.
+/// Returns whether A and B have held each lock `ROUNDS` times by the histories.
 fn each_had_its_turns<R: Threads + Sync>(rt: &R, alloc: Global) -> Option<bool> {
     let (locks, seats) = several::make(alloc, 2).ok()?;
     let (seats, of_a, of_b) = contend_for_each(rt, alloc, &locks, seats)?;

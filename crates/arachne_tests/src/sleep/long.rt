@@ -1,9 +1,9 @@
-//! A lock that was asked for often before: the next ask finds room as the first did.
+//! Test of a lock with a long history.
 use super::{A, B};
 use arachne_sleep::{Asked, LockState};
 use std::test::Fail;
 
-/// A gets the lock, B waits for it, and each frees it. Whether it went so.
+/// Lets A get the lock and B wait for it, and each free it. Returns whether all calls succeeded.
 fn passes(lock: &mut LockState) -> bool {
     matches!(lock.ask(A), Ok(Asked::Granted(_)))
         && matches!(lock.ask(B), Ok(Asked::Queued { at: _ }))

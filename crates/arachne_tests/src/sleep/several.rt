@@ -1,4 +1,4 @@
-//! Several locks: each call once, and whose histories come out at which place.
+//! Tests of several locks: each call once, and the order of the histories.
 ghost use Rattle.std.specs.Prelude.{◌≡◌, ◌<◌, All, IfOk, IfSome, length};
 ghost use Rattle.arachne_sleep.specs.SleepLocks.{AreSeatsOf};
 ghost use Rattle.arachne_sleep.specs.Views.{IsWhole};
@@ -7,7 +7,7 @@ use super::{Answer, Call, ROWS, WHOLE, told_ask, told_check, told_free};
 use arachne_sleep::{AskFault, Asked, History, LockEvent, LockSeats, SleepLocks, Tried, Who};
 use std::alloc::{AllocError, Global};
 
-// Under `rt try --test --fail-alloc N` the Nth allocation is refused. A call that answers so is made once more.
+// Under `rt try --test --fail-alloc N` the Nth allocation is refused. A call that fails by that is made once more.
 pub(super) fn make(alloc: Global, count: u8) -> Result<(SleepLocks, LockSeats), AllocError>
     ensures count { IfOk result (λ made. length made.0 ≡ count) }
     ensures own { IfOk result (λ made. AreSeatsOf made.0 made.1) }
@@ -19,7 +19,7 @@ pub(super) fn make(alloc: Global, count: u8) -> Result<(SleepLocks, LockSeats), 
     }
 }
 
-/// Asks, and once more where memory was refused. None where another kernel thread was at the lock.
+/// Asks for a lock, and once more if memory was refused. Returns `None` if another kernel thread was using the lock.
 fn asked(
     locks: &SleepLocks,
     seats: &mut LockSeats,
@@ -41,7 +41,7 @@ fn asked(
     }
 }
 
-/// What a call on a lock answers.
+/// Makes a call on a lock, and returns its result. Returns `None` if another kernel thread was using the lock.
 fn called(
     locks: &SleepLocks,
     seats: &mut LockSeats,
@@ -66,7 +66,7 @@ fn called(
     }
 }
 
-/// The number of the first call on lock 2 that answers something else, from 0.
+/// Returns the number, from 0, of the first call on lock 2 whose result is wrong.
 fn first_wrong(locks: &SleepLocks, seats: &mut LockSeats) -> Option<usize>
     requires own { AreSeatsOf locks.now seats.old }
     requires lock { 2 < length locks.now }
@@ -81,7 +81,7 @@ fn first_wrong(locks: &SleepLocks, seats: &mut LockSeats) -> Option<usize>
     None
 }
 
-/// Whether a history has these events.
+/// Returns whether a history has these events.
 fn has_events(history: &History, events: &[LockEvent]) -> bool {
     history.len() == events.len()
         && history
@@ -90,7 +90,7 @@ fn has_events(history: &History, events: &[LockEvent]) -> bool {
             .all(|(event, wanted)| event == *wanted)
 }
 
-/// Whether lock 2 alone of three has a history.
+/// Returns whether of three histories only that of lock 2 has events, those of `WHOLE`.
 fn is_of_the_last(histories: &[History]) -> bool {
     histories.len() == 3
         && histories[0].is_empty()
@@ -98,7 +98,7 @@ fn is_of_the_last(histories: &[History]) -> bool {
         && has_events(&histories[2], WHOLE)
 }
 
-/// The histories of three locks, on one of which each call was made.
+/// Returns the histories of three locks, on one of which each call was made.
 fn histories(alloc: Global) -> Option<Vec<History>> {
     let (locks, mut seats) = make(alloc, 3).ok()?;
     if locks.count() != 3 || first_wrong(&locks, &mut seats).is_some() {
@@ -120,7 +120,7 @@ fn each_call_on_three_locks(rt: HostRuntime) {
     assert!(rt; are_right(rt.alloc()));
 }
 
-/// Splits the seats, once more where memory was refused.
+/// Splits the seats. Tries once more if memory is refused.
 pub(super) fn parted(
     alloc: Global,
     locks: &SleepLocks,
@@ -148,7 +148,7 @@ fn parted_and_joined(alloc: Global, locks: &SleepLocks, seats: LockSeats) -> Opt
     Some(locks.join_seats(theirs, own))
 }
 
-/// Closes the locks, once more where memory was refused.
+/// Closes the locks, and returns their histories. Tries once more if memory is refused.
 pub(super) fn closed(alloc: Global, locks: SleepLocks, seats: LockSeats) -> Option<Vec<History>>
     requires { AreSeatsOf locks seats }
 {
@@ -164,7 +164,7 @@ pub(super) fn closed(alloc: Global, locks: SleepLocks, seats: LockSeats) -> Opti
 /// The most locks that a program has.
 const MOST: u8 = 16;
 
-/// The histories of so many locks, which are made, split, joined and closed.
+/// Makes `count` locks, splits and joins their seats, and closes them. Returns the histories.
 fn made_and_closed(alloc: Global, count: u8) -> Option<Vec<History>> {
     let (locks, seats) = make(alloc, count).ok()?;
     let (own, theirs) = parted(alloc, &locks, seats)?;
@@ -172,7 +172,7 @@ fn made_and_closed(alloc: Global, count: u8) -> Option<Vec<History>> {
     closed(alloc, locks, seats)
 }
 
-/// The first number of locks that can't be made.
+/// Returns the lowest number of locks, up to `MOST`, that can't be made.
 fn first_refused(alloc: Global) -> Option<u8> {
     for count in 0..=MOST {
         match made_and_closed(alloc, count) {

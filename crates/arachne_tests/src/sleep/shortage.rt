@@ -1,4 +1,4 @@
-//! A lock that is wanted, and no memory for those that ask for it: it stays as it was, and they ask again.
+//! Tests of a lock without memory for those who ask for it: it stays as it was, and they ask again.
 ghost use Rattle.std.specs.Prelude.{IfOk};
 ghost use Rattle.arachne_sleep.specs.Views.{IsSeatOf, IsWhole};
 
@@ -7,23 +7,24 @@ use arachne_shortage::Hoard;
 use arachne_sleep::{AskFault, Asked, History, LockSeat, LockState, SleepLock, Tried, Who};
 use std::alloc::{AllocError, Global};
 
-/// How many bytes are given back where a growth was refused: so few that the next growth of the same call is refused
-/// too.
+/// The bytes that are given back if a growth was refused: few, so that the next growth of the same call is refused too.
 const FEW: usize = 40;
 
-/// How often a thread asks at most.
+/// The most times that a thread asks.
 const TRIES: u64 = 100_000;
 
-/// How many threads are in the crowd.
+/// The number of threads in the crowd.
 const CROWD: u64 = 900;
 
-/// Hands a value on that may cross threads.
+/// Returns a value, whose type must be `Send`.
 fn carried<T: Send>(value: T) -> T {
     value
 }
 
-/// Asks until there is memory. How often it was refused, if the lock was as before each time, and only the first thread
-/// of the crowd is let in at once.
+/// Asks until there is memory, and returns the number of refusals.
+///
+/// Returns `None` if a refusal has changed the lock, or if a thread other than the first of the crowd got the lock
+/// immediately.
 fn asks_at_last(lock: &mut LockState, tag: u64, hoard: &mut Hoard) -> Option<u64> {
     let (who, before) = (thread(tag, 0), lock.history().len());
     for refused in 0..TRIES {
@@ -47,7 +48,7 @@ fn asks_at_last(lock: &mut LockState, tag: u64, hoard: &mut Hoard) -> Option<u64
     None
 }
 
-/// Whether a thread of the crowd has the lock, and frees it for the one that came behind it.
+/// Frees the lock of a thread of the crowd. Returns whether the thread had it, and the one after it is next.
 fn leaves(lock: &mut LockState, tag: u64) -> bool {
     let due = tag.wrapping_add(1);
     let next = if due < CROWD {
@@ -59,8 +60,9 @@ fn leaves(lock: &mut LockState, tag: u64) -> bool {
         && matches!(lock.free(thread(tag, 0)), Ok(freed) if freed.next == next)
 }
 
-/// The crowd asks while there is no memory, and frees the lock in turn, for which none is wanted. How often an ask was
-/// refused.
+/// Lets the crowd ask without memory, and then free the lock in turn, which needs none.
+///
+/// Returns the number of refused asks.
 fn comes_and_leaves(lock: &mut LockState, hoard: &mut Hoard) -> Option<u64> {
     let mut refused = 0u64;
     for tag in 0..CROWD {
@@ -87,8 +89,9 @@ fn a_wanted_lock_stays_as_it_was(rt: HostRuntime) -> Result<(), AllocError> {
     Ok(())
 }
 
-/// The crowd asks for a shared lock, each until there is memory for it. How often there was none. No call finds the
-/// lock's guard taken, as each gives it back.
+/// Lets the crowd ask for a shared lock, each thread until there is memory, and returns the number of refusals.
+///
+/// Returns `None` if a call finds the lock's guard taken, since each call must give it back.
 fn all_ask(lock: &SleepLock, seat: &mut LockSeat, hoard: &mut Hoard) -> Option<u64>
     requires { IsSeatOf lock.now seat.old }
     ensures { IsSeatOf lock.now seat.new }
@@ -113,7 +116,7 @@ fn all_ask(lock: &SleepLock, seat: &mut LockSeat, hoard: &mut Hoard) -> Option<u
     None
 }
 
-/// Whether the first thread of the crowd has a shared lock, and frees it for the second.
+/// Frees a shared lock of the first thread of the crowd. Returns whether it had it, and the second is next.
 fn first_leaves(lock: &SleepLock, seat: &mut LockSeat) -> bool
     requires { IsSeatOf lock.now seat.old }
     ensures { IsSeatOf lock.now seat.new }
@@ -127,7 +130,7 @@ fn first_leaves(lock: &SleepLock, seat: &mut LockSeat) -> bool
     }
 }
 
-// Under `rt try --test --fail-alloc N` the Nth allocation is refused. A call that answers so is made once more.
+// Under `rt try --test --fail-alloc N` the Nth allocation is refused. A call that fails by that is made once more.
 fn make(alloc: Global) -> Result<(SleepLock, LockSeat), AllocError>
     ensures seat { IfOk result (λ made. IsSeatOf made.0 made.1) }
     ensures whole { IfOk result (λ made. IsWhole made.1) }
@@ -138,7 +141,7 @@ fn make(alloc: Global) -> Result<(SleepLock, LockSeat), AllocError>
     }
 }
 
-/// Splits a lock's seat and joins it again, and closes the lock. Its history.
+/// Splits a lock's seat, joins it again and closes the lock. Returns its history.
 fn closed(lock: SleepLock, seat: LockSeat) -> Option<History>
     requires own { IsSeatOf lock seat }
 {
@@ -151,7 +154,7 @@ fn closed(lock: SleepLock, seat: LockSeat) -> Option<History>
     lock.close(seat).ok()
 }
 
-/// How often there was no memory for the crowd, of which the first thread then leaves.
+/// Returns the number of refusals for the crowd, after whose asks the first thread frees the lock.
 fn refusals(alloc: Global, lock: &SleepLock, seat: &mut LockSeat) -> Option<u64>
     requires { IsSeatOf lock.now seat.old }
     ensures { IsSeatOf lock.now seat.new }
@@ -165,7 +168,7 @@ fn refusals(alloc: Global, lock: &SleepLock, seat: &mut LockSeat) -> Option<u64>
     refused
 }
 
-/// The same, and how long the history is that the crowd leaves.
+/// Returns the same, and the length of the history.
 fn wanted(alloc: Global) -> Option<(u64, usize)> {
     let (lock, mut seat) = make(alloc).ok()?;
     let refused = refusals(alloc, &lock, &mut seat)?;

@@ -12,7 +12,7 @@ use Rattle.arachne_run.proofs.gate.OpenGate.TheSendSync as gate
 use Rattle.arachne_commands.proofs.RunRefusals.{allowed_as_set_up, refused_as_set_up}
 use Rattle.arachne_commands.proofs.running.run_program.Goals as goal
 
--- what a run sends to its kernel threads and shares with them may cross; the program is checked
+-- the values that a run sends to its kernel threads and shares with them may cross; the program is checked
 pub run-requires : goal.run-requires
 run-requires g c κs = (
   search (sendable, job_send) depth 20,
@@ -49,7 +49,7 @@ run-requires g c κs = (
   ),
 )
 
--- what is refused is refused as the settings say
+-- a run that is refused is refused for a fault of its settings
 pub returns-clause-refused : goal.returns-clause-refused
 returns-clause-refused g c = refused_as_set_up c.args.settings c.in_ok-made.made.0 c.in_ok-made.made.1.items c.in_ok-made.made.1.len c.run.result
     c.in_ok-made.made.1.ok.0 c.in_ok-made.ensures c.run.ensures.refused c.run.ensures.order_refused c.run.ensures.of_setup

@@ -1,6 +1,6 @@
--- How many cores each client gets. The idea: who has the first claim gets the next core, so nobody who asks for more
--- had an earlier claim to any core than who got it (`AreSoFar-more`), and each promise follows from that
--- (`Promises`, `Least`). Another order of claims changes `ClaimOrder`.
+-- The number of cores that each client gets. The idea: the client with the first claim gets the next core, so no client
+-- that asks for more had an earlier claim to any core than the one that got it (`AreSoFar-more`), and each property
+-- follows from that (`Promises`, `Least`). Another order of claims changes `ClaimOrder`.
 use Rattle.std.proofs.Common.{arith}
 use Rattle.arachne_grants.specs.Grants.{IsUsed}
 use Rattle.arachne_grants.proofs.Order.{AreSoFar-more, IsUsed-served}

@@ -5,7 +5,7 @@ use Rattle.arachne_machine.specs.Outcome.{named_holds}
 use Rattle.arachne_commands.specs.Output.{thread_line}
 use Rattle.arachne_commands.proofs.output.ThreadLinesPrintedThreads.write.Given as goal
 
--- what is written, and behind it the lines of the threads that are left
+-- the text that is written, and after it the lines of the threads that are left
 abbrev pub invariant-loop-thread : goal.invariant-loop-thread
 invariant-loop-thread l =
     string_bytes l.text ++ flat_map thread_line (map named_holds l.thread-iterator)
