@@ -1,4 +1,4 @@
--- When workers may keep places at all.
+-- The condition on which workers may keep places.
 use Rattle.std.specs.Prelude.{◌≡◌, ◌≤◌, ◌⊎◌, ℕ, Bool, false}
 
 -- no thread may want a whole core, no order may close one, and no thread that holds a lock may be moved to another

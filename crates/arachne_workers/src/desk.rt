@@ -1,4 +1,4 @@
-//! What a worker does at the table and with the thread in hand, and what these calls return.
+//! The calls by which a worker uses its table and the thread in hand, and their results.
 //!
 //! The worker's loop is written over this trait, and not over tables and jobs.
 ghost use Rattle.std.specs.Prelude.{◌≡◌, ◌≤◌, OnOk};
@@ -10,7 +10,7 @@ use arachne_contexts::Woken;
 use arachne_core::{MarkWord, OccWord, Place, Rest, SLOTS, ThreadId};
 use std::marker::Model;
 
-/// Error by which a worker can't go on. The desk has a number for each cause.
+/// An error that ends a worker. The desk has a number for each cause.
 #[derive(Clone, Copy, Debug, PartialEq, Eq)]
 pub struct Halt {
     pub why: u8,
@@ -49,19 +49,22 @@ impl Halted {
     }
 }
 
-/// What a worker does at the table and with the thread in hand. No call changes what the seat is a seat at.
+/// A worker's access to its table and to the thread in hand.
 ///
-/// The trait has no types of its own: over the types of a table and a job each proof of the loop takes far longer.
+/// No call changes the table at which the seat is. The trait has no types of its own: over the types of a table and a
+/// job each proof of the loop takes far longer.
 pub trait Desk {
     /// Takes the thread at an index of the core in hand, if it is ready and no other is in hand, and reports it.
     fn take(&mut self, index: u8) -> Grip
         ensures { self.new ≡ self.old };
 
-    /// Returns how many steps a slice of the thread in hand has at most.
+    /// Returns the most steps of a slice of the thread in hand.
     fn quantum(&self) -> u32;
 
-    /// Runs the thread in hand for at most `left` steps, from which those that it makes are taken, and does what it
-    /// asks for. While another kernel thread has what that needs, it waits by this pace (`stand_by`).
+    /// Runs the thread in hand for at most `left` steps, and serves its requests.
+    ///
+    /// The steps that it makes are subtracted from `left`. While another kernel thread has what a request needs, this
+    /// one waits by `pace` (`stand_by`).
     fn advance(&mut self, pace: &mut Pace, left: &mut u32) -> Result<ThreadStop, Halt>
         requires { 1 ≤ left.old }
         ensures desk { self.new ≡ self.old }
@@ -70,25 +73,27 @@ pub trait Desk {
     /// Returns whether the thread in hand has acquired a lock since it was taken, and released none since.
     fn holds(&self) -> bool;
 
-    /// Puts the thread in hand back, as ready or blocked by its pause. Returns how it rests: if it was woken meanwhile,
-    /// it is ready.
+    /// Puts the thread in hand back, as ready or blocked by its pause.
+    ///
+    /// Returns how it rests: it is ready also if it was woken in the meantime.
     fn rest(&mut self) -> Result<Rest, Halt>
         ensures { self.new ≡ self.old };
 
-    /// Ends the thread in hand, which leaves what it has ended with. Its place is kept if the core, which looked like
-    /// `before`, was full, and is free otherwise. If it was the last thread, all workers are stopped. Returns the id of
-    /// the thread that awaits it, if there is one.
+    /// Ends the thread in hand, which leaves its outcome. Returns the id of the thread that awaits it, if there is one.
+    ///
+    /// Its place is kept if the core, which looked like `before`, was full; otherwise the place is free. If it was the
+    /// last thread, all workers are stopped.
     fn end(&mut self, before: OccWord) -> Result<Option<ThreadId>, Halt>
         ensures { self.new ≡ self.old };
 
-    /// Returns how many places are kept.
+    /// Returns the number of kept places.
     fn kept(&self) -> usize;
 
     /// Gives back the newest place that is kept. Returns whether there was one.
     fn give_one_back(&mut self) -> Result<bool, Halt>
         ensures { self.new ≡ self.old };
 
-    /// Reads what is on the core.
+    /// Returns the core's occupancy.
     fn look(&mut self) -> OccWord
         ensures { self.new ≡ self.old };
 
@@ -113,8 +118,9 @@ pub trait Desk {
         ensures { self.new ≡ self.old };
 
     /// Applies the orders that are due, and moves threads away from closed cores, if this worker has the orders.
-    /// Returns how many orders are applied in all, if one was now, and the cores to which threads were moved, a bit for
-    /// each.
+    ///
+    /// Returns the number of orders that are applied in all, if one was applied by this call, and the cores to which
+    /// threads were moved, a bit for each.
     fn tend(&mut self) -> (Option<usize>, u64)
         ensures { self.new ≡ self.old };
 
@@ -136,7 +142,7 @@ pub trait Desk {
     fn told(&self, event: WorkerEvent);
 }
 
-/// Why the thread in hand stops.
+/// The reason why the thread in hand stops.
 #[derive(Clone, Copy)]
 pub enum ThreadStop {
     /// It goes on.
@@ -155,27 +161,27 @@ pub enum ThreadStop {
     Ends,
 }
 
-/// What came of an attempt to take a thread in hand.
+/// The result of an attempt to take a thread in hand.
 #[derive(Clone, Copy)]
 pub enum Grip {
     Taken,
-    /// None is ready there.
+    /// No thread is ready there.
     None,
-    /// The place changed meanwhile. The attempt must be repeated.
+    /// The place changed during the attempt, which must be repeated.
     Lost,
 }
 
-/// What came of an attempt to take a thread that waits for a place.
+/// The result of an attempt to take a thread that waits for a place.
 #[derive(Clone, Copy)]
 pub enum TicketResult {
-    /// There was none.
+    /// No thread waits for a place.
     None,
-    /// It no longer waits, or there was no place.
+    /// The thread no longer waits, or there was no place.
     Gone,
     Posted(PostedThread),
 }
 
-/// What a worker reports.
+/// An event that a worker reports.
 #[derive(Clone, Copy, Debug, PartialEq, Eq)]
 pub enum WorkerEvent {
     /// A slice has ended, after this many steps. One that meets a fault is not reported.
@@ -201,7 +207,7 @@ pub enum WorkerEvent {
     MovedAway(u64),
 }
 
-/// How a slice ends.
+/// The end of a slice.
 #[derive(Clone, Copy, Debug, PartialEq, Eq)]
 pub enum SliceEnd {
     /// The thread goes on: its steps are used up, or another must run.
@@ -214,7 +220,7 @@ pub enum SliceEnd {
     Ended,
 }
 
-/// Why a thread is woken.
+/// The reason why a thread is woken.
 #[derive(Clone, Copy, Debug, PartialEq, Eq)]
 pub enum Cause {
     /// Its child has ended.

@@ -1,6 +1,6 @@
-//! Where threads may be ready, and whose workers sleep: a word for each core.
+//! A word for each core that says at which indexes threads may be ready, and whether the core's worker sleeps.
 //!
-//! It touches nothing but atomics, so any host may call it: each call returns whom to wake, and the caller does so.
+//! It touches only atomics, so any host may call it: each call returns whom to wake, and the caller does so.
 ghost use Rattle.std.specs.Prelude.{◌≡◌, ◌↔◌, ◌<◌, ◌≤◌, ◌*◌, ◌/◌, ◌%◌, ◌^◌, IfOk, IsSome, IsTrue};
 ghost use Rattle.arachne_core.specs.declared.layout.TheConstants.{SLOTS};
 
@@ -51,9 +51,11 @@ fn says_sleeps(word: u64) -> bool
     word & SLEEPS != 0
 }
 
-/// A word for each core, on a cache line of its own. It has a bit for each index at which a thread may be ready, and
-/// one that says that the core's worker sleeps. A bit is a hint: only the table says what is ready, and a scan of all
-/// occupied indexes finds what no bit shows.
+/// A word of hints for each core, on a cache line of its own.
+///
+/// It has a bit for each index at which a thread may be ready, and one that says that the core's worker sleeps. A bit
+/// is a hint: only the table says which threads are ready, and a scan of all occupied indexes finds those that have no
+/// bit.
 #[derive(Drop)]
 pub struct Hints {
     words: Vec<CachePadded<AtomicU64>>,
@@ -69,7 +71,7 @@ impl Model for Hints {
 }
 
 impl Hints {
-    /// Creates words for this many cores. No thread is ready, and no worker sleeps.
+    /// Creates words for `cores` cores. No thread is ready, and no worker sleeps.
     pub fn new(alloc: Global, cores: u8) -> Result<Hints, AllocError>
         ensures { IfOk result (λ hints. hints ≡ cores) }
     {
@@ -126,7 +128,7 @@ impl Hints {
     /// Records that the core's worker is about to sleep. Returns false, and records nothing, if there is a hint.
     pub fn is_about_to_sleep(&self, core: u8) -> bool {
         match self.word(core) {
-            // One exchange: a hint before it keeps the worker awake, and who hints after it sees that it sleeps.
+            // One exchange: a hint before it keeps the worker awake, and whoever hints after it sees that it sleeps.
             Some(word) => word
                 .compare_exchange(0, SLEEPS, Ordering::SeqCst, Ordering::SeqCst)
                 .is_ok(),

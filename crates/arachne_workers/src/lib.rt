@@ -1,4 +1,4 @@
-//! A scheduler: what the kernel thread of a core does next, whatever its table and its threads are.
+//! A scheduler for the kernel thread of a core, over any table and any kind of threads.
 #![tactic(auto)]
 
 mod deferral;

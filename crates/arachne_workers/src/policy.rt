@@ -15,7 +15,7 @@ pub(crate) const MOST_IN_TURN: u32 = 64;
 /// The most slices of one turn.
 pub(crate) const MOST_ALONE: u32 = 64;
 
-/// After this many scans of what is known to be ready one is of all occupied indexes.
+/// The number of scans of hinted indexes after which one scans all occupied indexes.
 pub(crate) const SCANS_BETWEEN_LOOKS: u32 = 64;
 
 /// The most steps that a thread makes in its slice after it has released a lock whose next holder runs here.
@@ -27,10 +27,12 @@ pub(crate) const STEPS_TO_FREE: u32 = 500;
 /// The most posts on other cores whose signals a worker keeps back.
 pub(crate) const MOST_KEPT_BACK: usize = 8;
 
-/// For how many steps a worker keeps a signal back.
+/// The number of steps for which a worker keeps a signal back.
 pub(crate) const PATIENCE: u32 = 500;
 
-/// How many posts on other cores a worker signals at once before it keeps any back: at first the other cores need work.
+/// The number of posts on other cores that a worker signals immediately before it keeps any back.
+///
+/// At first the other cores need work.
 pub(crate) const TOLD_AT_ONCE: u32 = 32;
 
 /// Returns whether a worker that has posted this many threads on other cores keeps the next signal back.
@@ -40,8 +42,10 @@ pub(crate) fn keeps_back(posted: u32) -> bool
     posted >= TOLD_AT_ONCE
 }
 
-/// Returns whether places may be kept at all. They may not if a thread may want a whole core, if orders may close one,
-/// or if a thread that holds a lock may be moved to another core.
+/// Returns whether places may be kept at all.
+///
+/// They may not if a thread may want a whole core, if orders may close one, or if a thread that holds a lock may be
+/// moved to another core.
 pub fn may_keep_places(has_exclusive: bool, orders: usize, locks: u8, cores: u8) -> bool
     ensures { IsTrue result ↔ MayKeepPlaces has_exclusive orders locks cores }
 {
@@ -79,8 +83,10 @@ pub fn is_drained(now: OccWord) -> bool
     now.is_closed() && now.is_empty()
 }
 
-/// Returns whether the thread in hand gets another slice at once: the core is open, and the thread holds a lock, or no
-/// other is known to be ready and no ticket can be taken.
+/// Returns whether the thread in hand gets another slice immediately.
+///
+/// It does if the core is open, and either the thread holds a lock, or no other is known to be ready and no ticket can
+/// be taken.
 pub(crate) fn may_go_on(now: OccWord, holds: bool, others: bool, takes_ticket: bool) -> bool
     ensures { IsTrue result ↔ (now.closed ≡ false) × ((holds ≡ true) ⊎ ((others ≡ false) × (takes_ticket ≡ false))) }
 {
@@ -120,7 +126,7 @@ const LAST_SPIN: u32 = 6;
 /// Up to this round a worker that may not yield spins.
 const LAST_SPIN_ALONE: u32 = 10;
 
-/// How often the length of a spin doubles at most.
+/// The most times that the length of a spin doubles.
 pub(crate) const MOST_SPINS: u32 = LAST_SPIN_ALONE;
 
 /// Up to this round a worker that may yield does so once it no longer spins. After it, it sleeps.
@@ -218,8 +224,9 @@ pub(crate) fn grace_left(holds: bool, grace: u32, most: u32) -> u32
     }
 }
 
-/// How many microseconds a worker that may not yield sleeps while another kernel thread has what it needs. That one has
-/// lost its processor.
+/// The microseconds that a worker sleeps if it may not yield and another kernel thread has what it needs.
+///
+/// That kernel thread has lost its processor.
 pub(crate) const STAND_BY: u64 = 50;
 
 /// The longest sleep, in microseconds, of a worker that others may wait for, or that has orders to apply.
@@ -229,7 +236,7 @@ const SHORT_SLEEP: u64 = 100;
 /// signal is missed, so a short sleep would only take the processor from others.
 const LONG_SLEEP: u64 = 20_000;
 
-/// Returns how many microseconds a worker sleeps at most.
+/// Returns the most microseconds that a worker sleeps.
 pub(crate) fn sleep_of(is_waited_for: bool) -> u64
     ensures { result ≡ (if is_waited_for then SHORT_SLEEP else LONG_SLEEP) }
 {

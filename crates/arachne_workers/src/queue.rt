@@ -1,7 +1,7 @@
-//! What a worker remembers: where threads of its core may be ready, which one goes next, and the posts on other cores
-//! whose signals it keeps back.
+//! A worker's notes: the indexes at which threads of its core may be ready, the thread that goes next, and the posts on
+//! other cores whose signals it keeps back.
 //!
-//! Plain data: it touches no word that another worker sees.
+//! They are plain data, which no other worker sees.
 ghost use Rattle.std.specs.Prelude.{◌≡◌, ◌≢◌, ◌≤◌, ◌<◌, ◌↔◌, ◌⊎◌, [], ◌∷◌, ◌++◌, ◌^◌, ◌+◌, ◌-◌, max, min, length, None, Some, if◌then◌else◌, IfSome, IsSome, IsTrue, MatchOption};
 ghost use Rattle.std.specs.Int.RustNames.{bit_or};
 ghost use Rattle.arachne_core.specs.declared.layout.TheConstants.{SLOTS};
@@ -15,14 +15,14 @@ use crate::policy;
 use arachne_core::{Place, SLOTS, ThreadId};
 use std::alloc::Global;
 
-/// A thread that was posted, and where.
+/// A thread that was posted, and its place.
 #[derive(Clone, Copy)]
 pub struct PostedThread {
     pub id: ThreadId,
     pub place: Place,
 }
 
-/// What a worker remembers.
+/// A worker's notes.
 #[derive(Drop)]
 pub struct Agenda {
     /// The indexes that are left of this scan, a bit for each.
@@ -35,11 +35,11 @@ pub struct Agenda {
     deferral: Deferral,
     /// The posts on other cores that are not signalled yet, the newest last.
     posts: Vec<PostedThread>,
-    /// After how many more steps all of them are signalled.
+    /// The number of steps after which all of them are signalled.
     patience: u32,
-    /// How many threads the worker has posted on other cores.
+    /// The number of threads that the worker has posted on other cores.
     posted: u32,
-    /// How many scans have begun since the last one of all occupied indexes.
+    /// The number of scans that have begun since the last one of all occupied indexes.
     scans: u32,
 }
 
@@ -159,7 +159,7 @@ impl Agenda {
         self.deferral.without(indexes)
     }
 
-    /// Has the thread at an index go before all others, unless another does. Returns whether it will.
+    /// Makes the thread at an index go before all others, unless another does. Returns whether it will.
     pub(crate) fn goes_next(&mut self, index: u8) -> bool
         ensures will { IsTrue result ↔ (self.old.next ≡ None) × (index < SLOTS) }
         ensures next { self.new ≡ record self.old { next = if result then Some index else self.old.next } }
@@ -186,8 +186,9 @@ impl Agenda {
         self.next.take()
     }
 
-    /// Keeps back the signal of a post on another core, or returns the post to signal now: this one, or the oldest that
-    /// was kept back.
+    /// Keeps back the signal of a post on another core, or returns the post to signal now.
+    ///
+    /// That is this post, or the oldest that was kept back.
     pub(crate) fn keep_back(&mut self, post: PostedThread) -> Option<PostedThread>
         ensures kept { IsKeptBack self.old.posted self.old.posts.items post result self.new.posts.items }
         ensures few { length self.old.posts.items ≤ MOST_KEPT_BACK → length self.new.posts.items ≤ MOST_KEPT_BACK }
@@ -214,7 +215,7 @@ impl Agenda {
         self.posts.pop()
     }
 
-    /// Begins a slice. If nothing is kept back, the next post may be for the full time.
+    /// Begins a slice. If nothing is kept back, the next post can be kept back for the full number of steps.
     pub(crate) fn begin_slice(&mut self)
         ensures empty { self.old.posts.items ≡ [] → self.new ≡ record self.old { patience = PATIENCE } }
         ensures kept_back { self.old.posts.items ≢ [] → self.new ≡ self.old }
@@ -225,7 +226,7 @@ impl Agenda {
         }
     }
 
-    /// Returns how many of the `left` steps of a slice may be made before posts that are kept back may be due.
+    /// Returns the number of the `left` steps of a slice that may be made before posts that are kept back may be due.
     #[inline(always)]
     pub(crate) fn stretch(&self, left: u32) -> u32
         ensures { result ≡ min left (max 1 self.now.patience) }

@@ -1,4 +1,4 @@
-//! What all workers see, and how they sleep, wake one another, park and stop.
+//! The words that all workers share, by which they sleep, wake one another, park and stop.
 ghost use Rattle.std.specs.Prelude.{◌≡◌, ◌↔◌, ◌<◌, IfOk, IsTrue};
 ghost use Rattle.std.specs.Int.{bit_at};
 ghost use Rattle.arachne_arbiter.specs.KernelThreads.{counted_cores, parked_cores};

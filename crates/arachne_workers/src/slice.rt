@@ -39,7 +39,7 @@ impl<'a, H: Wait + Clock, D: Desk> CoreWorker<'a, H, D> {
         ensures scan { self.new.agenda.scan ≡ self.old.agenda.scan }
     {
         let quantum = self.desk.quantum();
-        // How many more steps the thread may make in this turn because it holds a lock.
+        // The further steps that the thread may make in this turn because it holds a lock.
         let mut grace = policy::STEPS_TO_FREE;
         let mut end = self.slice(quantum)?;
         for _ in 1..policy::MOST_ALONE {

@@ -1,4 +1,4 @@
-//! How a kernel thread waits for others without a sleep on its core's word.
+//! Waits of a kernel thread that don't sleep on its core's word.
 use crate::hints::Hints;
 use crate::policy;
 use arachne_arbiter::Pace;
@@ -6,8 +6,10 @@ use std::hint::spin_loop;
 use std::thread;
 use std::time::{Clock, Duration};
 
-/// Waits without a sleep after `round` rounds that found nothing. In the first rounds it spins, longer in each, until a
-/// thread of the core may be ready; later it yields the processor.
+/// Waits without a sleep, after `round` rounds that found nothing.
+///
+/// In the first rounds it spins, longer in each, until a thread of the core may be ready. Later it yields the
+/// processor.
 pub(crate) fn stay_awake<H: Clock>(rt: &H, pace: &mut Pace, hints: &Hints, core: u8, round: u32) {
     if !policy::spins(round, pace.may_yield()) {
         pace.yield_once(rt);
@@ -21,9 +23,10 @@ pub(crate) fn stay_awake<H: Clock>(rt: &H, pace: &mut Pace, hints: &Hints, core:
     }
 }
 
-/// Waits while another kernel thread has what this one needs, after `tries` attempts. It spins in the first ones,
-/// longer in each; later it yields the processor if a yield returns at once, and sleeps if not: the other one has lost
-/// its processor.
+/// Waits while another kernel thread has what this one needs, after `tries` attempts.
+///
+/// It spins after the first attempts, longer after each. Later it yields the processor if yields return immediately,
+/// and sleeps if not: the other kernel thread has lost its processor.
 pub fn stand_by<H: Clock>(rt: &H, pace: &mut Pace, tries: u32) {
     if policy::spins(tries, pace.may_yield()) {
         for _ in 0..policy::spins_of(tries) {

@@ -1,4 +1,4 @@
-//! How the workers of other cores learn of threads that a worker posts or wakes.
+//! Signals to the workers of other cores for threads that a worker posts or wakes.
 ghost use Rattle.std.specs.Prelude.{◌≡◌, ◌≢◌, ◌↔◌, ◌≤◌, ◌<◌, ◌+◌, ◌^◌, [], false, length, min, IfSome, IsSome, None, Some};
 ghost use Rattle.std.specs.Int.RustNames.{bit_or};
 ghost use Rattle.arachne_core.specs.declared.layout.TheConstants.{SLOTS};
@@ -16,8 +16,10 @@ use std::sync::Wait;
 use std::time::Clock;
 
 impl<'a, H: Wait + Clock, D: Desk> CoreWorker<'a, H, D> {
-    /// Wakes a thread, if it is blocked. It runs on this core if it has a lock now, since others may wait for that, or
-    /// if its own core's worker sleeps, since a move is cheaper than waking a kernel thread.
+    /// Wakes a thread, if it is blocked.
+    ///
+    /// It runs on this core if it has a lock now, since others may wait for that, or if its own core's worker sleeps,
+    /// since a move is cheaper than waking a kernel thread.
     pub(crate) fn wake(&mut self, id: ThreadId, cause: Cause)
         ensures desk { self.new.desk ≡ self.old.desk }
         ensures others { (self.new.agenda ≡ record self.old.agenda { ready = self.new.agenda.ready; next = self.new.agenda.next }) × (self.new.slices ≡ self.old.slices) }
@@ -60,7 +62,7 @@ impl<'a, H: Wait + Clock, D: Desk> CoreWorker<'a, H, D> {
         unreachable!()
     }
 
-    /// Moves a thread from another core to this one, if workers may. Returns where it is after that.
+    /// Moves a thread from another core to this one, if workers may. Returns its place after that.
     #[inline(always)]
     fn pull(&mut self, id: ThreadId, from: Place) -> Place
         ensures desk { self.new.desk ≡ self.old.desk }
@@ -79,9 +81,10 @@ impl<'a, H: Wait + Clock, D: Desk> CoreWorker<'a, H, D> {
         place
     }
 
-    /// Returns the index of the thread that runs next: one that was handed a lock, or, if the thread in hand blocked
-    /// and nothing else is ready here, the newest post that was kept back and can be moved here. Signals those that
-    /// can't.
+    /// Returns the index of the thread that runs next, if one is known.
+    ///
+    /// It is one that was handed a lock. Otherwise, if the thread in hand blocked and nothing else is ready here, it is
+    /// the newest post that was kept back and can be moved here; those that can't are signalled.
     pub(crate) fn next(&mut self, waits: bool) -> Option<u8>
         ensures desk { self.new.desk ≡ self.old.desk }
         ensures next { IsSome self.old.agenda.next → HasGivenNext result self.old.agenda self.new.agenda }
@@ -110,7 +113,7 @@ impl<'a, H: Wait + Clock, D: Desk> CoreWorker<'a, H, D> {
     }
 }
 
-/// Returns where a thread is, by its context's mark, if it is ready and was not taken since.
+/// Returns a thread's place by its context's mark, if it is ready and was not taken since.
 #[inline(always)]
 fn ready_place(mark: Option<MarkWord>, id: ThreadId) -> Option<Place>
     ensures there { IsSome result → IsSome mark }

@@ -19,7 +19,7 @@ pub struct CoreWorker<'a, H, D> {
     pub core: u8,
     pub slots: u8,
     pub agenda: Agenda,
-    /// How many slices this worker has begun.
+    /// The number of slices that this worker has begun.
     pub slices: u64,
     /// Decides whether the worker may yield its processor while it waits.
     pub pace: Pace,
@@ -42,7 +42,7 @@ impl<'a, H: Wait + Clock, D: Desk> CoreWorker<'a, H, D> {
     fn rounds(&mut self) -> Result<(), Halt>
         ensures { self.new.desk ≡ self.old.desk }
     {
-        // How many consecutive rounds have found nothing.
+        // The number of consecutive rounds that have found nothing.
         let mut idle: u32 = 0;
         for _ in self.rt.forever() {
             if self.shared.is_stopped() {
@@ -59,7 +59,8 @@ impl<'a, H: Wait + Clock, D: Desk> CoreWorker<'a, H, D> {
     }
 
     /// Makes one round: each thread that may be ready gets a turn, then a child that waits for a place gets one.
-    /// Returns whether there was anything to do. `idle` is how many consecutive rounds have found nothing.
+    ///
+    /// Returns whether there was anything to do. `idle` is the number of consecutive rounds that have found nothing.
     pub fn round(&mut self, idle: u32) -> Result<bool, Halt>
         ensures { self.new.desk ≡ self.old.desk }
     {
@@ -68,7 +69,7 @@ impl<'a, H: Wait + Clock, D: Desk> CoreWorker<'a, H, D> {
         if policy::ends_deferral(idle, sleeps) {
             self.agenda.end_deferral();
         }
-        // Read before `scan` takes the hints, which clears the bit: if it is still set, nobody has ended the sleep.
+        // Read before `scan`, which takes the hints and clears the bit: if it is still set, nobody has ended the sleep.
         let overslept = sleeps && self.shared.hints().is_asleep(self.core);
         let found = self.scan()? || looks && self.scan_all()?;
         if found {
@@ -80,8 +81,9 @@ impl<'a, H: Wait + Clock, D: Desk> CoreWorker<'a, H, D> {
         Ok(found)
     }
 
-    /// Applies the orders that are due, and waits. `idle` is how many consecutive rounds before the last one found
-    /// nothing.
+    /// Applies the orders that are due, and waits.
+    ///
+    /// `idle` is the number of consecutive rounds before the last one that found nothing.
     pub fn rest_for(&mut self, idle: u32)
         ensures desk { self.new.desk ≡ self.old.desk }
         ensures same { (self.new.agenda ≡ self.old.agenda) × (self.new.slices ≡ self.old.slices) }
