@@ -78,7 +78,9 @@ impl<'p> State<'p> {
         ensures err { OnErr result (StandsBack self.old placed.old.items self.new placed.new.items) }
     {
         match self.control {
-            Control::Awaits { .. } | Control::AwaitsHalf { .. } => self.take_newest(placed, spares),
+            Control::Awaits { .. } | Control::AwaitsHalf { .. } if !placed.is_empty() => {
+                self.take_newest(placed, spares)
+            }
             _ => Ok(false),
         }
     }

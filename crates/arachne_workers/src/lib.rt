@@ -1,7 +1,6 @@
 //! A scheduler for the kernel thread of a core, over any table and any kind of threads.
 #![tactic(auto)]
 
-mod deferral;
 mod desk;
 mod hints;
 mod policy;

@@ -5,7 +5,7 @@
 ghost use Rattle.std.specs.Prelude.{◌≡◌, ◌≤◌, ◌<◌, ◌+◌, ◌-◌, ◌*◌, ◌^◌, ◌↔◌, ◌⊎◌, false, true, if◌then◌else◌, min, EachIndex, IsTrue, slice_index_or};
 ghost use Rattle.arachne_core.specs.Occupancy.{count_of};
 ghost use Rattle.arachne_workers.specs.Keeping.{MayKeepPlaces};
-ghost use Rattle.arachne_workers.specs.declared.policy.TheConstants.{STEPS_PAST_FREE, TOLD_AT_ONCE, LAST_SPIN, LAST_SPIN_ALONE, LAST_YIELD, LAST_DEFERRED, MOST_SPINS, SHORT_SLEEP, LONG_SLEEP};
+ghost use Rattle.arachne_workers.specs.declared.policy.TheConstants.{STEPS_PAST_FREE, TOLD_AT_ONCE, LAST_SPIN, LAST_SPIN_ALONE, LAST_YIELD, MOST_SPINS, SHORT_SLEEP, LONG_SLEEP};
 
 use arachne_core::OccWord;
 
@@ -121,7 +121,7 @@ pub(crate) fn most_steps(quantum: u32, holds: bool, left: u32) -> u32
 }
 
 /// Up to this round a worker that finds nothing spins, twice as long in each.
-const LAST_SPIN: u32 = 6;
+const LAST_SPIN: u32 = 12;
 
 /// Up to this round a worker that may not yield spins.
 const LAST_SPIN_ALONE: u32 = 10;
@@ -185,23 +185,6 @@ pub(crate) fn looks_at_all(idle: u32, sleeps: bool) -> bool
     ensures { IsTrue result ↔ (idle ≡ 0) ⊎ (sleeps ≡ true) }
 {
     idle == 0 || sleeps
-}
-
-/// A thread that frees a lock is deferred only if the lock went from thread to thread of the core fewer times in a row.
-pub(crate) const FEW_IN_A_ROW: u32 = 4;
-
-/// How many locks are freed before a thread is deferred again, if nothing was found while some were.
-pub(crate) const FREES_BETWEEN_DEFERRALS: u32 = 64;
-
-/// From this round on deferred threads go on.
-const LAST_DEFERRED: u32 = 20;
-
-/// Returns whether deferred threads go on after `idle` consecutive rounds that found nothing.
-#[inline(always)]
-pub(crate) fn ends_deferral(idle: u32, sleeps: bool) -> bool
-    ensures { IsTrue result ↔ (LAST_DEFERRED ≤ idle) ⊎ (sleeps ≡ true) }
-{
-    idle >= LAST_DEFERRED || sleeps
 }
 
 /// Returns whether a thread that holds a lock has used up the grace of its turn.

@@ -9,7 +9,6 @@ ghost use Rattle.arachne_workers.specs.declared.policy.TheConstants.{MOST_KEPT_B
 ghost use Rattle.arachne_workers.specs.Lowest.{IsLowest};
 ghost use Rattle.arachne_workers.specs.Posts.{IsKeptBack};
 
-use crate::deferral::Deferral;
 use crate::hints::bit_of;
 use crate::policy;
 use arachne_core::{Place, SLOTS, ThreadId};
@@ -31,8 +30,6 @@ pub struct Agenda {
     ready: u64,
     /// The index at which a thread goes before all others.
     next: Option<u8>,
-    /// The threads that are ready and wait.
-    deferral: Deferral,
     /// The posts on other cores that are not signalled yet, the newest last.
     posts: Vec<PostedThread>,
     /// The number of steps after which all of them are signalled.
@@ -58,7 +55,6 @@ impl Agenda {
                 None => 0,
             },
             next: None,
-            deferral: Deferral::none(),
             posts: Vec::new(alloc),
             patience: policy::PATIENCE,
             posted: 0,
@@ -115,48 +111,7 @@ impl Agenda {
     pub(crate) fn is_any(&self) -> bool
         ensures { IsTrue result ↔ (bit_or self.now.scan self.now.ready ≢ 0) ⊎ IsSome self.now.next }
     {
-        self.scan | self.ready | self.deferral.indexes() != 0 || self.next.is_some()
-    }
-
-    /// Returns how many of the `left` steps of a slice remain after the thread in hand has freed a lock whose next
-    /// holder was woken. None remain if the thread is deferred.
-    pub(crate) fn left_past_free(&mut self, left: u32) -> u32 {
-        let goes_next = self.has_next();
-        let others = self.scan | self.ready != 0;
-        if self.deferral.begins(goes_next, others) {
-            return 0;
-        }
-        policy::left_past_free(left, goes_next)
-    }
-
-    /// Returns whether the thread in hand is deferred.
-    pub(crate) fn is_deferring(&self) -> bool {
-        self.deferral.is_begun()
-    }
-
-    /// Ends the turn of the thread in hand. Returns whether that is deferred. If it isn't, those that are go on.
-    #[inline(always)]
-    pub(crate) fn end_turn(&mut self) -> bool {
-        let is_deferred = self.deferral.end_turn();
-        if !is_deferred {
-            self.ready |= self.deferral.take();
-        }
-        is_deferred
-    }
-
-    /// Defers the thread at an index.
-    pub(crate) fn defer(&mut self, index: u8) {
-        self.deferral.defer(index);
-    }
-
-    /// Notes all deferred threads for the next scan, because nothing else was found.
-    pub(crate) fn end_deferral(&mut self) {
-        self.ready |= self.deferral.end();
-    }
-
-    /// Returns these indexes without those of deferred threads.
-    pub(crate) fn not_deferred(&self, indexes: u64) -> u64 {
-        self.deferral.without(indexes)
+        self.scan | self.ready != 0 || self.next.is_some()
     }
 
     /// Makes the thread at an index go before all others, unless another does. Returns whether it will.

@@ -17,18 +17,13 @@ impl<'a, H: Wait + Clock, D: Desk> CoreWorker<'a, H, D> {
         ensures scan { self.new.agenda.scan ≡ self.old.agenda.scan }
     {
         let end = self.slices()?;
-        let is_deferred = self.agenda.end_turn();
         if end == SliceEnd::Ended {
             self.end()?;
             return Ok(false);
         }
         let rest = self.desk.rest()?;
         if rest == Rest::Ready {
-            if is_deferred {
-                self.agenda.defer(index);
-            } else {
-                self.agenda.note(index);
-            }
+            self.agenda.note(index);
         }
         Ok(rest == Rest::Blocked)
     }
@@ -63,7 +58,7 @@ impl<'a, H: Wait + Clock, D: Desk> CoreWorker<'a, H, D> {
         ensures same { (self.new.agenda ≡ self.old.agenda) × (self.new.slices ≡ self.old.slices) }
         ensures grace { IsTrue result → holds ≡ true → 0 < grace }
     {
-        if self.agenda.is_deferring() || policy::is_grace_over(holds, grace) {
+        if policy::is_grace_over(holds, grace) {
             return false;
         }
         let others = self.agenda.is_any() || self.shared.hints().is_any(self.core);
@@ -122,7 +117,7 @@ impl<'a, H: Wait + Clock, D: Desk> CoreWorker<'a, H, D> {
                 ThreadStop::Spilled => self.desk.told(WorkerEvent::Spilled),
                 ThreadStop::Wakes(id) => {
                     self.wake(id, Cause::IsServed);
-                    left = self.agenda.left_past_free(left);
+                    left = policy::left_past_free(left, self.agenda.has_next());
                 }
                 ThreadStop::Ends => return Ok((made, SliceEnd::Ended)),
                 ThreadStop::Blocks => return Ok((made, SliceEnd::AwaitsChild)),

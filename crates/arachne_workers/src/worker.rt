@@ -66,9 +66,6 @@ impl<'a, H: Wait + Clock, D: Desk> CoreWorker<'a, H, D> {
     {
         let sleeps = policy::sleeps(idle, self.pace.may_yield());
         let looks = policy::looks_at_all(idle, sleeps);
-        if policy::ends_deferral(idle, sleeps) {
-            self.agenda.end_deferral();
-        }
         // Read before `scan`, which takes the hints and clears the bit: if it is still set, nobody has ended the sleep.
         let overslept = sleeps && self.shared.hints().is_asleep(self.core);
         let found = self.scan()? || looks && self.scan_all()?;
@@ -108,8 +105,7 @@ impl<'a, H: Wait + Clock, D: Desk> CoreWorker<'a, H, D> {
         thin_out(&mut self.desk, self.slots)?;
         let mut indexes = self.shared.hints().take(self.core);
         if self.agenda.is_look_due() {
-            let occupied = self.desk.look().mask();
-            indexes |= self.agenda.not_deferred(occupied);
+            indexes |= self.desk.look().mask();
         }
         self.agenda.begin_scan(indexes);
         let found = self.run_each()?;
@@ -124,8 +120,7 @@ impl<'a, H: Wait + Clock, D: Desk> CoreWorker<'a, H, D> {
         ensures ended { IsOk result → self.new.agenda.scan ≡ 0 }
     {
         let occupied = self.desk.look().mask();
-        let indexes = self.agenda.not_deferred(occupied);
-        self.agenda.begin_scan(indexes);
+        self.agenda.begin_scan(occupied);
         if self.run_each()? {
             return Ok(true);
         }
