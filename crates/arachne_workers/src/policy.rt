@@ -120,7 +120,7 @@ pub(crate) fn most_steps(quantum: u32, holds: bool, left: u32) -> u32
     if holds { quantum.min(left) } else { quantum }
 }
 
-/// Up to this round a worker that finds nothing spins, twice as long in each.
+/// Up to this round a worker that may yield spins, twice as long in each until it spins as long as it may.
 const LAST_SPIN: u32 = 12;
 
 /// Up to this round a worker that may not yield spins.
