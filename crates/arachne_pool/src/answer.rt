@@ -53,7 +53,7 @@ impl WakeAnswer {
         })
     }
 
-    /// The answer.
+    /// Returns the answer.
     pub fn woken(&self) -> Woken
         ensures { result ≡ self.now.woken }
     {

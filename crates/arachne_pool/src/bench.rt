@@ -1,4 +1,4 @@
-//! What a worker has beside its seat.
+//! The possessions of a worker beside its seat.
 ghost use Rattle.std.specs.Prelude.{◌≡◌, ◌+◌, ◌<◌, ◌≤◌, [], IfErr, IfOk, None, OnErr, if◌then◌else◌, false, true};
 ghost use Rattle.std.specs.VecDeque.{deque_capacity, deque_len};
 ghost use Rattle.arachne_pool.specs.Done.{nothing_done};
@@ -17,7 +17,7 @@ use std::collections::VecDeque;
 use std::mem::replace;
 use std::snapshot::Snapshot;
 
-/// What a worker has beside its seat.
+/// The possessions of a worker beside its seat.
 #[derive(Drop)]
 pub(crate) struct Bench<J: PoolJob> {
     pub(crate) alloc: Global,

@@ -1,4 +1,4 @@
-//! How a pool is made and closed.
+//! A pool is made and closed.
 ghost use Rattle.std.specs.Prelude.{◌≡◌, ◌+◌, ◌<◌, ◌≤◌, ◌↔◌, [], IfErr, IfOk, IfSome, IsSome, IsTrue, MatchOption, OnErr, OnOk, Some};
 ghost use Rattle.arachne_core.specs.declared.layout.TheConstants.{CORES, SLOTS};
 ghost use Rattle.arachne_policy.specs.Orders.{AreInOrder};
@@ -27,6 +27,17 @@ pub struct Left<J: PoolJob> {
     pub placed: Vec<(ThreadId, Spawned<J>)>,
     /// Those that waited for one, the oldest first.
     pub near: VecDeque<Spawned<J>>,
+}
+
+impl<J: PoolJob> Left<J> {
+    ghost use Rattle.arachne_pool.specs.Leftover.{count_of};
+
+    /// Returns whether no job is left.
+    pub fn is_empty(&self) -> bool
+        ensures { IsTrue result → count_of self.now ≡ 0 }
+    {
+        self.placed.is_empty() && self.near.is_empty()
+    }
 }
 
 /// Why a pool was not closed.

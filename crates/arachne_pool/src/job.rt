@@ -5,7 +5,7 @@ ghost use Rattle.arachne_pool.specs.Jobs.{EndsWith, ForksFresh, HasJoined, IsAwa
 use arachne_contexts::Tagged;
 use arachne_core::ThreadId;
 
-/// What a job asks for after a step.
+/// The request of a job after a step.
 #[derive(Drop)]
 pub enum Step<J, O> {
     /// To go on.
@@ -23,7 +23,7 @@ pub enum Step<J, O> {
 
 /// A job: it goes on by steps, which any worker makes, one after the other.
 pub trait PoolJob: Tagged + Drop {
-    /// What it ends with.
+    /// The type of its result.
     type Output: Drop;
 
     /// This is a result of the job. A handle gives no other.

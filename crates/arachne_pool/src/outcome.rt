@@ -12,7 +12,7 @@ pub struct JobOutcome<J: PoolJob> {
     pub output: J::Output,
 }
 
-/// What a cell is for: a result of this job, as it was spawned. It has no bytes.
+/// The content that a cell is for: a result of this job, as it was spawned. It has no bytes.
 #[derive(Drop)]
 pub struct WantedResult<J> {
     pub job: Snapshot<J>,

@@ -1,4 +1,4 @@
-//! How jobs get their places and leave them.
+//! Jobs get their places and leave them.
 //!
 //! It may touch the table through the seat that it is given.
 ghost use Rattle.std.specs.Prelude.{◌≡◌, ◌<◌, [], ◌∷◌, ◌++◌, IfErr, IfOk, MatchOption, OnErr, OnOk};

@@ -1,4 +1,4 @@
-//! What the workers of a pool share.
+//! A pool: what its workers share.
 ghost use Rattle.std.specs.Prelude.{◌≡◌, ◌<◌, ◌≤◌, IfOk};
 ghost use Rattle.arachne_core.specs.declared.layout.TheConstants.{CORES, SLOTS, LAST_GENERATION};
 ghost use Rattle.arachne_weights.specs.Weight.{whole};
@@ -14,7 +14,7 @@ use std::alloc::{AllocError, Global};
 use std::marker::PhantomData;
 use std::sync::atomic::{AtomicU64, Ordering};
 
-/// What the workers of a pool share: the table, the counts of jobs, and the words that end all work.
+/// A pool: the table, the counts of jobs, and the words that end all work. Its workers share it.
 #[derive(Drop)]
 pub struct Pool<C: Seats> {
     /// The table of contexts.
@@ -85,6 +85,15 @@ impl<C: Seats> Pool<C> {
             return Statistics::new();
         }
         self.live.done(core)
+    }
+
+    /// Returns the statistics of all cores' workers together.
+    pub fn all_statistics(&self) -> Statistics {
+        let mut all = Statistics::new();
+        for core in 0..self.cores {
+            all = all.with(self.live.done(core));
+        }
+        all
     }
 
     /// Returns whether the worker of a core sleeps, or has slept its time out and not looked since. Whoever has work

@@ -13,7 +13,7 @@ use std::time::Clock;
 /// After how many slices at most a worker reports its statistics.
 const MOST_UNTOLD: u64 = 1024;
 
-/// What rounds ask of a worker's desk, beside what the worker's loop does. No call changes what the seat is a seat at.
+/// A worker's desk, as rounds use it beside the worker's loop. No call changes what the seat is a seat at.
 ///
 /// The trait has no types of its own, so that what stands on it is proved in a fraction of the time.
 pub(crate) trait PoolDesk: Desk {
@@ -67,7 +67,7 @@ pub(crate) fn run<H: Wait + Clock, D: PoolDesk>(
 ) -> Result<(), PoolFault>
     ensures { kernel.new.desk ≡ kernel.old.desk }
 {
-    // How many consecutive rounds have found nothing.
+    // The number of consecutive rounds that have found nothing.
     let mut idle: u32 = 0;
     let mut may_be_over = true;
     for _ in kernel.rt.forever() {

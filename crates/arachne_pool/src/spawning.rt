@@ -19,7 +19,7 @@ use rand_xoshiro::Xoshiro256PlusPlus;
 use std::sync::Wait;
 use thiserror::Error;
 
-/// Why a job was not spawned.
+/// The reason why a job was not spawned.
 #[derive(Clone, Copy, Debug, PartialEq, Eq, Error)]
 pub enum Refusal {
     /// Each core that the job may be on was asked in this call, and none had a place.

@@ -63,7 +63,7 @@ pub(crate) struct Stack<J: PoolJob> {
     links: Links<J>,
     /// A child that the topmost has forked, and that has to wait here.
     child: Option<J>,
-    /// What the topmost has ended with.
+    /// The result of the topmost, if it has ended.
     ended: Option<J::Output>,
     /// The topmost must get the result of its newest child before its next step.
     waits: bool,

@@ -1,11 +1,11 @@
-//! Why a slice of a job stops, and how the job rests then.
+//! The end of a slice of a job, and how the job rests then.
 ghost use Rattle.std.specs.Prelude.{◌≡◌, if◌then◌else◌};
 ghost use Rattle.arachne_pool.specs.Stops.{blocks_after, rests_as};
 
 use arachne_contexts::Rested;
 use arachne_core::Rest;
 
-/// Why a slice of a job stops.
+/// The reason why a slice of a job stops.
 #[derive(Clone, Copy, Debug, PartialEq, Eq)]
 pub(crate) enum JobStop {
     /// It goes on.
@@ -46,7 +46,7 @@ pub(crate) fn rest_of(blocks: bool) -> Rest
     if blocks { Rest::Blocked } else { Rest::Ready }
 }
 
-/// How a job rests that was to be put back so: one that was woken before is ready.
+/// Returns how a job rests that was put back as `asked`: one that was woken before is ready.
 #[inline(always)]
 pub(crate) fn rests_so(rested: Rested, asked: Rest) -> Rest
     ensures { result ≡ rests_as rested asked }

@@ -18,7 +18,7 @@ use std::mem::replace;
 use std::sync::Wait;
 use thiserror::Error;
 
-/// Why a worker can't go on.
+/// The reason why a worker can't go on.
 #[derive(Clone, Copy, Debug, PartialEq, Eq, Error)]
 pub enum PoolFault {
     /// Memory was refused. All jobs are as before, and the worker may go on.

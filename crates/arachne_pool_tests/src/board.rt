@@ -1,27 +1,27 @@
-//! What the jobs of a row have in common with whoever wakes them.
+//! The counts and replies that the jobs of a row share with whoever wakes them.
 use arachne_core::ThreadId;
 use std::alloc::Global;
 use std::sync::atomic::{AtomicU64, Ordering};
 use std::sync::{Arc, Wait};
 use std::thread::yield_now;
 
-/// How often a kernel thread looks at a word before a job rests: for some microseconds.
+/// The number of looks at a word before a job rests, which take some microseconds.
 const MOMENT: u32 = 2_000;
 
-/// How often one looks for an answer at most: for some tenths of a second where nothing else wants the processors.
+/// The most looks for an answer. They take some tenths of a second if nothing else wants the processors.
 const MOST_LOOKS: u32 = 1_000_000;
 
-/// What the jobs of a row have told, and how many answers have come.
+/// The counts of a row's jobs, and the number of answers that have come.
 #[derive(Drop)]
 pub(crate) struct Board {
     pub(crate) alloc: Global,
-    /// How many have made a step.
+    /// The number of jobs that have made a step.
     pub(crate) begun: AtomicU64,
-    /// How often one was about to sleep.
+    /// The number of times that a job was about to sleep.
     pub(crate) sleeps: AtomicU64,
-    /// How often a kernel thread has come back from its work.
+    /// The number of times that a kernel thread has returned from its work.
     pub(crate) returns: AtomicU64,
-    /// How often the kernel thread that waits for this was told to go on.
+    /// The number of times that the turn was passed to the kernel thread that waits for it.
     turns: AtomicU64,
     context: AtomicU64,
     generation: AtomicU64,
@@ -29,7 +29,7 @@ pub(crate) struct Board {
 }
 
 impl Board {
-    /// No job has begun, and no answer has come. None where memory is refused.
+    /// Returns a board of which no job has begun and no answer has come, or `None` if memory is refused.
     pub(crate) fn new(alloc: Global) -> Option<Arc<Board>> {
         let board = Board {
             alloc,
@@ -44,12 +44,17 @@ impl Board {
         Arc::new(alloc, board).ok()
     }
 
-    /// A job makes its first step.
+    /// Counts a job that makes its first step.
     pub(crate) fn begins(&self) {
         self.begun.fetch_add(1, Ordering::SeqCst);
     }
 
-    /// A job is about to sleep, and this is its id. A moment passes, in which it may be woken.
+    /// Returns how many jobs have made a step.
+    pub(crate) fn begun(&self) -> u64 {
+        self.begun.load(Ordering::SeqCst)
+    }
+
+    /// Notes the id of a job that is about to sleep. A moment passes, in which it may be woken.
     pub(crate) fn sleeps_as(&self, id: ThreadId) {
         self.context.store(u64::from(id.context), Ordering::SeqCst);
         self.generation.store(id.generation, Ordering::SeqCst);
@@ -59,7 +64,7 @@ impl Board {
         }
     }
 
-    /// The id of the last one that was.
+    /// Returns the id of the job that was last about to sleep.
     pub(crate) fn id(&self) -> ThreadId {
         ThreadId {
             context: u32::try_from(self.context.load(Ordering::SeqCst)).unwrap_or(u32::MAX),
@@ -67,33 +72,33 @@ impl Board {
         }
     }
 
-    /// A kernel thread has come back from its work.
+    /// Counts a return of a kernel thread from its work.
     pub(crate) fn comes_back(&self) {
         self.returns.fetch_add(1, Ordering::SeqCst);
     }
 
-    /// A kernel thread that waits for it is to go on.
+    /// Passes the turn to the kernel thread that waits for it.
     pub(crate) fn pass_turn(&self) {
         self.turns.fetch_add(1, Ordering::SeqCst);
         self.turns.wake_one();
     }
 
-    /// How often one was told so.
+    /// Returns the number of times that the turn was passed.
     pub(crate) fn turns(&self) -> u64 {
         self.turns.load(Ordering::SeqCst)
     }
 
-    /// Waits until one is told so more often than this, or goes on for no reason.
+    /// Waits until the turn was passed more than `turns` times, or returns for no reason.
     pub(crate) fn await_turn<R: Wait>(&self, rt: &R, turns: u64) {
         self.turns.park(rt, (turns & 0xffff_ffff) as u32);
     }
 
-    /// An answer has come.
+    /// Counts an answer.
     pub(crate) fn answer(&self) {
         self.answers.fetch_add(1, Ordering::SeqCst);
     }
 
-    /// Waits until one has come. Where none does that is told as many.
+    /// Waits until an answer has come. If none does, 1,000 are counted.
     pub(crate) fn await_answer(&self) {
         for _ in 0..MOST_LOOKS {
             if self.answers() > 0 {
@@ -104,7 +109,7 @@ impl Board {
         self.answers.fetch_add(1_000, Ordering::SeqCst);
     }
 
-    /// How many have come.
+    /// Returns the number of answers that have come.
     pub(crate) fn answers(&self) -> u64 {
         self.answers.load(Ordering::SeqCst)
     }

@@ -11,7 +11,7 @@ use arachne_team::{Team, TeamFault};
 use std::sync::{Arc, Wait};
 use std::time::Clock;
 
-/// Two kernel threads, for core 0 and core 1, and what each does.
+/// Two kernel threads, for core 0 and core 1, and the spell of each.
 #[derive(Drop)]
 pub(crate) struct Crew<'p, C: Seats> {
     pub(crate) pool: &'p Pool<C>,
@@ -19,7 +19,7 @@ pub(crate) struct Crew<'p, C: Seats> {
     pub(crate) spells: (Spell, Spell),
 }
 
-/// A kernel thread's worker, and with how many kernel threads a job has ended so far.
+/// A kernel thread's worker, and the number of kernel threads by which a job has ended so far.
 #[derive(Drop)]
 pub(crate) struct Share<S> {
     pub(crate) worker: Worker<S, Task>,

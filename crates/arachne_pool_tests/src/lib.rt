@@ -1,5 +1,5 @@
-//! Tests of pools: what no clause says, as that kernel threads take part, that jobs are woken, and where jobs go. What
-//! they test is proved without them.
+//! Tests of pools, of what no clause says: that kernel threads take part, that jobs are woken, and on which cores they
+//! run.
 #![tactic(auto)]
 
 #[cfg(test)]
@@ -12,6 +12,8 @@ mod orders;
 mod rounds;
 #[cfg(test)]
 mod rows;
+#[cfg(test)]
+mod runs;
 #[cfg(test)]
 mod serving;
 #[cfg(test)]

@@ -5,14 +5,14 @@ ghost use Rattle.arachne_policy.specs.Orders.{AreInOrder};
 use arachne_policy::{CoreOrder, OrderKind, check_orders};
 use std::alloc::Global;
 
-/// After how many slices a core is granted or released.
+/// The number of slices after which a core is granted or released, and the core.
 pub(crate) type Order = (u64, OrderKind, u64);
 
 pub(crate) const GRANT: OrderKind = OrderKind::Grant;
 
 pub(crate) const RELEASE: OrderKind = OrderKind::Release;
 
-/// These orders, if they are in order and there is memory.
+/// Returns these orders, if they are in order and memory is not refused.
 pub(crate) fn orders_of(alloc: Global, orders: &[Order], cores: u8) -> Option<Vec<CoreOrder>>
     ensures { IfSome result (λ orders. AreInOrder cores orders.items) }
 {

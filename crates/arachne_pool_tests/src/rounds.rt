@@ -1,4 +1,4 @@
-//! What is done with a pool by one worker, act by act, and what is seen of it.
+//! The acts of one worker of a pool, and what is seen of each.
 ghost use Rattle.std.specs.Prelude.{◌≡◌, ◌<◌, ◌≤◌, IfSome};
 ghost use Rattle.arachne_core.specs.declared.layout.TheConstants.{CORES, SLOTS};
 ghost use Rattle.arachne_pool.specs.Workers.{IsWorkerOf};
@@ -16,10 +16,10 @@ use std::alloc::Global;
 use std::sync::{Arc, Wait};
 use std::time::Clock;
 
-/// How many bytes are given back where a growth was refused.
+/// The number of bytes that are given back after a growth was refused.
 const FEW: usize = 40;
 
-/// How often something is tried at most.
+/// The most tries of an act.
 const TRIES: u32 = 100_000;
 
 /// One act.
@@ -27,7 +27,7 @@ const TRIES: u32 = 100_000;
 pub(crate) enum Act {
     /// A job is spawned.
     Spawns(Sort),
-    /// So many are.
+    /// This many jobs are spawned.
     SpawnsMany(u32, Sort),
     /// A job is spawned and joined on core 0, and gives this, or nothing, as in a pool that is stopped.
     Joins(Sort, Option<u64>),
@@ -39,39 +39,39 @@ pub(crate) enum Act {
     Wakes(u32, u64, Wakes),
     /// An answer comes for those that sleep. They aren't woken by that.
     Answers,
-    /// So many have come.
+    /// This many answers have come.
     Answered(u64),
-    /// A round on a core; whether it finds anything.
+    /// A round on a core finds something, or nothing.
     Turns(u8, bool),
-    /// A round on a core, which is refused memory.
+    /// A round on a core is refused memory.
     TurnsInNeed(u8),
-    /// So many places of a core are taken, and so it is.
+    /// This many places of a core are taken, and the core is in this state.
     Has(u8, u8, Is),
-    /// From now on these orders.
+    /// The pool has these orders from now on.
     Orders(&'static [Order]),
-    /// So many jobs have not ended.
+    /// This many jobs have not ended.
     Lives(u64),
-    /// The worker has counted so many that were spawned.
+    /// The worker has counted this many jobs that were spawned.
     Counts(u64),
-    /// So many slices, steps, wakes and rests were told of a core.
+    /// These are the slices, steps, wakes and rests that were reported of a core.
     Did(u8, u64, u64, u64, u64),
-    /// Kernel threads have slept their time out, though something was there for them, so many times at most.
+    /// Kernel threads have slept their time out, though something was there for them, at most this many times.
     Overslept(u64),
-    /// So many times at least.
+    /// The same, at least this many times.
     OversleptAtLeast(u64),
     /// Jobs are spawned in each way until each place has one, and each of them is, but for want of a place.
     Fills,
-    /// The worker works on a core until no job is left, or it is to stop.
+    /// The worker works on a core until no job is left, or the pool is stopped.
     Works(u8),
     /// A job and those that it forks end while memory is used up.
     EndsInNeed(Sort),
     /// From now on memory is used up.
     Hoards,
-    /// No longer.
+    /// From now on there is memory.
     Frees,
     /// From now on more jobs may come though none lives.
     KeepsOpen,
-    /// The worker is to stop.
+    /// The pool is stopped.
     Stops,
 }
 
@@ -82,26 +82,26 @@ pub(crate) enum On {
     AnyKept,
     /// On any core.
     Any,
-    /// The same, with no handle.
+    /// On any core, without a handle.
     AnyDetached,
-    /// On this one.
+    /// On this core.
     Core(u8),
-    /// On this one, at the place of this index, as is told.
+    /// On this core, at the place of this index, as the spawn returns it.
     At(u8, u8),
 }
 
-/// What comes of that.
+/// The result of a spawn.
 #[derive(Clone, Copy, PartialEq)]
 pub(crate) enum Comes {
     /// It is spawned.
     Begins,
-    /// So many cores were seen full, or one job's alone, and so many closed.
+    /// These are the numbers of cores that were full, or one job's alone, and of closed ones.
     NoPlace(u8, u8),
     NoMemory,
     NoSeat,
 }
 
-/// What comes of a wake.
+/// The result of a wake.
 #[derive(Clone, Copy, PartialEq)]
 pub(crate) enum Wakes {
     /// The job slept.
@@ -112,7 +112,7 @@ pub(crate) enum Wakes {
     Nobody,
 }
 
-/// How a core is.
+/// The state of a core.
 #[derive(Clone, Copy, PartialEq)]
 pub(crate) enum Is {
     Open,
@@ -121,9 +121,9 @@ pub(crate) enum Is {
     Alone,
 }
 
-/// A row: a pool, what its worker does, what two kernel threads do then, for core 0 and core 1, how many of them end a
-/// job at least, what one does after that, how many jobs are left with a place and without, and how many these are with
-/// those that run or wait in their places.
+/// A row: a pool, its worker's first acts, the spells of two kernel threads, for core 0 and core 1, how many of these
+/// end a job at least, and the last acts. `left` are the jobs that are left with a place and without, `alive` these
+/// with those that run or wait in their places.
 #[derive(Clone, Copy)]
 pub(crate) struct Row {
     pub(crate) shows: &'static str,
@@ -138,7 +138,7 @@ pub(crate) struct Row {
     pub(crate) alive: usize,
 }
 
-/// A row's pool and its worker, which has done the row's first acts. None where one doesn't come out as it says.
+/// Returns a row's pool and its worker, which has done the first acts, or `None` if one doesn't give what it says.
 pub(crate) fn begin<C: Contexts<Spawned<Task>> + Drop, R: Wait + Clock>(
     rt: &R,
     alloc: Global,
@@ -159,7 +159,8 @@ pub(crate) fn begin<C: Contexts<Spawned<Task>> + Drop, R: Wait + Clock>(
     }
 }
 
-/// Whether the acts that come last do too once both kernel threads have worked, and so many jobs are left.
+/// Returns whether the last acts give what they say once both kernel threads have worked, and the jobs are left that
+/// the row names.
 pub(crate) fn end<C: Contexts<Spawned<Task>> + Drop, R: Wait + Clock>(
     rt: &R,
     alloc: Global,
@@ -181,7 +182,7 @@ pub(crate) fn end<C: Contexts<Spawned<Task>> + Drop, R: Wait + Clock>(
     busy >= row.busy && sizes == row.left && count_left(left) == row.alive
 }
 
-/// How many jobs come out of those that are left.
+/// Returns the number of jobs in those that are left.
 fn count_left(left: Left<Task>) -> usize {
     let Left { placed, near } = left;
     let mut count: usize = 0;
@@ -197,7 +198,7 @@ fn count_left(left: Left<Task>) -> usize {
     count
 }
 
-/// How many jobs come out of one.
+/// Returns the number of jobs in one place.
 fn count_in(job: Spawned<Task>) -> usize {
     let mut jobs = job.into_jobs();
     let mut count: usize = 0;
@@ -207,7 +208,7 @@ fn count_in(job: Spawned<Task>) -> usize {
     count
 }
 
-/// The worker, where each act comes out as it says. A waker has a part of its seat meanwhile.
+/// Returns the worker if each act gives what it says. A waker has a part of its seat meanwhile.
 fn all_hold<C: Contexts<Spawned<Task>>, R: Wait + Clock>(
     rt: &R,
     alloc: Global,
@@ -248,7 +249,7 @@ fn all_hold<C: Contexts<Spawned<Task>>, R: Wait + Clock>(
     Some(pool.join_waker(rt, worker, waker))
 }
 
-/// What came of a wake.
+/// Returns the result of a wake.
 fn wakes_of(woken: Woken) -> Wakes {
     match woken {
         Woken::Woken => Wakes::It,
@@ -257,7 +258,7 @@ fn wakes_of(woken: Woken) -> Wakes {
     }
 }
 
-/// Whether an act of one worker comes out as it says.
+/// Returns whether an act of one worker gives what it says.
 fn holds<C: Contexts<Spawned<Task>>, R: Wait + Clock>(
     rt: &R,
     alloc: Global,
@@ -301,7 +302,7 @@ fn holds<C: Contexts<Spawned<Task>>, R: Wait + Clock>(
     }
 }
 
-/// Whether a round came out as its act says.
+/// Returns whether a round gave what its act says.
 fn is_wanted(act: Act, turned: Result<bool, PoolFault>) -> bool {
     match act {
         Act::Turns(_, finds) => turned == Ok(finds),
@@ -309,7 +310,7 @@ fn is_wanted(act: Act, turned: Result<bool, PoolFault>) -> bool {
     }
 }
 
-/// Whether an act without a worker comes out as it says.
+/// Returns whether an act without a worker gives what it says.
 fn is_so<C: Contexts<Spawned<Task>>, R: Wait>(
     rt: &R,
     pool: &Pool<C>,
@@ -352,7 +353,7 @@ fn is_so<C: Contexts<Spawned<Task>>, R: Wait>(
     }
 }
 
-/// How often kernel threads have slept their time out, though something was there for them.
+/// Returns the number of times that kernel threads have slept their time out, though something was there for them.
 fn overslept<C: Contexts<Spawned<Task>>>(pool: &Pool<C>) -> u64 {
     let mut sum: u64 = 0;
     for core in 0..pool.cores {
@@ -361,7 +362,7 @@ fn overslept<C: Contexts<Spawned<Task>>>(pool: &Pool<C>) -> u64 {
     sum
 }
 
-/// What comes of a spawn, on a core that there is.
+/// Returns the result of a spawn, on a core that exists.
 fn tried<C: Contexts<Spawned<Task>>, R: Wait>(
     rt: &R,
     pool: &Pool<C>,
@@ -389,7 +390,7 @@ fn tried<C: Contexts<Spawned<Task>>, R: Wait>(
     Some(comes_of(refused))
 }
 
-/// Whether a job that was spawned so may be at this place.
+/// Returns whether a job that was spawned as `on` says may be at this place.
 fn is_wanted_at(on: On, place: Place) -> bool {
     match on {
         On::At(core, index) => (place.core, place.index) == (core, index),
@@ -397,7 +398,7 @@ fn is_wanted_at(on: On, place: Place) -> bool {
     }
 }
 
-/// Spawns so many jobs. Whether each was spawned.
+/// Spawns this many jobs. Returns whether each was spawned.
 fn spawns_many<C: Contexts<Spawned<Task>>, R: Wait>(
     rt: &R,
     pool: &Pool<C>,
@@ -417,8 +418,8 @@ fn spawns_many<C: Contexts<Spawned<Task>>, R: Wait>(
     true
 }
 
-/// Spawns jobs that no worker keeps until half of the places are taken, and then on each core until it is full. Whether
-/// each was spawned as long as there was a place.
+/// Spawns jobs that no worker keeps until half of the places are taken, and then on each core until it is full. Returns
+/// whether each was spawned as long as there was a place.
 fn fills<C: Contexts<Spawned<Task>>, R: Wait>(
     rt: &R,
     pool: &Pool<C>,
@@ -449,7 +450,7 @@ fn fills<C: Contexts<Spawned<Task>>, R: Wait>(
             == Some(Comes::NoPlace(pool.cores, 0))
 }
 
-/// Spawns jobs on a core until one is not spawned. What comes of that.
+/// Spawns jobs on a core until one is not spawned. Returns the result of the last spawn.
 fn fills_core<C: Contexts<Spawned<Task>>, R: Wait>(
     rt: &R,
     pool: &Pool<C>,
@@ -469,7 +470,7 @@ fn fills_core<C: Contexts<Spawned<Task>>, R: Wait>(
     None
 }
 
-/// Why a job came back, if it did.
+/// Returns the result of a spawn by the job that it returned, if it did.
 fn comes_of(refused: Option<Refused<Task>>) -> Comes {
     match refused {
         None => Comes::Begins,
@@ -481,8 +482,8 @@ fn comes_of(refused: Option<Refused<Task>>) -> Comes {
     }
 }
 
-/// Spawns a job and joins it on core 0, where it is late once it has had a round there and the pool is stopped. Whether
-/// it gives this, or nothing where the pool is stopped.
+/// Spawns a job and joins it on core 0; if `is_late`, after a round there, and once the pool is stopped. Returns
+/// whether the join gives `wanted`, or nothing since the pool is stopped.
 fn joins<C: Contexts<Spawned<Task>>, R: Wait + Clock>(
     rt: &R,
     pool: &Pool<C>,
@@ -512,8 +513,8 @@ fn joins<C: Contexts<Spawned<Task>>, R: Wait + Clock>(
     }
 }
 
-/// Spawns a job where memory is used up, and works on core 0 until all have ended. What is refused is tried again with
-/// a little more. Whether a spawn was refused, and more than 20 rounds were.
+/// Spawns a job while memory is used up, and works on core 0 until all have ended. What is refused is tried again with
+/// a little more. Returns whether a spawn was refused, and more than 20 rounds.
 fn ends_in_need<C: Contexts<Spawned<Task>>, R: Wait + Clock>(
     rt: &R,
     alloc: Global,

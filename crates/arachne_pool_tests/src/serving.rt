@@ -18,7 +18,7 @@ const BESIDE: Sort = Sort {
     ..PARENT
 };
 
-/// One that goes on for so long that a kernel thread which waits for it sleeps.
+/// One that goes on for long enough that a kernel thread which waits for it sleeps.
 const LONG: Sort = Sort {
     steps: 50_000,
     bound: 1_000,
@@ -50,11 +50,11 @@ const LADEN: Sort = Sort {
     ..LEAF
 };
 
-/// How often a kernel thread is woken.
+/// The number of times that a kernel thread is woken.
 const OFTEN: u32 = 100;
 
-/// How often kernel threads may sleep their time out in a row, though something was there for them. Where each signal
-/// is lost of one kind, they do so nearly as often as one is sent.
+/// The most times that kernel threads may sleep their time out in a row of acts, though something was there for them.
+/// If each signal of one kind is lost, they do so nearly as often as one is sent.
 const FEW: u64 = OFTEN as u64 / 4;
 
 const ROWS: &[Row] = &[
@@ -556,7 +556,7 @@ const AMPLE: &[Row] = &[Row {
     ..NOTHING
 }];
 
-/// How many places a core has in a pool of each number of cores.
+/// The numbers of places of a core in a pool of each number of cores.
 const SLOTS_OF: [u8; 4] = [1, 8, 30, 56];
 
 #[test]

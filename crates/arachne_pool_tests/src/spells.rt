@@ -1,4 +1,4 @@
-//! What a kernel thread of a row does.
+//! The spells of a row's kernel threads.
 ghost use Rattle.std.specs.Prelude.{◌≡◌, ◌<◌, IfSome};
 ghost use Rattle.arachne_pool.specs.Workers.{IsWorkerOf};
 
@@ -13,13 +13,13 @@ use std::sync::{Arc, Wait};
 use std::thread::{sleep, yield_now};
 use std::time::{Clock, Duration};
 
-/// How often a kernel thread looks again at once before it yields its processor.
+/// The number of looks of a kernel thread before it yields its processor.
 const LOOKS: u32 = 1_000;
 
-/// How often it looks, every 5 ms, for what comes at once or never.
+/// The number of looks, every 5 ms, for what comes at once or never.
 const GLANCES: u32 = 2000;
 
-/// What a kernel thread does.
+/// A kernel thread's part of a row.
 #[derive(Clone, Copy)]
 pub(crate) enum Spell {
     /// Nothing.
@@ -28,52 +28,53 @@ pub(crate) enum Spell {
     ToTheEnd,
     /// Like `ToTheEnd`, on this core.
     ToTheEndOn(u8),
-    /// It does so again each time when it is its turn, until the pool is stopped.
+    /// Like `ToTheEnd`, again each time when the turn is passed, until the pool is stopped.
     ToTheStop,
-    /// It works so many rounds. Then it stops the pool.
+    /// It works this many rounds. Then it stops the pool.
     Rounds(u32),
     /// It works rounds until no job lives, and does not work then.
     TurnsOut,
     /// It works rounds on this core until its own is open, for ten seconds at most. Then it stops the pool.
     TurnsUntilOpen(u8),
-    /// Once a job has begun elsewhere it works on its core while memory is used up, until it is refused some. Where
-    /// that is not told, or has not stopped the pool, an answer comes, and it stops it.
+    /// Once a job has begun elsewhere it works on its core while memory is used up, until it is refused some. If that
+    /// is not returned, or has not stopped the pool, an answer comes, and it stops the pool.
     InNeed,
     /// Like `InNeed`, but it joins a job that it has spawned on its core before.
     JoinsInNeed,
-    /// It spawns so many leaves, which no worker may keep, and works for no core.
+    /// It spawns this many leaves, which no worker may keep, and works for no core.
     Spawns(u32),
-    /// It spawns so many leaves for core 1, each once that core's kernel thread sleeps and one job alone lives. Then it
-    /// works to the end, and no more come.
+    /// It spawns this many leaves for core 1, each once that core's kernel thread sleeps and only one job lives. Then
+    /// it works to the end, and no more come.
     Feeds(u32),
-    /// So many times a pool without a job is kept open, the turn is passed, and once core 1's kernel thread sleeps no
-    /// more come, until that comes back from its work. At last it stops the pool.
+    /// This many times a pool without a job is kept open, the turn is passed, and once core 1's kernel thread sleeps no
+    /// more come, until that returns from its work. At last it stops the pool.
     Finishes(u32),
-    /// So many times an answer comes, once the job that wants it sleeps, which is woken then; the kernel thread of core
-    /// 1 sleeps too, or that isn't waited for.
+    /// This many times an answer comes, once the job that wants it sleeps, which is woken then; if the flag is set,
+    /// once the kernel thread of core 1 sleeps too.
     Wakes(u32, bool),
-    /// So many times it spawns a job on core 1, passes the turn, and once that job has begun there works to the end, or
-    /// looks until no job lives. Then it takes the result, if it is there, as an answer. At last it stops the pool.
+    /// This many times it spawns a job on core 1, passes the turn, and once that job has begun there works to the end,
+    /// or looks until no job lives. Then the result, if it is there, is an answer. At last it stops the pool.
     Polls(u32, Sort, Until),
-    /// Once a job has begun it spawns a leaf on core 1, and comes to rounds of this core until that has begun, or an
-    /// answer has come. One more comes where a round has found something, and the leaf has not begun. Then an answer
-    /// comes, and it works to the end.
+    /// Once a job has begun it spawns a leaf on core 1, and makes rounds of this core until that has begun, or an
+    /// answer has come. An answer comes if a round has found something and the leaf has not begun. Then one more comes,
+    /// and it works to the end.
     Fetches(u8),
     /// This many times it spawns a job on core 0, passes the turn and joins the job on its own core. That is an answer,
     /// or that the other kernel thread returns from `work` then. At last it stops the pool.
     JoinsThere(u32, Sort, Until),
-    /// It comes to rounds of its core until one job alone lives, which sleeps, and wakes it with an answer.
+    /// It makes rounds of its core until only one job lives, which sleeps, and wakes it with an answer.
     WakesLast,
 }
 
-/// How a kernel thread waits until no job lives.
+/// The call by which a kernel thread waits until no job lives.
 #[derive(Clone, Copy, PartialEq)]
 pub(crate) enum Until {
     WorkReturns,
     NoneLives,
 }
 
-/// Does this as the kernel thread of a core, which may be none of the pool's. The worker, if it has its seat still.
+/// Does this spell as the kernel thread of a core, which the pool may not have. Returns the worker, if it has its seat
+/// still.
 pub(crate) fn work<C: Contexts<Spawned<Task>>, R: Wait + Clock>(
     rt: &R,
     pool: &Pool<C>,
@@ -161,7 +162,7 @@ fn to_the_stop<C: Contexts<Spawned<Task>>, R: Wait + Clock>(
     }
 }
 
-/// So many rounds, fewer where no job is left before.
+/// Makes this many rounds, fewer if no job is left before.
 fn turns<C: Contexts<Spawned<Task>>, R: Wait + Clock>(
     rt: &R,
     pool: &Pool<C>,
@@ -271,7 +272,7 @@ fn spawns<C: Contexts<Spawned<Task>>, R: Wait>(
     }
 }
 
-/// `Spell::Feeds`: the leaves are spawned in the three ways in turn that name no core.
+/// `Spell::Feeds`: the leaves are spawned by the three calls in turn that name no core.
 fn feeds<C: Contexts<Spawned<Task>>, R: Wait + Clock>(
     rt: &R,
     pool: &Pool<C>,
@@ -409,7 +410,7 @@ fn fetches<C: Contexts<Spawned<Task>>, R: Wait + Clock>(
     let _ = pool.work(rt, worker, core);
 }
 
-/// Rounds until one job lives at most, or the pool is stopped.
+/// Makes rounds until at most one job lives, or the pool is stopped.
 fn until_one<C: Contexts<Spawned<Task>>, R: Wait + Clock>(
     rt: &R,
     pool: &Pool<C>,
@@ -485,7 +486,7 @@ fn await_more<C: Seats, R: Wait>(rt: &R, pool: &Pool<C>, count: &AtomicU64, than
     }
 }
 
-/// Waits until so many jobs live at most, or the pool is stopped.
+/// Waits until at most this many jobs live, or the pool is stopped.
 fn await_ends<C: Seats, R: Wait>(rt: &R, pool: &Pool<C>, most: u64) {
     let mut looks: u32 = 0;
     for _ in rt.forever() {
@@ -518,7 +519,7 @@ fn await_sleep<C: Seats, R: Wait>(rt: &R, pool: &Pool<C>, core: u8) {
     }
 }
 
-/// Another look is taken, at once for a while, and then after others had the processor. How many there were.
+/// Lets a look follow, at once for a while, and then after others had the processor. Returns the number of looks.
 fn look_again(looks: u32) -> u32 {
     if looks < LOOKS {
         return looks + 1;

@@ -3,31 +3,44 @@ use crate::board::Board;
 use arachne_contexts::Tagged;
 use arachne_core::ThreadId;
 use arachne_pool::{PoolJob, Step};
+use arachne_shortage::Hoard;
 use std::alloc::Global;
 use std::sync::Arc;
 
-/// What a job does: it forks children, joins them, sleeps until answers come, goes on for some steps and ends.
+/// A kind of job: it forks children, joins them, sleeps until answers come, goes on for some steps and ends.
 #[derive(Clone, Copy)]
 pub(crate) struct Sort {
-    /// How many generations there are below it.
+    /// The number of generations below it.
     pub(crate) depth: u32,
-    /// How many children it forks.
+    /// The number of children that it forks.
     pub(crate) forks: u32,
-    /// How many answers it wants, once it has forked the last one and joined them: it sleeps until so many have come. A
-    /// child wants one fewer.
+    /// The number of answers for which it sleeps once it has forked and joined its children. A child sleeps for one
+    /// fewer.
     pub(crate) answers: u64,
-    /// How many steps it goes on before each fork, and before it ends.
+    /// The number of steps that it goes on before each fork, and before it ends.
     pub(crate) steps: u32,
     /// The most steps of a slice.
     pub(crate) bound: u32,
-    /// How many values it has, which take their time to be dropped.
+    /// The number of its values, which take their time to be dropped.
     pub(crate) luggage: usize,
     pub(crate) joins: Joins,
     pub(crate) is_exclusive: bool,
-    /// Its first child is exclusive, whatever it is itself.
+    /// Its first child is exclusive, also if it is not.
     pub(crate) is_first_exclusive: bool,
     /// Its first step lasts until an answer has come, so that its kernel thread comes to no other job meanwhile.
     pub(crate) is_held: bool,
+    /// Its children take all memory that is left, if they have none themselves. It forks the second one after that.
+    pub(crate) hoards: Hoards,
+}
+
+/// The time for which a job that takes all memory keeps it.
+#[derive(Clone, Copy, PartialEq)]
+pub(crate) enum Hoards {
+    Never,
+    /// Until its first step ends, after some tenths of a second.
+    ForAStep,
+    /// Until it is dropped.
+    ToItsEnd,
 }
 
 /// Which children a job joins, and when.
@@ -37,9 +50,9 @@ pub(crate) enum Joins {
     InTurn,
     /// All, once it has forked the last one.
     AtLast,
-    /// The newest alone, once it has forked it.
+    /// Only the newest, once it has forked it.
     Newest,
-    /// None.
+    /// No child.
     Never,
 }
 
@@ -55,6 +68,7 @@ pub(crate) const LEAF: Sort = Sort {
     is_exclusive: false,
     is_first_exclusive: false,
     is_held: false,
+    hoards: Hoards::Never,
 };
 
 /// One that forks a leaf and joins it.
@@ -64,12 +78,13 @@ pub(crate) const PARENT: Sort = Sort {
     ..LEAF
 };
 
-/// A job in a pool: whether it has made a step, how many children it has forked and not joined, how many steps it has
-/// gone on, and how many jobs it has counted.
+/// A job in a pool, with the numbers of children that it has forked and not joined, of steps that it has gone on, and
+/// of jobs that it has counted.
 #[derive(Drop)]
 pub(crate) struct Task {
     board: Arc<Board>,
     luggage: Vec<Vec<u64>>,
+    hoard: Option<Hoard>,
     sort: Sort,
     has_begun: bool,
     forked: u32,
@@ -79,11 +94,12 @@ pub(crate) struct Task {
 }
 
 impl Task {
-    /// A job of this sort. None where memory is refused, or too many have the board.
+    /// Returns a job of this sort, or `None` if memory is refused, or too many have the board.
     pub(crate) fn new(sort: Sort, board: &Arc<Board>) -> Option<Task> {
         Some(Task {
             board: board.clone().ok()?,
             luggage: luggage(board.alloc, sort.luggage)?,
+            hoard: None,
             sort,
             has_begun: false,
             forked: 0,
@@ -93,7 +109,7 @@ impl Task {
         })
     }
 
-    /// The child that it forks next.
+    /// Returns the child that it forks next.
     fn child(&mut self) -> Option<Task> {
         if self.sort.depth == 0 || self.forked >= self.sort.forks {
             return None;
@@ -112,7 +128,7 @@ impl Task {
         Some(child)
     }
 
-    /// Whether it is to join a child before it goes on.
+    /// Returns whether it joins a child before it goes on.
     fn is_to_join(&self) -> bool {
         match self.sort.joins {
             Joins::InTurn => self.awaited > 0,
@@ -123,7 +139,7 @@ impl Task {
     }
 }
 
-/// So many values, each of which has memory of its own.
+/// Returns `count` values, each of which has memory of its own.
 fn luggage(alloc: Global, count: usize) -> Option<Vec<Vec<u64>>> {
     let mut luggage = Vec::new(alloc);
     for _ in 0..count {
@@ -150,10 +166,20 @@ impl PoolJob for Task {
     fn step(&mut self) -> Step<Task, u64> {
         if !self.has_begun {
             self.has_begun = true;
+            if self.sort.hoards != Hoards::Never && self.sort.depth == 0 {
+                self.hoard = Hoard::take(self.board.alloc).ok();
+            }
             self.board.begins();
             if self.sort.is_held {
                 self.board.await_answer();
             }
+            if self.sort.hoards == Hoards::ForAStep && self.hoard.is_some() {
+                self.board.await_answer();
+                self.hoard = None;
+            }
+        }
+        if self.sort.hoards != Hoards::Never && self.forked == 1 && self.board.begun() < 2 {
+            return Step::Again;
         }
         if self.is_to_join() {
             return Step::Waits;

@@ -16,25 +16,26 @@ use std::alloc::Global;
 use std::sync::Wait;
 use std::time::Clock;
 
-/// What the kernel threads have in common. The first one is the sender, and the last one the timer's; between them
-/// there is one for each of the server's cores.
+/// The kernel threads of the server. The first one is the sender, and the last one the timer's; between them there is
+/// one for each of the server's cores.
 #[derive(Drop)]
 pub struct Crew<'s, C: Seats> {
     pub alloc: Global,
     pub server: &'s Server<C>,
-    /// How late a request may be for which there is no place, in nanoseconds.
+    /// The most nanoseconds that a request without a place may be late.
     pub patience: u64,
     pub requests: &'s [Due],
 }
 
-/// What the sender keeps.
+/// The books of the sender.
 #[derive(Drop)]
 pub struct Books {
     pub keeper: Keeper,
     pub report: Report,
 }
 
-/// What a kernel thread has: its worker, and the sender its books, before it begins and once all requests are answered.
+/// The share of a kernel thread: its worker, and the sender's books, before it begins and once all requests are
+/// answered.
 #[derive(Drop)]
 pub struct Share<S> {
     pub worker: Worker<S, Request>,

@@ -1,4 +1,4 @@
-//! What a request that waits for the slow part shares with the timer.
+//! The entry that a request shares with the timer while it waits for the slow part.
 ghost use Rattle.std.specs.Prelude.{◌≡◌, ◌+◌, ◌-◌, ◌<◌, min, None, Some};
 ghost use Rattle.example_server.specs.declared.entry.TheConstants.{SLOW};
 
@@ -6,17 +6,17 @@ use crate::waiting::CountedOff;
 use arachne_core::ThreadId;
 use std::sync::atomic::{AtomicU64, Ordering};
 
-/// How many nanoseconds the slow part takes, of each request.
+/// The nanoseconds that the slow part of a request takes.
 pub const SLOW: u64 = 2_000_000;
 
-/// What a request that waits shares with the timer.
+/// The entry that a request shares with the timer while it waits.
 #[derive(Drop)]
 pub struct Entry {
     /// 1 while a request has it.
     is_taken: AtomicU64,
     /// 1 once its slow part has begun.
     is_begun: AtomicU64,
-    /// When the answer comes; 0 where none is waited for.
+    /// The time at which the answer comes, or 0 if none is awaited.
     until: AtomicU64,
     /// The id of the job that sleeps until then.
     context: AtomicU64,
@@ -25,13 +25,13 @@ pub struct Entry {
     answer: AtomicU64,
 }
 
-/// A request waits from now on. [`Entry::begin`] alone gives one. It can't be dropped, so that the request is counted.
+/// A request waits from now on. Only [`Entry::begin`] gives one. It can't be dropped, so that the request is counted.
 pub struct Begun {
     since: (),
 }
 
 impl Begun {
-    /// It is being counted.
+    /// Uses it up: the request is counted.
     pub fn counted(self) {
         let Begun { since: () } = self;
     }
@@ -49,14 +49,14 @@ impl Entry {
         }
     }
 
-    /// A request has it from now on, whose slow part has not begun. One kernel thread alone calls this.
+    /// Gives the entry to a request whose slow part has not begun. Only one kernel thread calls this.
     pub fn take(&self) {
         self.is_begun.store(0, Ordering::SeqCst);
         self.answer.store(0, Ordering::SeqCst);
         self.is_taken.store(1, Ordering::SeqCst);
     }
 
-    /// Another request may have it.
+    /// Gives the entry back, for another request.
     pub fn give_back(&self) {
         self.is_taken.store(0, Ordering::SeqCst);
     }
@@ -69,7 +69,7 @@ impl Entry {
         self.answer.load(Ordering::SeqCst) != 0
     }
 
-    /// The job of this id sleeps until the answer is there. The slow part begins now, unless it has before.
+    /// Begins the slow part, unless it has begun before. The job of this id sleeps until the answer is there.
     pub fn begin(&self, now: u64, id: ThreadId) -> Option<Begun> {
         self.context.store(u64::from(id.context), Ordering::SeqCst);
         self.generation.store(id.generation, Ordering::SeqCst);
@@ -80,13 +80,13 @@ impl Entry {
         Some(Begun { since: () })
     }
 
-    /// How many nanoseconds are left at this time until the answer comes. None where none is waited for.
+    /// Returns the nanoseconds that are left at this time until the answer comes, or `None` if none is awaited.
     pub fn left(&self, now: u64) -> Option<u64> {
         left_of(self.until.load(Ordering::SeqCst), now)
     }
 
-    /// The answer comes, of a request that is counted as waiting no longer. Who is to be woken: it finds the answer
-    /// then.
+    /// Leaves the answer of a request that is no longer counted as waiting. Returns the id of the job to wake, which
+    /// finds the answer then.
     pub fn answer(&self, counted: CountedOff) -> ThreadId {
         counted.heeded();
         self.until.store(0, Ordering::SeqCst);
@@ -98,14 +98,14 @@ impl Entry {
     }
 }
 
-/// When a slow part ends that begins now.
+/// Returns the time at which a slow part ends that begins now.
 fn end_of(now: u64) -> u64
     ensures { result ≡ min (now + SLOW) u64.MAX }
 {
     now.saturating_add(SLOW)
 }
 
-/// How many nanoseconds are left until then. None where that is 0: nothing is waited for.
+/// Returns the nanoseconds that are left until then, or `None` if `until` is 0, as nothing is awaited.
 fn left_of(until: u64, now: u64) -> Option<u64>
     ensures none { until ≡ 0 → result ≡ None }
     ensures left { 0 < until → result ≡ Some (until - now) }

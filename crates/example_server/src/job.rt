@@ -10,7 +10,7 @@ use arachne_table::Tagged;
 use std::rt::Clock;
 use std::sync::Arc;
 
-/// A request that was sent. It has a clock, to tell when it ends.
+/// A request that was sent. It has a clock, by which it notes its begin and end.
 #[derive(Drop)]
 pub struct Request {
     pub clock: HostRuntime,
@@ -22,17 +22,17 @@ pub struct Request {
     call: Option<Call>,
 }
 
-/// What a request is answered.
+/// The answer to a request.
 #[derive(Drop)]
 pub struct Answer {
     pub value: u64,
-    /// When its work began and was done, in nanoseconds of the clock.
+    /// The times at which its work began and was done, in nanoseconds of the clock.
     pub began: u64,
     pub ended: u64,
 }
 
 impl Request {
-    /// The request of this number that a line asks for. None where too many wait for the slow part.
+    /// Returns the request of this number that a line asks for, or `None` if too many wait for the slow part.
     pub fn new(clock: HostRuntime, timer: &Arc<Timer>, number: u64, due: Due) -> Option<Request>
         ensures number { IfSome result (λ request. request.number ≡ number) }
         ensures work { IfSome result (λ request. request.work ≡ due.work) }
@@ -51,7 +51,7 @@ impl Request {
         })
     }
 
-    /// Whether it waits for the slow part. Where it does no longer, another may.
+    /// Returns whether it waits for the slow part. If it no longer does, its entry is given back.
     pub fn waits(&mut self) -> bool
         ensures { self.new ≡ record self.old { call = self.new.call } }
     {
@@ -63,7 +63,7 @@ impl Request {
         false
     }
 
-    /// Nothing is waited for any more.
+    /// Gives its entry back, if it has one.
     pub fn give_up(&mut self)
         ensures { self.new ≡ record self.old { call = self.new.call } }
     {
@@ -73,7 +73,7 @@ impl Request {
     }
 }
 
-/// The nanoseconds of the clock, 0 where it can't be read.
+/// Returns the nanoseconds of the clock, or 0 if it can't be read.
 pub fn now<R: Clock>(clock: &R) -> u64 {
     match clock.monotonic() {
         Ok(time) => time
@@ -84,7 +84,7 @@ pub fn now<R: Clock>(clock: &R) -> u64 {
     }
 }
 
-/// What so many rounds make of a number.
+/// Returns the number that this many rounds make of `number`.
 fn mix(rounds: u32, number: u64) -> u64
     ensures { result ≡ mixed rounds number }
 {

@@ -8,10 +8,10 @@ use std::alloc::{AllocError, Global};
 /// The load over which a core is asked for, in thousandths of a request a scan.
 const UP: u64 = 1500;
 
-/// In thousandths of a core.
+/// The hysteresis of the policy, in thousandths of a core.
 const HYSTERESIS: u64 = 90;
 
-/// What was measured over an interval, and what came of it.
+/// The sample of an interval, and the advice that it gave.
 #[derive(Clone, Copy)]
 pub struct Judged {
     /// The end of the interval, in nanoseconds from the begin.
@@ -20,7 +20,7 @@ pub struct Judged {
     pub advice: Advice,
 }
 
-/// Judges a sample for each interval. The server has the first so many of its cores.
+/// Judges a sample for each interval. The server has the first `held` of its cores.
 #[derive(Drop)]
 pub struct Keeper {
     estimator: Estimator,
@@ -37,13 +37,13 @@ pub struct Keeper {
 }
 
 impl Keeper {
-    /// How many cores it may have at most.
+    /// The most cores that it may have.
     pub const MOST: u8 = 4;
 
-    /// How many requests a core has places for.
+    /// The number of places of a core.
     pub const PLACES: u8 = 56;
 
-    /// A keeper that has so many cores at most, all of which it has now. Where the interval is 0 it keeps them all.
+    /// Returns a keeper that has all of at most `most` cores. If the interval is 0 it keeps them all.
     pub fn new(alloc: Global, most: u8, interval: u64) -> Keeper
         requires some { 1 ≤ most }
         requires few { most ≤ 4 }
@@ -61,7 +61,7 @@ impl Keeper {
         }
     }
 
-    /// All cores that it has were looked at, and so many requests were there.
+    /// Counts a look at all cores that it has, at which this many requests were there.
     pub fn scan(&mut self, requests: u64)
         ensures { self.new.most ≡ self.old.most }
     {
@@ -69,8 +69,8 @@ impl Keeper {
         self.scans = self.scans.saturating_add(u64::from(self.held));
     }
 
-    /// At the end of an interval, whether a core is to come or to go, where so many nanoseconds of work are done by
-    /// now.
+    /// Returns at the end of an interval whether a core should come or go. `busy` is the nanoseconds of work that are
+    /// done by now.
     pub fn judge(&mut self, at: u64, busy: u64) -> Advice
         ensures { self.new.most ≡ self.old.most }
     {
@@ -97,7 +97,7 @@ impl Keeper {
         advice
     }
 
-    /// Takes the advice: the pool is to be told, by this order.
+    /// Takes the advice. Returns the order for the pool, if there is one.
     pub fn follow(&mut self, advice: Advice) -> Option<CoreOrder>
         ensures { self.new.most ≡ self.old.most }
     {
@@ -115,20 +115,20 @@ impl Keeper {
         }
     }
 
-    /// The order that nothing is to run on the sender's core, the last one.
+    /// Returns the order that closes the sender's core, the last one.
     pub fn sender(&self) -> CoreOrder {
         order(OrderKind::Release, self.most)
     }
 
-    /// How many requests may wait for the slow part: half of those for which its cores have places, so that there are
-    /// places for others.
+    /// Returns the most requests that may wait for the slow part: half of those for which its cores have places, so
+    /// that there are places for others.
     pub fn waiting(&self) -> usize
         ensures { 2 * result ≡ 56 * self.now.most }
     {
         usize::from(self.most) * usize::from(Keeper::PLACES) / 2
     }
 
-    /// A list of this order, or of none where it can't be one of a pool with these cores and the sender's.
+    /// Returns a list of this order, or an empty one if a pool with these cores and the sender's can't have it.
     pub fn listed(&self, alloc: Global, order: CoreOrder) -> Result<Vec<CoreOrder>, AllocError>
         ensures { IfOk result (λ orders. AreInOrder (self.now.most + 1) orders.items) }
     {

@@ -1,6 +1,6 @@
 //! A server over the pool: it answers a list of requests, and holds as many cores as their load asks for.
 //!
-//! `example_server < LIST` says how many it has answered; `example_server CORES INTERVAL [PATIENCE] < LIST` also how
+//! `example_server < LIST` prints how many it has answered; `example_server CORES INTERVAL [PATIENCE] < LIST` also how
 //! long that took. Times are in microseconds.
 #![tactic(auto)]
 
@@ -28,17 +28,17 @@ use std::sync::Wait;
 use std::thread::Threads;
 use std::time::Clock;
 
-/// How many microseconds late a request for which there is no place may be, where the arguments don't say it.
+/// The most microseconds that a request without a place may be late, if the arguments don't say it.
 const PATIENCE: u64 = 10_000_000;
 
 /// The numbers among the arguments.
 #[derive(Clone, Copy)]
 struct Numbers {
-    /// How many cores it may have.
+    /// The most cores that it may have.
     cores: Option<u64>,
-    /// How often it looks at the load.
+    /// The microseconds between two looks at the load.
     interval: Option<u64>,
-    /// How late a request may be for which there is no place.
+    /// The most microseconds that a request without a place may be late.
     patience: Option<u64>,
 }
 
@@ -55,7 +55,7 @@ fn arguments(rt: &HostRuntime) -> Result<Numbers> {
     })
 }
 
-/// The list of requests, which is the input.
+/// Returns the list of requests, which is the input.
 fn list(rt: &HostRuntime) -> Result<Vec<Due>> {
     let mut text = String::new(rt.alloc());
     rt.reader().read_to_string(&mut text)?;
@@ -65,7 +65,7 @@ fn list(rt: &HostRuntime) -> Result<Vec<Due>> {
     }
 }
 
-/// Answers or refuses all requests of a list, as the numbers ask for it. What was done, or why that can't be.
+/// Answers or refuses all requests of a list, as the numbers ask for it. Returns the books, or why there are none.
 fn answer<R: Threads + Wait + Clock + Sync>(
     rt: &R,
     host: HostRuntime,

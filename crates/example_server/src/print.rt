@@ -1,4 +1,4 @@
-//! What the server prints.
+//! The output of the server.
 use crate::crew::Books;
 use crate::keeper::Keeper;
 use crate::report::{Report, quantile};
@@ -7,7 +7,7 @@ use crate::timer::Left;
 use std::alloc::Global;
 use std::io;
 
-/// What does not depend on time, and the rest where it is asked for.
+/// Prints what does not depend on time, and the rest if it is asked for.
 pub fn all(
     rt: &impl Print,
     alloc: Global,
@@ -32,7 +32,8 @@ fn served(rt: &impl Print, report: &Report, requests: usize) -> io::Result<()> {
     )
 }
 
-/// How many waited for the slow part, if any was to, whether others were answered meanwhile, and what is left of it.
+/// Prints how many requests waited for the slow part, if there are slow ones, whether others were answered meanwhile,
+/// and what is left of it.
 fn slow(rt: &impl Print, report: &Report) -> io::Result<()> {
     let slow = report.count(Class::Slow);
     if slow == 0 {
@@ -55,7 +56,7 @@ fn slow(rt: &impl Print, report: &Report) -> io::Result<()> {
     )
 }
 
-/// How long the requests took.
+/// Prints how long the requests took.
 pub fn times(rt: &impl Print, alloc: Global, report: &Report) -> io::Result<()> {
     println!(rt;
         "{:<12}{:>9}{:>11}{:>11}{:>11}{:>11}",
@@ -85,7 +86,7 @@ fn row(rt: &impl Print, name: &str, mut nanos: Vec<u64>) -> io::Result<()> {
     println!(rt;)
 }
 
-/// What was judged of the load, and how many cores there were.
+/// Prints what was judged of the load, and how many cores there were.
 pub fn cores(rt: &impl Print, keeper: &Keeper) -> io::Result<()> {
     for judged in keeper.judged.iter() {
         let sample = &judged.sample;

@@ -1,4 +1,4 @@
-//! What the server has done: the answer to each request, and how long it took.
+//! The report of the server: the answer to each request, and how long it took.
 ghost use Rattle.std.specs.Prelude.{◌≡◌, ◌+◌, [], IfOk, OnOk, OnErr, count_by, vec_len};
 ghost use Rattle.example_server.specs.Work.{mixed};
 
@@ -14,11 +14,11 @@ pub struct Answered {
     pub work: u32,
     pub class: Class,
     pub value: u64,
-    /// From when it was sent until its work began, in nanoseconds.
+    /// The nanoseconds from when it was sent until its work began.
     pub waited: u64,
-    /// When its work was done, in nanoseconds from the begin.
+    /// The time at which its work was done, in nanoseconds from the begin.
     pub ended: u64,
-    /// From when it was due until its work was done.
+    /// The nanoseconds from when it was due until its work was done.
     pub nanos: u64,
     ghost right: { value ≡ mixed work number },
 }
@@ -26,7 +26,7 @@ pub struct Answered {
 impl Answered {
     ghost use Rattle.example_server.specs.Counts.{has_waited};
 
-    /// Whether it has waited for the slow part, as long as that takes.
+    /// Returns whether it has waited for the slow part, as long as that takes.
     fn has_waited(&self) -> bool
         ensures { result ≡ has_waited self.now }
     {
@@ -34,27 +34,27 @@ impl Answered {
     }
 }
 
-/// What the server has done.
+/// The report of the server.
 #[derive(Drop)]
 pub struct Report {
     /// The requests that were answered, each by its handle.
     pub answers: Vec<Answered>,
-    /// How many requests were refused.
+    /// The number of requests that were refused.
     pub refused: usize,
-    /// How many nanoseconds after it was due each request was sent.
+    /// The nanoseconds after which each request was sent once it was due.
     pub late: Vec<u64>,
-    /// How many nanoseconds the work of those that were answered took.
+    /// The nanoseconds that the work of those that were answered took.
     pub busy: u64,
-    /// From the begin to the last answer.
+    /// The nanoseconds from the begin to the last answer.
     pub nanos: u64,
-    /// What is left of the slow part.
+    /// The rest of the slow part.
     pub left: Left,
 }
 
 impl Report {
     ghost use Rattle.example_server.specs.Counts.{has_waited};
 
-    /// No answer has come, and there is room for so many.
+    /// Returns a report without answers, with room for this many.
     pub fn new(alloc: Global, requests: usize) -> Result<Report, AllocError>
         ensures { IfOk result (λ report. (vec_len report.answers ≡ 0) × (report.refused ≡ 0)) }
     {
@@ -68,14 +68,14 @@ impl Report {
         })
     }
 
-    /// How many requests were answered.
+    /// Returns the number of requests that were answered.
     pub fn served(&self) -> usize
         ensures { result ≡ vec_len self.now.answers }
     {
         self.answers.len()
     }
 
-    /// The sum of all answers, modulo 2^64.
+    /// Returns the sum of all answers, modulo 2^64.
     pub fn sum(&self) -> u64 {
         let mut sum: u64 = 0;
         for answer in self.answers.iter() {
@@ -84,7 +84,7 @@ impl Report {
         sum
     }
 
-    /// How many requests of a class were answered.
+    /// Returns the number of requests of a class that were answered.
     pub fn count(&self, class: Class) -> usize {
         let mut count: usize = 0;
         for answer in self.answers.iter() {
@@ -93,7 +93,7 @@ impl Report {
         count
     }
 
-    /// How many requests have waited for the slow part, as long as that takes.
+    /// Returns the number of requests that have waited for the slow part, as long as that takes.
     pub fn waited(&self) -> usize
         ensures { result ≡ count_by has_waited self.now.answers.items }
     {
@@ -103,8 +103,8 @@ impl Report {
             .count()
     }
 
-    /// How many requests that waited for the slow part were overtaken: another one, which was sent later and did not
-    /// wait, was answered before.
+    /// Returns the number of requests that waited for the slow part and were overtaken: another one, which was sent
+    /// later and did not wait, was answered before.
     pub fn overtaken(&self) -> usize {
         let (mut count, mut first) = (0usize, u64::MAX);
         for answer in self.answers.iter().rev() {
@@ -117,7 +117,7 @@ impl Report {
         count
     }
 
-    /// How long the requests of a class took.
+    /// Returns how long the requests of a class took.
     pub fn times(&self, alloc: Global, class: Class) -> Result<Vec<u64>, AllocError> {
         let mut times = Vec::new(alloc);
         for answer in self.answers.iter() {
@@ -129,7 +129,7 @@ impl Report {
     }
 }
 
-/// The least of the times that so many of a thousand do not exceed, of times that are sorted.
+/// Returns the least of sorted times that this many of a thousand do not exceed.
 pub fn quantile(sorted: &[u64], thousandths: usize) -> u64 {
     let at = sorted.len().saturating_mul(thousandths) / 1000;
     match sorted.get(at.min(sorted.len().saturating_sub(1))) {

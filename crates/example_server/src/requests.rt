@@ -1,27 +1,27 @@
 //! The list of requests: a line for each, with the time at which it is due, its class and its work.
 use std::alloc::{AllocError, Global};
 
-/// What a request asks for beside its work.
+/// The class of a request: what it needs beside its work.
 #[derive(Clone, Copy, Debug, PartialEq, Eq)]
 pub enum Class {
     Normal,
-    /// It is to have a core for itself.
+    /// It wants a core for itself.
     Exclusive,
     /// It waits for the slow part first.
     Slow,
 }
 
-/// A request that is to be sent.
+/// A request of the list.
 #[derive(Clone, Copy)]
 pub struct Due {
-    /// Nanoseconds from the begin to the time at which it is sent.
+    /// The time at which it is due, in nanoseconds from the begin.
     pub at: u64,
     pub class: Class,
-    /// How many rounds its work has.
+    /// The number of rounds of its work.
     pub work: u32,
 }
 
-/// The requests of a text: lines as `12500 normal 1000`. None where it has another line.
+/// Returns the requests of a text, lines as `12500 normal 1000`, or `None` if it has another line.
 pub fn requests(alloc: Global, text: &str) -> Result<Option<Vec<Due>>, AllocError> {
     let mut all = Vec::new(alloc);
     for line in text.lines() {

@@ -17,7 +17,7 @@ use std::collections::VecDeque;
 use std::sync::Wait;
 use std::time::Clock;
 
-/// How many nanoseconds lie between two looks at the cores, which take time from the requests.
+/// The nanoseconds between two looks at the cores, which take time from the requests.
 const BETWEEN_LOOKS: u64 = 20_000;
 
 /// A request that was sent and not answered.
@@ -25,7 +25,7 @@ const BETWEEN_LOOKS: u64 = 20_000;
 struct Sent {
     number: u64,
     due: Due,
-    /// When it was sent, in nanoseconds from the begin.
+    /// The time at which it was sent, in nanoseconds from the begin.
     at: u64,
     handle: Handle<Request>,
     ghost number_right: { handle.number ≡ number },
@@ -33,7 +33,7 @@ struct Sent {
 }
 
 /// Sends each request once its time has come and a place is free, and takes the answers. One that is later than the
-/// patience before there is a place is refused. Then the server is over. None where memory is refused.
+/// patience before there is a place is refused. Then the server is over. Returns `None` if memory is refused.
 pub fn send<R: Wait + Clock, C: Contexts<Spawned<Request>>>(
     rt: &R,
     alloc: Global,
@@ -74,7 +74,7 @@ pub fn send<R: Wait + Clock, C: Contexts<Spawned<Request>>>(
     }
 }
 
-/// The same until all are answered or refused. None where memory is refused, or the server is over before.
+/// Does the same until all are answered or refused. Returns `None` if memory is refused, or the server is over before.
 fn send_all<R: Wait + Clock, C: Contexts<Spawned<Request>>>(
     rt: &R,
     server: &Server<C>,
@@ -94,7 +94,7 @@ fn send_all<R: Wait + Clock, C: Contexts<Spawned<Request>>>(
     server.await_kernel_threads(rt);
     let begin = now(&server.clock);
     let mut next: usize = 0;
-    // When the cores are to be looked at.
+    // The time of the next look at the cores.
     let mut look: u64 = 0;
     for _ in rt.forever() {
         let at = now(&server.clock).saturating_sub(begin);
@@ -118,7 +118,7 @@ fn send_all<R: Wait + Clock, C: Contexts<Spawned<Request>>>(
     unreachable!()
 }
 
-/// The next request, if its time has come.
+/// Returns the next request, if its time has come.
 fn due_by(requests: &[Due], next: usize, at: u64) -> Option<Due>
     ensures { IsSome result → next < length requests.now }
 {
@@ -126,8 +126,8 @@ fn due_by(requests: &[Due], next: usize, at: u64) -> Option<Due>
     if due.at <= at { Some(due) } else { None }
 }
 
-/// Whether a request that was due is settled: it was spawned, or is refused, since too many wait for the slow part, or
-/// no core has a place and it is later than the patience. None where memory is refused.
+/// Returns whether a request that was due is settled: it was spawned, or is refused, since too many wait for the slow
+/// part, or no core has a place and it is later than the patience. Returns `None` if memory is refused.
 fn settles(
     spawned: Option<Result<Handle<Request>, Refused<Request>>>,
     number: u64,
@@ -172,8 +172,8 @@ fn settles(
     }
 }
 
-/// Where that is due, has orders applied, looks at the load, and orders a core or gives one back. When it is due again.
-/// None where memory is refused, or the server is over before.
+/// Has orders applied, looks at the load, and orders a core or gives one back, if that is due. Returns the time at
+/// which it is due again, or `None` if memory is refused, or the server is over before.
 fn keep_cores<R: Wait + Clock, C: Contexts<Spawned<Request>>>(
     rt: &R,
     server: &Server<C>,
@@ -204,7 +204,7 @@ fn keep_cores<R: Wait + Clock, C: Contexts<Spawned<Request>>>(
     Some(at.saturating_add(BETWEEN_LOOKS))
 }
 
-/// Takes the answer to the request that was sent first, if it has come, and adds up its work. Whether it had.
+/// Takes the answer to the request that was sent first, if it has come, and adds up its work. Returns whether it had.
 fn take_answer(sent: &mut VecDeque<Sent>, begin: u64, report: &mut Report) -> Option<bool>
     ensures all { OnSome result (vec_len report.new.answers + deque_len sent.new ≡ vec_len report.old.answers + deque_len sent.old) }
     ensures refused { report.new.refused ≡ report.old.refused }

@@ -1,4 +1,4 @@
-//! What the kernel threads of the server share, and what that of a core does.
+//! The server that its kernel threads share, and the part of a core's.
 ghost use Rattle.std.specs.Prelude.{◌≡◌, ◌-◌, ◌<◌, IfSome};
 ghost use Rattle.arachne_pool.specs.Workers.{IsWorkerOf};
 
@@ -9,7 +9,7 @@ use std::sync::{Arc, Wait};
 use std::thread;
 use std::time::Clock;
 
-/// What all kernel threads of the server share.
+/// The server, which all its kernel threads share.
 #[derive(Drop)]
 pub struct Server<C: Seats> {
     pub pool: Pool<C>,
@@ -18,7 +18,7 @@ pub struct Server<C: Seats> {
 }
 
 impl<C: Seats> Server<C> {
-    /// A server whose kernel threads serve until its pool is finished.
+    /// Returns a server whose kernel threads serve until its pool is finished.
     pub fn new(pool: Pool<C>, timer: Arc<Timer>, clock: HostRuntime) -> Server<C>
         ensures { result.pool ≡ pool }
     {
@@ -26,18 +26,18 @@ impl<C: Seats> Server<C> {
         Server { pool, timer, clock }
     }
 
-    /// How many requests live that don't wait for the slow part.
+    /// Returns the number of requests that live and don't wait for the slow part.
     pub fn runnable(&self) -> u64 {
         runnable_of(self.pool.live(), self.timer.waiting())
     }
 
-    /// No more requests come.
+    /// Ends the server once the requests that live have ended: no more come.
     pub fn finish(&self) {
         self.pool.finish();
         self.timer.end();
     }
 
-    /// All kernel threads are to return, whatever is left.
+    /// Stops all kernel threads, whatever is left.
     pub fn stop(&self) {
         self.pool.stop();
         self.timer.end();
@@ -56,7 +56,7 @@ impl<C: Seats> Server<C> {
     }
 }
 
-/// How many of those that live don't wait.
+/// Returns the number of those that live and don't wait.
 fn runnable_of(live: u64, waiting: u64) -> u64
     ensures { result ≡ live - waiting }
 {
@@ -64,7 +64,7 @@ fn runnable_of(live: u64, waiting: u64) -> u64
 }
 
 /// Serves as the kernel thread of a core until the server is over. It sleeps while there is nothing to do there, and
-/// while the core is given back. At once over where there is no such core.
+/// while the core is given back. Returns at once if there is no such core.
 pub fn serve<R: Wait + Clock, J: PoolJob, C: Contexts<Spawned<J>>>(
     rt: &R,
     server: &Server<C>,

@@ -21,7 +21,7 @@ use std::time::Clock;
 type Table = WordContexts<Spawned<Request>>;
 
 /// Answers or refuses all requests of a list, with the cores of a keeper and one more core, on which nothing runs: the
-/// sender's. What was done, or why that can't be.
+/// sender's. Returns the books, or why there are none.
 pub fn run<R: Threads + Wait + Clock + Sync>(
     rt: &R,
     alloc: Global,
@@ -48,7 +48,7 @@ pub fn run<R: Threads + Wait + Clock + Sync>(
     Ok(books)
 }
 
-/// The server before anything is sent, and what its kernel threads have of it, for so many requests.
+/// Returns the server before anything is sent, and the share of its kernel threads, for this many requests.
 fn begin<C: Contexts<Spawned<Request>> + Drop>(
     alloc: Global,
     requests: usize,
@@ -73,8 +73,8 @@ fn begin<C: Contexts<Spawned<Request>> + Drop>(
     Ok((Server::new(pool, timer, clock), share))
 }
 
-/// Closes the pool of a server that is over, with what its kernel threads have left. What it has done, or why that
-/// can't be told.
+/// Closes the pool of a server that is over, with the share that its kernel threads have left. Returns the books, or
+/// why there are none.
 fn end<C: Contexts<Spawned<Request>> + Drop, R: Wait>(
     rt: &R,
     alloc: Global,
@@ -90,7 +90,8 @@ fn end<C: Contexts<Spawned<Request>> + Drop, R: Wait>(
     done_of(pool.close(rt, alloc, worker).ok(), done)
 }
 
-/// What the server has done, where its pool was closed with nothing left and the sender has ended. Else what is amiss.
+/// Returns the books if the pool was closed with nothing left and the sender has ended, and why there are none
+/// otherwise.
 fn done_of(left: Option<Left<Request>>, done: Option<Books>) -> Result<Books, &'static str>
     ensures { IfOk result (λ books. done ≡ Some books) }
 {

@@ -14,27 +14,27 @@ use std::sync::atomic::{AtomicU64, Ordering};
 use std::sync::{Arc, Wait};
 use std::time::{Clock, Duration};
 
-/// How many nanoseconds the timer sleeps where no request waits.
+/// The nanoseconds that the timer sleeps if no request waits.
 const IDLE: u64 = 1_000_000_000;
 
-/// What the timer's kernel thread does next.
+/// The next act of the timer's kernel thread.
 enum Next {
     Wakes(ThreadId),
-    /// Nothing, for so many nanoseconds.
+    /// Nothing, for this many nanoseconds.
     Rests(u64),
-    /// Nothing, until it is told: no request waits.
+    /// Nothing, until it is signalled: no request waits.
     Idles,
 }
 
-/// What is left of the slow part once all requests are answered. Nothing, where each was counted, its call was given
-/// back, and the timer was told.
+/// The rest of the slow part once all requests are answered: nothing, if each was counted, its call was given back, and
+/// the timer was signalled.
 #[derive(Clone, Copy)]
 pub struct Left {
-    /// How many requests are counted as waiting.
+    /// The number of requests that are counted as waiting.
     pub waiting: u64,
-    /// How many calls were not given back.
+    /// The number of calls that were not given back.
     pub calls: usize,
-    /// How often the timer has slept its time out and then found something of which nobody had told it.
+    /// The number of times that the timer has slept its time out and then found something that nobody had signalled.
     pub overslept: u64,
 }
 
@@ -48,7 +48,7 @@ impl Left {
     }
 }
 
-/// An entry for each request that may wait at once, and what the timer's kernel thread is told.
+/// An entry for each request that may wait at once, and the words by which the timer's kernel thread is signalled.
 #[derive(Drop)]
 pub struct Timer {
     entries: Vec<Entry>,
@@ -59,7 +59,7 @@ pub struct Timer {
 }
 
 impl Timer {
-    /// One for which so many requests may wait at once.
+    /// Returns a timer for which this many requests may wait at once.
     pub fn new(alloc: Global, most: usize) -> Result<Arc<Timer>, AllocError> {
         let mut entries = Vec::with_capacity(alloc, most)?;
         for _ in 0..most {
@@ -75,7 +75,7 @@ impl Timer {
         Ok(Arc::new(alloc, timer)?)
     }
 
-    /// A call of the slow part, which has not begun. None where as many requests as may wait have one.
+    /// Returns a call of the slow part, which has not begun, or `None` if as many requests as may wait have one.
     pub fn call(timer: &Arc<Timer>) -> Option<Call> {
         let shared = timer.clone().ok()?;
         for (number, entry) in timer.entries.iter().enumerate() {
@@ -90,12 +90,12 @@ impl Timer {
         None
     }
 
-    /// How many requests wait.
+    /// Returns the number of requests that wait.
     pub fn waiting(&self) -> u64 {
         self.waiting.count()
     }
 
-    /// What is left of the slow part.
+    /// Returns the rest of the slow part.
     pub fn left(&self) -> Left {
         let mut calls: usize = 0;
         for entry in self.entries.iter() {
@@ -108,19 +108,19 @@ impl Timer {
         }
     }
 
-    /// Whether no more requests come.
+    /// Returns whether no more requests come.
     pub fn is_over(&self) -> bool {
         self.is_over.load(Ordering::SeqCst) != 0
     }
 
-    /// No more requests come.
+    /// Ends the timer: no more requests come.
     pub fn end(&self) {
         self.is_over.store(1, Ordering::SeqCst);
         self.tell();
     }
 
-    /// A request waits before which none did. Each takes as long, so where others wait the timer looks again before
-    /// this one's time.
+    /// Signals the timer that a request waits before which none did. Each takes as long, so if others wait the timer
+    /// looks again before this one's time.
     fn tell_of_first(&self, first: First) {
         first.told();
         self.tell();
@@ -132,7 +132,7 @@ impl Timer {
         }
     }
 
-    /// What is to be done at this time. One whose time has come is answered.
+    /// Returns the next act at this time. A request whose time has come is answered.
     fn look(&self, now: u64) -> Next {
         let mut rest: Option<u64> = None;
         for entry in self.entries.iter() {
@@ -148,12 +148,13 @@ impl Timer {
         }
     }
 
-    /// Whether an answer is due at this time, or no more requests come.
+    /// Returns whether an answer is due at this time, or no more requests come.
     fn is_due(&self, now: u64) -> bool {
         self.is_over() || self.entries.iter().any(|entry| entry.left(now) == Some(0))
     }
 
-    /// Sleeps for so long, unless it is told meanwhile, or was since it was asked last. Whether it was not told.
+    /// Sleeps for this long, unless it is signalled meanwhile, or was since the last call. Returns whether it was not
+    /// signalled.
     fn rest<R: Wait>(&self, rt: &R, nanos: u64) -> bool {
         if self.is_told.swap(0, Ordering::SeqCst) != 0 {
             return false;
@@ -163,8 +164,8 @@ impl Timer {
         self.is_told.load(Ordering::SeqCst) == 0
     }
 
-    /// Sleeps until it is told that there is something to do. It looks after a while all the same, and where something
-    /// is due by then of which nobody has told it, that is counted.
+    /// Sleeps until it is signalled that there is something to do. It looks after a while all the same, and counts if
+    /// something is due by then that nobody has signalled.
     fn idle<R: Wait, K: Clock>(&self, rt: &R, clock: &K) {
         if self.rest(rt, IDLE) && self.is_due(now(clock)) {
             self.overslept.fetch_add(1, Ordering::SeqCst);
@@ -172,7 +173,7 @@ impl Timer {
     }
 }
 
-/// The shorter one of the times of a sleep, if there is one, and of another.
+/// Returns the shorter one of the times of a sleep, if there is one, and of another.
 fn sooner(rest: Option<u64>, left: u64) -> u64
     ensures { MatchOption rest (result ≡ left) (λ nanos. result ≡ min nanos left) }
 {
@@ -190,7 +191,7 @@ pub struct Call {
 }
 
 impl Call {
-    /// Whether it was answered.
+    /// Returns whether it was answered.
     pub fn is_answered(&self) -> bool {
         match self.timer.entries.get(self.entry) {
             Some(entry) => entry.is_answered(),
@@ -198,7 +199,7 @@ impl Call {
         }
     }
 
-    /// The job of this id sleeps until it is answered. The slow part begins now, unless it has before.
+    /// Begins the slow part, unless it has begun before. The job of this id sleeps until it is answered.
     pub fn begin(&self, now: u64, id: ThreadId) {
         if let Some(entry) = self.timer.entries.get(self.entry)
             && let Some(begun) = entry.begin(now, id)
@@ -208,7 +209,7 @@ impl Call {
         }
     }
 
-    /// Another request may have its entry.
+    /// Gives its entry back, for another request.
     pub fn end(&self) {
         if let Some(entry) = self.timer.entries.get(self.entry) {
             entry.give_back();
@@ -216,8 +217,8 @@ impl Call {
     }
 }
 
-/// Works as the timer's kernel thread, which is for no core, until the server is over. None where its worker has no
-/// seat.
+/// Works as the timer's kernel thread, which is for no core, until the server is over. Returns `None` if its worker has
+/// no seat.
 pub fn keep_time<R: Wait + Clock, C: Contexts<Spawned<Request>>>(
     rt: &R,
     server: &Server<C>,

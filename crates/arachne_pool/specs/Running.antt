@@ -1,0 +1,35 @@
+-- What comes of a job that is run.
+use Rattle.std.specs.Prelude.{◌≡◌, ◌+◌}
+use Rattle.arachne_pool.specs.Leftover.{count_of}
+use Rattle.arachne_pool.specs.declared.crew.Root.{Root}
+use Rattle.arachne_pool.specs.declared.crew.Root.TheVariants as root
+use Rattle.arachne_pool.specs.declared.running.RunFault.{RunFault}
+use Rattle.arachne_pool.specs.declared.running.RunFault.TheVariants.{KernelThread, Worker}
+use Rattle.arachne_pool.specs.declared.running.Unfinished.{Unfinished}
+use Rattle.arachne_pool.specs.declared.running.Unfinished.TheVariants.{NotSpawned, Stopped, Lost}
+use Rattle.arachne_pool.specs.declared.worker.PoolFault.TheVariants as worker
+use Rattle.arachne_team.specs.declared.team.TeamFault.{TeamFault}
+use Rattle.arachne_team.specs.declared.team.TeamFault.TheVariants as team
+
+-- the fault of kernel threads that were not started
+abbrev pub of_team : TeamFault → RunFault
+of_team team.Memory = Worker worker.Memory
+of_team team.KernelThread = KernelThread
+
+-- why it was not run to its end
+abbrev pub fault_of : {Job Output : Type 0} → Unfinished Job Output → RunFault
+fault_of (NotSpawned why job) = why
+fault_of (Stopped why tally left) = why
+fault_of (Lost why) = why
+
+-- it is this job, before it was spawned or by its handle
+abbrev pub IsRootOf : {Job Output : Type 0} → Job → Root Job Output → Type 0
+IsRootOf job (root.Job own) = own ≡ job
+IsRootOf job (root.Handle handle) = handle ≡ job
+
+-- the job comes back as it was given; or the jobs that have not ended come back, and with those that have they are as
+-- many as were spawned
+abbrev pub HandsBackRun : {Job Output : Type 0} → Job → Unfinished Job Output → Type 0
+HandsBackRun job (NotSpawned why back) = back ≡ job
+HandsBackRun job (Stopped why tally left) = tally.spawned ≡ tally.ended + count_of left
+HandsBackRun job (Lost why) = Unit {0}
