@@ -23,14 +23,10 @@ pub(crate) struct Crew<'p, C: Seats, J> {
     first_fault: Mutex<Option<RunFault>>,
 }
 
-/// The job that is run, before it is spawned and after.
-#[derive(Drop)]
-pub(crate) enum Root<J: PoolJob> {
-    Job(J),
-    Handle(Handle<J>),
-}
+/// The handle of the job that is run, or the job before it is spawned.
+pub(crate) type Root<J> = Result<Handle<J>, J>;
 
-/// A kernel thread's worker. The first one has the job too.
+/// A kernel thread's worker. The first kernel thread has the job too.
 #[derive(Drop)]
 pub(crate) struct Share<S, J: PoolJob> {
     pub(crate) worker: Worker<S, J>,
@@ -79,17 +75,17 @@ impl<'p, C: Seats, J: PoolJob> Crew<'p, C, J> {
         ensures root { IsRootOf job result }
     {
         if self.pool.is_stopped() {
-            return Root::Job(job);
+            return Err(job);
         }
         match self.pool.spawn(rt, worker, job) {
             Ok(handle) => {
                 self.pool.finish();
-                Root::Handle(handle)
+                Ok(handle)
             }
             Err(refused) => {
                 let Refused { job, .. } = refused;
                 self.stop_for(rt, RunFault::Worker(PoolFault::Memory));
-                Root::Job(job)
+                Err(job)
             }
         }
     }
@@ -131,7 +127,7 @@ impl<'p, J: PoolJob, C: Contexts<Spawned<J>>> Team<Share<C::Seat, J>> for Crew<'
     ) -> Option<Share<C::Seat, J>> {
         let Share { mut worker, root } = share;
         let root = match root {
-            Some(Root::Job(job)) => Some(self.spawn(rt, &mut worker, job)),
+            Some(Err(job)) => Some(self.spawn(rt, &mut worker, job)),
             root => root,
         };
         if let Err(fault) = self.pool.work(rt, &mut worker, number) {

@@ -5,7 +5,7 @@ ghost use Rattle.arachne_pool.specs.Running.{HandsBackRun, IsRootOf};
 ghost use Rattle.arachne_pool.specs.Workers.{IsWorkerOf};
 
 use crate::closing::Left;
-use crate::crew::{Crew, Root, Share};
+use crate::crew::{Crew, Share};
 use crate::job::PoolJob;
 use crate::pool::Pool;
 use crate::spawned::Spawned;
@@ -17,6 +17,7 @@ use arachne_core::{CORES, SLOTS};
 use arachne_team::{TeamFault, work_together};
 use arachne_words::WordContexts;
 use std::alloc::Global;
+use std::snapshot::Snapshot;
 use std::sync::Wait;
 use std::thread::Threads;
 use std::time::Clock;
@@ -114,14 +115,14 @@ where
         };
         // Until the job is spawned, by the first kernel thread once all have begun.
         pool.keep_open();
-        let crew = Crew::of(&pool, &job);
+        let (asked, crew) = (Snapshot::of(&job), Crew::of(&pool, &job));
         let share = Share {
             worker,
-            root: Some(Root::Job(job)),
+            root: Some(Err(job)),
         };
         let share = work_together(rt, alloc, &crew, share);
         let fault = crew.into_first_fault();
-        end(rt, alloc, pool, share, fault)
+        end(rt, alloc, pool, share, fault, &asked)
     }
 }
 
@@ -132,25 +133,24 @@ fn end<C: Contexts<Spawned<J>> + Drop, R: Wait, J: PoolJob>(
     pool: Pool<C>,
     share: Option<Share<C::Seat, J>>,
     fault: Option<RunFault>,
+    asked: &Snapshot<J>,
 ) -> Result<Finished<J::Output>, Unfinished<J>>
-    requires { IfSome share (λ share. IsWorkerOf C.sits C.idle pool.table pool.cores share.worker) }
-    ensures output { IfOk result (λ done. (job : J) → IfSome share (λ share. IfSome share.root (IsRootOf job)) → J.is_result job done.output) }
+    requires worker { IfSome share (λ share. IsWorkerOf C.sits C.idle pool.table pool.cores share.worker) }
+    requires root { IfSome share (λ share. IfSome share.root (IsRootOf asked.now.value)) }
+    ensures output { IfOk result (λ done. J.is_result asked.now.value done.output) }
     ensures all { IfOk result (λ done. done.tally.ended ≡ done.tally.spawned) }
-    ensures handed_back { IfErr result (λ back. (job : J) → IfSome share (λ share. IfSome share.root (IsRootOf job)) → HandsBackRun job back) }
+    ensures handed_back { IfErr result (HandsBackRun asked.now.value) }
 {
+    let _ = asked;
     let why = fault.unwrap_or(RunFault::Worker(PoolFault::Stopped));
-    let Some(
-        Share {
-            worker,
-            root: Some(root),
-        },
-    ) = share
-    else {
+    let Some(share) = share else {
         return Err(Unfinished::Lost(why));
     };
+    let Share { worker, root } = share;
     let handle = match root {
-        Root::Handle(handle) => handle,
-        Root::Job(job) => return Err(Unfinished::NotSpawned(why, job)),
+        Some(Ok(handle)) => handle,
+        Some(Err(job)) => return Err(Unfinished::NotSpawned(why, job)),
+        None => return Err(Unfinished::Lost(why)),
     };
     let (tally, statistics) = (worker.tally(), pool.all_statistics());
     let Ok(left) = pool.close(rt, alloc, worker) else {

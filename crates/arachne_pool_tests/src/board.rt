@@ -49,11 +49,6 @@ impl Board {
         self.begun.fetch_add(1, Ordering::SeqCst);
     }
 
-    /// Returns how many jobs have made a step.
-    pub(crate) fn begun(&self) -> u64 {
-        self.begun.load(Ordering::SeqCst)
-    }
-
     /// Notes the id of a job that is about to sleep. A moment passes, in which it may be woken.
     pub(crate) fn sleeps_as(&self, id: ThreadId) {
         self.context.store(u64::from(id.context), Ordering::SeqCst);

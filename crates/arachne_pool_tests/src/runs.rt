@@ -1,7 +1,7 @@
 //! Jobs that are run to their end by one call (`Pool::run`), over the table on words.
 use crate::board::Board;
 use crate::rows::{ALONE_PARENT, TREE};
-use crate::tasks::{Hoards, PARENT, Sort, Task};
+use crate::tasks::{PARENT, Sort, Task};
 use arachne_pool::{Finished, Pool, PoolFault, RunFault, Tally, Unfinished};
 use arachne_shortage::Hoard;
 use std::alloc::Global;
@@ -17,7 +17,7 @@ enum Comes {
     Ends(u64, u64),
     /// The job is returned, which was not spawned.
     NotSpawned(RunFault),
-    /// All are stopped, and this many jobs are returned.
+    /// All are stopped, and this many jobs with a place are returned.
     Stopped(RunFault, usize),
     /// All are stopped, and the jobs are dropped.
     Lost(RunFault),
@@ -33,21 +33,7 @@ struct Row {
     comes: Comes,
 }
 
-/// A job that forks two others, on cores of their own, the second one once the first has taken all memory.
-const HOARDERS: Sort = Sort {
-    forks: 2,
-    hoards: Hoards::ForAStep,
-    ..ALONE_PARENT
-};
-
 const ROWS: &[Row] = &[
-    Row {
-        shows: "a job is returned if memory is refused for its pool",
-        cores: 2,
-        sort: PARENT,
-        free: Some(0),
-        comes: Comes::NotSpawned(RunFault::Worker(PoolFault::Memory)),
-    },
     Row {
         shows: "a job is returned if a kernel thread is refused",
         cores: 2,
@@ -70,37 +56,26 @@ const ROWS: &[Row] = &[
         comes: Comes::Ends(121, 361),
     },
     Row {
-        shows: "a tree ends on more kernel threads than processors",
+        shows: "a tree ends on more kernel threads than there are processors",
         cores: 16,
         sort: TREE,
         free: None,
         comes: Comes::Ends(121, 361),
     },
     Row {
-        shows: "a job that wants a core for itself ends on the second kernel thread",
+        shows: "a child that wants a core for itself ends on the second kernel thread",
         cores: 2,
         sort: ALONE_PARENT,
         free: None,
-        comes: Comes::Ends(2, 3),
-    },
-    Row {
-        shows: "a worker that is refused memory for a fork stops all, and the jobs are returned",
-        cores: 2,
-        sort: HOARDERS,
-        free: None,
-        comes: Comes::Stopped(RunFault::Worker(PoolFault::Memory), 1),
-    },
-    Row {
-        shows: "the jobs are dropped if memory is refused for their list too",
-        cores: 2,
-        sort: Sort {
-            hoards: Hoards::ToItsEnd,
-            ..HOARDERS
-        },
-        free: None,
-        comes: Comes::Lost(RunFault::Worker(PoolFault::Memory)),
+        comes: Comes::Ends(2, 4),
     },
 ];
+
+/// A job that has its core for itself, and forks more children there than memory has room for.
+const PROLIFIC: Sort = Sort {
+    forks: u32::MAX,
+    ..ALONE_PARENT
+};
 
 /// Runs the job of a row. Returns what comes of it, or `None` if there is no memory for the row itself.
 fn run<R: Threads + Wait + Clock + Sync>(rt: &R, alloc: Global, row: &Row) -> Option<Comes> {
@@ -120,9 +95,7 @@ fn run<R: Threads + Wait + Clock + Sync>(rt: &R, alloc: Global, row: &Row) -> Op
     match run {
         Ok(done) => ended(done),
         Err(Unfinished::NotSpawned(why, _)) => Some(Comes::NotSpawned(why)),
-        Err(Unfinished::Stopped(why, _, left)) => {
-            Some(Comes::Stopped(why, left.placed.len() + left.near.len()))
-        }
+        Err(Unfinished::Stopped(why, _, left)) => Some(Comes::Stopped(why, left.placed.len())),
         Err(Unfinished::Lost(why)) => Some(Comes::Lost(why)),
     }
 }
@@ -151,5 +124,34 @@ fn each_job_is_run_to_its_end_or_returned(rt: HostRuntime) -> Result<(), Fail> {
         let comes = run(&rt, rt.alloc(), row);
         assert!(rt; comes == Some(row.comes), "{}", row.shows);
     }
+    Ok(())
+}
+
+/// Refused memory, as a worker reports it.
+const MEMORY: RunFault = RunFault::Worker(PoolFault::Memory);
+
+#[test]
+fn a_job_is_returned_wherever_memory_ends(rt: HostRuntime) -> Result<(), Fail> {
+    let (mut unspawned, mut stopped) = (0u32, 0u32);
+    for step in 0..40usize {
+        let row = Row {
+            shows: "memory ends before the job is spawned, as it forks, or as the jobs are collected",
+            cores: 1,
+            sort: PROLIFIC,
+            free: Some(step * 20_000),
+            comes: Comes::Stopped(MEMORY, 1),
+        };
+        let comes = run(&rt, rt.alloc(), &row);
+        unspawned = unspawned.saturating_add(u32::from(comes == Some(Comes::NotSpawned(MEMORY))));
+        stopped = stopped.saturating_add(u32::from(comes == Some(row.comes)));
+        let is_known = comes == Some(Comes::NotSpawned(MEMORY))
+            || comes == Some(Comes::Lost(MEMORY))
+            || comes == Some(row.comes);
+        assert!(rt; is_known, "{}", row.shows);
+    }
+    assert!(rt;
+        unspawned > 0 && stopped > 0,
+        "memory ends before the job is spawned, and later"
+    );
     Ok(())
 }

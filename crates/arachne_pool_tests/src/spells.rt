@@ -272,7 +272,7 @@ fn spawns<C: Contexts<Spawned<Task>>, R: Wait>(
     }
 }
 
-/// `Spell::Feeds`: the leaves are spawned by the three calls in turn that name no core.
+/// `Spell::Feeds`: the leaves are spawned by the two calls in turn that name no core.
 fn feeds<C: Contexts<Spawned<Task>>, R: Wait + Clock>(
     rt: &R,
     pool: &Pool<C>,
@@ -289,10 +289,9 @@ fn feeds<C: Contexts<Spawned<Task>>, R: Wait + Clock>(
             return;
         };
         await_sleep(rt, pool, 1);
-        let is_begun = match job % 3 {
+        let is_begun = match job % 2 {
             0 => pool.spawn(rt, worker, task).is_ok(),
-            1 => pool.try_spawn(rt, worker, task).is_ok(),
-            _ => pool.spawn_detached(rt, worker, task).is_ok(),
+            _ => pool.try_spawn(rt, worker, task).is_ok(),
         };
         if !is_begun {
             pool.stop();

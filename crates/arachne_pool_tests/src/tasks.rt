@@ -3,7 +3,6 @@ use crate::board::Board;
 use arachne_contexts::Tagged;
 use arachne_core::ThreadId;
 use arachne_pool::{PoolJob, Step};
-use arachne_shortage::Hoard;
 use std::alloc::Global;
 use std::sync::Arc;
 
@@ -29,18 +28,6 @@ pub(crate) struct Sort {
     pub(crate) is_first_exclusive: bool,
     /// Its first step lasts until an answer has come, so that its kernel thread comes to no other job meanwhile.
     pub(crate) is_held: bool,
-    /// Its children take all memory that is left, if they have none themselves. It forks the second one after that.
-    pub(crate) hoards: Hoards,
-}
-
-/// The time for which a job that takes all memory keeps it.
-#[derive(Clone, Copy, PartialEq)]
-pub(crate) enum Hoards {
-    Never,
-    /// Until its first step ends, after some tenths of a second.
-    ForAStep,
-    /// Until it is dropped.
-    ToItsEnd,
 }
 
 /// Which children a job joins, and when.
@@ -68,7 +55,6 @@ pub(crate) const LEAF: Sort = Sort {
     is_exclusive: false,
     is_first_exclusive: false,
     is_held: false,
-    hoards: Hoards::Never,
 };
 
 /// One that forks a leaf and joins it.
@@ -84,7 +70,6 @@ pub(crate) const PARENT: Sort = Sort {
 pub(crate) struct Task {
     board: Arc<Board>,
     luggage: Vec<Vec<u64>>,
-    hoard: Option<Hoard>,
     sort: Sort,
     has_begun: bool,
     forked: u32,
@@ -99,7 +84,6 @@ impl Task {
         Some(Task {
             board: board.clone().ok()?,
             luggage: luggage(board.alloc, sort.luggage)?,
-            hoard: None,
             sort,
             has_begun: false,
             forked: 0,
@@ -166,20 +150,10 @@ impl PoolJob for Task {
     fn step(&mut self) -> Step<Task, u64> {
         if !self.has_begun {
             self.has_begun = true;
-            if self.sort.hoards != Hoards::Never && self.sort.depth == 0 {
-                self.hoard = Hoard::take(self.board.alloc).ok();
-            }
             self.board.begins();
             if self.sort.is_held {
                 self.board.await_answer();
             }
-            if self.sort.hoards == Hoards::ForAStep && self.hoard.is_some() {
-                self.board.await_answer();
-                self.hoard = None;
-            }
-        }
-        if self.sort.hoards != Hoards::Never && self.forked == 1 && self.board.begun() < 2 {
-            return Step::Again;
         }
         if self.is_to_join() {
             return Step::Waits;
