@@ -31,7 +31,6 @@ use Rattle.arachne_arbiter.proofs.pace.Pace.TheSendSync as pace
 use Rattle.arachne_join.specs.contracts.ends.Receiver as receiver
 use Rattle.arachne_pool.specs.contracts.worker.Worker as worker
 use Rattle.arachne_pool.specs.contracts.worker.Worker.TheInside as worker_inside
-use Rattle.arachne_pool.specs.contracts.crew.Share as share
 use Rattle.arachne_pool.specs.contracts.waking.Waker as waker
 use Rattle.arachne_pool.specs.contracts.waking.Waker.TheInside as waker_inside
 use Rattle.arachne_pool.specs.contracts.handle.Handle as handle
@@ -112,8 +111,3 @@ module _ (J O : RattleType) (P : pool_job.Ghosts J.Denot O.Denot) (G : tagged.Gh
 
     pub worker_send : IsSend (worker.the_row S J O P G)
     worker_send = search (sendable, worker_in_send) depth 10
-
-    -- what the kernel thread of a run has
-    pub share_send : IsSend (share.the_field S J O P G).row
-    share_send = struct_send (struct.shape (share.the_type S J O P G))
-        (search (sendable, worker_send) depth 10, search (sendable, std.crosses, handle_send, s) depth 30)

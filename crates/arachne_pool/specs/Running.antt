@@ -1,5 +1,5 @@
 -- What comes of a job that is run.
-use Rattle.std.specs.Prelude.{◌≡◌, ◌+◌, Result, IfErr, IfOk}
+use Rattle.std.specs.Prelude.{◌≡◌, ◌+◌}
 use Rattle.arachne_pool.specs.Leftover.{count_of}
 use Rattle.arachne_pool.specs.declared.running.RunFault.{RunFault}
 use Rattle.arachne_pool.specs.declared.running.RunFault.TheVariants.{KernelThread, Worker}
@@ -19,10 +19,6 @@ abbrev pub fault_of : {Job Output : Type 0} → Unfinished Job Output → RunFau
 fault_of (NotSpawned why job) = why
 fault_of (Stopped why tally left) = why
 fault_of (Lost why) = why
-
--- it is this job, by its handle or before it was spawned
-abbrev pub IsRootOf : {Job : Type 0} → Job → Result Job Job → Type 0
-IsRootOf job root = IfOk root (λ handle. handle ≡ job) × IfErr root (λ own. own ≡ job)
 
 -- the job comes back as it was given; or the jobs that have not ended come back, and with those that have they are as
 -- many as were spawned

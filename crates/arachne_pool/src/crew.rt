@@ -23,19 +23,16 @@ pub(crate) struct Crew<'p, C: Seats, J> {
     first_fault: Mutex<Option<RunFault>>,
 }
 
-/// The handle of the job that is run, or the job before it is spawned.
-pub(crate) type Root<J> = Result<Handle<J>, J>;
-
-/// A kernel thread's worker. The first kernel thread has the job too.
+/// A kernel thread's worker. The first kernel thread has the job too, and once it is spawned its handle.
 #[derive(Drop)]
 pub(crate) struct Share<S, J: PoolJob> {
     pub(crate) worker: Worker<S, J>,
-    pub(crate) root: Option<Root<J>>,
+    pub(crate) job: Option<J>,
+    pub(crate) handle: Option<Handle<J>>,
 }
 
 impl<'p, C: Seats, J: PoolJob> Crew<'p, C, J> {
-    ghost use Rattle.std.specs.Prelude.{[]};
-    ghost use Rattle.arachne_pool.specs.Running.{IsRootOf};
+    ghost use Rattle.std.specs.Prelude.{[], IfSome};
     ghost use Rattle.arachne_pool.specs.Workers.{IsWorkerOf};
 
     /// Returns the kernel threads that run this job.
@@ -64,28 +61,38 @@ impl<'p, C: Seats, J: PoolJob> Crew<'p, C, J> {
         first_fault.into_inner()
     }
 
-    /// Spawns the job, after which no more come. If the kernel threads are stopped, since one of them was refused, or
-    /// memory is refused, the job is returned.
-    fn spawn<R: Wait>(&self, rt: &R, worker: &mut Worker<C::Seat, J>, job: J) -> Root<J>
+    /// Spawns the job, if this kernel thread has it, after which no more come, and returns its handle. If the kernel
+    /// threads are stopped, since one of them was refused, or memory is refused, the job is returned.
+    fn spawn<R: Wait>(
+        &self,
+        rt: &R,
+        worker: &mut Worker<C::Seat, J>,
+        job: Option<J>,
+    ) -> (Option<J>, Option<Handle<J>>)
     where
         C: Contexts<Spawned<J>>,
         requires worker { IsWorkerOf C.sits C.idle self.now.pool.now.table self.now.pool.now.cores worker.old }
-        requires fresh { J.awaits job [] }
+        requires fresh { J.awaits self.now.asked.value [] }
+        requires job { IfSome job (λ job. job ≡ self.now.asked.value) }
         ensures worker { IsWorkerOf C.sits C.idle self.now.pool.now.table self.now.pool.now.cores worker.new }
-        ensures root { IsRootOf job result }
+        ensures job { IfSome result.0 (λ job. job ≡ self.now.asked.value) }
+        ensures handle { IfSome result.1 (λ handle. handle ≡ self.now.asked.value) }
     {
+        let Some(job) = job else {
+            return (None, None);
+        };
         if self.pool.is_stopped() {
-            return Err(job);
+            return (Some(job), None);
         }
         match self.pool.spawn(rt, worker, job) {
             Ok(handle) => {
                 self.pool.finish();
-                Ok(handle)
+                (None, Some(handle))
             }
             Err(refused) => {
                 let Refused { job, .. } = refused;
                 self.stop_for(rt, RunFault::Worker(PoolFault::Memory));
-                Err(job)
+                (Some(job), None)
             }
         }
     }
@@ -93,11 +100,10 @@ impl<'p, C: Seats, J: PoolJob> Crew<'p, C, J> {
 
 impl<'p, J: PoolJob, C: Contexts<Spawned<J>>> Team<Share<C::Seat, J>> for Crew<'p, C, J> {
     ghost use Rattle.std.specs.Prelude.{◌≡◌, ◌<◌, [], IfSome};
-    ghost use Rattle.arachne_pool.specs.Running.{IsRootOf};
     ghost use Rattle.arachne_pool.specs.Workers.{IsWorkerOf};
 
     ghost has = { λ crew share. IsWorkerOf C.sits C.idle crew.pool.now.table crew.pool.now.cores share.worker
-        × IfSome share.root (IsRootOf crew.asked.value) × J.awaits crew.asked.value [] };
+        × IfSome share.job (λ job. job ≡ crew.asked.value) × IfSome share.handle (λ handle. handle ≡ crew.asked.value) × J.awaits crew.asked.value [] };
 
     ghost size = { λ crew. crew.pool.now.cores };
 
@@ -110,13 +116,23 @@ impl<'p, J: PoolJob, C: Contexts<Spawned<J>>> Team<Share<C::Seat, J>> for Crew<'
         rt: &R,
         share: Share<C::Seat, J>,
     ) -> (Share<C::Seat, J>, Option<Share<C::Seat, J>>) {
-        let Share { worker, root } = share;
+        let Share {
+            worker,
+            job,
+            handle,
+        } = share;
         let (own, theirs) = self.pool.split(rt, worker);
         let theirs = Share {
             worker: theirs,
-            root: None,
+            job: None,
+            handle: None,
         };
-        (Share { worker: own, root }, Some(theirs))
+        let own = Share {
+            worker: own,
+            job,
+            handle,
+        };
+        (own, Some(theirs))
     }
 
     fn work<R: Wait + Clock>(
@@ -125,15 +141,20 @@ impl<'p, J: PoolJob, C: Contexts<Spawned<J>>> Team<Share<C::Seat, J>> for Crew<'
         number: u8,
         share: Share<C::Seat, J>,
     ) -> Option<Share<C::Seat, J>> {
-        let Share { mut worker, root } = share;
-        let root = match root {
-            Some(Err(job)) => Some(self.spawn(rt, &mut worker, job)),
-            root => root,
-        };
+        let Share {
+            mut worker,
+            job,
+            ..
+        } = share;
+        let (job, handle) = self.spawn(rt, &mut worker, job);
         if let Err(fault) = self.pool.work(rt, &mut worker, number) {
             self.stop_for(rt, RunFault::Worker(fault));
         }
-        Some(Share { worker, root })
+        Some(Share {
+            worker,
+            job,
+            handle,
+        })
     }
 
     fn join<R: Wait>(
@@ -142,9 +163,17 @@ impl<'p, J: PoolJob, C: Contexts<Spawned<J>>> Team<Share<C::Seat, J>> for Crew<'
         share: Share<C::Seat, J>,
         other: Share<C::Seat, J>,
     ) -> Option<Share<C::Seat, J>> {
-        let Share { worker, root } = share;
+        let Share {
+            worker,
+            job,
+            handle,
+        } = share;
         let worker = self.pool.join_workers(rt, worker, other.worker).ok()?;
-        Some(Share { worker, root })
+        Some(Share {
+            worker,
+            job,
+            handle,
+        })
     }
 
     fn fail<R: Wait>(&self, rt: &R, fault: TeamFault) {

@@ -1,7 +1,7 @@
 //! A job that is run to its end, with all that it forks, on as many kernel threads as cores.
 ghost use Rattle.std.specs.Prelude.{◌≡◌, ◌≤◌, [], IfErr, IfOk, IfSome};
 ghost use Rattle.arachne_core.specs.declared.layout.TheConstants.{CORES};
-ghost use Rattle.arachne_pool.specs.Running.{HandsBackRun, IsRootOf};
+ghost use Rattle.arachne_pool.specs.Running.{HandsBackRun};
 ghost use Rattle.arachne_pool.specs.Workers.{IsWorkerOf};
 
 use crate::closing::Left;
@@ -118,7 +118,8 @@ where
         let (asked, crew) = (Snapshot::of(&job), Crew::of(&pool, &job));
         let share = Share {
             worker,
-            root: Some(Err(job)),
+            job: Some(job),
+            handle: None,
         };
         let share = work_together(rt, alloc, &crew, share);
         let fault = crew.into_first_fault();
@@ -136,7 +137,8 @@ fn end<C: Contexts<Spawned<J>> + Drop, R: Wait, J: PoolJob>(
     asked: &Snapshot<J>,
 ) -> Result<Finished<J::Output>, Unfinished<J>>
     requires worker { IfSome share (λ share. IsWorkerOf C.sits C.idle pool.table pool.cores share.worker) }
-    requires root { IfSome share (λ share. IfSome share.root (IsRootOf asked.now.value)) }
+    requires job { IfSome share (λ share. IfSome share.job (λ job. job ≡ asked.now.value)) }
+    requires handle { IfSome share (λ share. IfSome share.handle (λ handle. handle ≡ asked.now.value)) }
     ensures output { IfOk result (λ done. J.is_result asked.now.value done.output) }
     ensures all { IfOk result (λ done. done.tally.ended ≡ done.tally.spawned) }
     ensures handed_back { IfErr result (HandsBackRun asked.now.value) }
@@ -146,11 +148,16 @@ fn end<C: Contexts<Spawned<J>> + Drop, R: Wait, J: PoolJob>(
     let Some(share) = share else {
         return Err(Unfinished::Lost(why));
     };
-    let Share { worker, root } = share;
-    let handle = match root {
-        Some(Ok(handle)) => handle,
-        Some(Err(job)) => return Err(Unfinished::NotSpawned(why, job)),
-        None => return Err(Unfinished::Lost(why)),
+    let Share {
+        worker,
+        job,
+        handle,
+    } = share;
+    if let Some(job) = job {
+        return Err(Unfinished::NotSpawned(why, job));
+    }
+    let Some(handle) = handle else {
+        return Err(Unfinished::Lost(why));
     };
     let (tally, statistics) = (worker.tally(), pool.all_statistics());
     let Ok(left) = pool.close(rt, alloc, worker) else {
