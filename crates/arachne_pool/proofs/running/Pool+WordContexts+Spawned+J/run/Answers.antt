@@ -1,7 +1,8 @@
 use Rattle.std.proofs.Common.{◌≡◌, ◌∙◌, sym, IfSome, Option, None, Some}
 use denote.RattleType.{RattleType}
 use denote.Param.{param}
-use denote.Param.Send.{IsSend, sendable, param_send, param_sync}
+use denote.Exit.{no}
+use denote.Param.Send.{sendable, param_send, param_sync, arg_send, arg_sync}
 use Rattle.std.proofs.Crossing as std
 use Rattle.arachne_words.specs.contracts.seat.WordSeat as word_seat
 use Rattle.arachne_words.specs.contracts.table.WordContexts as word_table
@@ -37,16 +38,16 @@ work_together-share-requires-send-S g c κs within =
     let J = param 0 g.row.J in
     let O = param 1 g.row.J-Output in
     let job = spawned_send J O g.J.PoolJob g.J.Tagged c.type_bounds.send-J c.type_bounds.send-J-Output in
-    param_send 1 _ (share_send J O g.J.PoolJob g.J.Tagged c.type_bounds.send-J c.type_bounds.send-J-Output (seat_row J O g.J.PoolJob g.J.Tagged)
-        (search (sendable, std.crosses, seat.the_send, job) depth 40))
+    param_send 1 _ (arg_send _ no _ (share_send J O g.J.PoolJob g.J.Tagged c.type_bounds.send-J c.type_bounds.send-J-Output (seat_row J O g.J.PoolJob g.J.Tagged)
+        (search (sendable, std.crosses, seat.the_send, job) depth 40)))
 
 pub work_together-share-requires-sync-W : goal.work_together-share-requires-sync-W
 work_together-share-requires-sync-W g c κs within =
     let J = param 0 g.row.J in
     let O = param 1 g.row.J-Output in
     let job = spawned_send J O g.J.PoolJob g.J.Tagged c.type_bounds.send-J c.type_bounds.send-J-Output in
-    param_sync 2 _ (crew_sync _ (table_row J O g.J.PoolJob g.J.Tagged) J (seat_row J O g.J.PoolJob g.J.Tagged) _
-        (search (sendable, std.crosses, table.the_sync, job) depth 40))
+    param_sync 2 _ (arg_sync _ no _ (crew_sync _ (table_row J O g.J.PoolJob g.J.Tagged) J (seat_row J O g.J.PoolJob g.J.Tagged) _
+        (search (sendable, std.crosses, table.the_sync, job) depth 40)))
 
 -- the job, or its handle, is as it was given
 pub end-requires-clause-job : goal.end-requires-clause-job
