@@ -215,8 +215,9 @@ impl Runtime {
     ///
     /// From the call on `stopping` is ready, and `accept` of a listener fails once all who had connected are accepted.
     /// Tasks of `spawn_background` are not waited for. A poll in progress at the deadline is waited for. Blocking work
-    /// that still runs then goes on without the runtime, and the tasks that it spawns are cancelled. `Duration::MAX` is
-    /// no deadline.
+    /// that still runs then goes on without the runtime, and the tasks that it spawns are cancelled; `aborted` doesn't
+    /// count it. `Duration::MAX` is no deadline. A task that calls this is waited for itself, until the deadline, and
+    /// counted.
     ///
     /// ```
     /// use std::time::Duration;
