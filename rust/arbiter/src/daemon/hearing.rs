@@ -46,8 +46,8 @@ pub(super) struct Connection {
 impl Arbiter {
     /// Reads all that has come. Waits for at most `timeout` milliseconds until something does.
     ///
-    /// What is sent while it reads is read too, until nothing more has come. If a request were decided on before the
-    /// threads are known that joined or waited before it was sent, cores would go to others, and be taken back at once.
+    /// It goes on until nothing more has come, for at most four passes. If a request were decided on before the threads
+    /// are known that joined or waited before it was sent, cores would go to others, and be taken back at once.
     pub(super) fn hear(&mut self, timeout: i32) {
         let mut timeout = timeout;
         for _ in 0..PASSES {
