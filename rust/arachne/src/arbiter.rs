@@ -31,7 +31,7 @@ const REFUSED: u32 = 8;
 /// The time until an arbiter that isn't there is looked for again, and until one that has refused is asked again.
 const AGAIN: Duration = Duration::from_secs(1);
 const REFUSED_AGAIN: Duration = Duration::from_secs(30);
-/// The time until a worker that couldn't use what it heard of the arbiter asks again.
+/// How long a worker sleeps before it asks for a core again, if it got none or can't use it yet.
 const SOON: Duration = Duration::from_millis(1);
 
 /// The path of the arbiter's socket, and the facts about a runtime that are sent to it.
@@ -47,9 +47,9 @@ pub(crate) struct Wish {
 pub(crate) struct Client {
     /// The page's number. Once mapped it is never unmapped.
     page: AtomicPtr<AtomicU32>,
-    /// An arbiter says how many cores there may be. It changes under `order`.
+    /// True if an arbiter decides how many cores there may be. Changed only under `order`.
     up: AtomicBool,
-    /// The cores that were last asked for.
+    /// The number of cores that was last asked for.
     asked: AtomicUsize,
     /// Held by whoever changes how many workers are active.
     order: Mutex<()>,
@@ -118,13 +118,13 @@ impl Client {
         unsafe { (*self.page.load(Relaxed)).load(Relaxed) as usize }
     }
 
-    /// The kernel thread of a worker runs.
+    /// Records the kernel's number of the calling thread, which is the worker's.
     pub(crate) fn names(&self, worker: usize) {
         self.state.lock().unwrap().threads[worker] = sys::thread_number().unwrap_or(u32::MAX);
         self.changed.notify_all();
     }
 
-    /// A kernel thread that a worker has begun may run on any processor: it was begun on the worker's.
+    /// Lets the calling thread run on any processor: a thread that a worker starts begins on the worker's.
     pub(crate) fn unpin(&self) {
         let state = self.state.lock().unwrap();
         if state.pins {
@@ -145,7 +145,7 @@ impl Client {
         true
     }
 
-    /// Keeps a connection, so that `close` and `hang_up` end what waits there.
+    /// Connects to the arbiter, and keeps the connection, so that `close` and `hang_up` end what waits there.
     fn connect(&self, wish: &Wish) -> io::Result<Arc<UnixStream>> {
         let stream = Arc::new(UnixStream::connect(&wish.path)?);
         let mut state = self.state.lock().unwrap();
@@ -163,7 +163,7 @@ impl Client {
         state.streams.iter().for_each(|stream| drop(stream.shutdown(Shutdown::Both)));
     }
 
-    /// The runtime ends: nobody waits for a core any more.
+    /// Ends all waits for a core, as the runtime ends.
     pub(crate) fn close(&self) {
         self.state.lock().unwrap().closed = true;
         self.hang_up(false);
@@ -172,7 +172,7 @@ impl Client {
 }
 
 impl Shared {
-    /// The policy wants this many cores: those beyond go back, and more are asked for. Returns true if that changes
+    /// Asks for the number of cores that the policy wants, and gives back those beyond. Returns true if that changes
     /// something.
     pub(crate) fn want(&self, cores: usize) -> bool {
         // Whoever has it changes the same.
@@ -196,7 +196,7 @@ impl Shared {
         }
     }
 
-    /// Gives back what the arbiter wants back; returns true if this worker's core is of that.
+    /// Gives back the cores that the arbiter wants back; returns true if this worker's is one of them.
     pub(crate) fn is_asked_back(&self, me: usize) -> bool {
         let active = self.active.0.load(Relaxed);
         if active > 1 && self.arbiter.limit() < active {
@@ -208,8 +208,8 @@ impl Shared {
         me >= self.active.0.load(Relaxed)
     }
 
-    /// This worker gives its core back, and waits until one is granted to it, or there is no arbiter any more. The
-    /// caller looks which of these it was.
+    /// Gives this worker's core back, and waits until one is granted to it, or there is no arbiter any more. The caller
+    /// must check which.
     #[cold]
     pub(crate) fn wait_for_core(&self, me: usize) {
         let stream = match self.arbiter.state.lock().unwrap().streams.get(me + 1) {
@@ -234,8 +234,8 @@ impl Shared {
         }
     }
 
-    /// The kernel thread that has the control connection. `first` is how many cores are asked for of an arbiter that is
-    /// there from the beginning.
+    /// Runs the kernel thread that reads the control connection. `first` is the number of cores to ask for, if the
+    /// arbiter is there from the beginning.
     pub(crate) fn run_arbiter(&'static self, wish: Wish, first: usize, follows: bool) {
         sys::ask_for_slices(100_000);
         let (mut first, mut told) = (Some(first), false);
@@ -291,8 +291,8 @@ impl Shared {
         Ok(control)
     }
 
-    /// There is no arbiter any more: the policy goes on from here, or else each worker has a core. Threads that were
-    /// kept on their cores by affinity may run everywhere. Returns true if the arbiter has refused a thread.
+    /// Goes on without an arbiter: the policy decides from here on, or else each worker has a core. Threads that were
+    /// kept on their cores by affinity may run everywhere again. Returns true if the arbiter has refused a thread.
     fn part(&self, follows: bool) -> bool {
         let _order = self.arbiter.order.lock().unwrap();
         let was_up = self.arbiter.up.swap(false, SeqCst);

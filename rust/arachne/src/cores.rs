@@ -118,7 +118,7 @@ const SOON: u32 = 4;
 
 /// The least and the most nanoseconds between two judgements under an arbiter.
 const WITH_ARBITER: (u64, u64) = (2_000_000, 5_000_000);
-/// The nanoseconds after a core was asked for of an arbiter in which none goes back: each goes to another process.
+/// For these nanoseconds after asking an arbiter for a core, none is given back: it would go to another process.
 const CALM: u64 = 50_000_000;
 
 /// The state of the policy, which the first worker applies for all.

@@ -51,7 +51,7 @@ pub use unix::{UnixListener, UnixStream};
 #[derive(Clone)]
 struct Registered {
     shared: &'static Shared,
-    /// Those of the runtime's door: a later runtime with the same state has others.
+    /// The count of the runtime's `Door`, by which a later runtime that uses the same state is told apart.
     turns: u64,
     io: Arc<Io>,
     key: Key,
@@ -153,8 +153,8 @@ mod once {
 
 /// Returns true if the current poll may read now; if not, the task yields to its worker first.
 ///
-/// A poll may always make one read, and more until its worker's next look is due. No read is put off under a waker that
-/// isn't the task's own, whose poll doesn't return to the worker (`block_on`).
+/// A poll may always make one read, and more until its worker's next look is due. Under a waker that isn't the task's
+/// own, as in a `block_on`, no read is put off: such a poll doesn't return to the worker.
 #[inline]
 fn may_read(waker: &Waker) -> bool {
     Worker::with(|worker| match worker {

@@ -87,7 +87,7 @@ pub struct TaskInfo {
     pub about: About,
     /// Its current state.
     pub doing: Doing,
-    /// The time since which it is in that state.
+    /// How long it has been in that state.
     pub age: Duration,
 }
 

@@ -27,7 +27,8 @@ const WOKEN: u64 = 0;
 /// The most events of one look.
 pub(crate) const EVENTS: usize = 64;
 
-/// A waker that is registered for one event. A task of this runtime is one word without a lock; others take a lock.
+/// A waker that is registered for one event. That of a task of this runtime is kept in one word, without a lock; others
+/// take a lock.
 pub(crate) struct Slot {
     table: usize,
     name: AtomicU64,

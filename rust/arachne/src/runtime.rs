@@ -386,7 +386,7 @@ pub struct WorkerStats {
     pub takes: u64,
     /// Waiting tasks that were woken here.
     pub wakes: u64,
-    /// Sleeps.
+    /// The number of times that the worker slept.
     pub parks: u64,
     /// The time without work.
     pub idle: Duration,

@@ -242,7 +242,7 @@ impl Semaphore {
         self.state.lock().unwrap().closed
     }
 
-    /// Gives the first in line their permits as far as these go, and wakes them after the lock is released.
+    /// Gives permits to the first in line, as far as there are enough, and wakes them after the lock is released.
     fn grant(&self, mut state: crate::sync::MutexGuard<'_, State>) {
         let mut granted = Vec::new();
         while state.line.front().map_or(false, |node| node.wants <= state.permits) {

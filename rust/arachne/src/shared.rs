@@ -58,7 +58,8 @@ pub(crate) struct Shared {
     pub(crate) roomy: Box<[Line<AtomicU64>]>,
     /// By place, the name of the last task that waited there, so that it can be ended with the runtime.
     pub(crate) names: Box<[AtomicU64]>,
-    /// The workers that sleep, as bits, and the number that search for work. They only decide whom it is worth to wake.
+    /// The workers that sleep, as bits, and the number that search for work. They only decide which worker it is worth
+    /// waking.
     pub(crate) sleepers: Line<AtomicU64>,
     pub(crate) searching: Line<AtomicUsize>,
     pub(crate) active: Line<AtomicUsize>,

@@ -43,7 +43,7 @@ pub(crate) fn is_of_running(waker: &Waker, worker: &Worker) -> bool {
     name != NOBODY && waker.will_wake(&waker_of(worker.shared.table, name))
 }
 
-/// Returns `of` the worker in a poll of one of its tasks, by the task's own waker, and false otherwise.
+/// Returns `of(worker)` if the thread is a worker that polls the task of this waker; otherwise false.
 #[inline]
 pub(crate) fn in_own_poll(waker: &Waker, of: impl FnOnce(&Worker) -> bool) -> bool {
     Worker::with(|worker| worker.map_or(false, |worker| is_of_running(waker, worker) && of(worker)))

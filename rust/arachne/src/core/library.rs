@@ -78,7 +78,7 @@ struct Crew {
     members: Box<[Line<Member>]>,
 }
 
-/// Of one thread's seats, those that other threads have given back, as bits, and the number that others use.
+/// The state of one thread's seats: those that other threads have given back, as bits, and the number that others use.
 #[derive(Default)]
 struct Member {
     laid: AtomicU64,
@@ -98,11 +98,11 @@ pub(crate) struct Hands {
     free: Cell<u64>,
     /// By seat, the index in a block at which its next take starts: the library goes round a block by seat.
     from: Vec<Cell<u32>>,
-    /// The seat by which blocks are swept.
+    /// The seat that is used for sweeps over blocks.
     sweeps: Cell<usize>,
 }
 
-/// The right to sleep in the name of the shards of one number.
+/// The right to sleep as the worker that looks after the shards of one number.
 pub(crate) struct Parking(Handle);
 
 impl Root {
