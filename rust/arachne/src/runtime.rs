@@ -345,7 +345,7 @@ pub struct Stats {
     pub ended: u64,
     /// Successful steals from other workers.
     pub takes: u64,
-    /// Sleeps of workers.
+    /// The number of times that workers slept.
     pub parks: u64,
     /// Tasks that had to wait for a free place.
     pub queued: u64,
