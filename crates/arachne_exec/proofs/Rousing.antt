@@ -1,5 +1,5 @@
 -- A worker that looks for a job, and clears no idle bit but its own.
-use Rattle.std.proofs.Common.{◌≡◌, inr, ⊎_elim, ℕ, zero, suc, Bool, true, false, List, [], ◌∷◌, ◌++◌, append_assoc, refl, sym, ap, ◌∙◌, subst, arith}
+use Rattle.std.proofs.Common.{◌≡◌, inr, ⊎_elim, ℕ, zero, suc, Bool, true, false, List, [], ◌∷◌, ◌++◌, append_assoc, refl, sym, ap, ◌∙◌, subst}
 use Rattle.arachne_exec.specs.declared.view.Notes.{Notes}
 use Rattle.arachne_exec.specs.declared.view.SleepDeed.{SleepDeed}
 use Rattle.arachne_exec.specs.declared.view.SleepDeed.TheVariants.{Roused}
