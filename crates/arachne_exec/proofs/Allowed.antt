@@ -79,12 +79,12 @@ module _ (table : TableId) (key n : ℕ) (laid : IsLaidOut table key n) (exec : 
           (takes_ready key table.slots id me.0.weight me.0.known me.1 q low),
     )
 
-    pub claim-asks : (mask : ℕ) → word ≡ free_at (q / 64) → mask ≡ others (q % 64) → Asks word (λ x. bit_and x mask) (Claims free_at (step table.slots word mask 0 none) me)
-    claim-asks mask e o = (
+    pub claim-asks : view.known.unspawned ≡ 0 → (mask : ℕ) → word ≡ free_at (q / 64) → mask ≡ others (q % 64) → Asks word (λ x. bit_and x mask) (Claims (step table.slots word mask 0 none) me)
+    claim-asks spawned mask e o = (
       at-home,
       free-inside e,
-      subst (λ (z : ℕ × ℕ × Mine). Allows (IsLawful key) table.slots id z.2 z.0 (λ x. bit_and x z.1) (Claims free_at (step table.slots z.0 z.1 0 none) z.2)) (λ i. (sym e i, sym o i, sym whole i))
-          (claims key table.slots id me.0.weight me.0.known me.1 q low),
+      subst (λ (z : ℕ × ℕ × Mine). Allows (IsLawful key) table.slots id z.2 z.0 (λ x. bit_and x z.1) (Claims (step table.slots z.0 z.1 0 none) z.2)) (λ i. (sym e i, sym o i, sym whole i))
+          (claims key table.slots id me.0.weight me.0.known me.1 q low (ap (λ (k : Notes). k.unspawned) known-is ∙ spawned)),
     )
 
     module _ (x y : ℕ) (has : HasNewest q x y view) where
@@ -127,20 +127,20 @@ module _ (table : TableId) (key n : ℕ) (laid : IsLaidOut table key n) (exec : 
             (readies key table.slots id me.0.weight me.0.known q x (rest view.slots) (hand x x has) low (ap (λ (k : Notes). k.unshown) known-is ∙ shown)),
       )
 
-      pub spawn-asks : HasNewest q 0 x view → view.known.unshown ≡ 0 → (mask : ℕ) → word ≡ ready_at (q / 64) → mask ≡ 2 ^ (q % 64) → Asks word (λ z. bit_or z mask) (Spawns (step table.slots word mask 0 none) me)
-      spawn-asks has shown mask e o = (
+      pub spawn-asks : HasNewest q 0 x view → view.known.unspawned ≡ q + 1 → view.known.unshown ≡ 0 → (mask : ℕ) → word ≡ ready_at (q / 64) → mask ≡ 2 ^ (q % 64) → Asks word (λ z. bit_or z mask) (Spawns (step table.slots word mask 0 none) me)
+      spawn-asks has claimed shown mask e o = (
         at-home,
         ready-inside e,
         subst (λ (z : ℕ × ℕ × Mine). Allows (IsLawful key) table.slots id z.2 z.0 (λ a. bit_or a z.1) (Spawns (step table.slots z.0 z.1 0 none) z.2)) (λ i. (sym e i, sym o i, sym (mine 0 x has) i))
-            (spawns key table.slots id me.0.weight me.0.known q x (rest view.slots) (hand 0 x has) low (ap (λ (k : Notes). k.unshown) known-is ∙ shown)),
+            (spawns key table.slots id me.0.weight me.0.known q x (rest view.slots) (hand 0 x has) low (ap (λ (k : Notes). k.unspawned) known-is ∙ claimed) (ap (λ (k : Notes). k.unshown) known-is ∙ shown)),
       )
 
-      pub begin-asks : HasNewest q 0 x view → word ≡ mark_at q → Asks word (λ z. z) (Begins (step table.slots word 0 0 none) me)
-      begin-asks has e = (
+      pub begin-asks : HasNewest q 0 x view → view.known.unspawned ≡ q + 1 → word ≡ mark_at q → Asks word (λ z. z) (Begins (step table.slots word 0 0 none) me)
+      begin-asks has claimed e = (
         at-home,
         mark-inside e,
         subst (λ (m : Mine). Allows (IsLawful key) table.slots id m word (λ z. z) (Begins (step table.slots word 0 0 none) m)) (sym (mine 0 x has))
-            (begins key table.slots id me.0.weight me.0.known q x (rest view.slots) word (hand 0 x has)),
+            (begins key table.slots id me.0.weight me.0.known q x (rest view.slots) word (hand 0 x has) (ap (λ (k : Notes). k.unspawned) known-is ∙ claimed)),
       )
 
       pub block-asks : HasNewest q x x view → (old new : ℕ) → word ≡ mark_at q → old % 4 ≡ 0 → new ≡ old + 2 → Asks word (λ z. either (eqb z old) new z) (Blocks (step table.slots word old new none) me)
@@ -293,7 +293,7 @@ module _ (table : TableId) (key n : ℕ) (laid : IsLaidOut table key n) (exec : 
 pub split-allowed : (key id : ℕ) (me : Mine) → IsLive me → Splits (IsLawful key) id me.0 (first_of me.0) (second_of me.0)
 split-allowed key id me live = subst (λ (t : Token Notes). Splits (IsLawful key) id t (first_of t) (second_of t)) (sym live) (deals key id me.0.weight me.0.known)
 
-pub join-allowed : (key id from : ℕ) (me other : Mine) → IsLive me → IsLive other → (other.0.known.hand ≡ []) × (other.0.known.worker ≡ 0) × (other.0.known.unshown ≡ 0) × (other.0.known.owes ≡ 0)
+pub join-allowed : (key id from : ℕ) (me other : Mine) → IsLive me → IsLive other → (other.0.known.hand ≡ []) × (other.0.known.worker ≡ 0) × (other.0.known.unspawned ≡ 0) × (other.0.known.unshown ≡ 0) × (other.0.known.owes ≡ 0)
     → Joins (IsLawful key) id me.0 from other.0 (both_of me.0 other.0) (spent blank)
 join-allowed key id from me other live away nothing =
     subst (λ (t : Token Notes × Token Notes). Joins (IsLawful key) id t.0 from t.1 (both_of t.0 t.1) (spent blank)) (λ i. (sym live i, sym away i))

@@ -3,8 +3,8 @@ use Rattle.std.proofs.Common.{◌≡◌, ◌≢◌, ℕ, zero, suc, ◌+◌, ◌
 use Rattle.std.specs.Int.{bit_at}
 use Rattle.arachne_exec.specs.declared.view.Notes.{Notes}
 use Rattle.arachne_exec.specs.Layout.{mark_at, last_generation}
-use Rattle.arachne_exec.specs.Changes.{older, newest_job, heard_more, noted, hearing, cleared_heard, cleared_looks, using_up}
-use Rattle.arachne_exec.specs.Calls.{HasMissed, HasFreed, HasFinished}
+use Rattle.arachne_exec.specs.Changes.{older, newest_job, heard_more, claiming, spawning, noted, hearing, cleared_heard, cleared_looks, using_up}
+use Rattle.arachne_exec.specs.Calls.{HasMissed, HasFinished}
 
 -- a bit of a block's word that was found set, and then clear
 pub missed : (at : ℕ → ℕ) (block index first then : ℕ) (k looked after : Notes) → index < 64 → bit_at first index ≡ 1 → looked ≡ noted (at block) first k → bit_at then ((64 * block + index) % 64) ≡ 0
@@ -20,19 +20,25 @@ missed at block index first then k looked after low was saw gone cleared =
       known = cleared ∙ (λ i. noted (at (row i)) then (saw i));
     }
 
+-- a job was spawned at a place that was claimed, by a seat that owed none before
+pub spawned : (place job : ℕ) (k : Notes) → k.unspawned ≡ 0 → spawning job (claiming place k) ≡ record k { spawned = (place, job) ∷ k.spawned }
+spawned place job k calm = λ i. record k { spawned = (place, job) ∷ k.spawned; unspawned = sym calm i }
+
 -- a job has ended
-abbrev finished : ℕ → ℕ → ℕ → List (ℕ × ℕ) → List ℕ → Notes → Notes
-finished place mark n then blocked k = record k {
+abbrev finished : ℕ → ℕ → ℕ → List (ℕ × ℕ) → (blocked freed : List ℕ) → Notes → Notes
+finished place mark n then blocked freed k = record k {
   hand = older k.hand;
   ended = (place, newest_job k.hand) ∷ k.ended;
   heard = heard_more (n % 2) place k.heard;
   blocked = blocked;
+  freed = freed;
   looks = then ++ (mark_at place, mark) ∷ k.looks;
 }
 
-pub ended : (place mark n : ℕ) (then : List (ℕ × ℕ)) (blocked : List ℕ) (k after : Notes) → after ≡ finished place mark n then blocked k
-    → ((mark / 4 + 1 < last_generation) × (blocked ≡ k.blocked) × HasFreed place mark then) ⊎ ((last_generation ≤ mark / 4 + 1) × (blocked ≡ place ∷ k.blocked) × (then ≡ [])) → HasFinished place k after
-ended place mark n then blocked k after e last = subst (HasFinished place k) (sym e) (record { mark = mark; then = then; found = refl; heard = n; known = refl; retired = last })
+pub ended : (place mark n : ℕ) (then : List (ℕ × ℕ)) (blocked freed : List ℕ) (k after : Notes) → after ≡ finished place mark n then blocked freed k
+    → ((mark / 4 + 1 < last_generation) × (blocked ≡ k.blocked) × (freed ≡ place ∷ k.freed) × (then ≡ (mark_at place, 4 * (mark / 4 + 1)) ∷ []))
+    ⊎ ((last_generation ≤ mark / 4 + 1) × (blocked ≡ place ∷ k.blocked) × (freed ≡ k.freed) × (then ≡ [])) → HasFinished place k after
+ended place mark n then blocked freed k after e last = subst (HasFinished place k) (sym e) (record { mark = mark; then = then; found = refl; heard = n; known = refl; retired = last })
 
 -- a mark that says of no wake stays, and another is cleared
 pub unmarked : (mark place then : ℕ) (k : Notes) → mark % 4 ≡ 0 → using_up mark place then k ≡ k

@@ -12,10 +12,10 @@ use Rattle.arachne_weights.specs.Tokens.{held}
 use Rattle.arachne_weights.specs.Tokens as tokens
 use Rattle.arachne_exec.specs.declared.view.Notes.{Notes}
 use Rattle.arachne_exec.specs.declared.view.SleepDeed.{SleepDeed}
-use Rattle.arachne_exec.specs.declared.view.SleepDeed.TheVariants.{LayDown, LayOn, Rose}
-use Rattle.arachne_exec.specs.Layout.{idle_at, ready_at, free_at, mark_at}
+use Rattle.arachne_exec.specs.declared.view.SleepDeed.TheVariants.{LayDown, Rose}
+use Rattle.arachne_exec.specs.Layout.{numbers_at, ready_at, mark_at}
 use Rattle.arachne_exec.specs.Changes.{blank, splitting, together, heard_more, lain_more, risen_more}
-use Rattle.arachne_exec.specs.Board.{Board, IsLawful, Adds, HasChanged, ChangesOne, IsTold, after_step, HasCome, begins, acts, splits, joins}
+use Rattle.arachne_exec.specs.Board.{Board, IsLawful, Adds, HasChanged, IsTold, after_step, HasCome, begins, acts, splits, joins}
 use Rattle.arachne_exec.proofs.Bits.{set_same, set_other}
 
 -- ---- one more is noted, or none
@@ -30,78 +30,57 @@ adds-risen (suc n) worker xs = inr (Rose worker, refl)
 
 pub adds-lain : (n worker : ℕ) (xs : List SleepDeed) → Adds xs (lain_more n worker xs)
 adds-lain zero worker xs = inr (LayDown worker, refl)
-adds-lain (suc n) worker xs = inr (LayOn worker, refl)
+adds-lain (suc n) worker xs = inl refl
 
--- ---- no free word has changed, and no ready bit was cleared
+-- ---- the worker numbers have not changed, and no ready bit was cleared
 
 unequal : (n i : ℕ) → bit_at n i ≡ 1 → bit_at n i ≡ 0 → ⊥
 unequal n i a b = let wrong : 1 ≡ 0 = sym a ∙ b in omega (arith, wrong)
 
 pub clears-none : (word n : ℕ) → ¬ HasChanged word n n
-clears-none word n c = ⊎_elim (λ free. free.1 refl) (λ ready. unequal n ready.1 ready.2 ready.3) c.1
+clears-none word n = ⊎_elim (λ numbers. numbers.1 refl) (λ ready. unequal n ready.2 ready.3 ready.4)
 
 pub sets-one : (block n i : ℕ) → ¬ HasChanged (ready_at block) n (bit_or n (2 ^ i))
-sets-one block n i c = ⊎_elim
-    (λ free. omega (arith, free.0))
-    (λ ready. dite (ℕ_discrete ready.1 i)
-    (λ e. unequal (bit_or n (2 ^ i)) i (set_same n i) (subst (λ j. bit_at (bit_or n (2 ^ i)) j ≡ 0) e ready.3))
-    (λ ne. unequal n ready.1 ready.2 (sym (set_other n i ready.1 ne) ∙ ready.3)))
-    c.1
+sets-one block n i = ⊎_elim
+    (λ numbers. omega (arith, numbers.0))
+    (λ ready. dite (ℕ_discrete ready.2 i)
+    (λ e. unequal (bit_or n (2 ^ i)) i (set_same n i) (subst (λ j. bit_at (bit_or n (2 ^ i)) j ≡ 0) e ready.4))
+    (λ ne. unequal n ready.2 ready.3 (sym (set_other n i ready.2 ne) ∙ ready.4)))
 
-pub changes-elsewhere : (word found put : ℕ) → ((block : ℕ) → word ≢ free_at block) → ((block : ℕ) → word ≢ ready_at block) → ¬ HasChanged word found put
-changes-elsewhere word found put free ready c = ⊎_elim (λ is. free c.0 is.0) (λ is. ready c.0 is.0) c.1
-
--- ---- a free word changes by one bit
-
-abbrev pub IsOneBit : (word found put : ℕ) → Type 0
-IsOneBit word found put = (block : ℕ) → word ≡ free_at block → ChangesOne found put
-
-pub same-bits : (word found put : ℕ) → ¬ HasChanged word found put → IsOneBit word found put
-same-bits word found put same block at = inl (dite (ℕ_discrete found put) (λ e. sym e) (λ ne. absurd (same (block, inl (at, ne)))))
-
--- a word that is no free word
-no-free : (word found put : ℕ) → ((block : ℕ) → word ≢ free_at block) → IsOneBit word found put
-no-free word found put apart block at = absurd {A = ChangesOne found put} (apart block at)
-
-pub ready-bits : (d found put : ℕ) → IsOneBit (ready_at d) found put
-ready-bits d found put = no-free (ready_at d) found put (λ block e. omega (arith, e))
-
-pub mark-bits : (q found put : ℕ) → IsOneBit (mark_at q) found put
-mark-bits q found put = no-free (mark_at q) found put (λ block e. omega (arith, e))
-
-pub idle-bits : (found put : ℕ) → IsOneBit idle_at found put
-idle-bits found put = no-free idle_at found put (λ block e. omega (arith, e))
+pub changes-elsewhere : (word found put : ℕ) → word ≢ numbers_at → ((block : ℕ) → word ≢ ready_at block) → ¬ HasChanged word found put
+changes-elsewhere word found put numbers ready = ⊎_elim (λ is. numbers is.0) (λ is. ready is.0 is.1)
 
 -- ---- what a step tells
 
 -- the seat has noted nothing but what it found, or nothing at all
 abbrev pub Idles : Notes → Notes → Type 0
-Idles k l = (l.spawned ≡ k.spawned) × (l.ended ≡ k.ended) × (l.woken ≡ k.woken) × (l.heard ≡ k.heard) × (l.blocked ≡ k.blocked) × (l.unblocked ≡ k.unblocked) × (l.sleeps ≡ k.sleeps) × (l.splits ≡ k.splits)
+Idles k l = (l.spawned ≡ k.spawned) × (l.ended ≡ k.ended) × (l.woken ≡ k.woken) × (l.heard ≡ k.heard) × (l.blocked ≡ k.blocked) × (l.unblocked ≡ k.unblocked) × (l.freed ≡ k.freed) × (l.sleeps ≡ k.sleeps) × (l.splits ≡ k.splits) × (l.unspawned ≡ k.unspawned)
 
 module _ {word found put : ℕ} {k l : Notes} where
-  told : (l.looks ≡ (word, found) ∷ k.looks) ⊎ (l.looks ≡ (word, put) ∷ k.looks) ⊎ ((l.looks ≡ k.looks) × ¬ HasChanged word found put) → IsOneBit word found put → Idles k l → IsTold word found put k l
-  told looks one_bit e = record {
+  told : (l.looks ≡ (word, found) ∷ k.looks) ⊎ ((place : ℕ) × (word ≡ mark_at place) × (l.looks ≡ (word, put) ∷ k.looks)) ⊎ ((l.looks ≡ k.looks) × ¬ HasChanged word found put) → Idles k l → IsTold word found put k l
+  told looks e = record {
     looks = looks;
-    one_bit = one_bit;
     spawned = inl e.0;
+    owed_job = inl e.9;
     ended = inl e.1;
     woken = inl e.2;
     heard = inl e.3;
     blocked = inl e.4;
     unblocked = inl e.5;
-    sleeps = inl e.6;
-    splits = e.7;
+    freed = inl e.6;
+    sleeps = inl e.7;
+    splits = e.8;
   }
 
-  pub told-found : l.looks ≡ (word, found) ∷ k.looks → IsOneBit word found put → Idles k l → IsTold word found put k l
-  told-found looks one_bit e = told (inl looks) one_bit e
+  pub told-found : l.looks ≡ (word, found) ∷ k.looks → Idles k l → IsTold word found put k l
+  told-found looks e = told (inl looks) e
 
   pub told-nothing : l.looks ≡ k.looks → ¬ HasChanged word found put → Idles k l → IsTold word found put k l
-  told-nothing looks same e = told (inr (inr (looks, same))) (same-bits word found put same) e
+  told-nothing looks same e = told (inr (inr (looks, same))) e
 
 module _ (shards id w : ℕ) (s : Board) (h : IsLawful shards s) (k : Notes) (mine : get_elem? s.views id ≡ some (held w k)) (i : ℕ) (l : Notes) where
   pub comes : (put : ℕ) (homes : List (maybe.Option ℕ)) → IsTold i (get_or s.words i 0) put k l → HasCome shards (after_step s id w i put l homes)
-  comes put homes told_so = acts h.came (h.keeper, h.balance, h.hears, h.names, h.shows, h.sleep) id w i put k l homes mine told_so
+  comes put homes told_so = acts h.came (h.keeper, h.balance, h.turns, h.hears, h.names, h.shows, h.sleep) id w i put k l homes mine told_so
 
   -- where the word stays
   pub comes-still : IsTold i (get_or s.words i 0) (get_or s.words i 0) k l → HasCome shards (record { words = s.words; homes = s.homes; views = set s.views id (held w l) })

@@ -11,6 +11,7 @@ mod Debts
 mod Rousing
 mod KeepsShown
 mod Sleeping
+mod Spawning
 mod Coming
 mod Opening
 mod Moves

@@ -22,7 +22,7 @@ use Rattle.arachne_exec.specs.Changes.{gaining, noted}
 use Rattle.arachne_exec.specs.Steps.{TakesMany}
 use Rattle.arachne_exec.proofs.Bits.{clear_same, clear_other, clear_le, not_one}
 use Rattle.arachne_exec.proofs.Keeping.{ready_apart}
-use Rattle.arachne_exec.proofs.Coming.{ready-bits, told-found, comes}
+use Rattle.arachne_exec.proofs.Coming.{told-found, comes}
 use Rattle.arachne_exec.proofs.Moves.{ready-job, taken-law, noting}
 
 -- what two words have in common is within the first
@@ -72,7 +72,7 @@ module _ (shards slots id w block pick : ℕ) (inside : block < 64 * shards) (s 
       let next : Notes = gaining ((q, job.0) ∷ c.jobs) l in let views = set-set s.views id seat (held w next) in
       let homes : List (maybe.Option ℕ) = homes_after s.homes xs (chain c.act (takes q job.0)) in
       let came = subst (λ (z : List ℕ × List (Token Notes)). HasCome shards (record { words = z.0; homes = homes; views = z.1 })) (λ j. (sym words j, sym views j))
-      (comes shards id w s h k mine (ready_at block) next now homes (told-found refl (ready-bits block (get_or s.words (ready_at block) 0) now) (refl, refl, refl, refl, refl, refl, refl, refl))) in
+      (comes shards id w s h k mine (ready_at block) next now homes (told-found refl (refl, refl, refl, refl, refl, refl, refl, refl, refl, refl))) in
       let law = taken-law shards slots id w t c.lawful (gaining c.jobs l) come q within bit_there l.looks came (λ p e. absurd (omega (arith, e))) in
       record {
         jobs = (q, job.0) ∷ c.jobs;

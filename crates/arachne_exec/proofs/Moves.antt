@@ -17,17 +17,18 @@ use Rattle.arachne_weights.specs.declared.token.Token.{Token}
 use Rattle.arachne_weights.specs.Tokens.{held}
 use Rattle.arachne_exec.specs.declared.view.Notes.{Notes}
 use Rattle.arachne_exec.specs.Layout.{idle_at, numbers_at, summary_at, ready_at, free_at, mark_at, last_generation, retired, others, in_word}
-use Rattle.arachne_exec.specs.Board.{is_blocked, Board, HasOneKeeper, IsBalanced, IsShown, FoundLast, CountsEnds, ends_at, places_in, in_hands, WakesSleepers, HasChanged, IsTold, HasCome, IsLawful}
-use Rattle.arachne_exec.specs.Changes.{older, newest_job, newest_place, gained, unblocking, laying_down, blocking, spawning, beginning, ending, marking, hearing, noted, unshowing}
+use Rattle.arachne_exec.specs.Board.{is_blocked, Board, HasOneKeeper, IsBalanced, IsShown, FoundLast, CountsEnds, ends_at, places_in, in_hands, is_free, HasJobOrIsFree, WakesSleepers, HasChanged, IsTold, HasCome, IsLawful}
+use Rattle.arachne_exec.specs.Changes.{older, newest_job, newest_place, gained, unblocking, claiming, laying_down, freeing, blocking, spawning, beginning, ending, marking, hearing, noted, unshowing}
 use Rattle.arachne_exec.specs.Steps.{Mine, with, knowing, Looks, Takes, Claims, Frees, Readies, Spawns, Begins, Blocks, Renews, Retires, Hears, Wakes, Marks}
-use Rattle.arachne_exec.proofs.Bits.{one-same, same_others, clear_le, unset, not_one}
+use Rattle.arachne_exec.proofs.Bits.{one-same, same_others, clear_le, unset, not_one, cleared, raised}
 use Rattle.arachne_exec.proofs.Keeping.{ready_apart, free_apart, mark_apart, in-hand, home-of-ready, home-of-blocked, keeps-take, keeps-claim, keeps-ready, keeps-free, keeps-block, keeps-wake, keeps-mark, keeps-places, keeps-view, hands-same, hands-renumbered, places-cons, no-more, no-other}
 use Rattle.arachne_exec.proofs.Balancing.{balanced-same, balanced-taken, balanced-put, balanced-spawned, balanced-begun, balanced-ended, balanced-retired}
 use Rattle.arachne_exec.proofs.Hearing.{KeepsMarks, MarksMore, hears-on, as-marked, hears-mark}
 use Rattle.arachne_exec.proofs.Naming.{Knows, found-word, found-on, knows-less, names-on, found-new, mark-else, names-ended}
 use Rattle.arachne_exec.proofs.KeepsShown.{shows-on, shows-owing}
-use Rattle.arachne_exec.proofs.Coming.{adds-heard, clears-none, sets-one, changes-elsewhere, ready-bits, mark-bits, told-found, told-nothing, comes, comes-still}
+use Rattle.arachne_exec.proofs.Coming.{adds-heard, clears-none, sets-one, changes-elsewhere, told-found, told-nothing, comes, comes-still}
 use Rattle.arachne_exec.proofs.Sleeping.{Unmoved, sleeps-on}
+use Rattle.arachne_exec.proofs.Spawning.{KeepsTurns, turns-on, turns-claimed, turns-spawned, turns-freed}
 
 same_place : (p q : ℕ) → p / 64 ≡ q / 64 → p % 64 ≡ q % 64 → p ≡ q
 same_place p q e r = omega (arith, e, r)
@@ -48,9 +49,12 @@ was_set n k i e = let both = bit_at_and n (others k) i in let low = bit_at-lt n 
 pub some_number : (n : ℕ) → n ≢ 0 → 0 < n
 some_number n d = let apart : ¬ (n ≡ 0) = d in omega (arith, apart)
 
--- a mark is no ready and no free word
+-- a mark is no ready word, nor has it the worker numbers
 mark-silent : (q found put : ℕ) → ¬ HasChanged (mark_at q) found put
-mark-silent q found put = changes-elsewhere (mark_at q) found put (λ block e. omega (arith, e)) (λ block e. omega (arith, e))
+mark-silent q found put = changes-elsewhere (mark_at q) found put (λ e. omega (arith, e)) (λ block e. omega (arith, e))
+
+free-silent : (block found put : ℕ) → ¬ HasChanged (free_at block) found put
+free-silent block found put = changes-elsewhere (free_at block) found put (λ e. omega (arith, e)) (λ c e. omega (arith, e))
 
 one-spawned : (k : Notes) (q x y : ℕ) → k.hand ≡ (q, x) ∷ older k.hand → ◌≡◌ {A = List (ℕ × ℕ)} ((newest_place k.hand, y) ∷ k.spawned) ((q, y) ∷ k.spawned)
 one-spawned k q x y hand = ap (λ (zs : List (ℕ × ℕ)). (newest_place zs, y) ∷ k.spawned) hand
@@ -73,6 +77,7 @@ module _ (shards slots id w : ℕ) where
       came = came;
       keeper = keeps-view (64 * shards) s h.keeper id (held w k) mine (held w l) refl;
       balance = balanced-same s h.balance id (held w k) (held w l) mine s.words refl refl refl;
+      turns = turns-on (64 * shards) s h.turns id (held w k) (held w l) mine s.words s.homes (λ p. refl) (refl, refl, refl);
       hears = hears-on (64 * shards) s h.hears id (held w k) (held w l) mine s.homes s.words (λ p inside. refl) (refl, refl, refl, refl);
       names = names-on (64 * shards) s h.names id (held w k) (held w l) mine s.homes s.words (λ p inside. refl) refl knows;
       shows = shows-on (64 * shards) s h.shows id (held w k) (held w l) mine s.words s.homes (λ c r. r) (λ c. refl) refl;
@@ -80,14 +85,14 @@ module _ (shards slots id w : ℕ) where
     }
 
     pub noting : (xs : List (ℕ × ℕ)) (i : ℕ) → IsLawful shards (stepped s i (get_or s.words i 0) id xs (held w (noted i (get_or s.words i 0) k)) keeps)
-    noting xs i = let l : Notes = noted i (get_or s.words i 0) k in unchanged l xs i s (telling l.looks (comes-still shards id w s h k mine i l (told-found refl (λ block at. inl refl) (refl, refl, refl, refl, refl, refl, refl, refl))) (λ p inside has. found-word s.words p i k.looks))
+    noting xs i = let l : Notes = noted i (get_or s.words i 0) k in unchanged l xs i s (telling l.looks (comes-still shards id w s h k mine i l (told-found refl (refl, refl, refl, refl, refl, refl, refl, refl, refl, refl))) (λ p inside has. found-word s.words p i k.looks))
 
     -- what it has found last
     pub knowing-still : Knows (64 * shards) s.words k
     knowing-still p inside has = h.names.found id (held w k) mine p inside has
 
     pub stays : (xs : List (ℕ × ℕ)) (i : ℕ) → IsLawful shards (stepped s i (get_or s.words i 0) id xs (held w k) keeps)
-    stays xs i = unchanged k xs i s (telling k.looks (comes-still shards id w s h k mine i k (told-nothing refl (clears-none i (get_or s.words i 0)) (refl, refl, refl, refl, refl, refl, refl, refl))) knowing-still)
+    stays xs i = unchanged k xs i s (telling k.looks (comes-still shards id w s h k mine i k (told-nothing refl (clears-none i (get_or s.words i 0)) (refl, refl, refl, refl, refl, refl, refl, refl, refl, refl))) knowing-still)
 
     -- ---- what a word that is written leaves as it was
 
@@ -108,8 +113,14 @@ module _ (shards slots id w : ℕ) where
       pub same_shown : ((c : ℕ) → summary_at c ≢ i) → (c : ℕ) → in_word summary_at (set s.words i now) c ≡ in_word summary_at s.words c
       same_shown never c = ap (λ x. bit_at x (c % 64)) (get_or-set_other s.words i (summary_at (c / 64)) now 0 (never (c / 64)))
 
-      -- no block is shown or hidden, and nobody sleeps or is woken
+      pub same_free : ((c : ℕ) → free_at c ≢ i) → (p : ℕ) → is_free (set s.words i now) p ≡ is_free s.words p
+      same_free never p = ap (λ x. bit_at x (p % 64)) (get_or-set_other s.words i (free_at (p / 64)) now 0 (never (p / 64)))
+
+      -- no place is claimed or freed, no block is shown or hidden, and nobody sleeps or is woken
       module _ (l : Notes) (homes : List (maybe.Option ℕ)) where
+        pub quiet-turns : ((c : ℕ) → free_at c ≢ i) → KeepsTurns k l → HasJobOrIsFree (64 * shards) (record { words = set s.words i now; homes = homes; views = set s.views id (held w l) })
+        quiet-turns none_free same = turns-on (64 * shards) s h.turns id (held w k) (held w l) mine (set s.words i now) homes (same_free none_free) same
+
         pub quiet-shows : ((c : ℕ) → ready_at c ≢ i) → ((c : ℕ) → summary_at c ≢ i) → l.unshown ≡ k.unshown → IsShown (64 * shards) (record { words = set s.words i now; homes = homes; views = set s.views id (held w l) })
         quiet-shows none_ready none_shown same = shows-on (64 * shards) s h.shows id (held w k) (held w l) mine (set s.words i now) homes (same_ready none_ready) (same_shown none_shown) same
 
@@ -134,6 +145,9 @@ module _ (shards slots id w : ℕ) where
 
     -- a mark that is written
     module _ (q now : ℕ) (l : Notes) (homes : List (maybe.Option ℕ)) where
+      mark-turns : KeepsTurns k l → HasJobOrIsFree (64 * shards) (record { words = set s.words (mark_at q) now; homes = homes; views = set s.views id (held w l) })
+      mark-turns same = quiet-turns (mark_at q) now l homes (λ c e. omega (arith, e)) same
+
       mark-shows : l.unshown ≡ k.unshown → IsShown (64 * shards) (record { words = set s.words (mark_at q) now; homes = homes; views = set s.views id (held w l) })
       mark-shows same = quiet-shows (mark_at q) now l homes (λ c e. omega (arith, e)) (λ c e. omega (arith, e)) same
 
@@ -143,20 +157,31 @@ module _ (shards slots id w : ℕ) where
     -- a ready bit that is set: the place was in hand
     module _ (q x y : ℕ) (within : q < 64 * (64 * shards)) (l : Notes) where
       ready-law : (now : ℕ) → now ≡ bit_or (get_or s.words (ready_at (q / 64)) 0) (2 ^ (q % 64)) → IsTold (ready_at (q / 64)) (get_or s.words (ready_at (q / 64)) 0) now k l → k.hand ≡ (q, x) ∷ l.hand
-          → IsBalanced (record { words = set s.words (ready_at (q / 64)) now; homes = set s.homes q (some y); views = set s.views id (held w l) }) → KeepsMarks k l
+          → IsBalanced (record { words = set s.words (ready_at (q / 64)) now; homes = set s.homes q (some y); views = set s.views id (held w l) })
+          → HasJobOrIsFree (64 * shards) (record { words = set s.words (ready_at (q / 64)) now; homes = set s.homes q (some y); views = set s.views id (held w l) }) → KeepsMarks k l
           → IsShown (64 * shards) (record { words = set s.words (ready_at (q / 64)) now; homes = set s.homes q (some y); views = set s.views id (held w l) })
           → l.owes ≡ k.owes → l.worker ≡ k.worker → l.seen ≡ k.seen → Unmoved k l → l.ended ≡ k.ended → Knows (64 * shards) s.words l
           → IsLawful shards (record { words = set s.words (ready_at (q / 64)) now; homes = set s.homes q (some y); views = set s.views id (held w l) })
-      ready-law now is told hand balance marks shows owes worker seen unmoved ended knows = record {
+      ready-law now is told hand balance turns marks shows owes worker seen unmoved ended knows = record {
         came = comes shards id w s h k mine (ready_at (q / 64)) l now (set s.homes q (some y)) told;
         keeper = subst (λ n. HasOneKeeper (64 * shards) (record { words = set s.words (ready_at (q / 64)) n; homes = set s.homes q (some y); views = set s.views id (held w l) })) (sym is)
             (keeps-ready (64 * shards) s h.keeper id (held w k) mine q within (held w l) x y hand);
         balance = balance;
+        turns = turns;
         hears = hears-on (64 * shards) s h.hears id (held w k) (held w l) mine (set s.homes q (some y)) (set s.words (ready_at (q / 64)) now) (unmarked (ready_at (q / 64)) now (λ p e. omega (arith, e))) marks;
         names = names-on (64 * shards) s h.names id (held w k) (held w l) mine _ _ (ageless (ready_at (q / 64)) now (λ p e. omega (arith, e))) ended knows;
         shows = shows;
         sleep = quiet-sleep (ready_at (q / 64)) now l (set s.homes q (some y)) (λ e. omega (arith, e)) (λ e. omega (arith, e)) (λ c e. omega (arith, e)) owes worker seen unmoved;
       }
+
+      ready-turns : (now : ℕ) → KeepsTurns k l → HasJobOrIsFree (64 * shards) (record { words = set s.words (ready_at (q / 64)) now; homes = set s.homes q (some y); views = set s.views id (held w l) })
+      ready-turns now same = quiet-turns (ready_at (q / 64)) now l (set s.homes q (some y)) (λ c e. omega (arith, e)) same
+
+      -- a job was spawned
+      ready-spawned : (now : ℕ) → k.unspawned ≡ q + 1 → l.unspawned ≡ 0 → l.spawned ≡ (q, y) ∷ k.spawned → l.freed ≡ k.freed
+          → HasJobOrIsFree (64 * shards) (record { words = set s.words (ready_at (q / 64)) now; homes = set s.homes q (some y); views = set s.views id (held w l) })
+      ready-spawned now was is spawned freed = turns-spawned (64 * shards) s h.turns id (held w k) (held w l) mine (set s.words (ready_at (q / 64)) now) (set s.homes q (some y)) q y
+          (same_free (ready_at (q / 64)) now (λ c e. omega (arith, e))) was is spawned freed
 
       -- the block had none before
       ready-first : (now : ℕ) → k.unshown ≡ 0 → l.unshown ≡ q / 64 + 1
@@ -191,6 +216,7 @@ module _ (shards slots id w : ℕ) where
           came = came;
           keeper = keeps-take (64 * shards) s h.keeper id (held w k) mine q within (held w l) ready-job.0 there refl;
           balance = balanced-taken s h.balance id (held w k) (held w l) mine _ q ready-job.0 ready-job.1 refl refl refl;
+          turns = quiet-turns s h k mine i now l (set s.homes q none) (λ c e. omega (arith, e)) (refl, refl, refl);
           hears = hears-on (64 * shards) s h.hears id (held w k) (held w l) mine _ _ (unmarked s h k mine i now (λ p e. omega (arith, e))) (refl, refl, refl, refl);
           names = names-on (64 * shards) s h.names id (held w k) (held w l) mine _ _ (ageless s h k mine i now (λ p e. omega (arith, e))) refl (λ p inside has. knows p);
           shows = shows-on (64 * shards) s h.shows id (held w k) (held w l) mine _ _ (fallen s h k mine (q / 64) (omega (arith, within)) now (clear_le (get_or s.words i 0) (q % 64) (omega arith)))
@@ -206,7 +232,7 @@ module _ (shards slots id w : ℕ) where
         held w (gained q job.0 (noted i n k)),
         takes q job.0,
         job.1,
-        let l : Notes = gained q job.0 (noted i n k) in taken-law s h k mine q within there l.looks (comes shards id w s h k mine i l now (set s.homes q none) (told-found refl (ready-bits (q / 64) n now) (refl, refl, refl, refl, refl, refl, refl, refl))) (λ p. found-word s.words p i k.looks),
+        let l : Notes = gained q job.0 (noted i n k) in taken-law s h k mine q within there l.looks (comes shards id w s h k mine i l now (set s.homes q none) (told-found refl (refl, refl, refl, refl, refl, refl, refl, refl, refl, refl))) (λ p. found-word s.words p i k.looks),
         λ p at first. let same = same_bits p q (ready_apart (q / 64) (p / 64) at) first in (
           λ _. (job.0, ap (λ x. with m (gained x job.0 (noted i n k)) ((x, job.0) ∷ xs)) (sym same)),
           λ none_there. absurd (clash n (q % 64) there (subst (λ x. bit_at n (x % 64) ≡ 0) same none_there)),
@@ -223,25 +249,27 @@ module _ (shards slots id w : ℕ) where
         ),
       ))
 
-  pub claims : (k : Notes) (xs : List (ℕ × ℕ)) (q : ℕ) → q < 64 * (64 * shards)
-      → Allows (IsLawful shards) slots id (held w k, xs) (free_at (q / 64)) (λ n. bit_and n (others (q % 64))) (Claims free_at (step slots (free_at (q / 64)) (others (q % 64)) 0 none) (held w k, xs))
-  claims k xs q within s h _ mine small =
+  pub claims : (k : Notes) (xs : List (ℕ × ℕ)) (q : ℕ) → q < 64 * (64 * shards) → k.unspawned ≡ 0
+      → Allows (IsLawful shards) slots id (held w k, xs) (free_at (q / 64)) (λ n. bit_and n (others (q % 64))) (Claims (step slots (free_at (q / 64)) (others (q % 64)) 0 none) (held w k, xs))
+  claims k xs q within spawned s h _ mine small =
       let i : ℕ = free_at (q / 64) in let n : ℕ = get_or s.words i 0 in let now : ℕ = bit_and n (others (q % 64)) in let m : Mine = (held w k, xs) in dite (ℕ_discrete (bit_at n (q % 64)) 1)
-      (λ there. let empty = h.keeper.empty q within there in let l : Notes = gained q 0 (noted i n k) in (
+      (λ there. let empty = h.keeper.empty q within there in let l : Notes = claiming q (noted i n k) in (
         held w l,
         takes q 0,
         empty,
         record {
-          came = comes shards id w s h k mine i l now (set s.homes q none) (told-found refl (λ block at. inr (q % 64, inl refl)) (refl, refl, refl, refl, refl, refl, refl, refl));
+          came = comes shards id w s h k mine i l now (set s.homes q none) (record { looks = inl refl; spawned = inl refl; owed_job = inr (inl spawned); ended = inl refl; woken = inl refl; heard = inl refl; blocked = inl refl; unblocked = inl refl; freed = inl refl; sleeps = inl refl; splits = refl });
           keeper = keeps-claim (64 * shards) s h.keeper id (held w k) mine q within (held w l) 0 there refl;
           balance = balanced-taken s h.balance id (held w k) (held w l) mine _ q 0 empty refl refl refl;
+          turns = turns-claimed (64 * shards) s h.turns id (held w k) (held w l) mine (set s.words i now) (set s.homes q none) q
+              (cleared free_at free_apart s.words q (omega (arith, h.keeper.sized, within)) there) spawned refl refl refl;
           hears = hears-on (64 * shards) s h.hears id (held w k) (held w l) mine _ _ (unmarked s h k mine i now (λ p e. omega (arith, e))) (refl, refl, refl, refl);
           names = names-on (64 * shards) s h.names id (held w k) (held w l) mine _ _ (ageless s h k mine i now (λ p e. omega (arith, e))) refl (λ p inside has. found-word s.words p i k.looks);
           shows = quiet-shows s h k mine i now l (set s.homes q none) (λ c e. omega (arith, e)) (λ c e. omega (arith, e)) refl;
           sleep = quiet-sleep s h k mine i now l (set s.homes q none) (λ e. omega (arith, e)) (λ e. omega (arith, e)) (λ c e. omega (arith, e)) refl refl refl refl;
         },
         λ p at first. let same = same_bits p q (free_apart (q / 64) (p / 64) at) first in (
-          λ _. ap (λ x. with m (gained x 0 (noted i n k)) ((x, 0) ∷ xs)) (sym same),
+          λ _. ap (λ x. with m (claiming x (noted i n k)) ((x, 0) ∷ xs)) (sym same),
           λ none_there. absurd (clash n (q % 64) there (subst (λ x. bit_at n (x % 64) ≡ 0) same none_there)),
         ),
       ))
@@ -266,6 +294,9 @@ module _ (shards slots id w : ℕ) where
       unblocked-here : is_blocked s.words q ≡ 0
       unblocked-here = let sum = h.keeper.kept q within in let some_hand = in-hand (64 * shards) s h.keeper id (held w k) mine q x (older k.hand) hand in omega (arith, sum, some_hand)
 
+      taken-here : is_free s.words q ≡ 0
+      taken-here = let sum = h.keeper.kept q within in let some_hand = in-hand (64 * shards) s h.keeper id (held w k) mine q x (older k.hand) hand in omega (arith, sum, some_hand)
+
       mark-room : mark_at q < length s.words
       mark-room = omega (arith, h.keeper.sized, within)
 
@@ -278,16 +309,18 @@ module _ (shards slots id w : ℕ) where
 
     pub frees : x ≡ 0 → Allows (IsLawful shards) slots id (held w k, (q, 0) ∷ xs) (free_at (q / 64)) (λ n. bit_or n (2 ^ (q % 64))) (Frees (step slots (free_at (q / 64)) (2 ^ (q % 64)) 0 none) (held w k, (q, 0) ∷ xs))
     frees nothing s h _ mine small =
-        let i : ℕ = free_at (q / 64) in let n : ℕ = get_or s.words i 0 in let now : ℕ = bit_or n (2 ^ (q % 64)) in let l : Notes = noted i now (laying_down k) in (
+        let i : ℕ = free_at (q / 64) in let n : ℕ = get_or s.words i 0 in let now : ℕ = bit_or n (2 ^ (q % 64)) in let l : Notes = freeing k in (
           held w l,
           gives,
           tt,
           record {
-            came = comes shards id w s h k mine i l now (set s.homes q (some 0)) (record { looks = inr (inl refl); one_bit = λ block at. inr (q % 64, inr refl); spawned = inl refl; ended = inl refl; woken = inl refl; heard = inl refl; blocked = inl refl; unblocked = inl refl; sleeps = inl refl; splits = refl });
+            came = comes shards id w s h k mine i l now (set s.homes q (some 0)) (record { looks = inr (inr (refl, free-silent (q / 64) n now)); spawned = inl refl; owed_job = inl refl; ended = inl refl; woken = inl refl; heard = inl refl; blocked = inl refl; unblocked = inl refl; freed = inr (newest_place k.hand, refl); sleeps = inl refl; splits = refl });
             keeper = keeps-free (64 * shards) s h.keeper id (held w k) mine q within (held w l) x 0 refl hand;
             balance = balanced-put s h.balance id (held w k) (held w l) mine _ q 0 (out s h mine) refl refl (hand ∙ ap (λ j. (q, j) ∷ older k.hand) nothing);
+            turns = turns-freed (64 * shards) s h.turns id (held w k) (held w l) mine (set s.words i now) (set s.homes q (some 0)) q
+                (raised free_at free_apart s.words q (omega (arith, h.keeper.sized, within)) (taken-here s h mine)) refl refl (ap (λ (zs : List (ℕ × ℕ)). newest_place zs ∷ k.freed) hand);
             hears = hears-on (64 * shards) s h.hears id (held w k) (held w l) mine _ _ (unmarked s h k mine i now (λ p e. omega (arith, e))) (refl, refl, refl, refl);
-            names = names-on (64 * shards) s h.names id (held w k) (held w l) mine _ _ (ageless s h k mine i now (λ p e. omega (arith, e))) refl (λ p inside has (e : i ≡ mark_at p). omega (arith, e));
+            names = names-on (64 * shards) s h.names id (held w k) (held w l) mine _ _ (ageless s h k mine i now (λ p e. omega (arith, e))) refl (knows-less (64 * shards) s h.names id (held w k) (held w l) mine refl older-less);
             shows = quiet-shows s h k mine i now l (set s.homes q (some 0)) (λ c e. omega (arith, e)) (λ c e. omega (arith, e)) refl;
             sleep = quiet-sleep s h k mine i now l (set s.homes q (some 0)) (λ e. omega (arith, e)) (λ e. omega (arith, e)) (λ c e. omega (arith, e)) refl refl refl refl;
           },
@@ -301,7 +334,7 @@ module _ (shards slots id w : ℕ) where
           held w l,
           gives,
           tt,
-          ready-law s h k mine q x x within l now refl (told-nothing refl (sets-one d n (q % 64)) (refl, refl, refl, refl, refl, refl, refl, refl)) hand (balanced-put s h.balance id (held w k) (held w l) mine _ q x (out s h mine) refl refl hand) (refl, refl, refl, refl)
+          ready-law s h k mine q x x within l now refl (told-nothing refl (sets-one d n (q % 64)) (refl, refl, refl, refl, refl, refl, refl, refl, refl, refl)) hand (balanced-put s h.balance id (held w k) (held w l) mine _ q x (out s h mine) refl refl hand) (ready-turns s h k mine q x x within l now (refl, refl, refl)) (refl, refl, refl, refl)
               (ready-first s h k mine q x x within l now shown refl) refl refl refl refl refl (knows-less (64 * shards) s h.names id (held w k) (held w l) mine refl older-less),
           λ p at. let same : d ≡ p / 64 = ready_apart d (p / 64) at in (
             λ _. ap (λ c. with m (unshowing (c + 1) (laying_down k)) xs) same,
@@ -312,7 +345,7 @@ module _ (shards slots id w : ℕ) where
           held w l,
           gives,
           tt,
-          ready-law s h k mine q x x within l now refl (told-nothing refl (sets-one d n (q % 64)) (refl, refl, refl, refl, refl, refl, refl, refl)) hand (balanced-put s h.balance id (held w k) (held w l) mine _ q x (out s h mine) refl refl hand) (refl, refl, refl, refl)
+          ready-law s h k mine q x x within l now refl (told-nothing refl (sets-one d n (q % 64)) (refl, refl, refl, refl, refl, refl, refl, refl, refl, refl)) hand (balanced-put s h.balance id (held w k) (held w l) mine _ q x (out s h mine) refl refl hand) (ready-turns s h k mine q x x within l now (refl, refl, refl)) (refl, refl, refl, refl)
               (ready-more s h k mine q x x within l now full refl) refl refl refl refl refl (knows-less (64 * shards) s h.names id (held w k) (held w l) mine refl older-less),
           λ p at. ((λ empty. absurd (full empty)), λ _. refl),
         ))
@@ -327,9 +360,10 @@ module _ (shards slots id w : ℕ) where
           gives,
           tt,
           record {
-            came = comes shards id w s h k mine i l new (set s.homes q (some x)) (record { looks = inr (inr (refl, mark-silent q n new)); one_bit = mark-bits q n new; spawned = inl refl; ended = inl refl; woken = inl refl; heard = inl refl; blocked = inr (newest_place k.hand, refl); unblocked = inl refl; sleeps = inl refl; splits = refl });
+            came = comes shards id w s h k mine i l new (set s.homes q (some x)) (record { looks = inr (inr (refl, mark-silent q n new)); spawned = inl refl; owed_job = inl refl; ended = inl refl; woken = inl refl; heard = inl refl; blocked = inr (newest_place k.hand, refl); unblocked = inl refl; freed = inl refl; sleeps = inl refl; splits = refl });
             keeper = keeps-block (64 * shards) s h.keeper id (held w k) mine q within (held w l) x x new hand (omega (arith, unwoken, is));
             balance = balanced-put s h.balance id (held w k) (held w l) mine _ q x (out s h mine) refl refl hand;
+            turns = mark-turns s h k mine q new l (set s.homes q (some x)) (refl, refl, refl);
             hears = hears-mark (64 * shards) s h.hears id (held w k) (held w l) mine (set s.homes q (some x)) q (mark-room s h mine) new 0 0 1 0 (omega arith, omega arith, omega arith, omega arith)
                 (record { woken = refl; heard = refl; blocked = ap (λ (zs : List (ℕ × ℕ)). newest_place zs ∷ k.blocked) hand; unblocked = refl })
                 (omega (arith, hit, unwoken, is)) (omega (arith, hit, unwoken, is)) (omega (arith, unwoken, is));
@@ -344,13 +378,14 @@ module _ (shards slots id w : ℕ) where
     -- a new mark, by who has the place
     module _ (new : ℕ) (clear : new % 2 ≡ 0) (s : Board) (h : IsLawful shards s) (mine : get_elem? s.views id ≡ some (held w k)) (l : Notes) where
       renewed : new / 2 % 2 ≡ 0 → IsTold (mark_at q) (get_or s.words (mark_at q) 0) new k l → ((p : ℕ) → in_hands p (set s.views id (held w l)) ≡ in_hands p s.views) → IsBalanced (record { words = set s.words (mark_at q) new; homes = s.homes; views = set s.views id (held w l) })
-          → MarksMore q 0 (get_or s.words (mark_at q) 0 % 2) 0 0 k l → l.unshown ≡ k.unshown
+          → MarksMore q 0 (get_or s.words (mark_at q) 0 % 2) 0 0 k l → KeepsTurns k l → l.unshown ≡ k.unshown
           → l.owes ≡ k.owes → l.worker ≡ k.worker → l.seen ≡ k.seen → Unmoved k l → CountsEnds (64 * shards) (record { words = set s.words (mark_at q) new; homes = s.homes; views = set s.views id (held w l) })
           → IsLawful shards (record { words = set s.words (mark_at q) new; homes = s.homes; views = set s.views id (held w l) })
-      renewed is_awake told hands balance marks unshown owes worker seen unmoved names = record {
+      renewed is_awake told hands balance marks turns unshown owes worker seen unmoved names = record {
         came = comes shards id w s h k mine (mark_at q) l new s.homes told;
         keeper = keeps-mark (64 * shards) s h.keeper id (held w k) mine q within (held w l) new (is_awake ∙ sym (unblocked-here s h mine)) hands;
         balance = balance;
+        turns = mark-turns s h k mine q new l s.homes turns;
         hears = let asleep = unblocked-here s h mine in hears-mark (64 * shards) s h.hears id (held w k) (held w l) mine s.homes q (mark-room s h mine) new 0 (get_or s.words (mark_at q) 0 % 2) 0 0
             (omega arith, omega arith, omega arith, omega arith) marks (omega (arith, clear)) (omega (arith, asleep, is_awake)) (omega (arith, clear, is_awake));
         names = names;
@@ -378,9 +413,9 @@ module _ (shards slots id w : ℕ) where
             held w l,
             keeps,
             tt,
-            renewed new (omega (arith, is)) s h mine l (omega (arith, is)) (record { looks = inr (inl refl); one_bit = mark-bits q n new; spawned = inl refl; ended = inr ((q, newest_job k.hand), refl); woken = inl refl; heard = adds-heard (n % 2) q k.heard; blocked = inl refl; unblocked = inl refl; sleeps = inl refl; splits = refl }) (hands-renumbered (64 * shards) s h.keeper id (held w k) mine (held w l) q x 0 (older k.hand) hand refl)
+            renewed new (omega (arith, is)) s h mine l (omega (arith, is)) (record { looks = inr (inl (q, refl, refl)); spawned = inl refl; owed_job = inl refl; ended = inr ((q, newest_job k.hand), refl); woken = inl refl; heard = adds-heard (n % 2) q k.heard; blocked = inl refl; unblocked = inl refl; freed = inl refl; sleeps = inl refl; splits = refl }) (hands-renumbered (64 * shards) s h.keeper id (held w k) mine (held w l) q x 0 (older k.hand) hand refl)
                 (balanced-ended s h.balance id (held w k) (held w l) mine _ q x (older k.hand) refl one-ended hand refl)
-                (record { woken = refl; heard = refl; blocked = refl; unblocked = refl }) refl refl refl refl refl
+                (record { woken = refl; heard = refl; blocked = refl; unblocked = refl }) (refl, refl, refl) refl refl refl refl refl
                 (ended-once m before found s h mine new l s.homes one-ended (omega (arith, is, named)) (λ p inside has. found-new (64 * shards) s h.names id (held w k) (held w l) mine s.homes q (mark-room s h mine) new p k.looks)),
             λ p at. ap (λ z. knowing (held w k, (q, y) ∷ xs) (noted (mark_at q) new (ending z (hearing (n % 2) z k)))) (mark_apart q p at),
           )
@@ -392,9 +427,10 @@ module _ (shards slots id w : ℕ) where
             gives,
             tt,
             record {
-              came = comes shards id w s h k mine (mark_at q) l new (set s.homes q (some 0)) (record { looks = inr (inr (refl, mark-silent q n new)); one_bit = mark-bits q n new; spawned = inl refl; ended = inr ((q, newest_job k.hand), refl); woken = inl refl; heard = adds-heard (n % 2) q k.heard; blocked = inr (q, refl); unblocked = inl refl; sleeps = inl refl; splits = refl });
+              came = comes shards id w s h k mine (mark_at q) l new (set s.homes q (some 0)) (record { looks = inr (inr (refl, mark-silent q n new)); spawned = inl refl; owed_job = inl refl; ended = inr ((q, newest_job k.hand), refl); woken = inl refl; heard = adds-heard (n % 2) q k.heard; blocked = inr (q, refl); unblocked = inl refl; freed = inl refl; sleeps = inl refl; splits = refl });
               keeper = keeps-block (64 * shards) s h.keeper id (held w k) mine q within (held w l) x 0 new hand (omega (arith, is));
               balance = balanced-retired s h.balance id (held w k) (held w l) mine _ q x (out s h mine) refl one-ended hand;
+              turns = mark-turns s h k mine q new l (set s.homes q (some 0)) (refl, refl, refl);
               hears = let asleep = unblocked-here s h mine in hears-mark (64 * shards) s h.hears id (held w k) (held w l) mine (set s.homes q (some 0)) q (mark-room s h mine) new 0 (n % 2) 1 0
                   (omega arith, omega arith, omega arith, omega arith)
                   (record { woken = refl; heard = refl; blocked = refl; unblocked = refl })
@@ -417,24 +453,24 @@ module _ (shards slots id w : ℕ) where
           held w l,
           keeps,
           tt,
-          renewed now (omega (arith, is)) s h mine l (omega (arith, is)) (record { looks = inr (inl (ap (λ z. (mark_at q, z) ∷ k.looks) put)); one_bit = mark-bits q n now; spawned = inl refl; ended = inl refl; woken = inl refl; heard = adds-heard (n % 2) q k.heard; blocked = inl refl; unblocked = inl refl; sleeps = inl refl; splits = refl }) (hands-same (64 * shards) s h.keeper id (held w k) mine (held w l) refl) (balanced-same s h.balance id (held w k) (held w l) mine _ refl refl refl)
-              (record { woken = refl; heard = refl; blocked = refl; unblocked = refl }) refl refl refl refl refl
+          renewed now (omega (arith, is)) s h mine l (omega (arith, is)) (record { looks = inr (inl (q, refl, ap (λ z. (mark_at q, z) ∷ k.looks) put)); spawned = inl refl; owed_job = inl refl; ended = inl refl; woken = inl refl; heard = adds-heard (n % 2) q k.heard; blocked = inl refl; unblocked = inl refl; freed = inl refl; sleeps = inl refl; splits = refl }) (hands-same (64 * shards) s h.keeper id (held w k) mine (held w l) refl) (balanced-same s h.balance id (held w k) (held w l) mine _ refl refl refl)
+              (record { woken = refl; heard = refl; blocked = refl; unblocked = refl }) (refl, refl, refl) refl refl refl refl refl
               (names-on (64 * shards) s h.names id (held w k) (held w l) mine s.homes _ (λ p inside. as-marked (64 * shards) s h.hears id (held w k) (held w l) mine s.homes q (mark-room s h mine) now (λ z. z / 4) (omega (arith, is)) p) refl
               (λ p inside has e. low ∙ ap (λ z. get_or s.words z 0 / 4) e)),
           λ p at. ap (λ z. knowing (held w k, (q, y) ∷ xs) (noted (mark_at q) (4 * (n / 4)) (hearing (n % 2) z k))) (mark_apart q p at),
         )
 
   -- a job that was laid into the slot of a place which had none
-  pub spawns : (k : Notes) (q y : ℕ) (xs : List (ℕ × ℕ)) → k.hand ≡ (q, 0) ∷ older k.hand → q < 64 * (64 * shards) → k.unshown ≡ 0
+  pub spawns : (k : Notes) (q y : ℕ) (xs : List (ℕ × ℕ)) → k.hand ≡ (q, 0) ∷ older k.hand → q < 64 * (64 * shards) → k.unspawned ≡ q + 1 → k.unshown ≡ 0
       → Allows (IsLawful shards) slots id (held w k, (q, y) ∷ xs) (ready_at (q / 64)) (λ n. bit_or n (2 ^ (q % 64))) (Spawns (step slots (ready_at (q / 64)) (2 ^ (q % 64)) 0 none) (held w k, (q, y) ∷ xs))
-  spawns k q y xs hand within shown s h _ mine small =
+  spawns k q y xs hand within claimed shown s h _ mine small =
       let d : ℕ = q / 64 in let n : ℕ = get_or s.words (ready_at d) 0 in let now : ℕ = bit_or n (2 ^ (q % 64)) in let m : Mine = (held w k, (q, y) ∷ xs) in
       let away = out k q 0 xs hand within s h mine in dite (ℕ_discrete n 0)
       (λ empty. let l : Notes = unshowing (d + 1) (spawning y k) in (
         held w l,
         gives,
         tt,
-        ready-law s h k mine q 0 y within l now refl (record { looks = inr (inr (refl, sets-one d n (q % 64))); one_bit = ready-bits d n now; spawned = inr ((newest_place k.hand, y), refl); ended = inl refl; woken = inl refl; heard = inl refl; blocked = inl refl; unblocked = inl refl; sleeps = inl refl; splits = refl }) hand (balanced-spawned s h.balance id (held w k) (held w l) mine _ q y away (one-spawned k q 0 y hand) refl hand) (refl, refl, refl, refl)
+        ready-law s h k mine q 0 y within l now refl (record { looks = inr (inr (refl, sets-one d n (q % 64))); spawned = inr ((newest_place k.hand, y), refl); owed_job = inr (inr ((newest_place k.hand, y), refl)); ended = inl refl; woken = inl refl; heard = inl refl; blocked = inl refl; unblocked = inl refl; freed = inl refl; sleeps = inl refl; splits = refl }) hand (balanced-spawned s h.balance id (held w k) (held w l) mine _ q y away (one-spawned k q 0 y hand) refl hand) (ready-spawned s h k mine q 0 y within l now claimed refl (one-spawned k q 0 y hand) refl) (refl, refl, refl, refl)
             (ready-first s h k mine q 0 y within l now shown refl) refl refl refl refl refl (knows-less (64 * shards) s h.names id (held w k) (held w l) mine refl (older-less k q 0 xs hand within)),
         λ p at. let same : d ≡ p / 64 = ready_apart d (p / 64) at in (
           λ _. ap (λ c. with m (unshowing (c + 1) (spawning y k)) xs) same,
@@ -445,24 +481,25 @@ module _ (shards slots id w : ℕ) where
         held w l,
         gives,
         tt,
-        ready-law s h k mine q 0 y within l now refl (record { looks = inr (inr (refl, sets-one d n (q % 64))); one_bit = ready-bits d n now; spawned = inr ((newest_place k.hand, y), refl); ended = inl refl; woken = inl refl; heard = inl refl; blocked = inl refl; unblocked = inl refl; sleeps = inl refl; splits = refl }) hand (balanced-spawned s h.balance id (held w k) (held w l) mine _ q y away (one-spawned k q 0 y hand) refl hand) (refl, refl, refl, refl)
+        ready-law s h k mine q 0 y within l now refl (record { looks = inr (inr (refl, sets-one d n (q % 64))); spawned = inr ((newest_place k.hand, y), refl); owed_job = inr (inr ((newest_place k.hand, y), refl)); ended = inl refl; woken = inl refl; heard = inl refl; blocked = inl refl; unblocked = inl refl; freed = inl refl; sleeps = inl refl; splits = refl }) hand (balanced-spawned s h.balance id (held w k) (held w l) mine _ q y away (one-spawned k q 0 y hand) refl hand) (ready-spawned s h k mine q 0 y within l now claimed refl (one-spawned k q 0 y hand) refl) (refl, refl, refl, refl)
             (ready-more s h k mine q 0 y within l now full refl) refl refl refl refl refl (knows-less (64 * shards) s h.names id (held w k) (held w l) mine refl (older-less k q 0 xs hand within)),
         λ p at. ((λ empty. absurd (full empty)), λ _. refl),
       ))
 
   -- the same, where the place stays in hand
-  pub begins : (k : Notes) (q y : ℕ) (xs : List (ℕ × ℕ)) (i : ℕ) → k.hand ≡ (q, 0) ∷ older k.hand
+  pub begins : (k : Notes) (q y : ℕ) (xs : List (ℕ × ℕ)) (i : ℕ) → k.hand ≡ (q, 0) ∷ older k.hand → k.unspawned ≡ q + 1
       → Allows (IsLawful shards) slots id (held w k, (q, y) ∷ xs) i (λ n. n) (Begins (step slots i 0 0 none) (held w k, (q, y) ∷ xs))
-  begins k q y xs i hand s h _ mine small =
+  begins k q y xs i hand claimed s h _ mine small =
       let n : ℕ = get_or s.words i 0 in let l : Notes = beginning y (noted i n k) in
       let now : l.hand ≡ (q, y) ∷ older k.hand = ap (λ (zs : List (ℕ × ℕ)). (newest_place zs, y) ∷ older k.hand) hand in (
         held w l,
         keeps,
         tt,
         unchanged l ((q, y) ∷ xs) i s (record {
-          came = comes-still shards id w s h k mine i l (record { looks = inl refl; one_bit = λ block at. inl refl; spawned = inr ((newest_place k.hand, y), refl); ended = inl refl; woken = inl refl; heard = inl refl; blocked = inl refl; unblocked = inl refl; sleeps = inl refl; splits = refl });
+          came = comes-still shards id w s h k mine i l (record { looks = inl refl; spawned = inr ((newest_place k.hand, y), refl); owed_job = inr (inr ((newest_place k.hand, y), refl)); ended = inl refl; woken = inl refl; heard = inl refl; blocked = inl refl; unblocked = inl refl; freed = inl refl; sleeps = inl refl; splits = refl });
           keeper = keeps-places (64 * shards) s h.keeper id (held w k) mine (held w l) (hands-renumbered (64 * shards) s h.keeper id (held w k) mine (held w l) q 0 y (older k.hand) hand now);
           balance = balanced-begun s h.balance id (held w k) (held w l) mine s.words q y (older k.hand) (one-spawned k q 0 y hand) refl hand now;
+          turns = turns-spawned (64 * shards) s h.turns id (held w k) (held w l) mine s.words s.homes q y (λ p. refl) claimed refl (one-spawned k q 0 y hand) refl;
           hears = hears-on (64 * shards) s h.hears id (held w k) (held w l) mine s.homes s.words (λ p inside. refl) (refl, refl, refl, refl);
           names = names-on (64 * shards) s h.names id (held w k) (held w l) mine s.homes s.words (λ p inside. refl) refl (λ p inside has. found-word s.words p i k.looks);
           shows = shows-on (64 * shards) s h.shows id (held w k) (held w l) mine s.words s.homes (λ c r. r) (λ c. refl) refl;
@@ -484,9 +521,10 @@ module _ (shards slots id w : ℕ) where
           takes q job.0,
           job.1,
           record {
-            came = comes shards id w s h k mine i l new (set s.homes q none) (record { looks = inl refl; one_bit = mark-bits q n new; spawned = inl refl; ended = inl refl; woken = inl refl; heard = inl refl; blocked = inl refl; unblocked = inr (q, refl); sleeps = inl refl; splits = refl });
+            came = comes shards id w s h k mine i l new (set s.homes q none) (record { looks = inl refl; spawned = inl refl; owed_job = inl refl; ended = inl refl; woken = inl refl; heard = inl refl; blocked = inl refl; unblocked = inr (q, refl); freed = inl refl; sleeps = inl refl; splits = refl });
             keeper = keeps-wake (64 * shards) s h.keeper id (held w k) mine q within (held w l) job.0 new is_there (omega (arith, was, now)) refl;
             balance = balanced-taken s h.balance id (held w k) (held w l) mine _ q job.0 job.1 refl refl refl;
+            turns = mark-turns s h k mine q new l (set s.homes q none) (refl, refl, refl);
             hears = hears-mark (64 * shards) s h.hears id (held w k) (held w l) mine (set s.homes q none) q (omega (arith, h.keeper.sized, within)) new 0 0 0 1 (omega arith, omega arith, omega arith, omega arith)
                 (record { woken = refl; heard = refl; blocked = refl; unblocked = refl }) (omega (arith, hit, was, now)) (omega (arith, hit, was, now)) (omega (arith, was, now));
             names = names-on (64 * shards) s h.names id (held w k) (held w l) mine _ _
@@ -508,9 +546,10 @@ module _ (shards slots id w : ℕ) where
           keeps,
           tt,
           record {
-            came = comes shards id w s h k mine i l new s.homes (record { looks = inl refl; one_bit = mark-bits q n new; spawned = inl refl; ended = inl refl; woken = inr (q, refl); heard = inl refl; blocked = inl refl; unblocked = inl refl; sleeps = inl refl; splits = refl });
+            came = comes shards id w s h k mine i l new s.homes (record { looks = inl refl; spawned = inl refl; owed_job = inl refl; ended = inl refl; woken = inr (q, refl); heard = inl refl; blocked = inl refl; unblocked = inl refl; freed = inl refl; sleeps = inl refl; splits = refl });
             keeper = keeps-mark (64 * shards) s h.keeper id (held w k) mine q within (held w l) new (omega (arith, was, now) ∙ ap (λ z. z / 2 % 2) (sym hit)) (hands-same (64 * shards) s h.keeper id (held w k) mine (held w l) refl);
             balance = balanced-same s h.balance id (held w k) (held w l) mine _ refl refl refl;
+            turns = mark-turns s h k mine q new l s.homes (refl, refl, refl);
             hears = hears-mark (64 * shards) s h.hears id (held w k) (held w l) mine s.homes q (omega (arith, h.keeper.sized, within)) new 1 0 0 0 (omega arith, omega arith, omega arith, omega arith)
                 (record { woken = refl; heard = refl; blocked = refl; unblocked = refl }) (omega (arith, hit, was, now)) (omega (arith, hit, was, now)) (omega (arith, was, now));
             names = names-on (64 * shards) s h.names id (held w k) (held w l) mine s.homes _

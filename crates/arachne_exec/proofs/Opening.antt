@@ -16,7 +16,7 @@ use Rattle.arachne_weights.proofs.Totals.{total-set, total-snoc}
 use Rattle.arachne_exec.specs.declared.view.Notes.{Notes}
 use Rattle.arachne_exec.specs.declared.view.SleepDeed.{SleepDeed}
 use Rattle.arachne_exec.specs.Layout.{idle_at, ready_at, free_at, mark_at, last_generation}
-use Rattle.arachne_exec.specs.Board.{is_free, is_ready, is_blocked, one, times, one_at, places_in, jobs_in, times_at, is_at_home, by_all, in_hands, seats_of, is_idle, lies, rises, rouses, ends_at, FoundLast, Board, IsLawful, is_number, at_home, lies_by, rises_by, rouses_by, lies_in, rises_in, rouses_in, begins, splits, joins}
+use Rattle.arachne_exec.specs.Board.{is_free, is_ready, is_blocked, one, times, one_at, places_in, jobs_in, times_at, is_at_home, by_all, in_hands, unspawned_by, seats_of, is_idle, lies, rises, rouses, ends_at, FoundLast, Board, IsLawful, is_number, at_home, lies_by, rises_by, rouses_by, lies_in, rises_in, rouses_in, begins, splits, joins}
 use Rattle.arachne_exec.specs.Changes.{blank, first_view, splitting, first_of, second_of, together, both_of}
 use Rattle.arachne_exec.specs.First.{first_word, AreFirstWords}
 use Rattle.arachne_exec.proofs.Bits.{one-apart}
@@ -79,6 +79,12 @@ opens shards ws xs a slots clear = record {
     placed = λ place job some_job. let n : is_at_home place job (map some xs) ≡ 0 = none_there place job xs some_job clear in
         let p : by_all (λ (k : Notes). times_at place job k.spawned) (first_view ∷ []) ≡ 0 = refl in let t : by_all (λ (k : Notes). times_at place job k.ended) (first_view ∷ []) ≡ 0 = refl in
         let d : by_all (λ (k : Notes). times_at place job k.hand) (first_view ∷ []) ≡ 0 = refl in omega (arith, n, p, t, d);
+  };
+  turns = record {
+    turns = λ p inside.
+        let f : is_free ws p ≡ 1 = ap (λ x. bit_at x (p % 64)) (a.1 (free_at (p / 64)) (omega (arith, inside)) ∙ full_at (free_at (p / 64)) (λ e. omega (arith, e)) (omega arith)) ∙ bit_at_ones 64 (p % 64) (omega arith) in
+        let s : by_all (λ (k : Notes). places_in p k.spawned) (first_view ∷ []) ≡ 0 = refl in let d : by_all (λ (k : Notes). times p k.freed) (first_view ∷ []) ≡ 0 = refl in
+        let u : unspawned_by p (first_view ∷ []) ≡ one 0 (p + 1) = omega arith in omega (arith, f, s, d, u, one_zero p);
   };
   hears = record {
     marks = λ p inside.
@@ -150,6 +156,11 @@ deals-law shards id w k s h mine = record {
         let a = split-total (λ l. times_at p job l.spawned) refl (λ l. refl) s.views id w k mine in let b = split-total (λ l. times_at p job l.ended) refl (λ l. refl) s.views id w k mine in
         let c = split-total (λ l. times_at p job l.hand) refl (λ l. refl) s.views id w k mine in let old = h.balance.placed p job some_job in omega (arith, a, b, c, old);
   };
+  turns = record {
+    turns = λ p inside.
+        let a = split-total (λ l. places_in p l.spawned) refl (λ l. refl) s.views id w k mine in let b = split-total (λ l. times p l.freed) refl (λ l. refl) s.views id w k mine in
+        let c = split-total (λ l. one l.unspawned (p + 1)) (one_zero p) (λ l. refl) s.views id w k mine in let old = h.turns.turns p inside in omega (arith, a, b, c, old);
+  };
   hears = record {
     marks = λ p inside.
         let a = split-total (λ l. times p l.woken) refl (λ l. refl) s.views id w k mine in let b = split-total (λ l. times p l.heard) refl (λ l. refl) s.views id w k mine in let old = h.hears.marks p inside in omega (arith, a, b, old);
@@ -195,12 +206,12 @@ pub deals : (shards id w : ℕ) (k : Notes) → Splits (IsLawful shards) id (hel
 deals shards id w k s h mine = deals-law shards id w k s h mine
 
 -- a seat that is taken in has an empty hand, no number, and owes nothing
-module _ (shards id w other x : ℕ) (k l : Notes) (nothing : (l.hand ≡ []) × (l.worker ≡ 0) × (l.unshown ≡ 0) × (l.owes ≡ 0)) where
+module _ (shards id w other x : ℕ) (k l : Notes) (nothing : (l.hand ≡ []) × (l.worker ≡ 0) × (l.unspawned ≡ 0) × (l.unshown ≡ 0) × (l.owes ≡ 0)) where
   gathers-law : (s : Board) → IsLawful shards s → get_elem? s.views id ≡ some (held w k) → other ≢ id → get_elem? s.views other ≡ some (held x l)
       → IsLawful shards (record { words = s.words; homes = s.homes; views = set (set s.views id (both_of (held w k) (held x l))) other (spent blank) })
   gathers-law s h mine apart from =
       let hand_of = λ (p : ℕ). join-total (λ m. places_in p m.hand) refl s.views id w other x k l mine apart from (let e = ap (places_in p) nothing.0 in omega (arith, e)) in
-      let owes_of = λ (c : ℕ). join-total (λ m. one m.owes (c + 1)) (one_zero c) s.views id w other x k l mine apart from (let e = ap (λ n. one n (c + 1)) nothing.3 ∙ one_zero c in omega (arith, e)) in record {
+      let owes_of = λ (c : ℕ). join-total (λ m. one m.owes (c + 1)) (one_zero c) s.views id w other x k l mine apart from (let e = ap (λ n. one n (c + 1)) nothing.4 ∙ one_zero c in omega (arith, e)) in record {
         came = joins h.came id other w x k l mine apart from;
         keeper = record {
           sized = h.keeper.sized;
@@ -221,6 +232,13 @@ module _ (shards id w other x : ℕ) (k l : Notes) (nothing : (l.hand ≡ []) ×
               let b = join-total (λ m. times_at p job m.ended) refl s.views id w other x k l mine apart from (sum_by-append (one_at p job) k.ended l.ended) in
               let c = join-total (λ m. times_at p job m.hand) refl s.views id w other x k l mine apart from (let e = ap (times_at p job) nothing.0 in omega (arith, e)) in
               let old = h.balance.placed p job some_job in omega (arith, a, b, c, old);
+        };
+        turns = record {
+          turns = λ p inside.
+              let a = join-total (λ m. places_in p m.spawned) refl s.views id w other x k l mine apart from (sum_by-append (λ (y : ℕ × ℕ). one y.0 p) k.spawned l.spawned) in
+              let b = join-total (λ m. times p m.freed) refl s.views id w other x k l mine apart from (sum_by-append (λ (y : ℕ). one y p) k.freed l.freed) in
+              let c = join-total (λ m. one m.unspawned (p + 1)) (one_zero p) s.views id w other x k l mine apart from (let e = ap (λ n. one n (p + 1)) nothing.2 ∙ one_zero p in omega (arith, e)) in
+              let old = h.turns.turns p inside in omega (arith, a, b, c, old);
         };
         hears = record {
           marks = λ p inside.
@@ -247,7 +265,7 @@ module _ (shards id w other x : ℕ) (k l : Notes) (nothing : (l.hand ≡ []) ×
         };
         shows = record {
           shown = λ c inside some_ready. ⊎_elim (λ set_. inl set_)
-              (λ o. let same = join-total (λ m. one m.unshown (c + 1)) (one_zero c) s.views id w other x k l mine apart from (let e = ap (λ n. one n (c + 1)) nothing.2 ∙ one_zero c in omega (arith, e)) in inr (omega (arith, o, same)))
+              (λ o. let same = join-total (λ m. one m.unshown (c + 1)) (one_zero c) s.views id w other x k l mine apart from (let e = ap (λ n. one n (c + 1)) nothing.3 ∙ one_zero c in omega (arith, e)) in inr (omega (arith, o, same)))
               (h.shows.shown c inside some_ready);
         };
         sleep = record {

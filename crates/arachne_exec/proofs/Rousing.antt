@@ -1,5 +1,5 @@
 -- A worker that looks for a job, and clears no idle bit but its own.
-use Rattle.std.proofs.Common.{◌≡◌, ⊎_elim, ℕ, zero, suc, Bool, true, false, List, [], ◌∷◌, ◌++◌, append_assoc, refl, sym, ap, ◌∙◌, subst, arith}
+use Rattle.std.proofs.Common.{◌≡◌, inr, ⊎_elim, ℕ, zero, suc, Bool, true, false, List, [], ◌∷◌, ◌++◌, append_assoc, refl, sym, ap, ◌∙◌, subst}
 use Rattle.arachne_exec.specs.declared.view.Notes.{Notes}
 use Rattle.arachne_exec.specs.declared.view.SleepDeed.{SleepDeed}
 use Rattle.arachne_exec.specs.declared.view.SleepDeed.TheVariants.{Roused}
@@ -8,15 +8,15 @@ use Rattle.arachne_exec.specs.declared.answers.Next.{Next}
 use Rattle.arachne_exec.specs.declared.answers.Next.TheVariants as next
 use Rattle.arachne_exec.specs.Layout.{ready_at, worker_of}
 use Rattle.arachne_exec.specs.Changes.{noted, rousing, often}
-use Rattle.arachne_exec.specs.Calls.{HasMissed, HasTakenNone, AreNoneFree, HasLooked, HasTakenInShard, HasAnswered}
+use Rattle.arachne_exec.specs.Calls.{HasMissed, HasTakenNone, AreForJobs, HasLooked, HasTakenInShard, HasAnswered}
 
 often-more : (n more worker : ℕ) (xs : List SleepDeed) → (all : ℕ) × (often n worker (often more worker xs) ≡ often all worker xs)
 often-more zero more worker xs = (more, refl)
 often-more (suc n) more worker xs = let rest = often-more n more worker xs in (suc rest.0, ap (λ (zs : List SleepDeed). Roused worker ∷ zs) rest.1)
 
-none-free : (xs ys : List (ℕ × ℕ)) → AreNoneFree xs → AreNoneFree ys → AreNoneFree (xs ++ ys)
-none-free [] ys a b = b
-none-free (x ∷ xs) ys a b = (a.0, none-free xs ys a.1 b)
+for-jobs : (xs ys : List (ℕ × ℕ)) → AreForJobs xs → AreForJobs ys → AreForJobs (xs ++ ys)
+for-jobs [] ys a b = b
+for-jobs (x ∷ xs) ys a b = (a.0, for-jobs xs ys a.1 b)
 
 pub looked-none : (worker : ℕ) (k : Notes) → HasLooked worker k k
 looked-none worker k = (0, [], tt, refl)
@@ -24,7 +24,7 @@ looked-none worker k = (0, [], tt, refl)
 module _ (worker : ℕ) (k : Notes) where
   looked-noted : (l : Notes) → HasLooked worker k l → (block number : ℕ) → HasLooked worker k (noted (ready_at block) number l)
   looked-noted l looked block number =
-      (looked.0, (ready_at block, number) ∷ looked.1, (λ other e. omega (arith, e), looked.2), ap (λ (z : Notes). record z { looks = (ready_at block, number) ∷ z.looks }) looked.3)
+      (looked.0, (ready_at block, number) ∷ looked.1, (inr (block, refl), looked.2), ap (λ (z : Notes). record z { looks = (ready_at block, number) ∷ z.looks }) looked.3)
 
   module _ (l : Notes) (looked : HasLooked worker k l) where
     pub looked-missed : (block : ℕ) (m : Notes) → HasTakenNone block l m → HasLooked worker k m
@@ -41,7 +41,7 @@ module _ (worker : ℕ) (k : Notes) where
     looked-on m more = let all = often-more more.0 looked.0 worker k.sleeps in (
       all.0,
       more.1 ++ looked.1,
-      none-free more.1 looked.1 more.2 looked.2,
+      for-jobs more.1 looked.1 more.2 looked.2,
       more.3 ∙ ap (λ (z : Notes). record z { looks = more.1 ++ z.looks; sleeps = often more.0 worker z.sleeps }) looked.3
           ∙ (λ i. record k { looks = sym (append_assoc more.1 looked.1 k.looks) i; sleeps = all.1 i }),
     )

@@ -23,20 +23,21 @@ use Rattle.arachne_exec.proofs.Hearing.{KeepsMarks, hears-on}
 use Rattle.arachne_exec.proofs.Naming.{Knows, found-word, names-on}
 use Rattle.arachne_exec.proofs.Debts.{with-same, with-more, with-less, with-others}
 use Rattle.arachne_exec.proofs.KeepsShown.{shows-on, shows-owing, shows-paid}
-use Rattle.arachne_exec.proofs.Coming.{adds-risen, adds-lain, clears-none, changes-elsewhere, idle-bits, told-nothing, comes, comes-still}
+use Rattle.arachne_exec.proofs.Coming.{adds-risen, adds-lain, clears-none, changes-elsewhere, told-found, told-nothing, comes, comes-still}
 use Rattle.arachne_exec.proofs.Sleeping.{roused-counts, risen-counts, lain-counts, Ends, ends-same, seats-same, keeps-sleep, sleeps-on}
-use Rattle.arachne_exec.proofs.Moves.{summary_apart, clash, was_set, some_number, unchanged, stays, unmarked, ageless, sunk, same_ready, quiet-shows, noting, knowing-still}
+use Rattle.arachne_exec.proofs.Spawning.{KeepsTurns, turns-on}
+use Rattle.arachne_exec.proofs.Moves.{summary_apart, clash, was_set, some_number, unchanged, stays, unmarked, ageless, sunk, same_ready, quiet-turns, quiet-shows, noting, knowing-still}
 
--- the summary words, the idle word and the worker numbers are no ready and no free words
+-- the summary words and the idle word are no ready words, nor have they the worker numbers
 summary-silent : (d found put : ℕ) → ¬ HasChanged (summary_at d) found put
-summary-silent d found put = changes-elsewhere (summary_at d) found put (λ block e. omega (arith, e)) (λ block e. omega (arith, e))
+summary-silent d found put = changes-elsewhere (summary_at d) found put (λ e. omega (arith, e)) (λ block e. omega (arith, e))
 
-aside-silent : (i found put : ℕ) → i < 16 → ¬ HasChanged i found put
-aside-silent i found put low = changes-elsewhere i found put (λ block e. omega (arith, e, low)) (λ block e. omega (arith, e, low))
+idle-silent : (found put : ℕ) → ¬ HasChanged idle_at found put
+idle-silent found put = changes-elsewhere idle_at found put (λ e. omega (arith, e)) (λ block e. omega (arith, e))
 
 module _ (shards slots id w : ℕ) where
   module _ (s : Board) (h : IsLawful shards s) (k l : Notes) (mine : get_elem? s.views id ≡ some (held w k)) (hand : l.hand ≡ k.hand) (spawned : l.spawned ≡ k.spawned) (ended : l.ended ≡ k.ended)
-      (marks : KeepsMarks k l) (knows : Knows (64 * shards) s.words l) where
+      (marks : KeepsMarks k l) (turns : KeepsTurns k l) (knows : Knows (64 * shards) s.words l) where
     -- no word changes
     view-law : (i : ℕ) → IsTold i (get_or s.words i 0) (get_or s.words i 0) k l → IsShown (64 * shards) (record { words = s.words; homes = s.homes; views = set s.views id (held w l) }) → WakesSleepers (record { words = s.words; homes = s.homes; views = set s.views id (held w l) })
         → IsLawful shards (record { words = s.words; homes = s.homes; views = set s.views id (held w l) })
@@ -44,6 +45,7 @@ module _ (shards slots id w : ℕ) where
       came = comes-still shards id w s h k mine i l told;
       keeper = keeps-view (64 * shards) s h.keeper id (held w k) mine (held w l) hand;
       balance = balanced-same s h.balance id (held w k) (held w l) mine s.words spawned ended hand;
+      turns = turns-on (64 * shards) s h.turns id (held w k) (held w l) mine s.words s.homes (λ p. refl) turns;
       hears = hears-on (64 * shards) s h.hears id (held w k) (held w l) mine s.homes s.words (λ p inside. refl) marks;
       names = names-on (64 * shards) s h.names id (held w k) (held w l) mine s.homes s.words (λ p inside. refl) ended knows;
       shows = shows;
@@ -57,6 +59,7 @@ module _ (shards slots id w : ℕ) where
       came = comes shards id w s h k mine i l now s.homes told;
       keeper = keeps-aside (64 * shards) s h.keeper id (held w k) mine (held w l) i now low hand;
       balance = balanced-same s h.balance id (held w k) (held w l) mine _ spawned ended hand;
+      turns = quiet-turns shards slots id w s h k mine i now l s.homes (λ c e. omega (arith, e, low)) turns;
       hears = hears-on (64 * shards) s h.hears id (held w k) (held w l) mine s.homes _ (unmarked shards slots id w s h k mine i now (λ p e. omega (arith, e, low))) marks;
       names = names-on (64 * shards) s h.names id (held w k) (held w l) mine s.homes _ (ageless shards slots id w s h k mine i now (λ p e. omega (arith, e, low))) ended knows;
       shows = shows;
@@ -70,6 +73,7 @@ module _ (shards slots id w : ℕ) where
       came = comes shards id w s h k mine (summary_at d) l now s.homes told;
       keeper = keeps-summary (64 * shards) s h.keeper id (held w k) mine (held w l) d now hand;
       balance = balanced-same s h.balance id (held w k) (held w l) mine _ spawned ended hand;
+      turns = quiet-turns shards slots id w s h k mine (summary_at d) now l s.homes (λ c e. omega (arith, e)) turns;
       hears = hears-on (64 * shards) s h.hears id (held w k) (held w l) mine s.homes _ (unmarked shards slots id w s h k mine (summary_at d) now (λ p e. omega (arith, e))) marks;
       names = names-on (64 * shards) s h.names id (held w k) (held w l) mine s.homes _ (ageless shards slots id w s h k mine (summary_at d) now (λ p e. omega (arith, e))) ended knows;
       shows = shows;
@@ -82,7 +86,7 @@ module _ (shards slots id w : ℕ) where
     -- the seat has paid for the block, and no word changes
     paid-law : (s : Board) → IsLawful shards s → get_elem? s.views id ≡ some (held w k) → k.unshown ≡ block + 1 → ℕ → (0 < get_or s.words (ready_at block) 0 → in_word summary_at s.words block ≡ 1)
         → IsLawful shards (record { words = s.words; homes = s.homes; views = set s.views id (held w (unshowing 0 k)) })
-    paid-law s h mine debt i shown = view-law s h k (unshowing 0 k) mine refl refl refl (refl, refl, refl, refl) (knowing-still shards slots id w s h k mine) i (told-nothing refl (clears-none i (get_or s.words i 0)) (refl, refl, refl, refl, refl, refl, refl, refl))
+    paid-law s h mine debt i shown = view-law s h k (unshowing 0 k) mine refl refl refl (refl, refl, refl, refl) (refl, refl, refl) (knowing-still shards slots id w s h k mine) i (told-nothing refl (clears-none i (get_or s.words i 0)) (refl, refl, refl, refl, refl, refl, refl, refl, refl, refl))
         (shows-paid (64 * shards) s h.shows id (held w k) (held w (unshowing 0 k)) mine s.words s.homes block debt refl shown (λ c ne r. r) (λ c ne. refl))
         (sleeps-on s h.sleep id (held w k) (held w (unshowing 0 k)) mine s.words s.homes refl refl (λ c r. r) refl refl refl refl)
 
@@ -138,7 +142,7 @@ module _ (shards slots id w : ℕ) where
           held w l,
           keeps,
           tt,
-          summary-law s h k l mine refl refl refl (refl, refl, refl, refl) (knowing-still shards slots id w s h k mine) d now (told-nothing refl (summary-silent d n now) (refl, refl, refl, refl, refl, refl, refl, refl)) (shown-now s h mine debt l refl)
+          summary-law s h k l mine refl refl refl (refl, refl, refl, refl) (refl, refl, refl) (knowing-still shards slots id w s h k mine) d now (told-nothing refl (summary-silent d n now) (refl, refl, refl, refl, refl, refl, refl, refl, refl, refl)) (shown-now s h mine debt l refl)
               (keeps-sleep s h.sleep id (held w k) (held w l) mine (set s.words i now) s.homes
               (λ j low. (λ z. bit_at (numbers z) j + seats-same s h.sleep id (held w k) (held w l) mine refl j z) ∙ h.sleep.single j low)
               (h.sleep.near id (held w k) mine)
@@ -154,7 +158,7 @@ module _ (shards slots id w : ℕ) where
           held w l,
           keeps,
           tt,
-          summary-law s h k l mine refl refl refl (refl, refl, refl, refl) (knowing-still shards slots id w s h k mine) d now (told-nothing refl (summary-silent d n now) (refl, refl, refl, refl, refl, refl, refl, refl)) (shown-now s h mine debt l refl)
+          summary-law s h k l mine refl refl refl (refl, refl, refl, refl) (refl, refl, refl) (knowing-still shards slots id w s h k mine) d now (told-nothing refl (summary-silent d n now) (refl, refl, refl, refl, refl, refl, refl, refl, refl, refl)) (shown-now s h mine debt l refl)
               (sleeps-on s h.sleep id (held w k) (held w l) mine (set s.words i now) s.homes numbers idles
               (λ c some_shown. dite (ℕ_discrete (summary_at c) i)
               (λ e. subst (λ x. 0 < get_or s.words x 0) (sym e) (some_number n full))
@@ -170,7 +174,7 @@ module _ (shards slots id w : ℕ) where
           held w l,
           keeps,
           tt,
-          summary-law s h k l mine refl refl refl (refl, refl, refl, refl) (knowing-still shards slots id w s h k mine) d now (told-nothing refl (summary-silent d n now) (refl, refl, refl, refl, refl, refl, refl, refl))
+          summary-law s h k l mine refl refl refl (refl, refl, refl, refl) (refl, refl, refl) (knowing-still shards slots id w s h k mine) d now (told-nothing refl (summary-silent d n now) (refl, refl, refl, refl, refl, refl, refl, refl, refl, refl))
               (shows-owing (64 * shards) s h.shows id (held w k) (held w l) mine (set s.words i now) s.homes block free refl
               (λ c ne. same_ready shards slots id w s h k mine i now (λ e f. omega (arith, f)) c)
               (λ c ne. elsewhere summary_at summary_apart s.words block room now (λ j low apart. clear_other n (block % 64) (omega arith) j low apart) c ne))
@@ -214,7 +218,7 @@ module _ (shards slots id w : ℕ) where
           held w l,
           keeps,
           tt,
-          unchanged shards slots id w l xs idle_at s (view-law s h k l mine refl refl refl (refl, refl, refl, refl) (knowing-still shards slots id w s h k mine) idle_at (told-nothing refl (clears-none idle_at (get_or s.words idle_at 0)) (refl, refl, refl, refl, refl, refl, refl, refl)) (view-shows s h k l mine refl)
+          unchanged shards slots id w l xs idle_at s (view-law s h k l mine refl refl refl (refl, refl, refl, refl) (refl, refl, refl) (knowing-still shards slots id w s h k mine) idle_at (told-nothing refl (clears-none idle_at (get_or s.words idle_at 0)) (refl, refl, refl, refl, refl, refl, refl, refl, refl, refl)) (view-shows s h k l mine refl)
               (keeps-sleep s h.sleep id (held w k) (held w l) mine s.words s.homes
               (λ j low. ap (λ x. bit_at (get_or s.words numbers_at 0) j + x) (seats-same s h.sleep id (held w k) (held w l) mine refl j) ∙ h.sleep.single j low)
               (h.sleep.near id (held w k) mine)
@@ -228,15 +232,15 @@ module _ (shards slots id w : ℕ) where
         ))
 
     -- the idle bit of the worker is cleared
-    unpark-law : (s : Board) → IsLawful shards s → get_elem? s.views id ≡ some (held w k) → (l : Notes) → l.hand ≡ k.hand → l.spawned ≡ k.spawned → l.ended ≡ k.ended → KeepsMarks k l
+    unpark-law : (s : Board) → IsLawful shards s → get_elem? s.views id ≡ some (held w k) → (l : Notes) → l.hand ≡ k.hand → l.spawned ≡ k.spawned → l.ended ≡ k.ended → KeepsMarks k l → KeepsTurns k l
         → Knows (64 * shards) s.words l → l.unshown ≡ k.unshown → l.owes ≡ 0 → l.worker ≡ k.worker → l.seen ≡ k.seen → (now : ℕ) → now ≡ bit_and (get_or s.words idle_at 0) (others (worker_of d))
         → IsTold idle_at (get_or s.words idle_at 0) now k l
         → Ends k l s.words (set s.words idle_at now)
         → IsLawful shards (record { words = set s.words idle_at now; homes = s.homes; views = set s.views id (held w l) })
-    unpark-law s h mine l hand spawned ended marks knows unshown owes worker seen now is_now told ends =
+    unpark-law s h mine l hand spawned ended marks turns knows unshown owes worker seen now is_now told ends =
         let n : ℕ = get_or s.words idle_at 0 in
         let there : get_or (set s.words idle_at now) idle_at 0 ≡ bit_and n (others (worker_of d)) = get_or-set_same s.words idle_at now 0 (idle-room s h) ∙ is_now in
-        aside-law s h k l mine hand spawned ended marks knows idle_at now (omega arith) told (idle-shows s h k l mine unshown now)
+        aside-law s h k l mine hand spawned ended marks turns knows idle_at now (omega arith) told (idle-shows s h k l mine unshown now)
         (keeps-sleep s h.sleep id (held w k) (held w l) mine (set s.words idle_at now) s.homes
         (λ j low. (λ z. bit_at (get_or-set_other s.words idle_at numbers_at now 0 (λ e. omega (arith, e)) z) j + seats-same s h.sleep id (held w k) (held w l) mine worker j z) ∙ h.sleep.single j low)
         (let near = h.sleep.near id (held w k) mine in omega (arith, near, worker))
@@ -257,8 +261,8 @@ module _ (shards slots id w : ℕ) where
           held w (rousing true (worker_of d) (owing 0 k)),
           keeps,
           tt,
-          unpark-law s h mine (rousing true (worker_of d) (owing 0 k)) refl refl refl (refl, refl, refl, refl) (knowing-still shards slots id w s h k mine) refl refl refl refl _ refl
-              (record { looks = inr (inr (refl, aside-silent idle_at n now (omega arith))); one_bit = idle-bits n now; spawned = inl refl; ended = inl refl; woken = inl refl; heard = inl refl; blocked = inl refl; unblocked = inl refl; sleeps = inr (Roused (worker_of d), refl); splits = refl })
+          unpark-law s h mine (rousing true (worker_of d) (owing 0 k)) refl refl refl (refl, refl, refl, refl) (refl, refl, refl) (knowing-still shards slots id w s h k mine) refl refl refl refl _ refl
+              (record { looks = inr (inr (refl, idle-silent n now)); spawned = inl refl; owed_job = inl refl; ended = inl refl; woken = inl refl; heard = inl refl; blocked = inl refl; unblocked = inl refl; freed = inl refl; sleeps = inr (Roused (worker_of d), refl); splits = refl })
               (λ j low. let was = fewer j low in let one_ : bit_at n (worker_of d) * one (worker_of d) j ≡ one (worker_of d) j = ap (λ x. x * one (worker_of d) j) there ∙ omega arith in
               let more = roused-counts j (worker_of d) k.sleeps in omega (arith, was, one_, more.0, more.1, more.2)),
           λ c e. let is : d ≡ c = omega (arith, debt, e) in (
@@ -272,8 +276,8 @@ module _ (shards slots id w : ℕ) where
           held w (owing 0 k),
           keeps,
           tt,
-          unpark-law s h mine (owing 0 k) refl refl refl (refl, refl, refl, refl) (knowing-still shards slots id w s h k mine) refl refl refl refl _ refl
-              (told-nothing refl (aside-silent idle_at n now (omega arith)) (refl, refl, refl, refl, refl, refl, refl, refl))
+          unpark-law s h mine (owing 0 k) refl refl refl (refl, refl, refl, refl) (refl, refl, refl) (knowing-still shards slots id w s h k mine) refl refl refl refl _ refl
+              (told-nothing refl (idle-silent n now) (refl, refl, refl, refl, refl, refl, refl, refl, refl, refl))
               (λ j low. let was = fewer j low in let none_ : bit_at n (worker_of d) * one (worker_of d) j ≡ 0 = ap (λ x. x * one (worker_of d) j) clear ∙ omega arith in omega (arith, was, none_)),
           λ c e. let is : d ≡ c = omega (arith, debt, e) in (
             refl,
@@ -292,8 +296,8 @@ module _ (shards slots id w : ℕ) where
           held w l,
           keeps,
           tt,
-          aside-law s h k l mine refl refl refl (refl, refl, refl, refl) (λ p inside has. found-word s.words p idle_at k.looks) idle_at now (omega arith)
-              (record { looks = inl refl; one_bit = idle-bits n now; spawned = inl refl; ended = inl refl; woken = inl refl; heard = inl refl; blocked = inl refl; unblocked = inl refl; sleeps = adds-risen (bit_at n j) j k.sleeps; splits = refl })
+          aside-law s h k l mine refl refl refl (refl, refl, refl, refl) (refl, refl, refl) (λ p inside has. found-word s.words p idle_at k.looks) idle_at now (omega arith)
+              (record { looks = inl refl; spawned = inl refl; owed_job = inl refl; ended = inl refl; woken = inl refl; heard = inl refl; blocked = inl refl; unblocked = inl refl; freed = inl refl; sleeps = adds-risen (bit_at n j) j k.sleeps; splits = refl })
               (idle-shows s h k l mine refl now)
               (keeps-sleep s h.sleep id (held w k) (held w l) mine (set s.words idle_at now) s.homes
               (λ i low. (λ z. bit_at (get_or-set_other s.words idle_at numbers_at now 0 (λ e. omega (arith, e)) z) i + seats-same s h.sleep id (held w k) (held w l) mine refl i z) ∙ h.sleep.single i low)
@@ -316,8 +320,8 @@ module _ (shards slots id w : ℕ) where
           held w l,
           keeps,
           tt,
-          aside-law s h k l mine refl refl refl (refl, refl, refl, refl) (λ p inside has. found-word s.words p idle_at k.looks) idle_at now (omega arith)
-              (record { looks = inl refl; one_bit = idle-bits n now; spawned = inl refl; ended = inl refl; woken = inl refl; heard = inl refl; blocked = inl refl; unblocked = inl refl; sleeps = adds-lain (bit_at n j) j k.sleeps; splits = refl })
+          aside-law s h k l mine refl refl refl (refl, refl, refl, refl) (refl, refl, refl) (λ p inside has. found-word s.words p idle_at k.looks) idle_at now (omega arith)
+              (record { looks = inl refl; spawned = inl refl; owed_job = inl refl; ended = inl refl; woken = inl refl; heard = inl refl; blocked = inl refl; unblocked = inl refl; freed = inl refl; sleeps = adds-lain (bit_at n j) j k.sleeps; splits = refl })
               (idle-shows s h k l mine refl now)
               (keeps-sleep s h.sleep id (held w k) (held w l) mine (set s.words idle_at now) s.homes
               (λ i low. (λ z. bit_at (get_or-set_other s.words idle_at numbers_at now 0 (λ e. omega (arith, e)) z) i + seats-same s h.sleep id (held w k) (held w l) mine refl i z) ∙ h.sleep.single i low)
@@ -341,7 +345,7 @@ module _ (shards slots id w : ℕ) where
           held w l,
           keeps,
           tt,
-          unchanged shards slots id w l xs i s (view-law s h k l mine refl refl refl (refl, refl, refl, refl) (knowing-still shards slots id w s h k mine) i (told-nothing refl (clears-none i (get_or s.words i 0)) (refl, refl, refl, refl, refl, refl, refl, refl)) (view-shows s h k l mine refl)
+          unchanged shards slots id w l xs i s (view-law s h k l mine refl refl refl (refl, refl, refl, refl) (refl, refl, refl) (knowing-still shards slots id w s h k mine) i (told-nothing refl (clears-none i (get_or s.words i 0)) (refl, refl, refl, refl, refl, refl, refl, refl, refl, refl)) (view-shows s h k l mine refl)
               (keeps-sleep s h.sleep id (held w k) (held w l) mine s.words s.homes
               (λ c low. ap (λ x. bit_at (get_or s.words numbers_at 0) c + x) (seats-same s h.sleep id (held w k) (held w l) mine refl c) ∙ h.sleep.single c low)
               (h.sleep.near id (held w k) mine)
@@ -360,13 +364,13 @@ module _ (shards slots id w : ℕ) where
     -- the seat becomes the worker of a number
     pub registers : j < 64 → k.worker ≡ 0 → Allows (IsLawful shards) slots id (held w k, xs) numbers_at (λ n. bit_and n (others j)) (Registers (step slots numbers_at (others j) 0 none) (held w k, xs))
     registers low no_worker s h _ mine small =
-        let i : ℕ = numbers_at in let n : ℕ = get_or s.words i 0 in let now : ℕ = bit_and n (others j) in let l : Notes = working (j + 1) k in let m : Mine = (held w k, xs) in
+        let i : ℕ = numbers_at in let n : ℕ = get_or s.words i 0 in let now : ℕ = bit_and n (others j) in let l : Notes = working (j + 1) (noted i n k) in let m : Mine = (held w k, xs) in
         let there_now : get_or (set s.words i now) i 0 ≡ now = get_or-set_same s.words i now 0 (numbers-room s h) in dite (ℕ_discrete (bit_at n j) 1)
         (λ there. (
           held w l,
           keeps,
           tt,
-          aside-law s h k l mine refl refl refl (refl, refl, refl, refl) (knowing-still shards slots id w s h k mine) i now (omega arith) (told-nothing refl (aside-silent i n now (omega arith)) (refl, refl, refl, refl, refl, refl, refl, refl)) (number-shows s h k l mine refl now)
+          aside-law s h k l mine refl refl refl (refl, refl, refl, refl) (refl, refl, refl) (λ p inside has. found-word s.words p i k.looks) i now (omega arith) (told-found refl (refl, refl, refl, refl, refl, refl, refl, refl, refl, refl)) (number-shows s h k l mine refl now)
               (keeps-sleep s h.sleep id (held w k) (held w l) mine (set s.words i now) s.homes
               (λ c below. let more = with-more (λ z. z.worker) s.views id (held w k) (held w l) mine j no_worker refl c in let single = h.sleep.single c below in
               let at : bit_at (get_or (set s.words i now) i 0) c ≡ bit_at now c = ap (λ x. bit_at x c) there_now in dite (ℕ_discrete j c)
@@ -382,7 +386,7 @@ module _ (shards slots id w : ℕ) where
               (λ g c is below. absurd (omega (arith, below)))
               (ends-same k l s.words (set s.words i now) (get_or-set_other s.words i idle_at now 0 (λ f. omega (arith, f))) refl)),
           λ c first below. let same : j ≡ c = same_others j c low below first in (
-            λ _. ap (λ x. knowing m (working (x + 1) k)) same,
+            λ _. ap (λ x. knowing m (working (x + 1) (noted i n k))) same,
             λ none_there. absurd (clash n j there (subst (λ x. bit_at n x ≡ 0) (sym same) none_there)),
           ),
         ))
@@ -400,12 +404,12 @@ module _ (shards slots id w : ℕ) where
     -- the seat has no number any more
     pub leaves : j < 64 → k.worker ≡ j + 1 → Allows (IsLawful shards) slots id (held w k, xs) numbers_at (λ n. bit_or n (2 ^ j)) (Leaves (step slots numbers_at (2 ^ j) 0 none) (held w k, xs))
     leaves low is_worker s h _ mine small =
-        let i : ℕ = numbers_at in let n : ℕ = get_or s.words i 0 in let now : ℕ = bit_or n (2 ^ j) in let l : Notes = working 0 k in
+        let i : ℕ = numbers_at in let n : ℕ = get_or s.words i 0 in let now : ℕ = bit_or n (2 ^ j) in let l : Notes = working 0 (noted i n k) in
         let there_now : get_or (set s.words i now) i 0 ≡ now = get_or-set_same s.words i now 0 (numbers-room s h) in (
           held w l,
           keeps,
           tt,
-          aside-law s h k l mine refl refl refl (refl, refl, refl, refl) (knowing-still shards slots id w s h k mine) i now (omega arith) (told-nothing refl (aside-silent i n now (omega arith)) (refl, refl, refl, refl, refl, refl, refl, refl)) (number-shows s h k l mine refl now)
+          aside-law s h k l mine refl refl refl (refl, refl, refl, refl) (refl, refl, refl) (λ p inside has. found-word s.words p i k.looks) i now (omega arith) (told-found refl (refl, refl, refl, refl, refl, refl, refl, refl, refl, refl)) (number-shows s h k l mine refl now)
               (keeps-sleep s h.sleep id (held w k) (held w l) mine (set s.words i now) s.homes
               (λ c below. let less = with-less (λ z. z.worker) s.views id (held w k) (held w l) mine j is_worker refl c in let single = h.sleep.single c below in
               let at : bit_at (get_or (set s.words i now) i 0) c ≡ bit_at now c = ap (λ x. bit_at x c) there_now in dite (ℕ_discrete j c)

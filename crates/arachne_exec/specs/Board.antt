@@ -1,7 +1,6 @@
 -- What holds of the words, the slots and the seats of an executor between any two steps.
-use Rattle.std.specs.Prelude.{◌≡◌, ◌≢◌, ◌⊎◌, ℕ, ◌+◌, ◌*◌, ◌/◌, ◌%◌, ◌^◌, ◌<◌, ◌≤◌, ◌==◌, min, List, [], ◌∷◌, ◌++◌, length, slice_index, slice_set, if◌then◌else◌}
+use Rattle.std.specs.Prelude.{◌≡◌, ◌≢◌, ◌⊎◌, ℕ, ◌+◌, ◌*◌, ◌/◌, ◌%◌, ◌<◌, ◌≤◌, ◌==◌, min, List, [], ◌∷◌, ◌++◌, length, slice_index, slice_set, if◌then◌else◌}
 use Rattle.std.specs.Int.{bit_at}
-use Rattle.std.specs.Int.RustNames.{bit_and, bit_or}
 use Rattle.std.specs.List.{sum_by}
 use mathlib.Core.Option.{some, none}
 use mathlib.Core.Option as maybe
@@ -11,10 +10,10 @@ use Rattle.arachne_weights.specs.declared.token.Token.{Token}
 use Rattle.arachne_weights.specs.Tokens.{held, spent}
 use Rattle.arachne_exec.specs.declared.view.Notes.{Notes}
 use Rattle.arachne_exec.specs.declared.view.SleepDeed.{SleepDeed}
-use Rattle.arachne_exec.specs.declared.view.SleepDeed.TheVariants.{LayDown, LayOn, Rose, Roused}
+use Rattle.arachne_exec.specs.declared.view.SleepDeed.TheVariants.{LayDown, Rose, Roused}
 use Rattle.arachne_exec.specs.First.{AreFirstWords}
 use Rattle.arachne_exec.specs.Changes.{blank, first_view, first_of, second_of, both_of}
-use Rattle.arachne_exec.specs.Layout.{idle_at, numbers_at, summary_at, ready_at, free_at, mark_at, words_of, in_word, others, last_generation}
+use Rattle.arachne_exec.specs.Layout.{idle_at, numbers_at, summary_at, ready_at, free_at, mark_at, words_of, in_word, last_generation}
 
 -- the words, the jobs that are at home, and what seats know
 abbrev pub Board : Type 0
@@ -48,19 +47,16 @@ is_number job (some other) = one other job
 -- of a change of a sleep: 1 if that worker lay down, rose, or was roused
 abbrev pub lies_by : ℕ → SleepDeed → ℕ
 lies_by worker (LayDown other) = one other worker
-lies_by worker (LayOn other) = 0
 lies_by worker (Rose other) = 0
 lies_by worker (Roused other) = 0
 
 abbrev pub rises_by : ℕ → SleepDeed → ℕ
 rises_by worker (LayDown other) = 0
-rises_by worker (LayOn other) = 0
 rises_by worker (Rose other) = one other worker
 rises_by worker (Roused other) = 0
 
 abbrev pub rouses_by : ℕ → SleepDeed → ℕ
 rouses_by worker (LayDown other) = 0
-rouses_by worker (LayOn other) = 0
 rouses_by worker (Rose other) = 0
 rouses_by worker (Roused other) = one other worker
 
@@ -114,6 +110,18 @@ pub record IsBalanced (b : Board) : Type 0 where
       → by_all (λ (k : Notes). jobs_in job k.spawned) b.views ≡ by_all (λ (k : Notes). jobs_in job k.ended) b.views + by_all (λ (k : Notes). jobs_in job k.hand) b.views + at_home job b.homes
   pub placed : (place job : ℕ) → 0 < job
       → by_all (λ (k : Notes). times_at place job k.spawned) b.views ≡ by_all (λ (k : Notes). times_at place job k.ended) b.views + by_all (λ (k : Notes). times_at place job k.hand) b.views + is_at_home place job b.homes
+
+-- ---- whether a place has a job
+
+-- how many seats have claimed the place, and spawned no job there yet
+abbrev pub unspawned_by : ℕ → List (Token Notes) → ℕ
+unspawned_by place views = by_all (λ (k : Notes). one k.unspawned (place + 1)) views
+
+-- Each time that a job was spawned at a place, the place was freed, or isn't free. So a place that isn't free has a job
+-- that was spawned there, unless a seat in the midst of a call owes it one.
+pub record HasJobOrIsFree (blocks : ℕ) (b : Board) : Type 0 where
+  pub turns : (place : ℕ) → place < 64 * blocks
+      → by_all (λ (k : Notes). places_in place k.spawned) b.views + unspawned_by place b.views + is_free b.words place ≡ by_all (λ (k : Notes). times place k.freed) b.views + 1
 
 -- ---- wakes, and jobs that are blocked
 
@@ -201,32 +209,29 @@ pub record WakesSleepers (b : Board) : Type 0 where
 
 -- what each step keeps
 abbrev pub IsKept : ℕ → Board → Type 0
-IsKept shards b = HasOneKeeper (64 * shards) b × IsBalanced b × HearsWakes (64 * shards) b × CountsEnds (64 * shards) b × IsShown (64 * shards) b × WakesSleepers b
+IsKept shards b = HasOneKeeper (64 * shards) b × IsBalanced b × HasJobOrIsFree (64 * shards) b × HearsWakes (64 * shards) b × CountsEnds (64 * shards) b × IsShown (64 * shards) b × WakesSleepers b
 
 -- one is noted, or none
 abbrev pub Adds : {A : Type 0} → List A → List A → Type 0
 Adds before after = (after ≡ before) ⊎ ((x : _) × (after ≡ x ∷ before))
 
--- a block's free word has changed, or a bit of its ready word was cleared
+-- the worker numbers have changed, or a bit of a block's ready word was cleared
 abbrev pub HasChanged : (word found put : ℕ) → Type 0
-HasChanged word found put = (block : ℕ) × (((word ≡ free_at block) × (found ≢ put)) ⊎ ((word ≡ ready_at block) × (i : ℕ) × (bit_at found i ≡ 1) × (bit_at put i ≡ 0)))
+HasChanged word found put = ((word ≡ numbers_at) × (found ≢ put)) ⊎ ((block : ℕ) × (word ≡ ready_at block) × (i : ℕ) × (bit_at found i ≡ 1) × (bit_at put i ≡ 0))
 
--- one bit was cleared or set, or none
-abbrev pub ChangesOne : (found put : ℕ) → Type 0
-ChangesOne found put = (put ≡ found) ⊎ ((i : ℕ) × ((put ≡ bit_and found (others i)) ⊎ (put ≡ bit_or found (2 ^ i))))
-
--- A seat that knew k made a step on a word, found that number there and put that one, and knows l. It has noted the one or
--- the other of the word, or nothing unless a free word has changed or a ready bit was cleared. What it had noted stays. A
--- free word changes by one bit.
+-- A seat that knew k made a step on a word, found that number there and put that one, and knows l. It has noted what it
+-- found, or of a mark what it put, or nothing unless the worker numbers have changed or a ready bit was cleared. What it
+-- had noted stays. If it owed a job at a place, it owes it still, unless it has spawned one.
 pub record IsTold (word found put : ℕ) (k l : Notes) : Type 0 where
-  pub looks : (l.looks ≡ (word, found) ∷ k.looks) ⊎ (l.looks ≡ (word, put) ∷ k.looks) ⊎ ((l.looks ≡ k.looks) × ¬ HasChanged word found put)
-  pub one_bit : (block : ℕ) → word ≡ free_at block → ChangesOne found put
+  pub looks : (l.looks ≡ (word, found) ∷ k.looks) ⊎ ((place : ℕ) × (word ≡ mark_at place) × (l.looks ≡ (word, put) ∷ k.looks)) ⊎ ((l.looks ≡ k.looks) × ¬ HasChanged word found put)
   pub spawned : Adds k.spawned l.spawned
+  pub owed_job : (l.unspawned ≡ k.unspawned) ⊎ (k.unspawned ≡ 0) ⊎ ((x : ℕ × ℕ) × (l.spawned ≡ x ∷ k.spawned))
   pub ended : Adds k.ended l.ended
   pub woken : Adds k.woken l.woken
   pub heard : Adds k.heard l.heard
   pub blocked : Adds k.blocked l.blocked
   pub unblocked : Adds k.unblocked l.unblocked
+  pub freed : Adds k.freed l.freed
   pub sleeps : Adds k.sleeps l.sleeps
   pub splits : l.splits ≡ k.splits
 
@@ -254,6 +259,7 @@ pub record IsLawful (shards : ℕ) (b : Board) : Type 0 where
   pub came : HasCome shards b
   pub keeper : HasOneKeeper (64 * shards) b
   pub balance : IsBalanced b
+  pub turns : HasJobOrIsFree (64 * shards) b
   pub hears : HearsWakes (64 * shards) b
   pub names : CountsEnds (64 * shards) b
   pub shows : IsShown (64 * shards) b

@@ -144,12 +144,8 @@ HasRested (rested.Ready unpark) place k after = (mark : ℕ)
     × (((mark % 4 ≢ 0) × (after ≡ rousing unpark (worker_at place) (laying_down (noted (mark_at place) mark k))))
     ⊎ ((then : ℕ) × (then ≢ mark) × (after ≡ rousing unpark (worker_at place) (laying_down (noted (mark_at place) then (noted (mark_at place) mark k))))))
 
--- the place got the next generation, and then its bit stood in the free word
-abbrev pub HasFreed : (place mark : ℕ) → List (ℕ × ℕ) → Type 0
-HasFreed place mark looks = (free : ℕ) × (bit_at free (place % 64) ≡ 1) × (looks ≡ (free_at (place / 64), free) ∷ (mark_at place, 4 * (mark / 4 + 1)) ∷ [])
-
--- The job of the newest place has ended, where this mark was found first. A place is retired, that is, blocked for ever,
--- where no name has the next generation.
+-- The job of the newest place has ended, where this mark was found first. The place got the next generation and is free.
+-- Where no name has the next generation it is retired, that is, blocked for ever.
 pub record HasFinished (place : ℕ) (k after : Notes) : Type 0 where
   pub mark : ℕ
   pub then : List (ℕ × ℕ)
@@ -160,9 +156,11 @@ pub record HasFinished (place : ℕ) (k after : Notes) : Type 0 where
     ended = (place, newest_job k.hand) ∷ k.ended;
     heard = heard_more (heard % 2) place k.heard;
     blocked = after.blocked;
+    freed = after.freed;
     looks = after.looks;
   }
-  pub retired : ((mark / 4 + 1 < last_generation) × (after.blocked ≡ k.blocked) × HasFreed place mark then) ⊎ ((last_generation ≤ mark / 4 + 1) × (after.blocked ≡ place ∷ k.blocked) × (then ≡ []))
+  pub retired : ((mark / 4 + 1 < last_generation) × (after.blocked ≡ k.blocked) × (after.freed ≡ place ∷ k.freed) × (then ≡ (mark_at place, 4 * (mark / 4 + 1)) ∷ []))
+      ⊎ ((last_generation ≤ mark / 4 + 1) × (after.blocked ≡ place ∷ k.blocked) × (after.freed ≡ k.freed) × (then ≡ []))
 
 -- the mark at the place was found not to be of this generation; or there is no such place, or no such generation
 abbrev pub IsGone : ℕ → ℕ → ℕ → Notes → Notes → Type 0
@@ -204,15 +202,15 @@ HasWokenHere here.Already places place generation k after = IsAlready place gene
 HasWokenHere here.Gone places place generation k after = IsGone places place generation k after
 HasWokenHere here.Lost places place generation k after = IsLost place generation k after
 
--- none is a look at a free word
-abbrev pub AreNoneFree : List (ℕ × ℕ) → Type 0
-AreNoneFree [] = Unit {0}
-AreNoneFree (look ∷ looks) = ((block : ℕ) → look.0 ≢ free_at block) × AreNoneFree looks
+-- each is a look at a summary or a ready word
+abbrev pub AreForJobs : List (ℕ × ℕ) → Type 0
+AreForJobs [] = Unit {0}
+AreForJobs (look ∷ looks) = (((shard : ℕ) × (look.0 ≡ summary_at shard)) ⊎ ((block : ℕ) × (look.0 ≡ ready_at block))) × AreForJobs looks
 
--- it has looked at words but free ones, and has cleared the idle bit of that worker so often to wake it, and of no other;
--- nothing else has changed
+-- it has looked at summary and ready words, and has cleared the idle bit of that worker so often to wake it, and of no
+-- other; nothing else has changed
 abbrev pub HasLooked : ℕ → Notes → Notes → Type 0
-HasLooked worker k after = (n : ℕ) × (looks : List (ℕ × ℕ)) × AreNoneFree looks × (after ≡ record k { looks = looks ++ k.looks; sleeps = often n worker k.sleeps })
+HasLooked worker k after = (n : ℕ) × (looks : List (ℕ × ℕ)) × AreForJobs looks × (after ≡ record k { looks = looks ++ k.looks; sleeps = often n worker k.sleeps })
 
 -- it has looked, and then taken a job of a block of that shard, one of so many
 abbrev pub HasTakenInShard : HeldJob → (shards shard : ℕ) → Notes → Notes → Type 0

@@ -6,12 +6,12 @@ use Rattle.arachne_weights.specs.Tokens.{held}
 use Rattle.arachne_weights.specs.Weight.{whole, first_part, second_part, joined}
 use Rattle.arachne_exec.specs.declared.view.Notes.{Notes}
 use Rattle.arachne_exec.specs.declared.view.SleepDeed.{SleepDeed}
-use Rattle.arachne_exec.specs.declared.view.SleepDeed.TheVariants.{LayDown, LayOn, Rose, Roused}
+use Rattle.arachne_exec.specs.declared.view.SleepDeed.TheVariants.{LayDown, Rose, Roused}
 use Rattle.arachne_exec.specs.Layout.{idle_at, mark_at}
 
 -- a seat that has done nothing
 abbrev pub blank : Notes
-blank = record { hand = []; spawned = []; ended = []; woken = []; heard = []; blocked = []; unblocked = []; sleeps = []; looks = []; unshown = 0; owes = 0; worker = 0; seen = 0; splits = 0 }
+blank = record { hand = []; spawned = []; ended = []; woken = []; heard = []; blocked = []; unblocked = []; freed = []; sleeps = []; looks = []; unspawned = 0; unshown = 0; owes = 0; worker = 0; seen = 0; splits = 0 }
 
 -- the first seat has the whole weight
 abbrev pub first_view : Token Notes
@@ -39,20 +39,27 @@ gaining jobs k = record k { hand = jobs ++ k.hand }
 abbrev pub unblocking : ℕ → ℕ → Notes → Notes
 unblocking place job k = record k { hand = (place, job) ∷ k.hand; unblocked = place ∷ k.unblocked }
 
--- the newest place is ready or free, or it is blocked, and out of hand
+-- a free place comes into the hand: a job is to be spawned there
+abbrev pub claiming : ℕ → Notes → Notes
+claiming place k = record k { hand = (place, 0) ∷ k.hand; unspawned = place + 1 }
+
+-- the newest place is ready, or it is free, or it is blocked, and out of hand
 abbrev pub laying_down : Notes → Notes
 laying_down k = record k { hand = older k.hand }
+
+abbrev pub freeing : Notes → Notes
+freeing k = record k { hand = older k.hand; freed = newest_place k.hand ∷ k.freed }
 
 abbrev pub blocking : Notes → Notes
 blocking k = record k { hand = older k.hand; blocked = newest_place k.hand ∷ k.blocked }
 
 -- the newest place got this job, is ready, and out of hand
 abbrev pub spawning : ℕ → Notes → Notes
-spawning job k = record k { hand = older k.hand; spawned = (newest_place k.hand, job) ∷ k.spawned }
+spawning job k = record k { hand = older k.hand; spawned = (newest_place k.hand, job) ∷ k.spawned; unspawned = 0 }
 
 -- the newest place got this job, and stays in hand
 abbrev pub beginning : ℕ → Notes → Notes
-beginning job k = record k { hand = (newest_place k.hand, job) ∷ older k.hand; spawned = (newest_place k.hand, job) ∷ k.spawned }
+beginning job k = record k { hand = (newest_place k.hand, job) ∷ older k.hand; spawned = (newest_place k.hand, job) ∷ k.spawned; unspawned = 0 }
 
 -- the job of the newest place, which this is, has ended, and the place stays in hand without one
 abbrev pub ending : ℕ → Notes → Notes
@@ -103,7 +110,7 @@ often (suc n) worker sleeps = Roused worker ∷ often n worker sleeps
 -- a worker has found its idle bit so (0: clear, 1: set), and set it: it lies down where it was clear
 abbrev pub lain_more : ℕ → ℕ → List SleepDeed → List SleepDeed
 lain_more zero worker sleeps = LayDown worker ∷ sleeps
-lain_more (suc n) worker sleeps = LayOn worker ∷ sleeps
+lain_more (suc n) worker sleeps = sleeps
 
 -- the idle word was found to be that number, and the worker has set its bit there, and seen none of its summary words
 -- since
@@ -155,6 +162,7 @@ together k l = record k {
   heard = k.heard ++ l.heard;
   blocked = k.blocked ++ l.blocked;
   unblocked = k.unblocked ++ l.unblocked;
+  freed = k.freed ++ l.freed;
   sleeps = k.sleeps ++ l.sleeps;
   looks = k.looks ++ l.looks;
   splits = k.splits + l.splits;

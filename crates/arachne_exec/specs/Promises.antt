@@ -6,7 +6,7 @@ use lib.ListN.{get_elem?}
 use Rattle.arachne_weights.specs.declared.token.Token.{Token}
 use Rattle.arachne_exec.specs.declared.view.Notes.{Notes}
 use Rattle.arachne_exec.specs.Layout.{numbers_at, summary_at, ready_at, mark_at, in_word}
-use Rattle.arachne_exec.specs.Board.{Board, by_all, times, jobs_in, times_at, is_at_home, is_free, is_ready, is_blocked, is_idle, in_hands, unshown_by, owed}
+use Rattle.arachne_exec.specs.Board.{Board, by_all, times, places_in, jobs_in, times_at, is_at_home, is_free, is_ready, is_blocked, is_idle, in_hands, unshown_by, owed}
 use Rattle.arachne_exec.specs.Calls.{HasSeenAll}
 
 -- the place's job is neither blocked nor in the hand of a seat, and the place isn't free
@@ -70,6 +70,13 @@ ended_at place job b = by_all (λ (k : Notes). times_at place job k.ended) b.vie
 
 abbrev pub lives_at : ℕ → ℕ → Board → ℕ
 lives_at place job b = by_all (λ (k : Notes). times_at place job k.hand) b.views + is_at_home place job b.homes
+
+-- a job was spawned at the place, or the place was freed
+abbrev pub spawns_at : ℕ → Board → ℕ
+spawns_at place b = by_all (λ (k : Notes). places_in place k.spawned) b.views
+
+abbrev pub frees_at : ℕ → Board → ℕ
+frees_at place b = by_all (λ (k : Notes). times place k.freed) b.views
 
 -- the place was blocked, or unblocked
 abbrev pub blocks : ℕ → Board → ℕ

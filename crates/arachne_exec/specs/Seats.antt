@@ -30,9 +30,11 @@ pub record CallView : Type 0 where
   pub known : Notes
   pub slots : List (ℕ × ℕ)
 
--- Between two calls the slots of the places in hand are out with the seat, and no other, and it owes nothing.
+-- Between two calls the slots of the places in hand are out with the seat, and no other, and it owes nothing: no job at a
+-- place that it has claimed, no bit and no look.
 pub record IsCalm (k : Notes) (slots : List (ℕ × ℕ)) : Type 0 where
   pub out : slots ≡ k.hand
+  pub spawned : k.unspawned ≡ 0
   pub shown : k.unshown ≡ 0
   pub debt : k.owes ≡ 0
 

@@ -1,13 +1,13 @@
 -- What each kind of step tells the seat that makes it: of the seat before, the number found and the seat after.
 use Rattle.std.specs.Prelude.{◌≡◌, ◌≢◌, ℕ, ◌+◌, ◌-◌, ◌*◌, ◌/◌, ◌%◌, ◌^◌, ◌<◌, ◌++◌, map, true, List, ◌∷◌}
 use Rattle.std.specs.Int.{bit_at}
-use Rattle.std.specs.Int.RustNames.{bit_and, bit_or}
+use Rattle.std.specs.Int.RustNames.{bit_and}
 use Rattle.atomic_table.specs.Table.{Me, Step, rest}
 use Rattle.arachne_weights.specs.declared.token.Token.{Token}
 use Rattle.arachne_weights.specs.Tokens.{held}
 use Rattle.arachne_exec.specs.declared.view.Notes.{Notes}
 use Rattle.arachne_exec.specs.Layout.{idle_at, summary_at, ready_at, free_at, mark_at, worker_of, others, places_in_word}
-use Rattle.arachne_exec.specs.Changes.{newest_place, newest_job, gained, gaining, unblocking, laying_down, blocking, spawning, beginning, ending, marking, hearing, noted, rousing, unshowing, owing, having_seen, lying, rising, working}
+use Rattle.arachne_exec.specs.Changes.{newest_place, newest_job, gained, gaining, unblocking, claiming, laying_down, freeing, blocking, spawning, beginning, ending, marking, hearing, noted, rousing, unshowing, owing, having_seen, lying, rising, working}
 
 -- a view, and the slots that are out with the seat: each a place with what is in it
 abbrev pub Mine : Type 0
@@ -40,15 +40,15 @@ abbrev pub TakesMany : Step ℕ → Mine → ℕ → Mine → Type 0
 TakesMany step before found after = (block pick : ℕ) → pick < 2 ^ 64 → step.word ≡ ready_at block → step.first ≡ 2 ^ 64 - 1 - pick
     → (jobs : List (ℕ × ℕ)) × (map (λ (x : ℕ × ℕ). x.0) jobs ≡ places_in_word block (bit_and found pick)) × (after ≡ with before (gaining jobs (noted step.word found before.0.known)) (jobs ++ before.1))
 
--- the same of the free word, where a place has no job
-abbrev pub Claims : (ℕ → ℕ) → Step ℕ → Mine → ℕ → Mine → Type 0
-Claims at step before found after = (place : ℕ) → step.word ≡ at (place / 64) → step.first ≡ others (place % 64)
-    → (bit_at found (place % 64) ≡ 1 → after ≡ with before (gained place 0 (noted step.word found before.0.known)) ((place, 0) ∷ before.1))
+-- the same of the free word: the place has no job, and the seat owes it one
+abbrev pub Claims : Step ℕ → Mine → ℕ → Mine → Type 0
+Claims step before found after = (place : ℕ) → step.word ≡ free_at (place / 64) → step.first ≡ others (place % 64)
+    → (bit_at found (place % 64) ≡ 1 → after ≡ with before (claiming place (noted step.word found before.0.known)) ((place, 0) ∷ before.1))
     × (bit_at found (place % 64) ≡ 0 → after ≡ knowing before (noted step.word found before.0.known))
 
--- the newest place is free, by its bit in the free word; the number that was put there is noted
+-- the newest place is free, by its bit in the free word
 abbrev pub Frees : Step ℕ → Mine → ℕ → Mine → Type 0
-Frees step before found after = (step.word ≡ free_at (newest_place before.0.known.hand / 64)) × (after ≡ with before (noted step.word (bit_or found step.first) (laying_down before.0.known)) (rest before.1))
+Frees step before found after = (step.word ≡ free_at (newest_place before.0.known.hand / 64)) × (after ≡ with before (freeing before.0.known) (rest before.1))
 
 -- the newest place is ready; where its block had no ready job, the bit in the summary word is owed
 abbrev pub Readies : Step ℕ → Mine → ℕ → Mine → Type 0
@@ -146,12 +146,12 @@ LooksNext step before found after =
 
 -- ---- worker numbers
 
--- the bit of a number is cleared: where it was set, the number is the seat's
+-- the number that was found is noted, and the bit of a worker number is cleared: where it was set, that is the seat's
 abbrev pub Registers : Step ℕ → Mine → ℕ → Mine → Type 0
 Registers step before found after = (worker : ℕ) → step.first ≡ others worker → worker < 64
-    → (bit_at found worker ≡ 1 → after ≡ knowing before (working (worker + 1) before.0.known))
+    → (bit_at found worker ≡ 1 → after ≡ knowing before (working (worker + 1) (noted step.word found before.0.known)))
     × (bit_at found worker ≡ 0 → after ≡ knowing before (noted step.word found before.0.known))
 
--- the seat has no number any more
+-- the seat has no worker number any more
 abbrev pub Leaves : Step ℕ → Mine → ℕ → Mine → Type 0
-Leaves step before found after = after ≡ knowing before (working 0 before.0.known)
+Leaves step before found after = after ≡ knowing before (working 0 (noted step.word found before.0.known))

@@ -88,7 +88,7 @@ impl Executor {
 
     fn take_in(&self, seat: &mut SeatInCall, other: SeatInCall)
         requires own { (seat.old.table ≡ self.now.table) × (other.table ≡ self.now.table) }
-        requires nothing { (other.slots ≡ []) × (other.known.hand ≡ []) × (other.known.worker ≡ 0) × (other.known.unshown ≡ 0) × (other.known.owes ≡ 0) }
+        requires nothing { (other.slots ≡ []) × (other.known.hand ≡ []) × (other.known.worker ≡ 0) × (other.known.unspawned ≡ 0) × (other.known.unshown ≡ 0) × (other.known.owes ≡ 0) }
         ensures { seat.new ≡ record seat.old { weight = joined seat.old.weight other.weight; known = together seat.old.known other.known } }
     {
         let _ = self.shards;

@@ -135,9 +135,9 @@ impl Executor {
         ensures hand { IfSome result (λ job. HandsOver (4096 * self.now.shards) job seat.old.known seat.new.known) }
         ensures same { IfNone result (KeepsHand seat.old.known seat.new.known) }
     {
-        let (from, begun) = seat.take_turn.first_place(block);
+        let from = seat.take_turn.first_place(block);
         let taken = self.take_from(seat, block, from)?;
-        Some(taken.in_block(begun, &mut seat.take_turn))
+        Some(taken.in_block(&mut seat.take_turn))
     }
 
     /// Makes the newest job in hand ready again. Returns true if the caller must unpark the worker of its place.

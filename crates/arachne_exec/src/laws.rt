@@ -12,18 +12,19 @@ ghost use Rattle.arachne_exec.specs.Layout.{last_generation, worker_of};
 ghost use Rattle.arachne_exec.specs.Changes.{laying_down, rousing};
 ghost use Rattle.arachne_exec.specs.Calls.{worker_at, HasSpawned, HasSpawnedHere, HasTaken, HasTakenNone, HasTakenMany, HasStarted, HasRested, HasFinished, HasWoken, HasWokenHere, HasAnswered};
 ghost use Rattle.arachne_exec.specs.Sleeps.{spawn_unparks, rest_unparks, wake_unparks, Rouses, RousesNobody, Sleeps};
-ghost use Rattle.arachne_exec.specs.Board.{Board, HasCome, IsLawful, at_home, is_ready, is_free, is_blocked, is_idle, seats_of, ends_at, lies, rises, rouses};
+ghost use Rattle.arachne_exec.specs.Board.{Board, HasCome, IsLawful, at_home, is_ready, is_free, is_blocked, is_idle, unspawned_by, seats_of, ends_at, lies, rises, rouses};
 ghost use Rattle.arachne_exec.specs.Promises.{IsReadyJob, IsEmptyPlace, keepers_of, HasReady, IsShownOrOwed, IsParked, AreOwedTo};
-ghost use Rattle.arachne_exec.specs.Promises.{spawns, ends, times_in_hand, spawned_at, ended_at, lives_at, blocks, unblocks, wakes, wakes_heard, is_marked, is_unused, generation_at};
+ghost use Rattle.arachne_exec.specs.Promises.{spawns, ends, times_in_hand, spawned_at, ended_at, lives_at, spawns_at, frees_at, blocks, unblocks, wakes, wakes_heard, is_marked, is_unused, generation_at};
 
 use crate::executor::Executor;
 use crate::seat::ExecSeat;
 
 /// A board comes about by one step after another. Each found what stood in its word, and kept the rest of the rule.
 ///
-/// A seat notes of a word only the number that its step found there or put there, and keeps what it has noted. Each change
-/// of a free word is noted and is of one bit, and so is each ready bit that is cleared. So a number that was noted was
-/// there, whatever the kind of the step says.
+/// A seat notes of a word only the number that its step found there, or of a mark the one that it put there, and keeps
+/// what it has noted. Each change of the worker numbers is noted, and each ready bit that is cleared. So a number that was
+/// noted was there, whatever the kind of the step says. A seat that has claimed a place owes it a job until it has spawned
+/// one.
 pub fn boards_come_by_steps()
     ensures { (shards : ℕ) (b : Board) → IsLawful shards b → HasCome shards b }
 {}
@@ -39,6 +40,14 @@ pub fn ready_jobs_are_shown()
 /// A free place has no job in its slot.
 pub fn free_places_are_empty()
     ensures { (shards : ℕ) (b : Board) → IsLawful shards b → (place : ℕ) → place < 4096 * shards → is_free b.words place ≡ 1 → IsEmptyPlace place b }
+{}
+
+/// Each time that a job was spawned at a place, the place was freed, or isn't free. A place that isn't free has one job
+/// more that was spawned there, or a seat in the midst of a call owes it one. So each ready job was spawned, and a call
+/// that spawns none takes no free place, not even for a time.
+pub fn jobs_are_spawned()
+    ensures { (shards : ℕ) (b : Board) → IsLawful shards b → (place : ℕ) → place < 4096 * shards
+        → spawns_at place b + unspawned_by place b.views + is_free b.words place ≡ frees_at place b + 1 }
 {}
 
 /// A block whose ready word isn't empty has its bit in the summary word of its shard, or a seat in the midst of a call

@@ -26,8 +26,9 @@ pub use answers::{
 pub use executor::Executor;
 pub use laws::{
     blocks_are_counted, boards_come_by_steps, calls_say_whom_they_rouse, executors_cross_threads,
-    free_places_are_empty, jobs_are_conserved, names_are_of_one_job, ready_blocks_are_shown,
-    ready_jobs_are_shown, sleepers_are_told, sleepers_are_woken, wakes_are_heard, workers_are_one,
+    free_places_are_empty, jobs_are_conserved, jobs_are_spawned, names_are_of_one_job,
+    ready_blocks_are_shown, ready_jobs_are_shown, sleepers_are_told, sleepers_are_woken,
+    wakes_are_heard, workers_are_one,
 };
 pub use layout::{
     BLOCKS_PER_SHARD, MOST_SHARDS, PLACES_PER_BLOCK, WORKERS, place_of, worker_of_place,

@@ -30,7 +30,7 @@ impl Executor {
         requires own { seat.old.table ≡ self.now.table }
         requires worker { (seat.old.known.worker ≡ 0) × (worker < 64) }
         ensures seat { seat.new ≡ record seat.old { known = seat.new.known } }
-        ensures registered { IsTrue result → seat.new.known ≡ working (worker + 1) seat.old.known }
+        ensures registered { IsTrue result → (numbers : ℕ) × (bit_at numbers worker ≡ 1) × (seat.new.known ≡ working (worker + 1) (noted numbers_at numbers seat.old.known)) }
         ensures taken { IsFalse result → (numbers : ℕ) × (bit_at numbers worker ≡ 0) × (seat.new.known ≡ noted numbers_at numbers seat.old.known) }
     {
         self.take_number(&mut seat.at, worker)
@@ -40,7 +40,7 @@ impl Executor {
     pub fn leave(&self, seat: &mut ExecSeat, worker: usize)
         requires own { seat.old.table ≡ self.now.table }
         requires worker { (seat.old.known.worker ≡ worker + 1) × (worker < 64) }
-        ensures { seat.new ≡ record seat.old { known = working 0 seat.old.known } }
+        ensures { (numbers : ℕ) × (seat.new ≡ record seat.old { known = working 0 (noted numbers_at numbers seat.old.known) }) }
     {
         self.give_number(&mut seat.at, worker);
     }
@@ -102,9 +102,9 @@ impl Executor {
         let mut left = seat.turn.unsearched(shard, shown);
         while let Some(index) = left.next() {
             let block = 64 * shard + index;
-            let (from, begun) = seat.turn.first_place(block);
+            let from = seat.turn.first_place(block);
             if let Some(taken) = self.take_from(seat, block, from) {
-                return Some(taken.in_turn(begun, &mut seat.turn, &left));
+                return Some(taken.in_turn(&mut seat.turn, &left));
             }
             let (hidden, _) = self.tidy(&mut seat.at, block);
             left.pass(hidden);

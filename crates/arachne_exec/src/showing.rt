@@ -58,6 +58,7 @@ impl Executor {
         requires own { seat.old.table ≡ self.now.table }
         requires place { place < 4096 * self.now.shards }
         requires newest { HasNewest place 0 job seat.old }
+        requires claimed { seat.old.known.unspawned ≡ place + 1 }
         requires calm { (seat.old.known.unshown ≡ 0) × (seat.old.known.owes ≡ 0) }
         ensures { seat.new ≡ record seat.old { known = rousing result (worker_of (place / 4096)) (spawning job seat.old.known); slots = rest seat.old.slots } }
     {

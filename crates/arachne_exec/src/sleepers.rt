@@ -150,7 +150,7 @@ impl Executor {
     pub(crate) fn take_number(&self, seat: &mut SeatInCall, worker: usize) -> bool
         requires own { seat.old.table ≡ self.now.table }
         requires worker { (seat.old.known.worker ≡ 0) × (worker < 64) }
-        ensures registered { IsTrue result → seat.new ≡ record seat.old { known = working (worker + 1) seat.old.known } }
+        ensures registered { IsTrue result → (n : ℕ) × (bit_at n worker ≡ 1) × (seat.new ≡ record seat.old { known = working (worker + 1) (noted numbers_at n seat.old.known) }) }
         ensures taken { IsFalse result → (n : ℕ) × (bit_at n worker ≡ 0) × (seat.new ≡ record seat.old { known = noted numbers_at n seat.old.known }) }
     {
         let _ = self.shards;
@@ -163,7 +163,7 @@ impl Executor {
     pub(crate) fn give_number(&self, seat: &mut SeatInCall, worker: usize)
         requires own { seat.old.table ≡ self.now.table }
         requires worker { (seat.old.known.worker ≡ worker + 1) × (worker < 64) }
-        ensures seat { seat.new ≡ record seat.old { known = working 0 seat.old.known } }
+        ensures seat { (n : ℕ) × (seat.new ≡ record seat.old { known = working 0 (noted numbers_at n seat.old.known) }) }
     {
         let _ = self.shards;
         let shared = &self.table.shared;

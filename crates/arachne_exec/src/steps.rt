@@ -41,10 +41,9 @@ impl Play<u64, View> for TakeMany {
 pub(crate) struct ClaimBit;
 
 impl Play<u64, View> for ClaimBit {
-    ghost use Rattle.arachne_exec.specs.Layout.{free_at};
     ghost use Rattle.arachne_exec.specs.Steps.{Claims};
 
-    ghost then = { Claims free_at };
+    ghost then = { Claims };
 }
 
 pub(crate) struct PutFree;

@@ -108,19 +108,13 @@ impl TakenJob {
     }
 
     /// Returns the job that a search of its worker's blocks has taken. The next search begins behind its place.
-    pub(crate) fn in_turn(
-        self,
-        begun: SearchBegun,
-        turn: &mut SearchTurn,
-        left: &Unsearched,
-    ) -> HeldJob
+    pub(crate) fn in_turn(self, turn: &mut SearchTurn, left: &Unsearched) -> HeldJob
         requires { self.job.place < 1048576 }
         ensures job { result ≡ self.job }
         ensures in_block { self.more ≡ true → turn.new.place ≡ self.job.place + 1 }
         ensures in_shard { self.more ≡ false → HasMoreBehind left.now (self.job.place / 64 % 64) → turn.new.place ≡ self.job.place - self.job.place % 64 + 64 }
         ensures next_shard { self.more ≡ false → ¬ HasMoreBehind left.now (self.job.place / 64 % 64) → turn.new.place ≡ self.job.place - self.job.place % 4096 + 262144 }
     {
-        let _ = begun;
         let TakenJob { job, more } = self;
         let in_shard = left.has_more(job.place / 64 % 64);
         *turn = SearchTurn::behind(job.place, more, in_shard);
@@ -128,11 +122,10 @@ impl TakenJob {
     }
 
     /// Returns the job of a take. The next take begins behind its index.
-    pub(crate) fn in_block(self, begun: TakeBegun, turn: &mut TakeTurn) -> HeldJob
+    pub(crate) fn in_block(self, turn: &mut TakeTurn) -> HeldJob
         ensures job { result ≡ self.job }
         ensures index { turn.new.index ≡ self.job.place % 64 + 1 }
     {
-        let _ = begun;
         let TakenJob { job, more: _ } = self;
         turn.index = job.place % 64 + 1;
         job
@@ -144,20 +137,6 @@ impl TakenJob {
 pub(crate) struct First {
     index: usize,
     block: Snapshot<usize>,
-}
-
-/// The proof that a block is taken from at the index of the seat's [`TakeTurn`]. Only [`TakeTurn::first_place`] gives
-/// one.
-#[derive(Drop)]
-pub(crate) struct TakeBegun {
-    by: (),
-}
-
-/// The proof that a block is searched from the index of the worker's [`SearchTurn`] on. Only
-/// [`SearchTurn::first_place`] gives one.
-#[derive(Drop)]
-pub(crate) struct SearchBegun {
-    by: (),
 }
 
 impl First {
@@ -186,15 +165,14 @@ impl TakeTurn {
 
     /// Which place of a block comes first.
     #[inline(always)]
-    pub(crate) fn first_place(&self, block: usize) -> (First, TakeBegun)
-        ensures index { result.0.index ≡ self.now.index }
-        ensures block { result.0.block.value ≡ block }
+    pub(crate) fn first_place(&self, block: usize) -> First
+        ensures index { result.index ≡ self.now.index }
+        ensures block { result.block.value ≡ block }
     {
-        let first = First {
+        First {
             index: self.index,
             block: Snapshot::of(&block),
-        };
-        (first, TakeBegun { by: () })
+        }
     }
 }
 
@@ -265,20 +243,19 @@ impl SearchTurn {
     }
 
     /// Which place of a block comes first.
-    pub(crate) fn first_place(&self, block: usize) -> (First, SearchBegun)
-        ensures turn { self.now.place / 64 ≡ block → result.0.index ≡ self.now.place % 64 }
-        ensures other { self.now.place / 64 ≢ block → result.0.index ≡ 0 }
-        ensures block { result.0.block.value ≡ block }
+    pub(crate) fn first_place(&self, block: usize) -> First
+        ensures turn { self.now.place / 64 ≡ block → result.index ≡ self.now.place % 64 }
+        ensures other { self.now.place / 64 ≢ block → result.index ≡ 0 }
+        ensures block { result.block.value ≡ block }
     {
         let index = if self.place / 64 == block {
             self.place % 64
         } else {
             0
         };
-        let first = First {
+        First {
             index,
             block: Snapshot::of(&block),
-        };
-        (first, SearchBegun { by: () })
+        }
     }
 }

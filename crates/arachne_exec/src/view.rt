@@ -6,8 +6,6 @@ use std::collections::LinkedList;
 pub enum SleepDeed {
     /// The worker's seat has set its idle bit, which was clear.
     LayDown(u64),
-    /// The worker's seat has set its idle bit, which was set.
-    LayOn(u64),
     /// The worker's seat has cleared its idle bit, which was set.
     Rose(u64),
     /// A seat has found the worker's idle bit set, and cleared it to wake the worker.
@@ -27,10 +25,14 @@ pub struct Notes {
     /// The places that it has blocked, or retired, and those that it has found blocked, and got.
     pub blocked: LinkedList<u64>,
     pub unblocked: LinkedList<u64>,
+    /// The places that it has freed.
+    pub freed: LinkedList<u64>,
     /// Its changes of workers' sleeps.
     pub sleeps: LinkedList<SleepDeed>,
     /// The numbers that it has found in words, or put there, each with its word.
     pub looks: LinkedList<(usize, u64)>,
+    /// One more than the place that it has claimed, and at which it has spawned no job yet. 0: none.
+    pub unspawned: u64,
     /// One more than the block whose bit in the summary word it owes. 0: none.
     pub unshown: u64,
     /// One more than the shard for whose worker it owes a look at the idle word. 0: none.

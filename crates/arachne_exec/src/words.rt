@@ -4,7 +4,7 @@ ghost use Rattle.std.specs.Prelude.{◌≡◌, ◌≢◌, ℕ, ◌+◌, ◌-◌,
 ghost use Rattle.std.specs.Int.{bit_at};
 ghost use Rattle.atomic_table.specs.Table.{rest};
 ghost use Rattle.arachne_exec.specs.Layout.{ready_at, free_at, mark_at, words_of, last_generation};
-ghost use Rattle.arachne_exec.specs.Changes.{gained, unblocking, laying_down, blocking, spawning, beginning, ending, marking, hearing, noted, unshowing};
+ghost use Rattle.arachne_exec.specs.Changes.{gained, unblocking, claiming, laying_down, freeing, blocking, spawning, beginning, ending, marking, hearing, noted, unshowing};
 ghost use Rattle.arachne_exec.specs.Seats.{HasNewest, HasFoundMark};
 ghost use Rattle.arachne_exec.specs.Calls.{HasTakenBits};
 
@@ -73,11 +73,13 @@ impl Executor {
         found & pick
     }
 
-    /// Clears the free bit of a place. Returns true if it was set: then the place is in the seat's hand.
+    /// Clears the free bit of a place. Returns true if it was set: then the place is in the seat's hand, and a job is to
+    /// be spawned there.
     pub(crate) fn claim_bit(&self, seat: &mut SeatInCall, place: usize) -> bool
         requires own { seat.old.table ≡ self.now.table }
         requires place { place < 4096 * self.now.shards }
-        ensures took { IsTrue result → (n : ℕ) × (bit_at n (place % 64) ≡ 1) × (seat.new ≡ record seat.old { known = gained place 0 (noted (free_at (place / 64)) n seat.old.known); slots = (place, 0) ∷ seat.old.slots }) }
+        requires spawned { seat.old.known.unspawned ≡ 0 }
+        ensures took { IsTrue result → (n : ℕ) × (bit_at n (place % 64) ≡ 1) × (seat.new ≡ record seat.old { known = claiming place (noted (free_at (place / 64)) n seat.old.known); slots = (place, 0) ∷ seat.old.slots }) }
         ensures missed { IsFalse result → (n : ℕ) × (bit_at n (place % 64) ≡ 0) × (seat.new ≡ record seat.old { known = noted (free_at (place / 64)) n seat.old.known }) }
     {
         let _ = self.shards;
@@ -96,7 +98,7 @@ impl Executor {
         requires own { seat.old.table ≡ self.now.table }
         requires place { place < 4096 * self.now.shards }
         requires newest { HasNewest place 0 0 seat.old }
-        ensures seat { (n : ℕ) × (bit_at n (place % 64) ≡ 1) × (seat.new ≡ record seat.old { known = noted (free_at (place / 64)) n (laying_down seat.old.known); slots = rest seat.old.slots }) }
+        ensures seat { seat.new ≡ record seat.old { known = freeing seat.old.known; slots = rest seat.old.slots } }
     {
         let _ = self.shards;
         let shared = &self.table.shared;
@@ -122,6 +124,7 @@ impl Executor {
         requires own { seat.old.table ≡ self.now.table }
         requires place { place < 4096 * self.now.shards }
         requires newest { HasNewest place 0 job seat.old }
+        requires claimed { seat.old.known.unspawned ≡ place + 1 }
         requires shown { seat.old.known.unshown ≡ 0 }
         ensures first { IsTrue result → seat.new ≡ record seat.old { known = unshowing (place / 64 + 1) (spawning job seat.old.known); slots = rest seat.old.slots } }
         ensures more { IsFalse result → seat.new ≡ record seat.old { known = spawning job seat.old.known; slots = rest seat.old.slots } }
@@ -136,6 +139,7 @@ impl Executor {
         requires own { seat.old.table ≡ self.now.table }
         requires place { place < 4096 * self.now.shards }
         requires newest { HasNewest place 0 job seat.old }
+        requires claimed { seat.old.known.unspawned ≡ place + 1 }
         ensures seat { seat.new ≡ record seat.old { known = beginning job (noted (mark_at place) result seat.old.known) } }
     {
         let _ = self.shards;

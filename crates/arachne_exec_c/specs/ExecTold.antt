@@ -147,9 +147,9 @@ pub record WakesHere (name : ℕ) (old new : Exec) (answer : WokenHere) : Type 0
   pub stays : new ≡ now old new.seat.known (place_of_job (job_woken answer))
   pub did : HasWokenHere answer (4096 * old.executor.shards) (name % 2 ^ 20) (name / 2 ^ 20) old.seat.known new.seat.known
 
--- the seat is the worker of this number less one, or no worker if it is 0
-abbrev pub as_worker : Exec → ℕ → Exec
-as_worker exec number = record { executor = exec.executor; seat = record exec.seat { known = working number exec.seat.known }; hand = exec.hand; more = exec.more; worker = number }
+-- the word of worker numbers was found so, and the seat is the worker of this number less one, or no worker if it is 0
+abbrev pub as_worker : Exec → (number numbers : ℕ) → Exec
+as_worker exec number numbers = record { executor = exec.executor; seat = record exec.seat { known = working number (noted numbers_at numbers exec.seat.known) }; hand = exec.hand; more = exec.more; worker = number }
 
 -- ---- a call by the seat that a handle holds, if it holds one
 
@@ -190,12 +190,20 @@ Finishes place old new told = Ends place old new × (told ≡ code.done)
 abbrev pub IsTaken : ℕ → Exec → Exec → Type 0
 IsTaken worker old new = (numbers : ℕ) × (bit_at numbers worker ≡ 0) × (new ≡ now old (noted numbers_at numbers old.seat.known) old.hand)
 
+-- the number's bit was found set: the seat has the number
+abbrev pub IsGiven : ℕ → Exec → Exec → Type 0
+IsGiven worker old new = (numbers : ℕ) × (bit_at numbers worker ≡ 1) × (new ≡ as_worker old (worker + 1) numbers)
+
 -- Lost: another seat has that number
 abbrev pub Registers : ℕ → Exec → Exec → ℕ → Type 0
-Registers worker old new told = ((told ≡ code.done) × (new ≡ as_worker old (worker + 1))) ⊎ ((told ≡ code.lost) × IsTaken worker old new)
+Registers worker old new told = ((told ≡ code.done) × IsGiven worker old new) ⊎ ((told ≡ code.lost) × IsTaken worker old new)
+
+-- the seat is no worker any more
+abbrev pub HasLeft : Exec → Exec → Type 0
+HasLeft old new = (numbers : ℕ) × (new ≡ as_worker old 0 numbers)
 
 abbrev pub Leaves : Exec → Exec → ℕ → Type 0
-Leaves old new told = (told ≡ code.done) × (new ≡ as_worker old 0)
+Leaves old new told = (told ≡ code.done) × HasLeft old new
 
 abbrev pub MayTake : ℕ → Exec → Type 0
 MayTake block old = IsEmptyHanded old × HasBlock block old

@@ -9,7 +9,7 @@ ghost use Rattle.arachne_exec.specs.Layout.{summary_at, ready_at};
 ghost use Rattle.arachne_exec_c.specs.Executing.{Exec, HasBlock, HasShard, IsEmptyHanded, IsIdle, IsNew, IsNoWorker, IsWorker, now, lowest_place, without_lowest, first_of, second_of, joined_of};
 ghost use Rattle.arachne_exec_c.specs.Codes.{refused, no_memory};
 ghost use Rattle.arachne_exec_c.specs.ExecEnd.{HasEnded};
-ghost use Rattle.arachne_exec_c.specs.ExecTold.{Spawns, SpawnsHere, LooksAt, Takes, TakesMany, Starts, GoesOn, Rests, Yields, Ends, Wakes, WakesHere, IsTaken, MayTake, MayGoOn, as_worker};
+ghost use Rattle.arachne_exec_c.specs.ExecTold.{Spawns, SpawnsHere, LooksAt, Takes, TakesMany, Starts, GoesOn, Rests, Yields, Ends, Wakes, WakesHere, IsGiven, IsTaken, HasLeft, MayTake, MayGoOn};
 
 use crate::codes::{NO_MEMORY, REFUSED};
 use arachne_exec::{
@@ -250,7 +250,7 @@ impl Executing {
     pub(crate) fn register(&mut self, worker: usize) -> bool
         requires none { IsNoWorker self.old }
         requires worker { worker < 64 }
-        ensures registered { IsTrue result → self.new ≡ as_worker self.old (worker + 1) }
+        ensures registered { IsTrue result → IsGiven worker self.old self.new }
         ensures taken { IsFalse result → IsTaken worker self.old self.new }
     {
         if !self.executor.register(&mut self.seat, worker) {
@@ -262,7 +262,7 @@ impl Executing {
 
     pub(crate) fn leave(&mut self)
         requires { IsWorker self.old }
-        ensures { self.new ≡ as_worker self.old 0 }
+        ensures { HasLeft self.old self.new }
     {
         self.executor.leave(&mut self.seat, self.worker - 1);
         self.worker = 0;

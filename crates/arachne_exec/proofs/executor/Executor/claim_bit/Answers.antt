@@ -1,12 +1,12 @@
 use Rattle.std.proofs.Common.{ℕ, ◌%◌, ◌∙◌, ◌∷◌}
-use Rattle.arachne_exec.specs.Changes.{gained, noted}
+use Rattle.arachne_exec.specs.Changes.{claiming, noted}
 use Rattle.arachne_exec.specs.Seats.{CallView}
 use Rattle.arachne_exec.proofs.Allowed.{bit_true, claim-asks}
 use Rattle.arachne_exec.proofs.Told.{told-view}
 use Rattle.arachne_exec.proofs.executor.Executor.claim_bit.Goals as goal
 
 pub fetch_and-found-requires : goal.fetch_and-found-requires
-fetch_and-found-requires c = claim-asks _ _ _ c.self.invariant _ c.self.view_is _ _ _ c.seat.invariant _ c.seat.view_is c.requires.own c.args.place c.requires.place _ _ c.free_word.ensures c.all_but.ensures
+fetch_and-found-requires c = claim-asks _ _ _ c.self.invariant _ c.self.view_is _ _ _ c.seat.invariant _ c.seat.view_is c.requires.own c.args.place c.requires.place _ c.requires.spawned _ c.free_word.ensures c.all_but.ensures
 
 pub returns-clause-took : goal.returns-clause-took
 returns-clause-took c = λ e.
@@ -15,6 +15,6 @@ returns-clause-took c = λ e.
       n,
       there,
       told-view c.seat.inside.seat.table_id c.fetch_and-found.new.seat.table_id c.seat.inside.seat.me c.fetch_and-found.new.seat.me c.args.seat.now c.seat.view_is c.fetch_and-found.ensures.0
-          (λ k. gained place 0 (noted c.free_word.result n k)) (λ l. (place, 0) ∷ l) got
-          ∙ (λ i. record old { known = gained place 0 (noted (c.free_word.ensures i) n old.known); slots = (place, 0) ∷ old.slots }),
+          (λ k. claiming place (noted c.free_word.result n k)) (λ l. (place, 0) ∷ l) got
+          ∙ (λ i. record old { known = claiming place (noted (c.free_word.ensures i) n old.known); slots = (place, 0) ∷ old.slots }),
     )

@@ -1,7 +1,7 @@
 use Rattle.std.proofs.Common.{◌≡◌, ℕ, ◌+◌, ◌*◌, ◌/◌, ◌%◌, ◌∙◌, inl, inr, [], ◌∷◌, ap, refl, arith}
 use Rattle.arachne_exec.specs.declared.view.Notes.{Notes}
-use Rattle.arachne_exec.specs.Layout.{free_at, mark_at}
-use Rattle.arachne_exec.specs.Changes.{laying_down, noted, blocking, ending, hearing}
+use Rattle.arachne_exec.specs.Layout.{mark_at}
+use Rattle.arachne_exec.specs.Changes.{freeing, noted, blocking, ending, hearing}
 use Rattle.arachne_exec.proofs.Chains.{ended}
 use Rattle.arachne_exec.proofs.executor.Executor.finish.Goals.{After-lay-generation}
 use Rattle.arachne_exec.proofs.executor.Executor.finish.Goals as goal
@@ -23,14 +23,14 @@ pub returns-then-generation-ge-LAST_GENERATION-clause-ended : goal.returns-then-
 returns-then-generation-ge-LAST_GENERATION-clause-ended c =
     let place : ℕ = c.args.place in let mark : ℕ = c.look-mark.result in let k : Notes = c.args.seat.now.known in
     let found = saw (goal.at.returns-then-generation-ge-LAST_GENERATION-clause-ended c).After-lay-generation in let gone = c.retire.ensures.seat in
-    ended place mark gone.0 [] (place ∷ k.blocked) k c.retire.new.seat.known
+    ended place mark gone.0 [] (place ∷ k.blocked) k.freed k c.retire.new.seat.known
     (ap (λ v. v.known) gone.1 ∙ ap (λ z. blocking (ending place (hearing (gone.0 % 2) place z))) found)
-    (inr (omega (arith, c.if-generation-ge-LAST_GENERATION.true), refl, refl))
+    (inr (omega (arith, c.if-generation-ge-LAST_GENERATION.true), refl, refl, refl))
 
 pub returns-clause-ended : goal.returns-clause-ended
 returns-clause-ended c =
     let place : ℕ = c.args.place in let mark : ℕ = c.look-mark.result in let k : Notes = c.args.seat.now.known in
-    let found = saw (goal.at.returns-clause-ended c).After-lay-generation in let new = c.renew.ensures.seat in let free = c.put_free.ensures.seat in
-    ended place mark new.0 ((free_at (place / 64), free.0) ∷ (mark_at place, 4 * (mark / 4 + 1)) ∷ []) k.blocked k c.put_free.new.seat.known
-    (ap (λ v. v.known) free.2 ∙ ap (λ v. noted (free_at (place / 64)) free.0 (laying_down v.known)) new.1 ∙ ap (λ z. noted (free_at (place / 64)) free.0 (laying_down (noted (mark_at place) (4 * (mark / 4 + 1)) (ending place (hearing (new.0 % 2) place z))))) found)
-    (inl (omega (arith, c.if-generation-ge-LAST_GENERATION.false), refl, (free.0, free.1, refl)))
+    let found = saw (goal.at.returns-clause-ended c).After-lay-generation in let new = c.renew.ensures.seat in
+    ended place mark new.0 ((mark_at place, 4 * (mark / 4 + 1)) ∷ []) k.blocked (place ∷ k.freed) k c.put_free.new.seat.known
+    (ap (λ v. v.known) c.put_free.ensures.seat ∙ ap (λ v. freeing v.known) new.1 ∙ ap (λ z. freeing (noted (mark_at place) (4 * (mark / 4 + 1)) (ending place (hearing (new.0 % 2) place z)))) found)
+    (inl (omega (arith, c.if-generation-ge-LAST_GENERATION.false), refl, refl, refl))

@@ -1,7 +1,7 @@
-use Rattle.std.proofs.Common.{◌≡◌, ℕ, ◌+◌, ◌*◌, ◌/◌, ◌∙◌, refl, ap, arith}
+use Rattle.std.proofs.Common.{◌≡◌, ℕ, ◌+◌, ◌*◌, ◌/◌, ◌∙◌, refl, ap, sym, arith}
 use Rattle.arachne_exec.specs.Layout.{free_at, worker_of}
-use Rattle.arachne_exec.specs.Changes.{gained, noted, rousing, spawning}
-use Rattle.arachne_exec.proofs.Chains.{missed}
+use Rattle.arachne_exec.specs.Changes.{claiming, noted, rousing, spawning}
+use Rattle.arachne_exec.proofs.Chains.{missed, spawned}
 use Rattle.arachne_exec.proofs.executor.Executor.spawn.Goals as goal
 
 pub returns-then-not-claim_bit-clause-answer : goal.returns-then-not-claim_bit-clause-answer
@@ -15,7 +15,8 @@ returns-clause-answer c =
     let block : ℕ = c.args.block in let job : ℕ = c.args.job in let place : ℕ = 64 * block + c.lowest_index.result in let mark : ℕ = c.look-mark.result in let unpark = c.publish_new-unpark.result in
     let got = c.if-not-claim_bit.ensures.took refl in let row : place / 64 ≡ block = omega (arith, c.lowest_index.ensures.low) in
     let saw = ap (λ v. v.known) c.look-free.ensures.seat ∙ (λ i. noted (c.free_word.ensures i) c.look-free.result (ap (λ v. v.known) c.seat.view_is i)) in
-    let claimed = ap (λ v. v.known) got.2 ∙ (λ i. gained place 0 (noted (free_at (row i)) got.0 (saw i))) in record {
+    let claimed = ap (λ v. v.known) got.2 ∙ (λ i. claiming place (noted (free_at (row i)) got.0 (saw i))) in
+    let calm : c.args.seat.now.known.unspawned ≡ 0 = sym (ap (λ v. v.known.unspawned) c.seat.view_is) ∙ c.seat.invariant.1.spawned in record {
       there = row;
       free = c.look-free.result;
       found = got.0;
@@ -25,5 +26,6 @@ returns-clause-answer c =
       known = ap (λ v. v.known) c.publish_new-unpark.ensures
           ∙ ap (λ v. rousing unpark (worker_of (place / 4096)) (spawning job v.known)) c.lay.ensures.seat
           ∙ ap (λ v. rousing unpark (worker_of (place / 4096)) (spawning job v.known)) c.look-mark.ensures.seat
-          ∙ (λ i. rousing unpark (worker_of (place / 4096)) (spawning job (noted (c.mark_word.ensures i) mark (claimed i))));
+          ∙ (λ i. rousing unpark (worker_of (place / 4096)) (spawning job (noted (c.mark_word.ensures i) mark (claimed i))))
+          ∙ ap (rousing unpark (worker_of (place / 4096))) (spawned place job _ calm);
     }

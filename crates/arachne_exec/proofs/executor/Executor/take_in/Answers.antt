@@ -14,7 +14,8 @@ join_seat-requires c =
       join-allowed _ _ _ c.seat.inside.seat.me c.other.inside.seat.me c.seat.invariant c.other.invariant (
         ap (λ (k : Notes). k.hand) known ∙ c.requires.nothing.1,
         field (λ k. k.worker) c.requires.nothing.2,
-        field (λ k. k.unshown) c.requires.nothing.3,
-        field (λ k. k.owes) c.requires.nothing.4,
+        field (λ k. k.unspawned) c.requires.nothing.3,
+        field (λ k. k.unshown) c.requires.nothing.4,
+        field (λ k. k.owes) c.requires.nothing.5,
       ),
     )

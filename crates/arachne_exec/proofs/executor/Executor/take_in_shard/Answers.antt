@@ -1,4 +1,4 @@
-use Rattle.std.proofs.Common.{◌≡◌, ℕ, ◌+◌, ◌*◌, ◌/◌, ◌%◌, ◌<◌, ◌∙◌, [], ◌∷◌, ap, sym, subst, arith, rules}
+use Rattle.std.proofs.Common.{◌≡◌, ℕ, ◌+◌, ◌*◌, ◌/◌, ◌%◌, ◌<◌, ◌∙◌, [], ◌∷◌, inl, ap, sym, subst, arith, rules}
 use Rattle.arachne_exec.specs.declared.view.Notes.{Notes}
 use Rattle.arachne_exec.specs.declared.turns.Unsearched.{Unsearched}
 use Rattle.arachne_exec.specs.Layout.{worker_of}
@@ -11,7 +11,7 @@ use Rattle.arachne_exec.proofs.executor.Executor.take_in_shard.Goals as goal
 pub loop-index-init : goal.loop-index-init
 loop-index-init c = record {
   seat = search rules;
-  looked = (0, (c.summary_word.result, c.look-shown.result) ∷ [], (λ block e. omega (arith, e, c.summary_word.ensures), tt), ap (λ v. v.known) c.look-shown.ensures.seat ∙ ap (λ v. noted c.summary_word.result c.look-shown.result v.known) c.seat.view_is);
+  looked = (0, (c.summary_word.result, c.look-shown.result) ∷ [], (inl (c.begun-shard.result, c.summary_word.ensures), tt), ap (λ v. v.known) c.look-shown.ensures.seat ∙ ap (λ v. noted c.summary_word.result c.look-shown.result v.known) c.seat.view_is);
   hand = search rules;
 }
 
