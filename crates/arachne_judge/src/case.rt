@@ -191,7 +191,8 @@ impl<'r> Case<'r> {
         match event {
             WorkerEvent::Sliced(steps, end) => self.sliced(core, steps, end),
             WorkerEvent::Woken(id, _) => self.woken(id),
-            WorkerEvent::Pulled(id, from) => self.pulled(core, id, from),
+            WorkerEvent::Pulled(id, from) => self.pulled(core, id, from, None),
+            WorkerEvent::Helps(id, of) => self.pulled(core, id, of, Some(of)),
             WorkerEvent::Spilled => {
                 if self.scans.spilled() {
                     self.counts(Rule::Places);
@@ -300,6 +301,9 @@ impl<'r> Case<'r> {
         let before = self.thread(id);
         if let Some(before) = before {
             thread.woken = self.waits(before);
+            if before.pulled == Some(core) {
+                thread.home = before.home;
+            }
             self.look_where(&mut known, core, before);
         }
         self.scan(id, before.is_none());
@@ -316,11 +320,11 @@ impl<'r> Case<'r> {
         if before.pulled == Some(core) {
             return;
         }
-        if before.core != core && known.moved <= before.turned {
+        if before.place() != core && known.moved <= before.turned {
             known.owes_move = true;
             self.owes = true;
         }
-        if before.core == core && before.left > 0 && known.moved <= before.left {
+        if before.place() == core && before.left > 0 && known.moved <= before.left {
             known.owes_return = true;
             self.owes = true;
         }
@@ -414,8 +418,9 @@ impl<'r> Case<'r> {
         }
     }
 
-    /// Judges the move of a thread to `core` from the core `from`, by the worker of `core`.
-    fn pulled(&mut self, core: u8, id: ThreadId, from: u8)
+    /// Judges the move of a thread to `core` from the core `from`, by the worker of `core`. If its place is still
+    /// `home`, that worker only runs it next.
+    fn pulled(&mut self, core: u8, id: ThreadId, from: u8, home: Option<u8>)
         ensures { self.new.broken ≡ broken_by_pull self.old.run.has_exclusive (from == core) self.old.broken self.old.at }
     {
         if self.run.has_exclusive {
@@ -424,6 +429,7 @@ impl<'r> Case<'r> {
         self.judges(Rule::Pulls, breaks::is_from_there(core, from));
         if let Some(mut thread) = self.thread(id) {
             thread.pulled = Some(core);
+            thread.home = home;
             self.set_thread(thread);
         }
     }
@@ -440,7 +446,7 @@ impl<'r> Case<'r> {
         self.set_core(core, known);
         for place in self.threads.iter_mut() {
             if let Some(thread) = place
-                && thread.core == core
+                && thread.place() == core
                 && !thread.has_ended()
             {
                 thread.left = known.last.saturating_add(1);

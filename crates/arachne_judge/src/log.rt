@@ -44,6 +44,8 @@ const APPLIED: u64 = 11;
 
 const MOVED_AWAY: u64 = 12;
 
+const HELPS: u64 = 13;
+
 /// An entry in three words. The head has the core, the kind of event and a small number.
 #[derive(Drop)]
 struct EntryWords {
@@ -126,6 +128,7 @@ impl Log {
                 self.note_thread(core, WOKEN, u64::from(cause == Cause::IsServed), id);
             }
             WorkerEvent::Pulled(id, from) => self.note_thread(core, PULLED, u64::from(from), id),
+            WorkerEvent::Helps(id, of) => self.note_thread(core, HELPS, u64::from(of), id),
             WorkerEvent::Spilled => self.note(core, SPILLED, 0, 0, 0),
             WorkerEvent::Ticket(posted) => self.note(core, TICKET, u64::from(posted), 0, 0),
             WorkerEvent::Parks => self.note(core, PARKS, 0, 0, 0),
@@ -163,6 +166,7 @@ fn what_of(kind: u64, small: u64, first: u64, second: u64) -> Option<What> {
         WOKEN if small == 0 => WorkerEvent::Woken(id, Cause::ChildEnded),
         WOKEN => WorkerEvent::Woken(id, Cause::IsServed),
         PULLED => WorkerEvent::Pulled(id, (small & 0xFF) as u8),
+        HELPS => WorkerEvent::Helps(id, (small & 0xFF) as u8),
         SPILLED => WorkerEvent::Spilled,
         TICKET => WorkerEvent::Ticket(small != 0),
         PARKS => WorkerEvent::Parks,

@@ -8,7 +8,8 @@ use arachne_policy::CoreOrder;
 /// A rule of a run.
 #[derive(Clone, Copy, Debug, PartialEq, Eq)]
 pub enum Rule {
-    /// A thread continues on the core on which it was, unless its move was reported.
+    /// A thread continues on the core on which it was, unless its move was reported, or that another core's worker runs
+    /// it at its place.
     OwnCore,
     /// A slice is of a thread that the core took before, which has not ended, and which no other core has in hand.
     InHand,
@@ -32,9 +33,10 @@ pub enum Rule {
     Places,
     /// A thread that waits continues only after it was woken.
     Waits,
-    /// No worker moves a thread to its own core. This rule is judged in programs with an exclusive fork.
+    /// No worker moves a thread to its own core, or runs one of another core. This rule is judged in programs with an
+    /// exclusive fork.
     Stays,
-    /// A thread that a worker moves to its core was on another one.
+    /// A thread that a worker moves to its core, or runs at its place, was on another core.
     Pulls,
 }
 

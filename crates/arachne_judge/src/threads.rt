@@ -12,8 +12,10 @@ pub(crate) struct ThreadFacts {
     pub(crate) core: u8,
     /// The number of the entry of the thread's last turn.
     pub(crate) turned: usize,
-    /// A core whose worker has moved the thread there since.
+    /// A core whose worker has moved the thread there since, or runs it next at its place.
     pub(crate) pulled: Option<u8>,
+    /// The core on which the thread has its place, if another one's worker runs it there.
+    pub(crate) home: Option<u8>,
     pub(crate) is_in_slice: bool,
     /// The way in which the thread's last slice has ended.
     pub(crate) end: SliceEnd,
@@ -32,11 +34,17 @@ impl ThreadFacts {
             core,
             turned: at,
             pulled: None,
+            home: None,
             is_in_slice: false,
             end: SliceEnd::GoesOn,
             woken: 0,
             left: 0,
         }
+    }
+
+    /// Returns the core on which the thread had its place in its last turn.
+    pub(crate) fn place(&self) -> u8 {
+        self.home.unwrap_or(self.core)
     }
 
     /// Returns whether the thread has ended.

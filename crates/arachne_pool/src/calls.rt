@@ -243,6 +243,7 @@ impl<C: Seats> Pool<C> {
             shared: &self.shared,
             core,
             slots: self.slots,
+            helps: false,
             agenda,
             slices: 0,
             pace,

@@ -68,12 +68,16 @@ impl<'a, H, J: PoolJob, C: Contexts<Spawned<J>>> Model for Seat<'a, H, J, C> {
 
 impl<'a, H: Wait, J: PoolJob, C: Contexts<Spawned<J>>> Desk for Seat<'a, H, J, C> {
     #[inline(always)]
-    fn take(&mut self, index: u8) -> Grip {
-        if index >= self.pool.slots || self.held.is_some() || self.is_broken {
+    fn take(&mut self, place: Place) -> Grip {
+        let Place { core, index } = place;
+        if core >= self.pool.cores || index >= self.pool.slots {
+            return Grip::None;
+        }
+        if self.held.is_some() || self.is_broken {
             return Grip::None;
         }
         let table = &self.pool.table;
-        match table.take(self.rt, &mut self.seat, self.core, index) {
+        match table.take(self.rt, &mut self.seat, core, index) {
             Taken::Run(held) => {
                 self.held = Some(held);
                 self.has_taken = true;

@@ -172,12 +172,16 @@ impl<'a, H: Wait, T: RunJob, C: Contexts<T>, R: Rng + Drop, G: Gate> RunSeat<'a,
 impl<'a, H: Wait + Clock, T: RunJob, C: Contexts<T>, R: Rng + Drop, G: Gate> Desk
     for RunSeat<'a, H, T, C, R, G> {
     #[inline(always)]
-    fn take(&mut self, index: u8) -> Grip {
-        if index >= self.machine.slots || self.held.is_some() || self.is_broken {
+    fn take(&mut self, place: Place) -> Grip {
+        let Place { core, index } = place;
+        if core >= self.machine.cores || index >= self.machine.slots {
+            return Grip::None;
+        }
+        if self.held.is_some() || self.is_broken {
             return Grip::None;
         }
         let table = &self.machine.table;
-        match table.take(self.rt, &mut self.seat, self.core, index) {
+        match table.take(self.rt, &mut self.seat, core, index) {
             Taken::Run(held) => {
                 self.gate.turn(self.core, held.id(), held.value.name());
                 self.held = Some(InHand::taken(held));

@@ -230,6 +230,7 @@ fn worker_on<'a, H, D, C, K: Tagged + Drop>(
     desk: D,
 ) -> CoreWorker<'a, H, D>
     ensures core { (result.core ≡ core) × (result.slots ≡ machine.now.slots) × (result.slices ≡ 0) }
+    ensures helps { result.helps ≡ machine.now.may_pull }
     ensures with { (result.desk ≡ desk) × (result.agenda ≡ agenda) }
 {
     CoreWorker {
@@ -237,6 +238,7 @@ fn worker_on<'a, H, D, C, K: Tagged + Drop>(
         shared: machine.shared.workers(),
         core,
         slots: machine.slots,
+        helps: machine.may_pull,
         agenda,
         slices: 0,
         pace: Pace::new(),

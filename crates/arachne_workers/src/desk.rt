@@ -54,8 +54,8 @@ impl Halted {
 /// No call changes the table at which the seat is. The trait has no types of its own: over the types of a table and a
 /// job each proof of the loop takes far longer.
 pub trait Desk {
-    /// Takes the thread at an index of the core in hand, if it is ready and no other is in hand, and reports it.
-    fn take(&mut self, index: u8) -> Grip
+    /// Takes the thread at a place in hand, if it is ready and no other is in hand, and reports it.
+    fn take(&mut self, place: Place) -> Grip
         ensures { self.new ≡ self.old };
 
     /// Returns the most steps of a slice of the thread in hand.
@@ -190,6 +190,8 @@ pub enum WorkerEvent {
     Woken(ThreadId, Cause),
     /// A thread was moved here from this core, to run here.
     Pulled(ThreadId, u8),
+    /// A thread that has a lock now is about to run here, at its place on this other core.
+    Helps(ThreadId, u8),
     /// A child got no place and waits for one, with a ticket.
     Spilled,
     /// A ticket was taken. True if its child was posted here; if not, its parent runs it, or there was no place.

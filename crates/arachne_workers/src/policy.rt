@@ -93,14 +93,6 @@ pub(crate) fn may_go_on(now: OccWord, holds: bool, others: bool, takes_ticket: b
     !now.is_closed() && (holds || !others && !takes_ticket)
 }
 
-/// Returns whether a thread that was woken on another core runs here, if it can be moved: it holds a lock, or its
-/// core's worker sleeps.
-pub(crate) fn goes_on_here(is_served: bool, is_asleep: bool) -> bool
-    ensures { IsTrue result ↔ (is_served ≡ true) ⊎ (is_asleep ≡ true) }
-{
-    is_served || is_asleep
-}
-
 /// Returns how many of the `left` steps of a slice remain after the thread has released a lock.
 pub(crate) fn left_past_free(left: u32, goes_next: bool) -> u32
     ensures { result ≡ (if goes_next then min left STEPS_PAST_FREE else left) }

@@ -28,8 +28,8 @@ pub struct Agenda {
     scan: u64,
     /// The indexes at which a thread may be ready, for the next scan.
     ready: u64,
-    /// The index at which a thread goes before all others.
-    next: Option<u8>,
+    /// The place, maybe of another core, whose thread goes before all others.
+    next: Option<Place>,
     /// The posts on other cores that are not signalled yet, the newest last.
     posts: Vec<PostedThread>,
     /// The number of steps after which all of them are signalled.
@@ -114,15 +114,15 @@ impl Agenda {
         self.scan | self.ready != 0 || self.next.is_some()
     }
 
-    /// Makes the thread at an index go before all others, unless another does. Returns whether it will.
-    pub(crate) fn goes_next(&mut self, index: u8) -> bool
-        ensures will { IsTrue result ↔ (self.old.next ≡ None) × (index < SLOTS) }
-        ensures next { self.new ≡ record self.old { next = if result then Some index else self.old.next } }
+    /// Makes the thread at a place go before all others, unless another does. Returns whether it will.
+    pub(crate) fn goes_next(&mut self, place: Place) -> bool
+        ensures will { IsTrue result ↔ (self.old.next ≡ None) }
+        ensures next { self.new ≡ record self.old { next = if result then Some place else self.old.next } }
     {
-        if self.next.is_some() || index >= SLOTS {
+        if self.next.is_some() {
             return false;
         }
-        self.next = Some(index);
+        self.next = Some(place);
         true
     }
 
@@ -133,9 +133,9 @@ impl Agenda {
         self.next.is_some()
     }
 
-    /// Takes the index at which a thread goes before all others.
-    pub(crate) fn take_next(&mut self) -> Option<u8>
-        ensures taken { MatchOption result (self.old.next ≡ None) (λ index. self.old.next ≡ Some index) }
+    /// Takes the place whose thread goes before all others.
+    pub(crate) fn take_next(&mut self) -> Option<Place>
+        ensures taken { MatchOption result (self.old.next ≡ None) (λ place. self.old.next ≡ Some place) }
         ensures others { self.new ≡ record self.old { next = None } }
     {
         self.next.take()

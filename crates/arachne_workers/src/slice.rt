@@ -5,14 +5,14 @@ use crate::desk::{Cause, Desk, Halt, SliceEnd, ThreadStop, WorkerEvent, thin_out
 use crate::policy;
 use crate::wake::{posted, tell_all};
 use crate::worker::CoreWorker;
-use arachne_core::Rest;
+use arachne_core::{Place, Rest};
 use std::sync::Wait;
 use std::time::Clock;
 
 impl<'a, H: Wait + Clock, D: Desk> CoreWorker<'a, H, D> {
-    /// Gives the thread in hand, which was taken at this index, a slice, and more slices while it holds a lock or
+    /// Gives the thread in hand, which was taken at this place, a slice, and more slices while it holds a lock or
     /// nothing else is ready. Then puts it back or ends it. Returns whether it is blocked.
-    pub(crate) fn turn(&mut self, index: u8) -> Result<bool, Halt>
+    pub(crate) fn turn(&mut self, place: Place) -> Result<bool, Halt>
         ensures desk { self.new.desk ≡ self.old.desk }
         ensures scan { self.new.agenda.scan ≡ self.old.agenda.scan }
     {
@@ -23,7 +23,7 @@ impl<'a, H: Wait + Clock, D: Desk> CoreWorker<'a, H, D> {
         }
         let rest = self.desk.rest()?;
         if rest == Rest::Ready {
-            self.agenda.note(index);
+            self.note(place);
         }
         Ok(rest == Rest::Blocked)
     }

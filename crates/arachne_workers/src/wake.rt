@@ -18,8 +18,8 @@ use std::time::Clock;
 impl<'a, H: Wait + Clock, D: Desk> CoreWorker<'a, H, D> {
     /// Wakes a thread, if it is blocked.
     ///
-    /// It runs on this core if it has a lock now, since others may wait for that, or if its own core's worker sleeps,
-    /// since a move is cheaper than waking a kernel thread.
+    /// If it has a lock now, it runs next here, at its place on its own core, since others may wait for that. If its
+    /// own core's worker sleeps, it is moved here, since a move is cheaper than waking a kernel thread.
     pub(crate) fn wake(&mut self, id: ThreadId, cause: Cause)
         ensures desk { self.new.desk ≡ self.old.desk }
         ensures others { (self.new.agenda ≡ record self.old.agenda { ready = self.new.agenda.ready; next = self.new.agenda.next }) × (self.new.slices ≡ self.old.slices) }
@@ -34,18 +34,28 @@ impl<'a, H: Wait + Clock, D: Desk> CoreWorker<'a, H, D> {
         };
         let is_served = cause == Cause::IsServed;
         let mut place = mark.place();
-        if place.core != self.core
-            && policy::goes_on_here(
-                is_served,
-                !is_served && self.shared.hints().is_asleep(place.core),
-            )
-        {
+        let is_elsewhere = place.core != self.core;
+        if is_served && (self.helps || !is_elsewhere) && self.agenda.goes_next(place) {
+            if is_elsewhere {
+                self.desk.told(WorkerEvent::Helps(id, place.core));
+            }
+            return;
+        }
+        if is_elsewhere && !is_served && self.shared.hints().is_asleep(place.core) {
             place = self.pull(id, place);
         }
-        if place.core != self.core {
-            self.shared.hint(place);
-        } else if !is_served || !self.agenda.goes_next(place.index) {
+        self.note(place);
+    }
+
+    /// Notes that the thread at a place may be ready, or signals the core of the place if that is another one.
+    pub(crate) fn note(&mut self, place: Place)
+        ensures desk { self.new.desk ≡ self.old.desk }
+        ensures others { (self.new.agenda ≡ record self.old.agenda { ready = self.new.agenda.ready }) × (self.new.slices ≡ self.old.slices) }
+    {
+        if place.core == self.core {
             self.agenda.note(place.index);
+        } else {
+            self.shared.hint(place);
         }
     }
 
@@ -81,18 +91,18 @@ impl<'a, H: Wait + Clock, D: Desk> CoreWorker<'a, H, D> {
         place
     }
 
-    /// Returns the index of the thread that runs next, if one is known.
+    /// Returns the place of the thread that runs next, if one is known.
     ///
-    /// It is one that was handed a lock. Otherwise, if the thread in hand blocked and nothing else is ready here, it is
+    /// It is one that was handed a lock, maybe on another core. Otherwise, if the thread in hand blocked and nothing else is ready here, it is
     /// the newest post that was kept back and can be moved here; those that can't are signalled.
-    pub(crate) fn next(&mut self, waits: bool) -> Option<u8>
+    pub(crate) fn next(&mut self, waits: bool) -> Option<Place>
         ensures desk { self.new.desk ≡ self.old.desk }
         ensures next { IsSome self.old.agenda.next → HasGivenNext result self.old.agenda self.new.agenda }
         ensures goes_on { self.old.agenda.next ≡ None → waits ≡ false → (result ≡ None) × (self.new.agenda ≡ self.old.agenda) }
         ensures others { (self.new.agenda ≡ record self.old.agenda { posts = self.new.agenda.posts; next = None }) × (self.new.slices ≡ self.old.slices) }
     {
-        if let Some(index) = self.agenda.take_next() {
-            return Some(index);
+        if let Some(place) = self.agenda.take_next() {
+            return Some(place);
         }
         if !waits || self.agenda.is_any() {
             return None;
@@ -105,7 +115,7 @@ impl<'a, H: Wait + Clock, D: Desk> CoreWorker<'a, H, D> {
             };
             let now = self.pull(id, place);
             if now.core == self.core && place.core != self.core {
-                return Some(now.index);
+                return Some(now);
             }
             self.shared.hint(place);
         }

@@ -8,6 +8,7 @@ use crate::shared::SharedWords;
 use crate::waiting::stay_awake;
 use crate::wake::{posted, tell_all};
 use arachne_arbiter::Pace;
+use arachne_core::Place;
 use std::sync::Wait;
 use std::time::{Clock, Duration};
 
@@ -18,6 +19,8 @@ pub struct CoreWorker<'a, H, D> {
     pub shared: &'a SharedWords,
     pub core: u8,
     pub slots: u8,
+    /// It may run a thread of another core at that one's place, if the thread was handed a lock.
+    pub helps: bool,
     pub agenda: Agenda,
     /// The number of slices that this worker has begun.
     pub slices: u64,
@@ -156,7 +159,10 @@ impl<'a, H: Wait + Clock, D: Desk> CoreWorker<'a, H, D> {
         ensures desk { self.new.desk ≡ self.old.desk }
         ensures scan { self.new.agenda.scan ≡ self.old.agenda.scan }
     {
-        let mut index = index;
+        let mut place = Place {
+            core: self.core,
+            index,
+        };
         let mut found = false;
         for _ in 0..policy::MOST_IN_TURN {
             if self.shared.is_stopped() {
@@ -165,22 +171,22 @@ impl<'a, H: Wait + Clock, D: Desk> CoreWorker<'a, H, D> {
             // Before each slice: by the slice that has just ended an order may be due.
             self.tend();
             let mut waits = false;
-            match self.desk.take(index) {
+            match self.desk.take(place) {
                 Grip::Taken => {
                     found = true;
-                    waits = self.turn(index)?;
+                    waits = self.turn(place)?;
                 }
                 Grip::None => {}
                 // A thread may still be there: the next scan tries again.
-                Grip::Lost => self.agenda.note(index),
+                Grip::Lost => self.note(place),
             }
             match self.next(waits) {
-                Some(next) => index = next,
+                Some(next) => place = next,
                 None => return Ok(found),
             }
         }
         // Its thread got no turn.
-        self.agenda.note(index);
+        self.note(place);
         Ok(found)
     }
 
