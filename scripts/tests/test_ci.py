@@ -9,7 +9,7 @@ from loading import TOP
 
 class Gate(unittest.TestCase):
     # What is called behind the gate.
-    TESTS = ["scripts/test", "tests/run", "examples/test", "rust/test"]
+    TESTS = ["scripts/test", "wrong-bodies/read --names", "tests/run", "examples/test", "rust/test"]
 
     def run_of(self, gate: int, failed: str = "") -> tuple[int, list[str]]:
         """The status, and what is printed, where the gate returns this, and those behind it 1 if they fail."""

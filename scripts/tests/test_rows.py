@@ -65,6 +65,15 @@ class Rows(unittest.TestCase):
                 found = [it for it in lines if it.endswith(told)]
                 self.assertTrue(found and found[0].startswith("tests/run: some.rows:2: arachne"), lines)
 
+    def test_which_programs_have_a_row(self) -> None:
+        for command, programs, of_given in [
+            ("$ arachne run", [run.PROGRAM], ["given"]),
+            ("$ arachne eval --names", [run.PROGRAM, run.SERIAL], ["given"]),
+            ("$ arachne_eval run", [run.SERIAL], []),
+        ]:
+            row = run.row_of("some.rows:1", command, b"", "2 !usage")
+            self.assertEqual((run.programs_of(row), run.programs_of(row, "given")), (programs, of_given))
+
     def test_a_run_that_does_not_end(self) -> None:
         with mock.patch.object(run, "LIMIT", 0.2):
             self.assertEqual(self.ends("$ arachne late\n => 0 1 0|")[0], 1)

@@ -23,7 +23,6 @@ mod faults;
 mod heeded;
 mod judged;
 mod left;
-mod loads;
 mod locks;
 mod orders;
 mod places;

@@ -2,7 +2,6 @@
 mod family;
 mod shortage;
 mod told;
-mod ways;
 
 use self::family::{Round, Way, parts_of};
 use self::told::told;

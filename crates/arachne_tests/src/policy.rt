@@ -1,36 +1,7 @@
-//! Tests of samples with the advice on each, of choices of cores, of lists of orders, and of the texts of faults.
+//! Test of choices of cores and of lists of orders.
 use arachne_policy::{
-    Advice, BadSample, CoreLoad, CoreOrder, Estimator, OrderFault, OrderFaultKind, OrderKind,
-    Sample, check_orders, two_choices,
+    CoreLoad, CoreOrder, OrderFault, OrderFaultKind, OrderKind, check_orders, two_choices,
 };
-
-/// Samples, one after another, each with its result.
-const SAMPLES: &[([u64; 5], Result<Advice, BadSample>)] = &[
-    ([2, 151, 100, 1900, 1000], Ok(Advice::Add)),
-    ([3, 100, 100, 1810, 1000], Ok(Advice::Stay)),
-    ([3, 100, 100, 1809, 1000], Ok(Advice::Remove)),
-    ([17, 0, 0, 0, 1], Err(BadSample)),
-    ([3, 0, 0, 1809, 1000], Ok(Advice::Remove)),
-];
-
-fn sample(numbers: [u64; 5]) -> Sample {
-    let [cores, runnable, scans, busy, elapsed] = numbers;
-    Sample {
-        cores,
-        runnable,
-        scans,
-        busy,
-        elapsed,
-    }
-}
-
-#[test]
-fn thresholds_follow_the_last_add(rt: HostRuntime) {
-    let mut estimator = Estimator::new(1500, 90, 16);
-    for &(numbers, expected) in SAMPLES {
-        assert!(rt; estimator.estimate(sample(numbers)) == expected);
-    }
-}
 
 const LOADS: &[CoreLoad] = &[
     CoreLoad { core: 2, count: 9 },

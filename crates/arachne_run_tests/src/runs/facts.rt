@@ -24,8 +24,6 @@ pub(super) enum Fact {
     InPlace,
     /// At most this number of threads ran in the places of their parents.
     InPlaceUpTo(u64),
-    /// The number of totals.
-    Totals,
     /// The first ledger's total.
     Total,
     /// The number of applied orders.
@@ -62,7 +60,6 @@ pub(super) fn number(report: &Report, watch: &Watch, fact: Fact) -> u64 {
         Fact::Spill => count_of(report, Ran::Spill),
         Fact::InPlace => count_of(report, Ran::InPlace),
         Fact::InPlaceUpTo(most) => u64::from(count_of(report, Ran::InPlace) <= most),
-        Fact::Totals => report.totals.as_slice().len() as u64,
         Fact::Total => report.totals.as_slice().first().copied().unwrap_or(0),
         Fact::Applied => report.applied as u64,
         Fact::AppliesUpTo(most) => u64::from(report.applied as u64 <= most),

@@ -1,5 +1,5 @@
 //! Tests of the meanings of programs, and of programs that may not run.
-use arachne_lang::{CheckFault, Expr, Line, Meaning, Name, Operation, Program, check, eval, parse};
+use arachne_lang::{CheckFault, Expr, Meaning, Operation, Program, check, eval, parse};
 use std::alloc::{AllocError, Global};
 
 /// Returns the meaning of a program, or `None` if it may not run or memory is refused.
@@ -16,57 +16,6 @@ fn meaning_of(alloc: Global, text: &[u8]) -> Option<Meaning> {
         Ok(program) => meaning_in(alloc, &program),
         Err(_) => None,
     }
-}
-
-/// Returns the name of a thread that is `forks` forks below the root, each of them the first of its parent.
-fn first_of(alloc: Global, forks: usize) -> Option<Name> {
-    let mut name = Name::root(alloc);
-    for _ in 0..forks {
-        name = name.child(alloc, 0).ok()?;
-    }
-    Some(name)
-}
-
-/// Returns whether there are 901 threads, the first the root and the last named `last`, that each held a lock once.
-fn are_many(lines: &[Line], last: &Name) -> bool {
-    if lines.len() != 901 {
-        return false;
-    }
-    for line in lines {
-        if line.holds.as_slice() != [1].as_slice() {
-            return false;
-        }
-    }
-    lines[0].name.len() == 0 && lines[900].name == *last
-}
-
-/// Returns whether a meaning has a thread for each of 901 numbers.
-///
-/// The child of each fork has the left half, so the last line's name is of the halves 450, 225, 112, 56, 28, 14, 7, 3,
-/// 1.
-fn is_of_many(alloc: Global, meaning: &Meaning) -> bool {
-    if meaning.value != 405_450 || meaning.totals.as_slice() != [4505].as_slice() {
-        return false;
-    }
-    match first_of(alloc, 9) {
-        Some(last) => are_many(meaning.threads.as_slice(), &last),
-        None => false,
-    }
-}
-
-const MANY: &[u8] = b"arachne 1\nledgers 1\nlocks 1\n\
-(sweep add 1 (num 0) (num 901) (hold 0 (tally 0 (num 5) (var 0))))\n";
-
-fn mean_many(alloc: Global, text: &[u8]) -> bool {
-    match meaning_of(alloc, text) {
-        Some(meaning) => is_of_many(alloc, &meaning),
-        None => false,
-    }
-}
-
-#[test]
-fn many_threads_have_a_line_each(rt: HostRuntime) {
-    assert!(rt; mean_many(rt.alloc(), MANY));
 }
 
 /// Returns an expression of `sums` sums within one another, around a number.

@@ -4,11 +4,7 @@ ghost use Rattle.arachne_lang.specs.Program.{tree_of};
 ghost use Rattle.arachne_lang.specs.Text.{nesting};
 
 use arachne_lang::{Program, TextFault, parse, print};
-use std::alloc::{AllocError, Global};
-use std::string::ToString;
-
-/// The first lines of a program without ledgers and locks.
-const LINES: &str = "arachne 1\nledgers 0\nlocks 0\n";
+use std::alloc::Global;
 
 /// A text that has each form, each reduction, and arrays.
 const WHOLE: &[u8] = b"arachne 1\n\
@@ -74,69 +70,4 @@ fn texts_are_read_and_printed_or_end_at_their_first_fault(rt: HostRuntime) {
     for &(text, expected) in TEXTS {
         assert!(rt; answer(rt.alloc(), text) == expected);
     }
-}
-
-/// Returns a text: `front`, `opening` as often as `times`, `middle`, `closing` as often, and an end of line.
-fn repeated(
-    alloc: Global,
-    front: &str,
-    opening: (&str, usize),
-    middle: &str,
-    closing: &str,
-) -> Result<String, AllocError> {
-    let (opening, times) = opening;
-    let mut text = front.to_string(alloc)?;
-    for _ in 0..times {
-        text.push_str(opening)?;
-    }
-    text.push_str(middle)?;
-    for _ in 0..times {
-        text.push_str(closing)?;
-    }
-    text.push_str("\n")?;
-    Ok(text)
-}
-
-/// Fronts, openings with the number of times, middles and closings, and the results of these texts.
-const LONG: &[(&str, (&str, usize), &str, &str, Result<bool, TextFault>)] = &[
-    (LINES, ("(let (num 0) ", 63), "(num 0)", ")", Ok(true)),
-    (
-        LINES,
-        ("(let (num 0) ", 64),
-        "(num 0)",
-        ")",
-        Err(TextFault::Nesting { at: 852 }),
-    ),
-    (
-        LINES,
-        ("(add ", 1_000_000),
-        "",
-        "",
-        Err(TextFault::Nesting { at: 348 }),
-    ),
-    (
-        "arachne 1\nledgers 0\nlocks 0\n(num ",
-        ("9", 1_000_000),
-        "",
-        "",
-        Err(TextFault::Number { at: 52 }),
-    ),
-    (
-        "arachne 1\narray",
-        (" 12345678901234567890", 100_000),
-        "\nledgers 0\nlocks 0\n(len 0)",
-        "",
-        Ok(true),
-    ),
-];
-
-#[test]
-fn long_texts_are_read_and_printed_or_end_at_their_first_fault(
-    rt: HostRuntime,
-) -> Result<(), AllocError> {
-    for &(front, opening, middle, closing, expected) in LONG {
-        let text = repeated(rt.alloc(), front, opening, middle, closing)?;
-        assert!(rt; answer(rt.alloc(), text.as_bytes()) == expected);
-    }
-    Ok(())
 }
