@@ -7,11 +7,12 @@ mod turns;
 use crate::host::{Host, WINDOW};
 use crate::means::{self, Means};
 use crate::options::Options;
-use crate::{sys, threads};
+use crate::sys;
+use crate::threads::{self, Threads};
 use arbiter::library::{Move, Share, State};
 use arbiter::protocol::*;
 use hearing::{Connection, Role};
-use std::collections::BTreeMap;
+use std::collections::{BTreeMap, HashSet};
 use std::fs;
 use std::io::{self, ErrorKind, Write};
 use std::os::unix::net::UnixListener;
@@ -23,6 +24,8 @@ use turns::Turns;
 const PATIENCE: Duration = Duration::from_millis(10);
 /// The time between two looks for threads that have ended, and for strangers on a granted core.
 const LOOKS: Duration = Duration::from_secs(1);
+/// The most threads that are looked at before a decision.
+const AT_ONCE: usize = 8;
 /// The most readers of the status that are answered in a round.
 const READERS: usize = 8;
 
@@ -63,8 +66,18 @@ struct Client {
     until: Option<Instant>,
     /// The last turn in which it got a core or gave one, or had no thread for one.
     turned: u64,
+    /// How often the threads of its process have still to be moved into the rest. A thread that begins meanwhile begins
+    /// in the set of its parent, so it is done twice.
+    arrives: u32,
     /// The thread at each of the client's places.
     threads: BTreeMap<u32, Thread>,
+}
+
+/// The threads that are still to be looked at.
+struct Look {
+    threads: Threads,
+    /// All are admitted; else those on a core are moved off it.
+    all: bool,
 }
 
 pub struct Arbiter {
@@ -90,6 +103,9 @@ pub struct Arbiter {
     clients: BTreeMap<u32, Client>,
     forced: u64,
     turns: Turns,
+    look: Option<Look>,
+    /// When a look at the threads of all clients last began.
+    looked: Instant,
 }
 
 impl Arbiter {
@@ -116,18 +132,16 @@ impl Arbiter {
             clients: BTreeMap::new(),
             forced: 0,
             turns: Turns::new(Duration::from_millis(options.turn)),
+            look: None,
+            looked: Instant::now(),
         })
     }
 
     /// Serves until this process is asked to end, and gives all threads all processors again.
     pub fn run(&mut self) {
-        let mut looked = Instant::now();
         while !sys::ENDS.load(SeqCst) {
             self.hear(self.time_left());
-            if looked.elapsed() > LOOKS {
-                looked = Instant::now();
-                self.look_round();
-            }
+            self.look_at_threads();
             self.look_at_host();
             self.settle();
             if self.begin_turn() {
@@ -145,7 +159,11 @@ impl Arbiter {
         let ends = self.clients.values().filter_map(|client| client.until);
         let next = ends.chain(self.next_turn()).min();
         let next = next.map_or(LOOKS, |at| at.saturating_duration_since(Instant::now()) + Duration::from_millis(1));
-        let most = if self.clients.is_empty() { LOOKS } else { WINDOW };
+        let most = match self.clients.is_empty() {
+            _ if self.look.is_some() => Duration::from_millis(1),
+            true => LOOKS,
+            false => WINDOW,
+        };
         next.min(most).as_millis() as i32
     }
 
@@ -170,6 +188,7 @@ impl Arbiter {
             }
             // Who can't be moved, or doesn't read, is dropped, and a turn ends once: so this ends.
             if !self.end_turn() && all_moved && self.connections.values().all(|it| !it.gone) {
+                self.means.carry_out();
                 return self.update_rest();
             }
         }
@@ -198,7 +217,7 @@ impl Arbiter {
         let late = Instant::now() >= *client.until.get_or_insert_with(|| Instant::now() + PATIENCE);
         let mut left = share.held;
         while let Some(taken) = self.state.take_back(number, late) {
-            self.unplace(id, taken.place as u32);
+            self.unplace(id, taken.place as u32, false);
             self.forced += late as u64;
             self.clients.get_mut(&id).unwrap().forced += late as u64;
             left -= 1;
@@ -240,7 +259,7 @@ impl Arbiter {
     }
 
     fn drop_thread(&mut self, id: u32, place: u32) {
-        self.unplace(id, place);
+        self.unplace(id, place, false);
         if let Some(client) = self.clients.get(&id) {
             self.state.end(client.number, place as usize);
         }
@@ -268,7 +287,6 @@ impl Arbiter {
         let (cpu, name) = (self.cores[core].cpus[0], thread.connection);
         thread.core = Some(core);
         (self.cores[core].owner, self.cores[core].since) = (Some((id, place)), Instant::now());
-        self.update_rest();
         if !self.set_on_core(core) {
             // It has ended, or may not be moved.
             self.drop_thread(id, place);
@@ -281,8 +299,8 @@ impl Arbiter {
         true
     }
 
-    /// Moves a thread that has a core into the rest.
-    fn unplace(&mut self, client: u32, place: u32) {
+    /// Moves a thread that has a core, and sleeps or not, into the rest.
+    fn unplace(&mut self, client: u32, place: u32, sleeps: bool) {
         let of = self.clients.get_mut(&client).and_then(|it| Some((it.process, it.threads.get_mut(&place)?)));
         let (process, thread) = match of {
             Some(of) => of,
@@ -291,7 +309,7 @@ impl Arbiter {
         if let Some(core) = thread.core.take() {
             (self.cores[core].owner, self.cores[core].since) = (None, Instant::now());
             if thread.is_of(process) {
-                let _ = self.means.unplace(thread.id, &self.rest);
+                let _ = self.means.unplace(thread.id, sleeps, &self.rest);
             }
             self.say(|| format!("core {} back from {client}.{place}", self.cores[core].cpus[0]));
         }
@@ -299,7 +317,7 @@ impl Arbiter {
 
     /// Moves the owner's thread to a core, or into the rest while the host takes the core's processor, which is one of
     /// the rest then. Returns false if it can't be moved.
-    fn set_on_core(&self, core: usize) -> bool {
+    fn set_on_core(&mut self, core: usize) -> bool {
         let owner = self.cores[core].owner.and_then(|(id, place)| {
             let client = self.clients.get(&id)?;
             Some((client.process, client.threads.get(&place)?))
@@ -308,11 +326,12 @@ impl Arbiter {
             Some(owner) => owner,
             None => return true,
         };
-        let moves = || match self.host.takes(core) {
-            true => self.means.unplace(thread.id, &self.rest),
-            false => self.means.place(thread.id, self.cores[core].cpus[0]),
+        let moved = match self.host.takes(core) {
+            _ if !thread.is_of(process) => return false,
+            true => self.means.unplace(thread.id, false, &self.rest),
+            false => self.means.place(thread.id, self.cores[core].cpus[0], &mut self.rest),
         };
-        thread.is_of(process) && moves().is_ok()
+        moved.is_ok()
     }
 
     fn update_rest(&mut self) {
@@ -340,18 +359,46 @@ impl Arbiter {
 
     // ------------------------------------------------------------------------------------------ looks
 
-    /// Drops threads that have ended, and frees threads that began on a core that isn't theirs.
-    fn look_round(&mut self) {
+    /// Looks at some threads of clients' processes: admits those of a client that has come, and moves others off cores.
+    fn look_at_threads(&mut self) {
+        let cpus: Vec<usize> = self.cores.iter().map(|core| core.cpus[0]).collect();
+        let threads = self.clients.values().flat_map(|client| client.threads.values());
+        let known: HashSet<u32> = threads.map(|thread| thread.id).collect();
+        let is_on_one = |thread| matches!(sys::affinity_of(thread)[..], [cpu] if cpus.contains(&cpu));
+        for _ in 0..AT_ONCE {
+            let (all, thread) = match self.look.as_mut().map(|look| (look.all, look.threads.next())) {
+                Some((all, Some(thread))) => (all, thread),
+                _ => return self.look = self.next_look(&cpus),
+            };
+            if known.contains(&thread) {
+                continue;
+            }
+            if all {
+                self.means.admit(thread);
+            } else if is_on_one(thread) {
+                self.means.free(thread, &self.all);
+            }
+        }
+    }
+
+    /// Returns the next look: at the threads of a client that has come, or else each second at those that clients'
+    /// threads may have begun. Then it drops threads that have ended, too.
+    fn next_look(&mut self, cpus: &[usize]) -> Option<Look> {
+        if let Some(client) = self.clients.values_mut().find(|client| client.arrives != 0) {
+            client.arrives -= 1;
+            return Some(Look { threads: self.means.arrivals(client.process), all: true });
+        }
+        if self.looked.elapsed() <= LOOKS {
+            return None;
+        }
+        self.looked = Instant::now();
         let all =
             self.clients.iter().flat_map(|(&id, it)| it.threads.iter().map(move |(&place, t)| (id, it, place, t)));
         let ended = all.filter(|(_, client, _, thread)| !thread.is_of(client.process));
         let ended: Vec<_> = ended.map(|(id, _, place, _)| (id, place)).collect();
         ended.into_iter().for_each(|(id, place)| self.drop_thread(id, place));
-        let threads = self.clients.values().flat_map(|client| client.threads.values());
-        let known: Vec<u32> = threads.map(|thread| thread.id).collect();
-        let processes: Vec<u32> = self.clients.values().map(|client| client.process).collect();
-        let cpus: Vec<usize> = self.cores.iter().map(|core| core.cpus[0]).collect();
-        self.means.free_strangers(&cpus, &processes, &known, &self.all);
+        let processes = self.clients.values().map(|client| client.process).collect();
+        Some(Look { threads: self.means.strangers(cpus, processes), all: false })
     }
 
     /// Moves the threads on processors that the host began or ceased to take.

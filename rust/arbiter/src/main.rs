@@ -92,7 +92,7 @@ fn serve(options: &Options) -> io::Result<()> {
     }
     let means = Means::new(options.cpuset.as_deref(), &options.groups, &options.cpus)?;
     let (clients, readers) = (listen(&options.socket, options)?, listen(&status::path_of(&options.socket), options)?);
-    means.admit(std::process::id(), &[]);
+    means.arrivals(std::process::id()).for_each(|thread| means.admit(thread));
     if options.sweep {
         println!("swept {}", means.sweep());
     }

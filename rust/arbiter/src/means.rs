@@ -1,17 +1,57 @@
 //! The means by which a core is kept for one kernel thread, and other threads from it.
 
 use crate::sys;
-use crate::threads::{family, threads_of};
+use crate::threads::{family, threads_of, Threads};
 use std::fs;
 use std::io;
 use std::path::{Path, PathBuf};
 
 pub enum Means {
     /// Cpusets of version 1, in a folder of their own: `rest`, and a `cpuN` for each processor.
-    Cpusets(PathBuf),
+    Cpusets(Sets),
     /// The affinity of clients' threads, and the processors of groups of version 2, in which other processes are. Without
     /// a group these run on any processor.
     Affinity(Vec<PathBuf>),
+}
+
+/// The folder of an arbiter's cpusets, and the moves that are still to be made there.
+///
+/// Linux may let a move to another set wait for a grace period, some 10 ms. So a thread goes to its core by affinity,
+/// while the core is one of the rest's, and into the core's set once the client has been told.
+pub struct Sets {
+    top: PathBuf,
+    all: Vec<usize>,
+    /// Threads, each with the name of the set that it is moved to.
+    later: Vec<(u32, String)>,
+}
+
+impl Sets {
+    /// Moves a thread to a set, and lets it run on all processors of that.
+    fn put(&mut self, thread: u32, set: &str) -> io::Result<()> {
+        self.later.retain(|(it, _)| *it != thread);
+        let moved = write(self.top.join(set).join("tasks"), thread);
+        let _ = sys::set_affinity(thread, &self.all);
+        moved
+    }
+
+    fn set_rest(&self, rest: &[usize]) {
+        let _ = write(self.top.join("rest/cpuset.cpus"), list(rest));
+    }
+
+    /// Moves a thread of the rest to a core, which may still be one of the rest's, and adds it to these if it isn't.
+    fn place(&mut self, thread: u32, cpu: usize, rest: &mut Vec<usize>) -> io::Result<()> {
+        if !rest.contains(&cpu) {
+            rest.push(cpu);
+            self.set_rest(rest);
+        }
+        let set = format!("cpu{cpu}");
+        // One that is still to be moved into the rest can't go to another core by affinity.
+        if self.later.iter().any(|(it, _)| *it == thread) || sys::set_affinity(thread, &[cpu]).is_err() {
+            return self.put(thread, &set);
+        }
+        self.later.push((thread, set));
+        Ok(())
+    }
 }
 
 fn write(file: PathBuf, text: impl ToString) -> io::Result<()> {
@@ -59,13 +99,13 @@ impl Means {
         for &cpu in cpus {
             make(&top.join(format!("cpu{cpu}")), &[cpu])?;
         }
-        Ok(Means::Cpusets(top))
+        Ok(Means::Cpusets(Sets { top, all: cpus.to_vec(), later: Vec::new() }))
     }
 
     /// Moves each process in the parent's own set into the rest, and returns the number of those that were moved.
     pub fn sweep(&self) -> usize {
         match self {
-            Means::Cpusets(top) => {
+            Means::Cpusets(Sets { top, .. }) => {
                 let all = numbers(top.parent().unwrap().join("cgroup.procs"));
                 all.iter().filter(|process| write(top.join("rest/cgroup.procs"), process).is_ok()).count()
             }
@@ -73,17 +113,18 @@ impl Means {
         }
     }
 
-    /// Moves all threads of a process into the rest, but for those in `placed`.
-    ///
-    /// Each is moved by itself, in microseconds: to move a process Linux waits for all processors. A thread that begins
-    /// meanwhile begins in the set of its parent, so it is done twice.
-    pub fn admit(&self, process: u32, placed: &[u32]) {
-        if let Means::Cpusets(top) = self {
-            for _ in 0..2 {
-                for thread in threads_of(process).into_iter().filter(|thread| !placed.contains(thread)) {
-                    let _ = write(top.join("rest/tasks"), thread);
-                }
-            }
+    /// Returns the threads of a process that are to be admitted.
+    pub fn arrivals(&self, process: u32) -> Threads {
+        match self {
+            Means::Cpusets(_) => threads_of(process),
+            Means::Affinity(_) => Box::new(std::iter::empty()),
+        }
+    }
+
+    /// Moves a thread of a client's process into the rest, by itself: to move a process Linux waits for all processors.
+    pub fn admit(&self, thread: u32) {
+        if let Means::Cpusets(Sets { top, .. }) = self {
+            let _ = write(top.join("rest/tasks"), thread);
         }
     }
 
@@ -94,26 +135,38 @@ impl Means {
         }
     }
 
-    /// Moves a thread to its core.
-    pub fn place(&self, thread: u32, cpu: usize) -> io::Result<()> {
+    /// Moves a thread to its core: by cpusets into the core's set only as all is carried out. Until then the core is
+    /// one of the rest's.
+    pub fn place(&mut self, thread: u32, cpu: usize, rest: &mut Vec<usize>) -> io::Result<()> {
         match self {
-            Means::Cpusets(top) => write(top.join(format!("cpu{cpu}/tasks")), thread),
+            Means::Cpusets(sets) => sets.place(thread, cpu, rest),
             Means::Affinity(_) => sys::set_affinity(thread, &[cpu]),
         }
     }
 
-    /// Moves a thread into the rest.
-    pub fn unplace(&self, thread: u32, rest: &[usize]) -> io::Result<()> {
+    /// Moves a thread into the rest: by cpusets, if it sleeps, only as all is carried out.
+    pub fn unplace(&mut self, thread: u32, sleeps: bool, rest: &[usize]) -> io::Result<()> {
         match self {
-            Means::Cpusets(top) => write(top.join("rest/tasks"), thread),
-            Means::Affinity(_) => sys::set_affinity(thread, rest),
+            Means::Cpusets(sets) if sleeps => sets.later.push((thread, "rest".into())),
+            Means::Cpusets(sets) => sets.put(thread, "rest")?,
+            Means::Affinity(_) => sys::set_affinity(thread, rest)?,
+        }
+        Ok(())
+    }
+
+    /// Makes the moves that are still to be made.
+    pub fn carry_out(&mut self) {
+        if let Means::Cpusets(sets) = self {
+            for (thread, set) in std::mem::take(&mut sets.later) {
+                let _ = sets.put(thread, &set);
+            }
         }
     }
 
     /// Sets the processors of the rest. `others` are the clients' threads that have no core.
     pub fn set_rest(&self, rest: &[usize], others: impl Iterator<Item = u32>) {
         match self {
-            Means::Cpusets(top) => drop(write(top.join("rest/cpuset.cpus"), list(rest))),
+            Means::Cpusets(sets) => sets.set_rest(rest),
             Means::Affinity(groups) => {
                 groups.iter().for_each(|group| drop(write(group.join("cpuset.cpus"), list(rest))));
                 others.for_each(|thread| drop(sys::set_affinity(thread, rest)));
@@ -121,25 +174,25 @@ impl Means {
         }
     }
 
-    /// Moves threads and processes off the cores on which a client's thread has begun them: each begins in its parent's
-    /// set, or with its affinity. `known` are the clients' threads, which stay.
-    pub fn free_strangers(&self, cpus: &[usize], processes: &[u32], known: &[u32], all: &[usize]) {
+    /// Returns the threads that clients' threads may have begun on their cores: each begins in its parent's set, and
+    /// with its affinity.
+    pub fn strangers(&self, cpus: &[usize], processes: Vec<u32>) -> Threads {
+        let begun = processes.into_iter().flat_map(family);
         match self {
-            Means::Cpusets(top) => {
-                let there = cpus.iter().flat_map(|cpu| numbers(top.join(format!("cpu{cpu}/tasks"))));
-                for thread in there.filter(|thread| !known.contains(thread)) {
-                    let _ = write(top.join("rest/tasks"), thread);
-                }
+            Means::Cpusets(Sets { top, .. }) => {
+                let sets: Vec<_> = cpus.iter().map(|cpu| top.join(format!("cpu{cpu}/tasks"))).collect();
+                Box::new(sets.into_iter().flat_map(numbers).chain(begun))
             }
-            Means::Affinity(_) => {
-                let others = processes.iter().flat_map(|&process| family(process)).flat_map(threads_of);
-                for thread in others.filter(|thread| !known.contains(thread)) {
-                    if matches!(sys::affinity_of(thread)[..], [cpu] if cpus.contains(&cpu)) {
-                        let _ = sys::set_affinity(thread, all);
-                    }
-                }
-            }
+            Means::Affinity(_) => Box::new(begun),
         }
+    }
+
+    /// Moves a thread that is no client's off a core.
+    pub fn free(&mut self, thread: u32, all: &[usize]) {
+        let _ = match self {
+            Means::Cpusets(sets) => sets.put(thread, "rest"),
+            Means::Affinity(_) => sys::set_affinity(thread, all),
+        };
     }
 }
 

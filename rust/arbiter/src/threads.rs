@@ -1,29 +1,49 @@
 //! Threads of other processes, by the kernel's account in /proc.
 
 use std::fs;
+use std::io::Read;
 
 /// The most threads of a process in a PID namespace of its own that are looked at as one of them joins.
 const IN_A_NAMESPACE: usize = 128;
 /// The most processes of a family that are looked at.
 const FAMILY: usize = 256;
+/// The most bytes that are read of the list of the processes that a thread has begun.
+const CHILDREN: usize = 4096;
+
+/// Threads that are found one after another, so that a step takes no longer if there are more of them.
+pub type Threads = Box<dyn Iterator<Item = u32>>;
 
 /// Returns the threads of a process.
-pub fn threads_of(process: u32) -> Vec<u32> {
+pub fn threads_of(process: u32) -> Threads {
     let entries = fs::read_dir(format!("/proc/{process}/task")).into_iter().flatten().flatten();
-    entries.filter_map(|entry| entry.file_name().to_str()?.parse().ok()).collect()
+    Box::new(entries.filter_map(|entry| entry.file_name().to_str()?.parse().ok()))
 }
 
-/// Returns a process, those that it has begun, and all that these have.
-pub fn family(process: u32) -> Vec<u32> {
-    let (mut all, mut nth) = (vec![process], 0);
-    while let Some(&parent) = all.get(nth).filter(|_| all.len() < FAMILY) {
-        for thread in threads_of(parent) {
-            let begun = fs::read_to_string(format!("/proc/{parent}/task/{thread}/children")).unwrap_or_default();
-            all.extend(begun.split_whitespace().filter_map(|word| word.parse::<u32>().ok()));
+/// Returns the threads of a process, of those that it has begun, and of all that these have.
+pub fn family(process: u32) -> Threads {
+    let (mut others, mut room) = (Vec::new(), FAMILY - 1);
+    let (mut process, mut threads) = (process, threads_of(process));
+    let next = move || loop {
+        if let Some(thread) = threads.next() {
+            let before = others.len();
+            others.extend(begun_by(process, thread).into_iter().take(room));
+            room -= others.len() - before;
+            return Some(thread);
         }
-        nth += 1;
-    }
-    all
+        process = others.pop()?;
+        threads = threads_of(process);
+    };
+    Box::new(std::iter::from_fn(next))
+}
+
+/// Returns the processes that a thread has begun: of many, the first ones.
+fn begun_by(process: u32, thread: u32) -> Vec<u32> {
+    let mut text = [0; CHILDREN];
+    let file = fs::File::open(format!("/proc/{process}/task/{thread}/children"));
+    let len = file.and_then(|mut file| file.read(&mut text)).unwrap_or(0);
+    // A space is behind each number: the last one may be a part of one.
+    let text = String::from_utf8_lossy(&text[..len]);
+    text.split_inclusive(' ').filter_map(|word| word.strip_suffix(' ')?.parse().ok()).collect()
 }
 
 /// Returns when a thread of a process began, in hundredths of a second since the machine did; None if it has ended.
@@ -40,7 +60,7 @@ pub fn thread_of(process: u32, thread: u32) -> Option<u32> {
         return Some(thread);
     }
     let is_it = |it: u32| names_of(process, it).and_then(|names| names.last().copied()) == Some(thread);
-    threads_of(process).into_iter().take(IN_A_NAMESPACE).find(|&it| is_it(it))
+    threads_of(process).take(IN_A_NAMESPACE).find(|&it| is_it(it))
 }
 
 /// Returns a thread's numbers in each PID namespace in which it is, from this process's on.

@@ -470,9 +470,32 @@ fn a_thread_that_has_the_number_of_one_that_ended_is_not_moved() {
     let before = processors_of(&number.to_string());
     send(&mut control, [ASK, 1, 0, 0]);
     assert!(receive(&mut thread).is_none(), "the thread that has ended has no core");
-    // By cpusets the rest, in which it runs, lacks the core until the daemon has taken it back.
-    becomes("it runs where it ran", || processors_of(&number.to_string()) == before);
+    assert_eq!(processors_of(&number.to_string()), before, "it runs where it ran");
     (again.1)();
+}
+
+/// They are more than the daemon looks at before a decision.
+#[test]
+fn all_threads_that_one_with_a_core_begins_leave_it() {
+    let daemon = Daemon::new("begins");
+    let (mut control, [_, client, ..]) = daemon.hello(5, 0);
+    let ((tells, told), (goes, waits)) = (mpsc::channel(), mpsc::channel());
+    thread::spawn(move || {
+        tells.send(number()).unwrap();
+        waits.recv().unwrap();
+        let sleeps = move || tells.send(number()).map(|()| thread::sleep(Duration::from_secs(100)));
+        let begun: Vec<_> = (0..100).map(|_| thread::spawn(sleeps.clone())).collect();
+        begun.into_iter().for_each(|it| it.join().unwrap().unwrap());
+    });
+    let mut first = daemon.join(client, told.recv().unwrap(), 0, false);
+    send(&mut first, [WAIT, 0, 0, 0]);
+    send(&mut control, [ASK, 1, 0, 0]);
+    assert!(is_granted(&mut first));
+    goes.send(()).unwrap();
+    for thread in told.iter().take(100) {
+        let may = |thread: u32| processors_of(&thread.to_string());
+        becomes("it may run on all processors that this thread may", || may(thread) == may(number()));
+    }
 }
 
 #[test]

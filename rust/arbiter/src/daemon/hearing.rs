@@ -188,11 +188,9 @@ impl Arbiter {
             until: None,
             // Behind those that wait already.
             turned: self.turns.count,
+            arrives: 2,
             threads: BTreeMap::new(),
         };
-        let all = self.clients.values().flat_map(|client| client.threads.values());
-        let placed: Vec<u32> = all.filter(|thread| thread.core.is_some()).map(|thread| thread.id).collect();
-        self.means.admit(process, &placed);
         let id = name as u32;
         let welcome = [WELCOME, id, self.cores.len() as u32, matches!(self.means, Means::Cpusets(_)) as u32];
         if !self.state.hello(number, priority as u8, least, most) {
@@ -224,7 +222,7 @@ impl Arbiter {
         let client = self.clients.get_mut(&id).unwrap();
         client.threads.insert(place, Thread { id: thread, began, connection: name, core: None });
         self.connections.get_mut(&name).unwrap().role = Role::Thread(id, place);
-        let _ = self.means.unplace(thread, &self.rest);
+        let _ = self.means.unplace(thread, false, &self.rest);
         Ok(())
     }
 
@@ -234,7 +232,7 @@ impl Arbiter {
         if !self.state.wait(number, place as usize) {
             return Err("one that floats, or waits, waits");
         }
-        self.unplace(client, place);
+        self.unplace(client, place, true);
         Ok(())
     }
 }
