@@ -19,7 +19,8 @@ ghost use Rattle.arachne_exec.specs.Promises.{spawns, ends, times_in_hand, spawn
 use crate::executor::Executor;
 use crate::seat::ExecSeat;
 
-/// A board comes about by one step after another. Each found what stood in its word, and kept the rest of the rule.
+/// The words and what seats know of them (a board) change by one step after another. Each step found what stood in its
+/// word, and kept the rest of the rule.
 ///
 /// A seat notes of a word only the number that its step found there, or of a mark the one that it put there, and keeps
 /// what it has noted. Each change of the worker numbers is noted, and each ready bit that is cleared. So a number that was

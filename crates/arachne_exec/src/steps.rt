@@ -2,7 +2,7 @@
 use crate::view::View;
 use atomic_table::{Join, Play, Split, TableRule};
 
-/// The rule: each place has one keeper, and a sleeper is woken. The table gets the number of shards.
+/// The rule: each place has one keeper, and a sleeper is woken. The table's key is the number of shards.
 pub struct Lawful;
 
 impl TableRule<u64, View, usize> for Lawful {

@@ -107,7 +107,7 @@ impl TakenJob {
         TakenJob { job, more }
     }
 
-    /// Returns the job that a search of its worker's blocks has taken. The next search begins behind its place.
+    /// Returns the job that a search of the worker's blocks has taken. The next search begins behind the job's place.
     pub(crate) fn in_turn(self, turn: &mut SearchTurn, left: &Unsearched) -> HeldJob
         requires { self.job.place < 1048576 }
         ensures job { result ≡ self.job }
@@ -121,7 +121,7 @@ impl TakenJob {
         job
     }
 
-    /// Returns the job of a take. The next take begins behind its index.
+    /// Returns the job that a take has taken. The seat's next take begins behind the job's index in its block.
     pub(crate) fn in_block(self, turn: &mut TakeTurn) -> HeldJob
         ensures job { result ≡ self.job }
         ensures index { turn.new.index ≡ self.job.place % 64 + 1 }

@@ -31,8 +31,8 @@ use arachne_machine::{Contents, Pause, Pending, Thread};
 use std::alloc::{AllocError, Global};
 use std::marker::Model;
 
-/// A thread of the program, with its ends of cells: at the first it leaves its own outcome, and the others await those
-/// of the children that it has forked and not joined, the newest last.
+/// A thread of the program, with its ends of join cells: in the first it leaves its own outcome; from the others it
+/// gets those of the children that it has forked and not joined, the newest last.
 ///
 /// Contracts see the thread, and the id under which its parent runs.
 #[derive(Drop)]

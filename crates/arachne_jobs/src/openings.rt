@@ -35,7 +35,8 @@ impl Openings {
         }
     }
 
-    /// Owes a word of the chooser, unless the fork's child `may` have a place. Then the fork is no pause.
+    /// Records that a word of the chooser must still be drawn, unless the child `may` have a place: without one the
+    /// fork is no pause, so nothing draws it now.
     #[inline(always)]
     fn owe_unless(&mut self, may: bool)
         ensures { self.new ≡ record self.old { draws = if may then self.old.draws else (self.old.draws + 1) % 2 ^ 64 } }
@@ -63,8 +64,8 @@ pub(crate) struct ForkPlacing<'a> {
 }
 
 impl<'a> ForkPlacing<'a> {
-    /// Returns whether a child with this many turns to make may get a place or wait for one. If not, a word of the
-    /// chooser is owed.
+    /// Returns whether a child with this many turns to make may get a place or wait for one. If not, records that a
+    /// word of the chooser must still be drawn for the fork.
     #[inline(always)]
     fn may_have_a_place(&mut self, class: Class, turns: u64) -> bool
         ensures exclusive { class ≡ Class.Exclusive → IsTrue result }

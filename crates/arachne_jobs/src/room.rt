@@ -20,8 +20,8 @@ pub struct Room {
 }
 
 impl Room {
-    /// Returns words by which all places of these cores are free, no child waits, of `most_waiting` at most, and no
-    /// block of tags is drawn. The root's tag, 0, is in no block.
+    /// Returns words that show all places of these cores as free, no child that waits (at most `most_waiting` may), and
+    /// no block of tags as drawn. The root's tag, 0, is in no block.
     pub fn new(cores: u8, slots: u8, most_waiting: u64) -> Room
         ensures { result.most ≡ most_waiting }
     {

@@ -81,7 +81,7 @@ pub trait RunTicket: Tagged + Drop {
 
 /// The memory of ended threads that a worker keeps for those that begin.
 pub trait RunSpares: Drop {
-    /// Returns nothing kept. It takes no memory.
+    /// Returns an empty store. It takes no memory.
     fn none(alloc: Global) -> Self;
 }
 
@@ -99,7 +99,7 @@ pub trait RunJob: RunThread {
     /// The job forks this child, and has no reply yet.
     ghost forks: { Self → Self.Child → Type 0 };
 
-    /// Runs it for at most `left` steps, from which those that it makes are taken.
+    /// Runs it for at most `left` steps, and subtracts those that it made.
     ///
     /// A thread that waits makes none. A child for which there is no place runs in this job's. The amounts that it
     /// tallies are due then.
@@ -132,9 +132,10 @@ pub trait RunJob: RunThread {
         ensures childs_parent { IfOk result (λ job. Self.parent_of job ≡ Some me) }
         ensures answered { OnOk result (Self.pause_of self.new ≡ None) };
 
-    /// Has the child wait with this tag for a place, or until this job, which runs under this id, awaits it.
+    /// Lets the child wait, with this tag, for a place or until this job (which runs under this id) awaits it.
     ///
-    /// Returns its ticket, or `None` if not `waits` or memory is refused: then the child runs in this job's place.
+    /// Returns its ticket. Returns `None` if `waits` is false or memory is refused: then the child runs in this job's
+    /// place.
     fn put_aside(
         &mut self,
         alloc: Global,

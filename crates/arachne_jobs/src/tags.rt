@@ -14,7 +14,7 @@ pub struct Tags {
 }
 
 impl Tags {
-    /// Returns no tags.
+    /// Returns an empty block of tags.
     pub fn new() -> Tags
         ensures { result.left ≡ 0 }
     {

@@ -33,7 +33,7 @@ impl Model for SpareTies {
 }
 
 impl SpareTies {
-    /// Returns no ties. It takes no memory.
+    /// Returns an empty store. It takes no memory.
     pub(crate) fn new(alloc: Global) -> SpareTies {
         SpareTies {
             ties: Vec::new(alloc),

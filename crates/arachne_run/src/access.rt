@@ -58,7 +58,7 @@ pub(crate) struct Access<'a> {
 }
 
 impl Served {
-    /// Returns whether a thread that was served so has a lock, if it `had` one before or not.
+    /// Returns whether a thread has a lock after this result, given whether it `had` one before.
     #[inline(always)]
     fn has_lock(&self, had: bool) -> bool
         ensures { result ≡ has_lock_by self.now had }
@@ -130,7 +130,7 @@ impl<'a> Access<'a> {
         }
     }
 
-    /// Does what a thread asks for, as the locks know it.
+    /// Does what a thread asks for. `who` is its name for the locks.
     fn do_for<H: Wait + Clock>(
         &mut self,
         rt: &H,

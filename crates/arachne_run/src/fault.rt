@@ -30,7 +30,7 @@ pub enum RunFault {
     Worker(WorkerFault),
 }
 
-/// Why workers stop all, or what they left gives no report: each fault of a run but those of its setup.
+/// A fault that a worker met, or that was found in what the workers left: each fault of a run but those of its setup.
 #[derive(Clone, Copy, Debug, PartialEq, Eq, Error)]
 pub enum WorkerFault {
     /// A growth was refused.

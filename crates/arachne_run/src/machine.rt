@@ -54,8 +54,8 @@ pub(crate) struct Machine<C, K: Tagged + Drop> {
 }
 
 impl<C: Seats, K: Tagged + Drop> Machine<C, K> {
-    /// Returns whether a worker may keep the place that a thread leaves: workers may keep places, and the core, which
-    /// looked like `before`, was full.
+    /// Returns whether a worker may keep the place that a thread leaves: workers of this run may keep places, and the
+    /// core was full before (`before` is its word then).
     #[inline(always)]
     pub(crate) fn keeps_place(&self, before: OccWord) -> bool
         ensures { IsTrue result ↔ (self.now.may_keep ≡ true) × (self.now.slots ≤ count_of before.occupied)

@@ -78,7 +78,7 @@ impl Resources {
         Ok((own, others))
     }
 
-    /// Joins the holdings of two.
+    /// Joins two holdings into one.
     pub(crate) fn join(&self, holdings: Holdings, other: Holdings) -> Holdings
         requires own { AreHoldingsOf self.now holdings }
         requires others { AreHoldingsOf self.now other }

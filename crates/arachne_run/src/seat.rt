@@ -40,12 +40,13 @@ pub(crate) struct RunSeat<'a, H, T: RunJob, C: Contexts<T>, R, G> {
     pub(crate) alloc: Global,
     pub(crate) machine: &'a Machine<C, T::Ticket>,
     pub(crate) core: u8,
-    /// Set if something else may be out with the seats, since the table did not know a token. Then the worker ends.
+    /// Set if the table did not know a place or a thread of the worker's: then something else may be claimed or taken
+    /// through the seats, and the worker ends.
     pub(crate) is_broken: bool,
-    /// The thread in hand is out with it.
+    /// The seat through which the thread in hand was taken.
     pub(crate) seat: C::Seat,
     pub(crate) held: Option<InHand<T, C::Hold>>,
-    /// The kept places are out with it.
+    /// The seat through which the kept places were claimed.
     pub(crate) spare: C::Seat,
     pub(crate) kept: Stack<C::Claim>,
     pub(crate) pass: SpillPass<T::Ticket>,
@@ -139,8 +140,8 @@ impl<'a, H: Wait, T: RunJob, C: Contexts<T>, R: Rng + Drop, G: Gate> RunSeat<'a,
         Ok(Some(index))
     }
 
-    /// Keeps a place for the one that a thread has left, if the core, which looked like `before`, was full. Otherwise
-    /// counts that one as free.
+    /// Claims a place to keep in place of the one that a thread has left, if the core was full before (`before` is its
+    /// word then). Otherwise counts the place that was left as free.
     fn keep_or_count(&mut self, before: OccWord) -> Result<(), Halt>
         ensures { self.new ≡ self.old }
     {
