@@ -1,7 +1,7 @@
 -- Lines whose holds are in one list.
 use Rattle.std.proofs.Common.{ℕ, ◌+◌, ◌-◌, ◌≡◌, ◌≤◌, ◌<◌, ◌^◌, List, [], ◌∷◌, ◌++◌, length, get_or, take, drop, refl, ap, sym, ◌∙◌, subst, arith, append_assoc, length-append}
 use Rattle.std.specs.Prelude.{◌*◌, zero, suc}
-use Rattle.std.proofs.lemmas.List.{append-nil, drop-append-le, drop-set-add, drop-set-lt, get_or-drop, get_or-take, length-drop, length-set, length-take-le, set-get_or, take-append-le, take-set-le}
+use Rattle.std.proofs.lemmas.List.{drop-append-le, drop-set-add, drop-set-lt, drop_at, get_or-drop, get_or-take, length-drop, length-set, length-take-le, take-append-le, take-set-le, take_all, take_at}
 use Rattle.std.proofs.Math.ListN.{set}
 use Rattle.std.proofs.Math.Nat.{suc-mul}
 use Rattle.std.proofs.Math.Seq.{take-set-lt}
@@ -147,13 +147,28 @@ counts-none locks (mark ∷ marks) holds (suc place) lock within fit none =
     counts-behind (line_with mark (take locks holds)) (with_holds locks marks (drop locks holds)) (with_holds locks marks (drop locks holds)) place lock
     (counts-none locks marks (drop locks holds) place lock (omega (arith, within)) (others-fit locks mark marks holds fit) none)
 
--- a line alone
-take_whole : (l : List ℕ) → take (length l) l ≡ l
-take_whole [] = refl
-take_whole (x ∷ l) = ap (λ (m : List ℕ). x ∷ m) (take_whole l)
+-- a line with as many numbers as there are locks behind others, and more behind it
+pub with_holds-more : (locks : ℕ) (marks others : List Mark) (mark : Mark) (holds own more : List ℕ) → AreHoldsOf locks marks holds → length own ≡ locks →
+    with_holds locks ((marks ++ mark ∷ []) ++ others) ((holds ++ own) ++ more) ≡ with_holds locks marks holds ++ line_with mark own ∷ with_holds locks others more
+with_holds-more locks marks others mark holds own more fit long =
+    ap (λ (l : List Mark). with_holds locks l ((holds ++ own) ++ more)) (append_assoc marks (mark ∷ []) others)
+    ∙ ap (λ (l : List ℕ). with_holds locks (marks ++ mark ∷ others) l) (append_assoc holds own more)
+    ∙ with_holds-append locks marks (mark ∷ others) holds (own ++ more) fit
+    ∙ ap (λ (l : List ℕ). with_holds locks marks holds ++ line_with mark l ∷ with_holds locks others (drop locks (own ++ more))) (take_at own more locks long)
+    ∙ ap (λ (l : List ℕ). with_holds locks marks holds ++ line_with mark own ∷ with_holds locks others l) (drop_at own more locks long)
 
-pub with_holds-one : (mark : Mark) (holds : List ℕ) → with_holds (length holds) (mark ∷ []) holds ≡ line_with mark holds ∷ []
-with_holds-one mark holds = ap (λ (l : List ℕ). line_with mark l ∷ []) (take_whole holds)
+pub holds-more : (locks : ℕ) (marks others : List Mark) (mark : Mark) (holds own more : List ℕ) → AreHoldsOf locks marks holds → length own ≡ locks → AreHoldsOf locks others more →
+    AreHoldsOf locks ((marks ++ mark ∷ []) ++ others) ((holds ++ own) ++ more)
+holds-more locks marks others mark holds own more fit long fits =
+    holds-append locks (marks ++ mark ∷ []) others (holds ++ own) more (holds-append locks marks (mark ∷ []) holds own fit (omega (arith, long))) fits
 
-pub holds-one : (mark : Mark) (holds : List ℕ) → AreHoldsOf (length holds) (mark ∷ []) holds
-holds-one mark holds = omega arith
+-- a line behind others
+pub with_holds-push : (locks : ℕ) (marks : List Mark) (mark : Mark) (holds own : List ℕ) → AreHoldsOf locks marks holds → length own ≡ locks →
+    with_holds locks (marks ++ mark ∷ []) (holds ++ own) ≡ with_holds locks marks holds ++ line_with mark own ∷ []
+with_holds-push locks marks mark holds own fit long =
+    with_holds-append locks marks (mark ∷ []) holds own fit
+    ∙ ap (λ (l : List ℕ). with_holds locks marks holds ++ line_with mark l ∷ []) (take_all locks own (omega (arith, long)))
+
+pub holds-push : (locks : ℕ) (marks : List Mark) (mark : Mark) (holds own : List ℕ) → AreHoldsOf locks marks holds → length own ≡ locks →
+    AreHoldsOf locks (marks ++ mark ∷ []) (holds ++ own)
+holds-push locks marks mark holds own fit long = holds-append locks marks (mark ∷ []) holds own fit (omega (arith, long))

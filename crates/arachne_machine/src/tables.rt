@@ -22,7 +22,7 @@ pub fn push_zeros(numbers: &mut Vec<u64>, n: usize) -> Result<(), AllocError>
     ensures err { OnErr result (numbers.new.items ≡ numbers.old.items) }
 {
     numbers.try_reserve(n)?;
-    for _k in 0..n {
+    for _ in 0..n {
         numbers.push_reserved(0);
     }
     Ok(())
