@@ -4,7 +4,7 @@ use Rattle.std.specs.Prelude.{◌*◌, zero, suc}
 use Rattle.std.proofs.lemmas.List.{drop-append-le, drop-set-add, drop-set-lt, drop_at, get_or-drop, get_or-take, length-drop, length-set, length-take-le, take-append-le, take-set-le, take_all, take_at}
 use Rattle.std.proofs.Math.ListN.{set}
 use Rattle.std.proofs.Math.Nat.{suc-mul}
-use Rattle.std.proofs.Math.Seq.{take-set-lt}
+use Rattle.std.proofs.Math.Seq.{drop-nil, take-set-lt}
 use Rattle.arachne_lang.specs.Effects.{tabulated}
 use Rattle.arachne_lang.specs.Value.{wrapped}
 use Rattle.arachne_machine.specs.declared.line.ThreadLine.{ThreadLine}
@@ -50,13 +50,9 @@ holds-append locks (mark ∷ marks) others holds more fit fits =
       suc-mul (length (marks ++ others)) locks,
     )
 
-drop-nothing : (n : ℕ) → drop n ([] : List ℕ) ≡ []
-drop-nothing zero = refl
-drop-nothing (suc n) = refl
-
 drop-drop : (n m : ℕ) (l : List ℕ) → drop m (drop n l) ≡ drop (n + m) l
 drop-drop zero m l = ap (λ k. drop k l) (omega arith)
-drop-drop (suc n) m [] = drop-nothing m ∙ sym (drop-nothing (suc n + m))
+drop-drop (suc n) m [] = drop-nil m ∙ sym (drop-nil (suc n + m))
 drop-drop (suc n) m (x ∷ l) = drop-drop n m l ∙ ap (λ k. drop k (x ∷ l)) (omega arith)
 
 -- the line at a place
