@@ -51,20 +51,22 @@ holds-append locks (mark ∷ marks) others holds more fit fits =
     )
 
 drop-drop : (n m : ℕ) (l : List ℕ) → drop m (drop n l) ≡ drop (n + m) l
-drop-drop zero m l = ap (λ k. drop k l) (omega arith)
+drop-drop zero m l = let none : m ≡ zero + m = omega arith in ap (λ (k : ℕ). drop k l) none
 drop-drop (suc n) m [] = drop-nil m ∙ sym (drop-nil (suc n + m))
-drop-drop (suc n) m (x ∷ l) = drop-drop n m l ∙ ap (λ k. drop k (x ∷ l)) (omega arith)
+drop-drop (suc n) m (x ∷ l) = let more : suc (n + m) ≡ suc n + m = omega arith in drop-drop n m l ∙ ap (λ (k : ℕ). drop k (x ∷ l)) more
 
 -- the line at a place
 pub with_holds-at : (locks : ℕ) (marks : List Mark) (holds : List ℕ) (place : ℕ) (mark : Mark) (other : ThreadLine) → place < length marks → mark ≡ get_or marks place mark →
     get_or (with_holds locks marks holds) place other ≡ line_with mark (take locks (drop (place * locks) holds))
 with_holds-at locks [] holds place mark other within is = absurd (omega (arith, within))
 with_holds-at locks (first ∷ marks) holds zero mark other within is =
-    ap (λ (m : Mark). line_with m (take locks holds)) (sym is) ∙ ap (λ (n : ℕ). line_with mark (take locks (drop n holds))) (omega arith)
+    let none : zero ≡ zero * locks = omega arith in
+    ap (λ (m : Mark). line_with m (take locks holds)) (sym is) ∙ ap (λ (n : ℕ). line_with mark (take locks (drop n holds))) none
 with_holds-at locks (first ∷ marks) holds (suc place) mark other within is =
+    let more : locks + place * locks ≡ suc place * locks = omega (arith, suc-mul place locks) in
     with_holds-at locks marks (drop locks holds) place mark other (omega (arith, within)) is
     ∙ ap (λ (l : List ℕ). line_with mark (take locks l)) (drop-drop locks (place * locks) holds)
-    ∙ ap (λ (n : ℕ). line_with mark (take locks (drop n holds))) (omega (arith, suc-mul place locks))
+    ∙ ap (λ (n : ℕ). line_with mark (take locks (drop n holds))) more
 
 -- the numbers of the line at a place are within the list
 pub within-holds : (locks : ℕ) (marks : List Mark) (holds : List ℕ) (place : ℕ) → AreHoldsOf locks marks holds → place < length marks → place * locks + locks ≤ length holds

@@ -1,5 +1,5 @@
-use Rattle.std.proofs.Common.{rules, ◌≡◌, ◌+◌, ◌≤◌, ℕ, List, [], ◌∷◌, ◌++◌, length, ap, sym, subst, ◌∙◌, arith, vec_len, vec_capacity}
-use Rattle.std.specs.Prelude.{Bool, true, if◌then◌else◌}
+use Rattle.std.proofs.Common.{◌≡◌, ◌+◌, ◌≤◌, ℕ, List, [], ◌∷◌, ◌++◌, length, ap, sym, subst, ◌∙◌, arith, vec_len, vec_capacity}
+use Rattle.std.specs.Prelude.{◌*◌, Bool, true, if◌then◌else◌}
 use Rattle.std.specs.Result.{is_ok}
 use Rattle.arachne_machine.specs.declared.line.ThreadLine.{ThreadLine}
 use Rattle.arachne_machine.specs.declared.line_list.Mark.{Mark}
@@ -13,7 +13,7 @@ joined : {A : Type 0} → (front more new : List A) (done : Bool) → new ≡ (i
 joined front more new done appended ok = appended ∙ ap (λ b. if b then front ++ more else front) ok
 
 -- the own line's mark
-mark_of : After-append-3 → Mark
+abbrev mark_of : After-append-3 → Mark
 mark_of c = record { name = c.take-name.result.name; label = record { tag = c.take-name.result.tag; ran = c.take-name.result.ran } }
 
 -- the threads that are here, the own one and the others
@@ -64,8 +64,9 @@ invariant_of-self-2 g =
     let fields = c.self.inside in
     let fits : AreHoldsOf fields.locks c.below.inside.marks.items c.below.inside.holds.items =
     subst (λ (n : ℕ). AreHoldsOf n c.below.inside.marks.items c.below.inside.holds.items) (same c) c.below.invariant in
-    rw (marks c, holds c) (holds-more fields.locks fields.marks.items c.below.inside.marks.items (mark_of c) fields.holds.items c.args.own.now.holds c.below.inside.holds.items
-    c.self.invariant (long c) fits)
+    ap length (holds c)
+    ∙ holds-more fields.locks fields.marks.items c.below.inside.marks.items (mark_of c) fields.holds.items c.args.own.now.holds c.below.inside.holds.items c.self.invariant (long c) fits
+    ∙ ap (λ (l : List Mark). length l * fields.locks) (sym (marks c))
 
 pub returns-clause-ok : goal.returns-clause-ok
 returns-clause-ok g =

@@ -45,7 +45,8 @@ returns c = λ other.
     let first : ℕ = c.args.place * fields.locks in
     let few = within fields.locks c.args.place fields.marks.items fields.holds.items c.args.self.now c.self.view_is c.requires in
     let mark : Mark = c.index-mark.result.now in
+    let long : (first + fields.locks) - first ≡ fields.locks = omega arith in
     c.new.ensures ∙ ap (λ (l : List ℕ). line_with mark (take ((first + fields.locks) - first) (drop first l))) c.deref.ensures.value
-    ∙ ap (λ (n : ℕ). line_with mark (take n (drop first fields.holds.items))) (omega arith)
+    ∙ ap (λ (n : ℕ). line_with mark (take n (drop first fields.holds.items))) long
     ∙ sym (with_holds-at fields.locks fields.marks.items fields.holds.items c.args.place mark other few c.index-mark.ensures)
     ∙ ap (λ (v : Listed). get_or v.lines c.args.place other) c.self.view_is

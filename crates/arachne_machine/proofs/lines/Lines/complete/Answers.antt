@@ -18,8 +18,8 @@ all_in c =
     ∙ ap (λ (list : Listed). c.args.own.now ∷ (lines_in c.self.inside.earlier.items ++ list.lines)) c.replace.ensures.value
     ∙ ap (λ (lines : List ThreadLine). c.args.own.now ∷ lines) c.self.view_is
 
-pub of-requires : goal.of-requires
-of-requires c = omega (arith, ap length (all_in ((goal.at.of-requires c).After-push_reserved-2)), c.len-count.ensures.length)
+pub of-2-requires : goal.of-2-requires
+of-2-requires c = omega (arith, ap length (all_in ((goal.at.of-2-requires c).After-push_reserved-2)), c.len-count.ensures.length)
 
 pub returns-clause-lines : goal.returns-clause-lines
-returns-clause-lines c = c.of.ensures ∙ all_in ((goal.at.returns-clause-lines c).After-push_reserved-2)
+returns-clause-lines c = c.of-2.ensures ∙ all_in ((goal.at.returns-clause-lines c).After-push_reserved-2)
