@@ -50,7 +50,7 @@ impl<'p> State<'p> {
         if self.parents.is_empty() {
             add_at(&mut self.own.holds, lock, 1);
         } else {
-            self.lines.count_hold(self.level.place, lock);
+            self.lines.count_hold(self.alloc, self.level.place, lock);
         }
     }
 

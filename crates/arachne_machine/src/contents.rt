@@ -35,7 +35,7 @@ impl Contents {
             value: 0,
             sums: Vec::new(alloc),
             own: ThreadLine::vacant(alloc),
-            below: Lines::new(alloc, 0),
+            below: Lines::new(alloc),
         }
     }
 

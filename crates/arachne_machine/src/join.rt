@@ -2,11 +2,11 @@
 use crate::contents::Contents;
 use crate::frame::{Control, Frame};
 use crate::level::{Level, Parent, move_parents};
-use crate::line::{Label, Ran};
+use crate::line::{Ran, ThreadLine};
 use crate::placing::Placing;
 use crate::state::{Progress, State};
-use crate::tables::add_each;
-use arachne_lang::Name;
+use crate::tables::{add_each, zeros};
+use arachne_lang::{Name, Sequence};
 use std::alloc::AllocError;
 use std::mem::swap;
 
@@ -64,14 +64,15 @@ impl<'p> State<'p> {
         ensures frames { OnErr result (self.new.frames ≡ self.old.frames) }
     {
         self.parents.try_reserve(1)?;
+        let holds = zeros(self.alloc, self.program.locks)?;
         let name = self.running_name().child(self.alloc, number)?;
         let place = self.lines.len();
-        let label = Label {
+        self.lines.push(ThreadLine {
+            name,
             tag: places.tag(),
+            holds: Sequence::from(holds),
             ran: Ran::InPlace,
-        };
-        self.lines
-            .push(self.alloc, name, label, self.program.locks)?;
+        })?;
         self.descend(awaits, place, 0);
         Ok(())
     }

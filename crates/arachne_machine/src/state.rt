@@ -154,7 +154,7 @@ impl<'p> State<'p> {
             program,
             alloc,
             own: Own::vacant(alloc),
-            lines: Lines::new(alloc, program.locks),
+            lines: Lines::new(alloc),
             sums: Vec::new(alloc),
             parents: Vec::new(alloc),
             level: Level::outermost(),
@@ -182,7 +182,7 @@ impl<'p> State<'p> {
         self.environment.extend_from_slice(environment)?;
         self.frames.clear();
         self.parents.clear();
-        self.lines = Lines::new(self.alloc, program.locks);
+        self.lines = Lines::new(self.alloc);
         self.program = program;
         self.own = own;
         self.sums = sums;
@@ -354,7 +354,7 @@ impl<'p> State<'p> {
         if self.parents.is_empty() {
             return &self.own.name;
         }
-        self.lines.at(self.level.place).name()
+        &self.lines.at(self.level.place).name
     }
 
     /// Returns the tag of the innermost thread.
@@ -365,7 +365,7 @@ impl<'p> State<'p> {
         if self.parents.is_empty() {
             return self.own.label.tag;
         }
-        self.lines.at(self.level.place).tag()
+        self.lines.at(self.level.place).tag
     }
 
     /// Takes out the contents of the outcome of a thread that has ended.
@@ -383,7 +383,7 @@ impl<'p> State<'p> {
             value: self.value(),
             sums: replace(&mut self.sums, Vec::new(self.alloc)),
             own: self.own.take_line(self.alloc),
-            below: replace(&mut self.lines, Lines::new(self.alloc, self.program.locks)),
+            below: replace(&mut self.lines, Lines::new(self.alloc)),
         }
     }
 

@@ -1,5 +1,5 @@
 //! Tables of numbers, one for each ledger or lock.
-ghost use Rattle.std.specs.Prelude.{◌≡◌, ℕ, ◌+◌, ◌==◌, if◌then◌else◌, ◌++◌, length, IfOk, OnOk, OnErr};
+ghost use Rattle.std.specs.Prelude.{◌≡◌, ℕ, ◌+◌, ◌==◌, if◌then◌else◌, length, IfOk};
 ghost use Rattle.arachne_lang.specs.Effects.{tabulated};
 
 use std::alloc::{AllocError, Global};
@@ -13,19 +13,6 @@ pub fn zeros(alloc: Global, n: u8) -> Result<Vec<u64>, AllocError>
         return Ok(Vec::new(alloc));
     }
     vec![in alloc; 0u64; usize::from(n)]
-}
-
-/// Appends `n` zeros. If memory is refused, nothing has changed but the capacity.
-#[inline(always)]
-pub fn push_zeros(numbers: &mut Vec<u64>, n: usize) -> Result<(), AllocError>
-    ensures ok { OnOk result (numbers.new.items ≡ numbers.old.items ++ tabulated n (λ _. 0)) }
-    ensures err { OnErr result (numbers.new.items ≡ numbers.old.items) }
-{
-    numbers.try_reserve(n)?;
-    for _ in 0..n {
-        numbers.push_reserved(0);
-    }
-    Ok(())
 }
 
 /// Adds to each number of `sums` the one of `more`, modulo 2^64.

@@ -7,7 +7,7 @@ ghost use Rattle.arachne_run.specs.Histories.{GrantsAreHolds, IsGrantedAsHeld, g
 ghost use Rattle.arachne_run.specs.declared.fault.WorkerFault.TheVariants.{Memory, Threads};
 
 use crate::fault::WorkerFault;
-use arachne_machine::{LineView, ThreadLines};
+use arachne_machine::{ThreadLine, ThreadLines};
 use arachne_sleep::{History, LockEvent};
 use std::alloc::{AllocError, Global};
 
@@ -41,7 +41,7 @@ fn marks_of(alloc: Global, threads: &ThreadLines) -> Result<Option<Vec<bool>>, A
     let mut marks = Vec::new(alloc);
     marks.resize(threads.len(), false)?;
     for line in threads.iter() {
-        let place = place_of(&line);
+        let place = place_of(line);
         if place == usize::MAX {
             return Ok(None);
         }
@@ -58,10 +58,10 @@ fn marks_of(alloc: Global, threads: &ThreadLines) -> Result<Option<Vec<bool>>, A
 
 /// Returns the place of a thread's mark, which is its tag.
 #[inline(always)]
-fn place_of(line: &LineView<'_>) -> usize
+fn place_of(line: &ThreadLine) -> usize
     ensures { result ≡ line.now.tag }
 {
-    line.tag() as usize
+    line.tag as usize
 }
 
 /// Returns whether each lock was granted to each thread as often as it held the lock, and to no other. The marks are
@@ -98,8 +98,8 @@ fn is_granted_as_held(
         return Ok(false);
     };
     for line in threads.iter() {
-        let held = number_at(line.holds(), lock);
-        if number_at(grants.as_slice(), line.tag() as usize) != held {
+        let held = number_at(line.holds.as_slice(), lock);
+        if number_at(grants.as_slice(), line.tag as usize) != held {
             return Ok(false);
         }
     }

@@ -82,7 +82,7 @@ pub(super) fn number(report: &Report, watch: &Watch, fact: Fact) -> u64 {
 fn are_last_two_in_slots(report: &Report) -> bool {
     let mut in_slots = 0u64;
     for line in report.threads.iter() {
-        in_slots = if line.ran() == Ran::Slot {
+        in_slots = if line.ran == Ran::Slot {
             in_slots.wrapping_add(1)
         } else {
             0
@@ -95,7 +95,7 @@ fn are_last_two_in_slots(report: &Report) -> bool {
 fn count_of(report: &Report, ran: Ran) -> u64 {
     let mut count = 0u64;
     for line in report.threads.iter() {
-        count = count.wrapping_add(u64::from(line.ran() == ran));
+        count = count.wrapping_add(u64::from(line.ran == ran));
     }
     count
 }
@@ -131,7 +131,7 @@ pub(super) fn told(
 fn ran_of(alloc: Global, report: &Report) -> Result<String, Fail> {
     let mut text = String::new(alloc);
     for line in report.threads.iter() {
-        let word = match line.ran() {
+        let word = match line.ran {
             Ran::Slot => "slot ",
             Ran::Spill => "spill ",
             Ran::InPlace => "in place ",

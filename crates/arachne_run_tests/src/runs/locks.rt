@@ -40,8 +40,8 @@ pub(super) fn grants(report: &Report, tag: Option<u64>) -> u64 {
 pub(super) fn grants_are_holds(report: &Report) -> bool {
     let mut counted = 0u64;
     for line in report.threads.iter() {
-        let grants = grants(report, Some(line.tag()));
-        let has_held = line.holds().first() == Some(&1);
+        let grants = grants(report, Some(line.tag));
+        let has_held = line.holds.as_slice().first() == Some(&1);
         if grants != u64::from(has_held) {
             return false;
         }
