@@ -43,20 +43,20 @@ ticket_send κ = search (sendable, std.crosses, cell.the_send, cell.the_sync, le
 wait_cell_field_send : (κ : NamedLft) → IsSend (wait_cell.the_field κ).row
 wait_cell_field_send κ = search (sendable, std.crosses, cell.the_send, cell.the_sync, left_send, wanted_send, wanted_sync) depth 30
 
-wait_end_send : (κ : NamedLft) → IsSend (wait_end.the_row κ)
+wait_end_send : (κ : NamedLft) → IsSend (wait_end.the_field κ).row
 wait_end_send κ = search (sendable, std.crosses, wait_cell_field_send, sending_end.the_send, left_send, wanted_send, wanted_sync) depth 40
 
-end_send : IsSend an_end.the_row
-end_send = search (sendable, std.crosses, sender_send, receiver_send, detached_send, wanted_send, wanted_sync) depth 40
+end_send : (κ : NamedLft) → IsSend (an_end.the_row κ)
+end_send κ = search (sendable, std.crosses, sender_send, receiver_send, detached_send, wanted_send, wanted_sync, wait_end_send) depth 40
 
-ties_send : IsSend ties.the_row
-ties_send = search (sendable, std.crosses, end_send, id.the_field_send) depth 30
+ties_send : (κ : NamedLft) → IsSend (ties.the_row κ)
+ties_send κ = search (sendable, std.crosses, end_send, id.the_field_send, contents_send) depth 30
 
 pub job_send : (κ : NamedLft) → IsSend (job.the_row κ)
-job_send κ = search (sendable, std.crosses, thread_field_send, ties_send, contents_send, wait_end_send) depth 30
+job_send κ = search (sendable, std.crosses, thread_field_send, ties_send) depth 30
 
-spare_ties_send : IsSend spare_ties.the_field.row
-spare_ties_send = search (sendable, std.crosses, ties_send) depth 30
+spare_ties_send : (κ : NamedLft) → IsSend (spare_ties.the_field κ).row
+spare_ties_send κ = search (sendable, std.crosses, ties_send) depth 30
 
 pub spares_send : (κ : NamedLft) → IsSend (spares.the_row κ)
 spares_send κ = search (sendable, std.crosses, spares_field_send, spare_ties_send, unused_send, detached_send) depth 30

@@ -5,7 +5,6 @@ use Rattle.arachne_jobs.specs.Cells.{IsOf}
 use Rattle.arachne_jobs.specs.declared.wanted.Wanted.{Wanted}
 use Rattle.arachne_jobs.specs.declared.ends.End.{End}
 use Rattle.arachne_jobs.specs.declared.ends.End.TheVariants as at
-use Rattle.arachne_jobs.specs.declared.ends.WaitEnd.{WaitEnd}
 
 -- what is wanted is the outcome of the thread of this name in this program
 abbrev pub IsNamed : Program → List ℕ → Wanted → Type 0
@@ -16,9 +15,5 @@ IsNamed program name wanted = (wanted.program.value ≡ program) × (wanted.name
 abbrev pub IsEnd : Program → List ℕ → End → Type 0
 IsEnd program name (at.Leaves sender) = IsNamed program name sender.key
 IsEnd program name (at.Awaits receiver) = IsOf program receiver.opening.key
-IsEnd program name at.Waits = Unit {0}
-
--- the same of a cell in which a thread waits or has waited
-abbrev pub IsWaitEnd : Program → List ℕ → WaitEnd → Type 0
-IsWaitEnd program name w =
+IsEnd program name (at.Waits w) =
     MatchOption w.end (IsOf program w.cell.key) (λ end. IsNamed program name w.cell.key × (end ≡ w.cell.table))

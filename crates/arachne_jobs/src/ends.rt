@@ -6,13 +6,13 @@ use arachne_join::SendingEnd;
 
 /// An end of a cell: the one at which a thread leaves its outcome, or one at which it gets a child's outcome.
 #[derive(Drop)]
-pub enum End {
+pub enum End<'p> {
     /// The thread leaves its outcome here.
     Leaves(OutcomeSender),
     /// The thread gets a child's outcome here.
     Awaits(OutcomeReceiver),
-    /// The cell of a child that waits, which is in a list of its own.
-    Waits,
+    /// The same at a cell in which a child waits or has waited.
+    Waits(WaitEnd<'p>),
 }
 
 /// The cell in which a child waits or has waited. The parent has no sending end. The child has one once it was taken

@@ -11,7 +11,7 @@ ghost use Rattle.arachne_machine.specs.declared.pause.Pending.TheVariants as pau
 ghost use Rattle.arachne_jobs.specs.Threads.{HasWaited, IsForking, IsGoing, IsAwaiting, name_of, pause_of, program_of, running_tag_of, tag_of};
 ghost use Rattle.arachne_jobs.specs.Cells.{IsFoundOf, IsFor, IsOf};
 ghost use Rattle.arachne_jobs.specs.Dues.{GoesOnOver, HasTallied, IsJoined, due_to};
-ghost use Rattle.arachne_jobs.specs.Ends.{IsEnd, IsWaitEnd};
+ghost use Rattle.arachne_jobs.specs.Ends.{IsEnd};
 ghost use Rattle.arachne_jobs.specs.Slices.{HasNoRest, IsLeft, IsRequest, MayRest, UsesSteps};
 
 use crate::ends::{End, WaitEnd};
@@ -27,7 +27,7 @@ use crate::wanted::{OutcomeReceiver, Wanted};
 use arachne_contexts::Tagged;
 use arachne_core::{Rest, ThreadId};
 use arachne_lang::{Name, Program};
-use arachne_machine::{Contents, Pause, Pending, Thread};
+use arachne_machine::{Pause, Pending, Thread};
 use std::alloc::{AllocError, Global};
 use std::marker::Model;
 
@@ -38,18 +38,13 @@ use std::marker::Model;
 #[derive(Drop)]
 pub struct Job<'p> {
     thread: Thread<'p>,
-    /// Its ties to other jobs, without a lifetime.
-    ties: Box<Ties>,
-    /// The box into which its outcome is written.
-    contents: Box<Contents>,
-    /// The cells in which threads wait or have waited, one for each of its ends of that kind, in their order.
-    waits: Vec<WaitEnd<'p>>,
+    ties: Box<Ties<'p>>,
 }
 
 impl<'p> Model for Job<'p> {
     ghost use Rattle.std.specs.Prelude.{All};
     ghost use Rattle.arachne_jobs.specs.Threads.{Posted, name_of, program_of};
-    ghost use Rattle.arachne_jobs.specs.Ends.{IsEnd, IsWaitEnd};
+    ghost use Rattle.arachne_jobs.specs.Ends.{IsEnd};
 
     ghost Value = { Posted };
 
@@ -60,8 +55,7 @@ impl<'p> Model for Job<'p> {
 
     ghost view = { λ j. record { thread = j.thread; parent = j.ties.value.parent } };
 
-    ghost invariant = { λ j. All (IsEnd (program_of j.thread) (name_of j.thread)) j.ties.value.ends.items
-        × All (IsWaitEnd (program_of j.thread) (name_of j.thread)) j.waits.items };
+    ghost invariant = { λ j. All (IsEnd (program_of j.thread) (name_of j.thread)) j.ties.value.ends.items };
 }
 
 impl<'p> Tagged for Job<'p> {
@@ -201,14 +195,14 @@ impl<'p> RunJob for Job<'p> {
             return Ok(None);
         }
         // Room comes first: the child can't be taken back once its ticket is out.
-        if reserve_both(&mut self.ties.ends, &mut self.waits).is_err() {
+        if self.ties.ends.try_reserve(1).is_err() {
             self.place(child)?;
             return Ok(None);
         }
         match WaitCell::wait(alloc, child, me) {
             Ok((cell, ticket)) => {
-                self.waits.push_reserved(WaitEnd { cell, end: None });
-                self.ties.ends.push_reserved(End::Waits);
+                let end = WaitEnd { cell, end: None };
+                self.ties.ends.push_reserved(End::Waits(end));
                 self.thread.forked();
                 Ok(Some(ticket))
             }
@@ -225,52 +219,39 @@ impl<'p> RunJob for Job<'p> {
         ensures tag { IfSome result (λ job. tag_of job.thread ≡ ticket.entry.key.tag.value) }
         ensures waited { IfSome result (λ job. HasWaited job.thread) }
     {
-        let mut waits = Vec::with_capacity(alloc, 1).ok()?;
-        let mut ties = spares.ties.take(alloc, None).ok()?;
         let contents = spares.threads.take_contents().ok()?;
+        let mut ties = spares.ties.take(alloc, None, contents).ok()?;
         // The child is taken last: if memory is refused before, it waits on for its parent.
         let Some((waiting, cell, end)) = ticket.take() else {
             spares.ties.keep(ties);
-            spares.threads.keep_contents(contents);
             return None;
         };
         let Waiting { mut thread, parent } = waiting;
         thread.set_spilled();
-        ties.ends.push_reserved(End::Waits);
-        waits.push_reserved(WaitEnd {
+        let end = WaitEnd {
             cell,
             end: Some(end),
-        });
+        };
+        ties.ends.push_reserved(End::Waits(end));
         ties.parent = Some(parent);
-        Some(Job {
-            thread,
-            ties,
-            contents,
-            waits,
-        })
+        Some(Job { thread, ties })
     }
 
     fn leave(self, spares: &mut JobSpares<'p>) -> Result<Option<ThreadId>, JobFault> {
-        let Job {
-            thread,
-            mut ties,
-            contents,
-            mut waits,
-        } = self;
+        let Job { thread, mut ties } = self;
         if thread.pending() != Some(Pending::Ended) {
             return Err(JobFault::Foreign);
         }
         let Some(end) = ties.ends.pop() else {
             return Err(JobFault::Foreign);
         };
+        let Some(contents) = ties.contents.take() else {
+            return Err(JobFault::Foreign);
+        };
         let outcome = thread.finish_into(contents, &mut spares.threads);
         match end {
             End::Leaves(sender) => sender.leave(outcome),
-            End::Waits => {
-                let Some(wait) = waits.pop() else {
-                    return Err(JobFault::Foreign);
-                };
-                let WaitEnd { cell, end } = wait;
+            End::Waits(WaitEnd { cell, end }) => {
                 let Some(end) = end else {
                     return Err(JobFault::Foreign);
                 };
@@ -307,17 +288,11 @@ impl<'p> Job<'p> {
         ensures receiver { IfOk result (λ made. IsFor thread.entry made.1.opening.key) }
     {
         let wanted = Wanted::of(&thread, parent);
-        let mut ties = spares.ties.take(alloc, parent)?;
         let contents = spares.threads.take_contents()?;
+        let mut ties = spares.ties.take(alloc, parent, contents)?;
         let (receiver, sender) = spares.cells.open(alloc, &wanted)?;
         ties.ends.push_reserved(End::Leaves(sender));
-        let job = Job {
-            thread,
-            ties,
-            contents,
-            waits: Vec::new(alloc),
-        };
-        Ok((job, receiver))
+        Ok((Job { thread, ties }, receiver))
     }
 
     /// Runs it for at most `left` steps, over tallies whose amounts are due then.
@@ -448,29 +423,15 @@ impl<'p> Job<'p> {
                     Ok(Found::Nothing)
                 }
             },
-            End::Waits => match self.waits.pop() {
-                Some(WaitEnd { cell, end: None }) => match cell.find() {
-                    Ok(found) => Ok(found),
-                    Err(_) => {
-                        self.waits.push_reserved(WaitEnd { cell, end: None });
-                        self.ties.ends.push_reserved(End::Waits);
-                        Ok(Found::Nothing)
-                    }
-                },
-                _ => Err(JobFault::Foreign),
+            End::Waits(WaitEnd { cell, end: None }) => match cell.find() {
+                Ok(found) => Ok(found),
+                Err(_) => {
+                    let end = WaitEnd { cell, end: None };
+                    self.ties.ends.push_reserved(End::Waits(end));
+                    Ok(Found::Nothing)
+                }
             },
-            End::Leaves(_) => Err(JobFault::Foreign),
+            _ => Err(JobFault::Foreign),
         }
     }
-}
-
-/// Makes room for one more in each of two lists.
-fn reserve_both<A: Drop, B: Drop>(one: &mut Vec<A>, other: &mut Vec<B>) -> Result<(), AllocError>
-    ensures one { one.new.items ≡ one.old.items }
-    ensures other { other.new.items ≡ other.old.items }
-    ensures room { OnOk result ((vec_len one.new < vec_capacity one.new) × (vec_len other.new < vec_capacity other.new)) }
-{
-    one.try_reserve(1)?;
-    other.try_reserve(1)?;
-    Ok(())
 }

@@ -12,7 +12,7 @@ use std::alloc::Global;
 #[derive(Drop)]
 pub struct JobSpares<'p> {
     pub(crate) threads: SpareThreads<'p>,
-    pub(crate) ties: SpareTies,
+    pub(crate) ties: SpareTies<'p>,
     pub(crate) cells: SpareCells<DetachedOutcome, Wanted>,
 }
 
