@@ -94,6 +94,7 @@ pub struct Arbiter {
     host: Host,
     /// The processors on which threads without a core run.
     rest: Vec<usize>,
+    /// The processors on which threads run that are no client's any more.
     all: Vec<usize>,
     /// By number, in the order in which they came.
     connections: BTreeMap<u64, Connection>,
@@ -126,7 +127,7 @@ impl Arbiter {
             host: Host::new(cores.iter().map(|cpus| cpus[0]).collect()),
             cores: cores.into_iter().map(|cpus| Core { cpus, owner: None, since: Instant::now() }).collect(),
             rest: options.cpus.clone(),
-            all: options.cpus.clone(),
+            all: options.all.clone(),
             connections: BTreeMap::new(),
             connected: 0,
             clients: BTreeMap::new(),

@@ -20,6 +20,7 @@ pub enum Means {
 /// while the core is one of the rest's, and into the core's set once the client has been told.
 pub struct Sets {
     top: PathBuf,
+    /// All that an affinity can name: with fewer a thread would be kept on these also once it is in another set.
     all: Vec<usize>,
     /// Threads, each with the name of the set that it is moved to.
     later: Vec<(u32, String)>,
@@ -99,7 +100,7 @@ impl Means {
         for &cpu in cpus {
             make(&top.join(format!("cpu{cpu}")), &[cpu])?;
         }
-        Ok(Means::Cpusets(Sets { top, all: cpus.to_vec(), later: Vec::new() }))
+        Ok(Means::Cpusets(Sets { top, all: (0..sys::PROCESSORS).collect(), later: Vec::new() }))
     }
 
     /// Moves each process in the parent's own set into the rest, and returns the number of those that were moved.

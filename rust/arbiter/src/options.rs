@@ -9,7 +9,9 @@ pub struct Options {
     pub cpuset: Option<PathBuf>,
     pub groups: Vec<PathBuf>,
     pub sweep: bool,
+    /// The processors of the cores, and all that this process may use.
     pub cpus: Vec<usize>,
+    pub all: Vec<usize>,
     pub keep: usize,
     pub hyperthreads: bool,
     pub turn: u64,
@@ -27,6 +29,7 @@ impl Options {
             groups: Vec::new(),
             sweep: false,
             cpus: sys::affinity(),
+            all: sys::affinity(),
             keep: 1,
             hyperthreads: false,
             turn: 100,

@@ -60,6 +60,9 @@ extern "C" {
 
 const PAGE: usize = 4096;
 
+/// The most processors that an affinity can name.
+pub const PROCESSORS: usize = 1024;
+
 /// Waits for at most `timeout` milliseconds until one of these descriptors is readable, or a signal comes.
 pub fn wait(fds: &mut [Polled], timeout: i32) {
     // SAFETY: the length is the slice's, which lives through the call.
@@ -158,7 +161,7 @@ pub fn affinity_of(thread: u32) -> Vec<usize> {
     let mut mask = [0u64; 16];
     // SAFETY: the mask has 128 bytes, and lives through the call.
     unsafe { sched_getaffinity(thread as i32, 128, mask.as_mut_ptr()) };
-    (0..1024).filter(|cpu| mask[cpu / 64] >> (cpu % 64) & 1 == 1).collect()
+    (0..PROCESSORS).filter(|cpu| mask[cpu / 64] >> (cpu % 64) & 1 == 1).collect()
 }
 
 /// Gives this process the lowest real-time priority: a decision takes microseconds, and others wait for it. Returns

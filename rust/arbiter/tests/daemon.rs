@@ -511,6 +511,30 @@ fn a_thread_that_changes_its_affinity_leaves_its_core_only_by_affinity() {
     assert_eq!(processors_of(&id), if leaves { kept } else { &cpu[..] });
 }
 
+/// The daemon can't tell it from one that a thread has begun on its core.
+#[test]
+fn a_thread_that_is_kept_on_one_processor_is_freed() {
+    let daemon = Daemon::new("kept");
+    let _client = daemon.hello(5, 0);
+    let (number, _end) = begin();
+    let (id, all) = (number.to_string(), || processors_of(&std::process::id().to_string()));
+    let kept = Command::new("taskset").args(["-cp", &processors()[1].to_string(), &id]).output();
+    assert!(kept.unwrap().status.success());
+    becomes("it may run on all processors again", || processors_of(&id) == all());
+}
+
+/// The daemon has two of this process's processors.
+#[test]
+fn who_was_a_client_may_run_everywhere_once_the_daemon_has_ended() {
+    let all = processors_of(&std::process::id().to_string());
+    let daemon = with_one_core("ended");
+    let client = granted(&daemon, 5, 0);
+    let id = thread_on(&daemon, client.cpu).to_string();
+    assert_eq!(processors_of(&id), client.cpu.to_string());
+    drop(daemon);
+    assert_eq!(processors_of(&id), all);
+}
+
 #[test]
 fn a_thread_of_a_container_is_found_by_its_number_there() {
     let mut unshare = Command::new("unshare");
@@ -583,7 +607,8 @@ fn groups_of_version_2_get_the_processors_of_the_rest() {
     let daemon = Daemon::at(path_of("rest"), &["--rest", group.to_str().unwrap()]);
     let has = |cpu: u32| processors().split(',').any(|it| it == cpu.to_string());
     let client = granted(&daemon, 5, 0);
-    assert!(!has(client.cpu), "{}", processors());
+    // The client is told first. A file that is just being written is empty.
+    becomes("it is kept from the group", || !processors().is_empty() && !has(client.cpu));
     drop(client.control);
     becomes("it is of the rest again", || has(client.cpu));
     drop(daemon);
