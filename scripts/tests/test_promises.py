@@ -83,8 +83,15 @@ def wrong(page: str, broken: dict[tuple[str, str], str], tried: set[str]) -> lis
 
 def breaks() -> dict[tuple[str, str], str]:
     """The promise that each wrong body breaks, by crate and name."""
-    texts = {(crate, name): text for crate in read.crates() for name, text in read.blocks_of(crate)}
-    return {it: "|".join(re.findall(r"^breaks: (.*)$", text, re.M)) for it, text in texts.items()}
+    found = {}
+    for crate in read.crates():
+        promise = ""
+        for line in (TOP / f"wrong-bodies/{crate}.edits").read_text().splitlines():
+            if line.startswith("breaks: "):
+                promise = line[8:]
+            elif line.startswith("== "):
+                found[crate, line[3:]] = promise
+    return found
 
 
 def tried() -> set[str]:
