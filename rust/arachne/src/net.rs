@@ -51,7 +51,7 @@ pub use unix::{UnixListener, UnixStream};
 #[derive(Clone)]
 struct Registered {
     shared: &'static Shared,
-    /// The count of the runtime's `Door`, by which a later runtime that uses the same state is told apart.
+    /// The count of the runtime's `Door`. A later runtime that uses the same state has another count.
     turns: u64,
     io: Arc<Io>,
     key: Key,

@@ -1,10 +1,11 @@
 //! The epoll of a runtime: the events of its sockets, and the waking of the worker that sleeps there.
 //!
-//! One worker waits there. It asks for as many events as run in about 100 us, at most 8; the only worker asks for as
-//! many as its hand, its list of jobs to run next, has room for. Their tasks stay in its hand, in the order of the
-//! events. The other events stay with the kernel for whoever looks next, so that they don't wait for a worker that
-//! loses its processor; if there may be more, a sleeping worker is woken. A worker that has ready jobs of its own looks
-//! too; the tasks that it wakes then become ready in their blocks, unless it is the only worker.
+//! One worker waits there. The tasks of the events that it gets stay in its hand, its list of jobs to run next, in the
+//! order of the events. So it asks only for as many as have room there (`asks` in worker.rs): at most 8, and fewer if 8
+//! polls take more than about 100 us; the only active worker asks for more. The other events stay with the kernel for
+//! whoever looks next, so that they don't wait for a worker that loses its processor; if there may be more, a sleeping
+//! worker is woken. A worker that has ready jobs of its own looks too; the tasks that it wakes then become ready in
+//! their blocks, unless it is the only active worker.
 
 use crate::sync::atomic::{AtomicU64, AtomicUsize, Ordering::*};
 use crate::sync::{Arc, Condvar, Mutex};

@@ -105,13 +105,13 @@ pub(crate) struct Worker {
     pub(crate) given_back: (Mutex<bool>, Condvar),
     /// The worker has laid down all jobs in its hand, and waits for its core.
     pub(crate) away: AtomicBool,
-    /// The worker's shards. The seats by which their numbers park are in `parking`.
+    /// The worker's shards. To the core each belongs to a worker number, which is its index modulo `NUMBERS`.
     pub(crate) shards: Box<[usize]>,
     /// The number of its shards, from the first on, that ever had a task. It only grows; the others are not searched.
     pub(crate) used: AtomicUsize,
     /// The block of its shards in which the next task may find room.
     pub(crate) roomy: Line<AtomicUsize>,
-    /// The right to park its numbers. The worker that looks after them takes the lock.
+    /// The rights to park, one for each worker number of its shards. The worker that looks after these takes the lock.
     pub(crate) parking: Mutex<Vec<Parking>>,
     pub(crate) polls: AtomicU64,
     pub(crate) spawned: AtomicU64,

@@ -128,7 +128,7 @@ pub struct Sleep {
 /// ```
 ///
 /// # Panics
-/// The future panics if it has to wait outside of a runtime. It may be made there.
+/// The future panics if it has to wait outside of a runtime. `sleep` itself may be called there.
 pub fn sleep(duration: Duration) -> Sleep {
     let nanos = duration.as_nanos().min(u64::MAX as u128 / 4) as u64;
     Sleep { at: now().saturating_add(nanos), waits: None }
