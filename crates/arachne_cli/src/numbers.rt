@@ -1,4 +1,4 @@
-//! Reads numbers and words at the front of a text, for samples and orders.
+//! Reads a number or a word at the front of a text: the parts of a sample (`samples`) and of a core order (`orders`).
 ghost use Rattle.std.specs.Prelude.{◌≡◌, ◌+◌, ◌*◌, ◌^◌};
 ghost use Rattle.arachne_lang.specs.Reading.{digits_at, figures_at, number_at, word_at};
 ghost use Rattle.arachne_cli.specs.Reading.{Gives};

@@ -35,7 +35,8 @@ pub fn targets_are_decided(clients: &[Client], cores: u32)
     ensures { IsDecided clients.now cores }
 {}
 
-/// Gives the cores of all claims before one, the last for which there are enough, and returns their number.
+/// Finds the last claim such that there are enough cores for all claims before it, and gives each client the cores of
+/// those. Returns the number of cores given.
 fn fill_levels(clients: &[Client], cores: u32, targets: &mut [u32]) -> u32
     requires { length targets.old ≡ length clients.now }
     ensures few { result ≤ cores }

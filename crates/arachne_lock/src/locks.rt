@@ -181,7 +181,9 @@ impl Locks {
         Attempt::Answered(answer)
     }
 
-    /// Splits off a seat for another kernel thread. It has seen what this one has, and has done nothing.
+    /// Splits off a seat for another kernel thread.
+    ///
+    /// It begins with what this seat has seen, and with no tries or events of its own.
     pub fn split(&self, seat: &mut LockSetSeat) -> LockSetSeat
         requires { IsSeatOf self.now seat.old }
         ensures first { seat.new ≡ first_half seat.old }

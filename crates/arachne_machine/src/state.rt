@@ -286,7 +286,8 @@ impl<'p> State<'p> {
         }
     }
 
-    /// Begins this expression. If there is none, begins a part of a sweep, or takes a value that was left over.
+    /// Begins the expression. If there is none, takes the value that was left over, or begins a part of a sweep (a loop
+    /// whose range is halved among threads).
     #[inline(always)]
     fn begin_next<P: Placing>(
         &mut self,
