@@ -73,7 +73,7 @@ pub struct Stopping {
     shared: Option<&'static Shared>,
     /// The key and the waker by which it waits.
     waits: Option<(u64, Waker)>,
-    /// Polls since the end began in which its task had not tried a socket before this future.
+    /// The number of polls, since the end began, in which the task polled this future before it had tried a socket.
     blind: u32,
 }
 
