@@ -217,7 +217,7 @@ impl SearchTurn {
         if first < count { first } else { 0 }
     }
 
-    /// Returns the blocks that a shard shows, for a search in turn.
+    /// Returns a search of the blocks that the shard shows, which begins at the block whose turn it is.
     pub(crate) fn unsearched(&self, shard: usize, shown: u64) -> Unsearched
         ensures blocks { result.blocks ≡ shown }
         ensures turn { self.now.place / 4096 ≡ shard → result.from ≡ self.now.place / 64 % 64 }

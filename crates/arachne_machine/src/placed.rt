@@ -119,9 +119,9 @@ impl<'p> State<'p> {
 
     /// Takes back a child to run it in this place.
     ///
-    /// A child that was just forked waits, and begins before the children `others` that were handed back to it. An
-    /// awaited child goes on here at once, and `others` are the newest of these children. After an error nothing has
-    /// changed but capacities.
+    /// A child that was just forked waits to run here, and will begin before `others`, the children that were handed
+    /// back to it. An awaited child goes on here at once, and `others` are the newest of these children. After an error
+    /// nothing has changed but capacities.
     pub fn place(
         &mut self,
         placed: &mut Vec<Box<State<'p>>>,
