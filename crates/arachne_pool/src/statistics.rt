@@ -10,13 +10,13 @@ pub struct Statistics {
     pub slices: u64,
     /// Steps of jobs, those in the place of others too.
     pub steps: u64,
-    /// How often a job was woken: by a worker of this core as a child of the job ended, or by `Pool::wake` while the
-    /// job was on this core. The latter is counted at once.
+    /// Wakes of jobs: by a worker of this core as a child of the job ended, or by `Pool::wake` while the job was on
+    /// this core. The latter is counted at once.
     pub wakes: u64,
     /// Rounds that found nothing to do, after which the worker waited.
     pub rests: u64,
-    /// How often the worker's sleep timed out though there was something that nobody had signalled, or all was over. It
-    /// is counted at once. Workers with jobs for which no core has a place cause a few of these, since a place that
+    /// Sleeps of the worker that timed out though there was something that nobody had signalled, or all was over. They
+    /// are counted at once. Workers with jobs for which no core has a place cause a few of these, since a place that
     /// comes free is not signalled; many show a missing signal.
     pub overslept: u64,
 }
@@ -32,6 +32,17 @@ impl Statistics {
             wakes: 0,
             rests: 0,
             overslept: 0,
+        }
+    }
+
+    /// Returns the sum of these and the statistics of another core.
+    pub(crate) fn with(self, other: Statistics) -> Statistics {
+        Statistics {
+            slices: self.slices.wrapping_add(other.slices),
+            steps: self.steps.wrapping_add(other.steps),
+            wakes: self.wakes.wrapping_add(other.wakes),
+            rests: self.rests.wrapping_add(other.rests),
+            overslept: self.overslept.wrapping_add(other.overslept),
         }
     }
 }

@@ -33,7 +33,7 @@ pub(crate) const ALONE_PARENT: Sort = Sort {
 pub(crate) const ELEVEN: Sort = Sort { steps: 10, ..LEAF };
 
 /// A tree of jobs with three children each, four generations deep: 121 jobs.
-const TREE: Sort = Sort {
+pub(crate) const TREE: Sort = Sort {
     depth: 4,
     forks: 3,
     ..LEAF
@@ -45,7 +45,7 @@ const ENDLESS: Sort = Sort {
     ..LEAF
 };
 
-/// One that goes on for so long that a kernel thread which has nothing to do meanwhile is parked before its end.
+/// One that goes on for long enough that a kernel thread which has nothing to do meanwhile is parked before its end.
 const LONG: Sort = Sort {
     steps: 2_000_000,
     bound: 1_000,
