@@ -3,7 +3,8 @@ ghost use Rattle.std.specs.Prelude.{◌≡◌, ◌<◌, IfSome};
 ghost use Rattle.arachne_pool.specs.Workers.{IsWorkerOf};
 
 use crate::board::Board;
-use crate::spells::{Spell, work};
+use crate::seated::Seated;
+use crate::spells::{Spell, cast};
 use crate::tasks::Task;
 use arachne_contexts::{Contexts, Seats};
 use arachne_pool::{Pool, Spawned, Worker};
@@ -64,7 +65,9 @@ impl<'p, C: Contexts<Spawned<Task>>> Team<Share<C::Seat>> for Crew<'p, C> {
         } else {
             self.spells.1
         };
-        let worker = work::<C, R>(rt, self.pool, self.board, worker, number, spell)?;
+        let mut seated = Seated::of(rt, self.pool, self.board, worker)?;
+        cast(&mut seated, number, spell);
+        let worker = seated.into_worker();
         let busy = usize::from(worker.tally().ended > 0);
         Some(Share { worker, busy })
     }

@@ -9,11 +9,15 @@ mod crew;
 #[cfg(test)]
 mod orders;
 #[cfg(test)]
+mod player;
+#[cfg(test)]
 mod rounds;
 #[cfg(test)]
 mod rows;
 #[cfg(test)]
 mod runs;
+#[cfg(test)]
+mod seated;
 #[cfg(test)]
 mod serving;
 #[cfg(test)]

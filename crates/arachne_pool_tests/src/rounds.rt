@@ -6,11 +6,13 @@ ghost use Rattle.arachne_pool.specs.Workers.{IsWorkerOf};
 use crate::board::Board;
 use crate::crew::Share;
 use crate::orders::{Order, orders_of};
+use crate::player::{Comes, On, Player, Wakes};
+use crate::seated::Seated;
 use crate::spells::Spell;
 use crate::tasks::{LEAF, Sort, Task};
-use arachne_contexts::{Contexts, Woken};
-use arachne_core::{CORES, OccWord, Place, SLOTS, ThreadId};
-use arachne_pool::{Left, Pool, PoolFault, Refusal, Refused, Spawned, Worker};
+use arachne_contexts::Contexts;
+use arachne_core::{CORES, OccWord, SLOTS, ThreadId};
+use arachne_pool::{Left, Pool, PoolFault, Spawned, Worker};
 use arachne_shortage::Hoard;
 use std::alloc::Global;
 use std::sync::{Arc, Wait};
@@ -78,41 +80,6 @@ pub(crate) enum Act {
     Stops,
 }
 
-/// How and where a job is spawned.
-#[derive(Clone, Copy)]
-pub(crate) enum On {
-    /// On any core, by `spawn`: if no core has a place, a worker may keep the job.
-    AnyKept,
-    /// On any core, by `try_spawn`.
-    Any,
-    /// On this core.
-    Core(u8),
-    /// On this core. The spawn must report the place of this index there.
-    At(u8, u8),
-}
-
-/// The result of an attempt to spawn a job.
-#[derive(Clone, Copy, PartialEq)]
-pub(crate) enum Comes {
-    /// The job is spawned.
-    Begins,
-    /// No core had a place: the first number of cores were full or exclusive to one job, the second number were closed.
-    NoPlace(u8, u8),
-    NoMemory,
-    NoSeat,
-}
-
-/// The result of a wake.
-#[derive(Clone, Copy, PartialEq)]
-pub(crate) enum Wakes {
-    /// The job slept.
-    It,
-    /// It was awake.
-    Awake,
-    /// There is no such job.
-    Nobody,
-}
-
 /// The state of a core.
 #[derive(Clone, Copy, PartialEq)]
 pub(crate) enum Is {
@@ -157,7 +124,7 @@ pub(crate) fn begin<C: Contexts<Spawned<Task>> + Drop, R: Wait + Clock>(
     }
     let orders = orders_of(alloc, row.orders, cores)?;
     let (pool, worker) = Pool::<C>::new::<Task>(alloc, cores, slots, orders).ok()?;
-    match all_hold::<C, R>(rt, alloc, &pool, board, worker, row.acts) {
+    match acted::<C, R>(rt, &pool, board, worker, row.acts) {
         Some(worker) => Some((pool, worker)),
         None => None,
     }
@@ -176,7 +143,7 @@ pub(crate) fn end<C: Contexts<Spawned<Task>> + Drop, R: Wait + Clock>(
     requires { IsWorkerOf C.sits C.idle pool.table pool.cores share.worker }
 {
     let Share { worker, busy } = share;
-    let Some(worker) = all_hold::<C, R>(rt, alloc, &pool, board, worker, row.then) else {
+    let Some(worker) = acted::<C, R>(rt, &pool, board, worker, row.then) else {
         return false;
     };
     let Ok(left) = pool.close(rt, alloc, worker) else {
@@ -212,11 +179,9 @@ fn count_in(job: Spawned<Task>) -> usize {
     count
 }
 
-/// Does the acts with this worker. Returns it if the result of each act is the one that it states. A waker has a part
-/// of the worker's seat meanwhile.
-fn all_hold<C: Contexts<Spawned<Task>>, R: Wait + Clock>(
+/// Has a worker do these acts. Returns it if the result of each act is the one that it states.
+fn acted<C: Contexts<Spawned<Task>>, R: Wait + Clock>(
     rt: &R,
-    alloc: Global,
     pool: &Pool<C>,
     board: &Arc<Board>,
     worker: Worker<C::Seat, Task>,
@@ -225,328 +190,206 @@ fn all_hold<C: Contexts<Spawned<Task>>, R: Wait + Clock>(
     requires { IsWorkerOf C.sits C.idle pool.now.table pool.now.cores worker }
     ensures { IfSome result (IsWorkerOf C.sits C.idle pool.now.table pool.now.cores) }
 {
-    let (mut worker, waker) = pool.split_waker(rt, worker);
-    let mut waker = waker?;
+    let mut seated = Seated::of(rt, pool, board, worker)?;
+    if !all_hold(&mut seated, acts) {
+        return None;
+    }
+    Some(seated.into_worker())
+}
+
+/// Does the acts. Returns true if the result of each is the one that it states.
+fn all_hold<P: Player>(player: &mut P, acts: &[Act]) -> bool
+    ensures { player.new ≡ player.old }
+{
     let mut hoard: Option<Hoard> = None;
     for act in acts {
         let holds = match *act {
-            Act::Wakes(context, generation, wakes) => {
-                let id = ThreadId {
-                    context,
-                    generation,
-                };
-                wakes_of(pool.wake::<R, Task>(rt, &mut waker, id).woken()) == wakes
-            }
             Act::Hoards => {
-                hoard = Hoard::take(alloc).ok();
+                hoard = Hoard::take(player.board().alloc).ok();
                 hoard.is_some()
             }
             Act::Frees => {
                 hoard = None;
                 true
             }
-            act => holds::<C, R>(rt, alloc, pool, board, &mut worker, act),
+            act => holds(player, act),
         };
         if !holds {
-            return None;
-        }
-    }
-    Some(pool.join_waker(rt, worker, waker))
-}
-
-/// Returns the result of a wake in the words of a row.
-fn wakes_of(woken: Woken) -> Wakes {
-    match woken {
-        Woken::Woken => Wakes::It,
-        Woken::Already(_) => Wakes::Awake,
-        Woken::Gone | Woken::Lost(_) => Wakes::Nobody,
-    }
-}
-
-/// Does an act with one worker. Returns true if the result is the one that the act states.
-fn holds<C: Contexts<Spawned<Task>>, R: Wait + Clock>(
-    rt: &R,
-    alloc: Global,
-    pool: &Pool<C>,
-    board: &Arc<Board>,
-    worker: &mut Worker<C::Seat, Task>,
-    act: Act,
-) -> bool
-    requires worker { IsWorkerOf C.sits C.idle pool.now.table pool.now.cores worker.old }
-    ensures worker { IsWorkerOf C.sits C.idle pool.now.table pool.now.cores worker.new }
-{
-    match act {
-        Act::Spawns(sort) => match Task::new(sort, board) {
-            Some(task) => pool.spawn(rt, worker, task).is_ok(),
-            None => false,
-        },
-        Act::SpawnsMany(jobs, sort) => spawns_many::<C, R>(rt, pool, board, worker, jobs, sort),
-        Act::Turns(core, _) | Act::TurnsInNeed(core) if core < pool.cores => {
-            is_wanted(act, pool.turn(rt, worker, core))
-        }
-        Act::Works(core) if core < pool.cores => pool.work(rt, worker, core).is_ok(),
-        Act::Joins(sort, wanted) if pool.cores > 0 => {
-            joins::<C, R>(rt, pool, board, worker, sort, false, wanted)
-        }
-        Act::JoinsLate(sort, wanted) if pool.cores > 0 => {
-            joins::<C, R>(rt, pool, board, worker, sort, true, Some(wanted))
-        }
-        Act::Tries(on, sort, comes) => {
-            tried::<C, R>(rt, pool, board, worker, on, sort) == Some(comes)
-        }
-        Act::EndsInNeed(sort) if pool.cores > 0 => {
-            ends_in_need::<C, R>(rt, alloc, pool, board, worker, sort)
-        }
-        Act::Orders(orders) => match orders_of(alloc, orders, pool.cores) {
-            Some(orders) => pool.order(rt, worker, orders).is_ok(),
-            None => false,
-        },
-        Act::Counts(count) => worker.tally().spawned == count,
-        Act::Fills => fills::<C, R>(rt, pool, board, worker),
-        act => is_so::<C, R>(rt, pool, board, act),
-    }
-}
-
-/// Returns true if the result of a round is the one that its act states.
-fn is_wanted(act: Act, turned: Result<bool, PoolFault>) -> bool {
-    match act {
-        Act::Turns(_, finds) => turned == Ok(finds),
-        _ => turned == Err(PoolFault::Memory),
-    }
-}
-
-/// Does an act that needs no worker. Returns true if the result is the one that the act states.
-fn is_so<C: Contexts<Spawned<Task>>, R: Wait>(
-    rt: &R,
-    pool: &Pool<C>,
-    board: &Board,
-    act: Act,
-) -> bool {
-    match act {
-        Act::Has(core, taken, is) if core < pool.cores => {
-            match OccWord::from_word(pool.table.glance(rt, core)) {
-                Some(now) => {
-                    now.count() == taken
-                        && now.is_closed() == (is == Is::Closed)
-                        && now.is_exclusive() == (is == Is::Alone)
-                }
-                None => false,
-            }
-        }
-        Act::Lives(count) => pool.live() == count,
-        Act::Did(core, slices, steps, wakes, rests) => {
-            let done = pool.statistics(core);
-            (done.slices, done.steps) == (slices, steps)
-                && (done.wakes, done.rests) == (wakes, rests)
-        }
-        Act::Overslept(most) => overslept(pool) <= most,
-        Act::OversleptAtLeast(least) => overslept(pool) >= least,
-        Act::Answers => {
-            board.answer();
-            true
-        }
-        Act::Answered(count) => board.answers() == count,
-        Act::KeepsOpen => {
-            pool.keep_open();
-            true
-        }
-        Act::Stops => {
-            pool.stop();
-            true
-        }
-        _ => false,
-    }
-}
-
-/// Returns how often sleeps of kernel threads have timed out, although something was there for them.
-fn overslept<C: Contexts<Spawned<Task>>>(pool: &Pool<C>) -> u64 {
-    let mut sum: u64 = 0;
-    for core in 0..pool.cores {
-        sum = sum.saturating_add(pool.statistics(core).overslept);
-    }
-    sum
-}
-
-/// Tries to spawn a job. Returns the result, or `None` if the job can't be made, if there is no such core, or if the
-/// job got another place than `on` states.
-fn tried<C: Contexts<Spawned<Task>>, R: Wait>(
-    rt: &R,
-    pool: &Pool<C>,
-    board: &Arc<Board>,
-    worker: &mut Worker<C::Seat, Task>,
-    on: On,
-    sort: Sort,
-) -> Option<Comes>
-    requires worker { IsWorkerOf C.sits C.idle pool.now.table pool.now.cores worker.old }
-    ensures worker { IsWorkerOf C.sits C.idle pool.now.table pool.now.cores worker.new }
-{
-    let task = Task::new(sort, board)?;
-    let refused = match on {
-        On::AnyKept => pool.spawn(rt, worker, task).err(),
-        On::Any => pool.try_spawn(rt, worker, task).err(),
-        On::Core(core) | On::At(core, _) if core < pool.cores => {
-            match pool.try_spawn_on(rt, worker, core, task) {
-                Ok((_, place)) if !is_wanted_at(on, place) => return None,
-                tried => tried.err(),
-            }
-        }
-        On::Core(_) | On::At(..) => return None,
-    };
-    Some(comes_of(refused))
-}
-
-/// Returns true if a job that was spawned in this way may be at this place.
-fn is_wanted_at(on: On, place: Place) -> bool {
-    match on {
-        On::At(core, index) => (place.core, place.index) == (core, index),
-        _ => true,
-    }
-}
-
-/// Spawns `jobs` jobs. Returns true if each was spawned.
-fn spawns_many<C: Contexts<Spawned<Task>>, R: Wait>(
-    rt: &R,
-    pool: &Pool<C>,
-    board: &Arc<Board>,
-    worker: &mut Worker<C::Seat, Task>,
-    jobs: u32,
-    sort: Sort,
-) -> bool
-    requires worker { IsWorkerOf C.sits C.idle pool.now.table pool.now.cores worker.old }
-    ensures worker { IsWorkerOf C.sits C.idle pool.now.table pool.now.cores worker.new }
-{
-    for _ in 0..jobs {
-        if tried::<C, R>(rt, pool, board, worker, On::AnyKept, sort) != Some(Comes::Begins) {
             return false;
         }
     }
     true
 }
 
+/// Does an act with one worker. Returns true if the result is the one that the act states.
+fn holds<P: Player>(player: &mut P, act: Act) -> bool
+    ensures { player.new ≡ player.old }
+{
+    match act {
+        Act::Spawns(sort) => spawn_many(player, 1, sort) == 1,
+        Act::SpawnsMany(jobs, sort) => spawn_many(player, jobs, sort) == jobs,
+        Act::Tries(on, sort, comes) => tried(player, on, sort) == comes,
+        Act::Turns(core, finds) => player.turn(core) == Ok(finds),
+        Act::TurnsInNeed(core) => player.turn(core) == Err(PoolFault::Memory),
+        Act::Works(core) => player.work(core).is_ok(),
+        Act::Joins(sort, wanted) => joins(player, sort, false, wanted),
+        Act::JoinsLate(sort, wanted) => joins(player, sort, true, Some(wanted)),
+        Act::EndsInNeed(sort) => ends_in_need(player, sort),
+        Act::Wakes(context, generation, wakes) => {
+            let id = ThreadId {
+                context,
+                generation,
+            };
+            player.wake(id) == wakes
+        }
+        Act::Orders(orders) => player.order(orders),
+        Act::Fills => fills(player),
+        act => is_so(player, act),
+    }
+}
+
+/// Does an act that changes nothing of a worker. Returns true if the result is the one that the act states.
+fn is_so<P: Player>(player: &P, act: Act) -> bool {
+    match act {
+        Act::Has(core, taken, is) => match OccWord::from_word(player.word(core)) {
+            Some(now) => {
+                core < player.cores()
+                    && now.count() == taken
+                    && now.is_closed() == (is == Is::Closed)
+                    && now.is_exclusive() == (is == Is::Alone)
+            }
+            None => false,
+        },
+        Act::Lives(count) => player.live() == count,
+        Act::Counts(count) => player.tally().spawned == count,
+        Act::Did(core, slices, steps, wakes, rests) => {
+            let done = player.statistics(core);
+            (done.slices, done.steps) == (slices, steps)
+                && (done.wakes, done.rests) == (wakes, rests)
+        }
+        Act::Overslept(most) => overslept(player) <= most,
+        Act::OversleptAtLeast(least) => overslept(player) >= least,
+        Act::Answered(count) => player.board().answers() == count,
+        act => does(player, act),
+    }
+}
+
+/// Does an act that has no result.
+fn does<P: Player>(player: &P, act: Act) -> bool {
+    match act {
+        Act::Answers => player.board().answer(),
+        Act::KeepsOpen => player.keep_open(),
+        Act::Stops => player.stop(),
+        _ => return false,
+    }
+    true
+}
+
+/// Returns how often sleeps of kernel threads have timed out, although something was there for them.
+fn overslept<P: Player>(player: &P) -> u64 {
+    let mut sum: u64 = 0;
+    for core in 0..player.cores() {
+        sum = sum.saturating_add(player.statistics(core).overslept);
+    }
+    sum
+}
+
+/// Tries to spawn a job. Returns the result.
+fn tried<P: Player>(player: &mut P, on: On, sort: Sort) -> Comes
+    ensures { player.new ≡ player.old }
+{
+    match player.spawn(on, sort) {
+        Ok(_) => Comes::Begins,
+        Err(comes) => comes,
+    }
+}
+
+/// Spawns `jobs` jobs, which a worker may keep. Returns the number of those that were spawned.
+pub(crate) fn spawn_many<P: Player>(player: &mut P, jobs: u32, sort: Sort) -> u32
+    ensures { player.new ≡ player.old }
+{
+    let mut spawned: u32 = 0;
+    for _ in 0..jobs {
+        if player.spawn(On::AnyKept, sort).is_ok() {
+            spawned = spawned.saturating_add(1);
+        }
+    }
+    spawned
+}
+
 /// Spawns jobs that no worker keeps until half of the places are taken, and then on each core until it is full. Returns
 /// true if each was spawned as long as there was a place.
-fn fills<C: Contexts<Spawned<Task>>, R: Wait>(
-    rt: &R,
-    pool: &Pool<C>,
-    board: &Arc<Board>,
-    worker: &mut Worker<C::Seat, Task>,
-) -> bool
-    requires worker { IsWorkerOf C.sits C.idle pool.now.table pool.now.cores worker.old }
-    ensures worker { IsWorkerOf C.sits C.idle pool.now.table pool.now.cores worker.new }
+fn fills<P: Player>(player: &mut P) -> bool
+    ensures { player.new ≡ player.old }
 {
-    let places = u64::from(pool.cores) * u64::from(pool.slots);
+    let places = u64::from(player.cores()) * u64::from(player.slots());
     for nth in 0..places / 2 + places % 2 {
         let on = if nth % 2 == 0 { On::AnyKept } else { On::Any };
-        if tried::<C, R>(rt, pool, board, worker, on, LEAF) != Some(Comes::Begins) {
+        if tried(player, on, LEAF) != Comes::Begins {
             return false;
         }
     }
-    for core in 0..pool.cores {
-        if fills_core::<C, R>(rt, pool, board, worker, core) != Some(Comes::NoPlace(1, 0)) {
+    for core in 0..player.cores() {
+        if !fills_core(player, core) {
             return false;
         }
     }
-    worker.tally().spawned == places
-        && tried::<C, R>(rt, pool, board, worker, On::Any, LEAF)
-            == Some(Comes::NoPlace(pool.cores, 0))
+    player.tally().spawned == places
+        && tried(player, On::Any, LEAF) == Comes::NoPlace(player.cores(), 0)
 }
 
-/// Spawns jobs on a core until a spawn fails. Returns the result of that spawn.
-fn fills_core<C: Contexts<Spawned<Task>>, R: Wait>(
-    rt: &R,
-    pool: &Pool<C>,
-    board: &Arc<Board>,
-    worker: &mut Worker<C::Seat, Task>,
-    core: u8,
-) -> Option<Comes>
-    requires worker { IsWorkerOf C.sits C.idle pool.now.table pool.now.cores worker.old }
-    ensures worker { IsWorkerOf C.sits C.idle pool.now.table pool.now.cores worker.new }
+/// Spawns jobs on a core until it is full. Returns true if that is the reason why the last one was not spawned.
+fn fills_core<P: Player>(player: &mut P, core: u8) -> bool
+    ensures { player.new ≡ player.old }
 {
-    for _ in 0..=pool.slots {
-        let comes = tried::<C, R>(rt, pool, board, worker, On::Core(core), LEAF)?;
+    for _ in 0..=player.slots() {
+        let comes = tried(player, On::Core(core), LEAF);
         if comes != Comes::Begins {
-            return Some(comes);
+            return comes == Comes::NoPlace(1, 0);
         }
     }
-    None
-}
-
-/// Returns the result of a spawn: its refusal, if there was one.
-fn comes_of(refused: Option<Refused<Task>>) -> Comes {
-    match refused {
-        None => Comes::Begins,
-        Some(Refused { why, .. }) => match why {
-            Refusal::NoPlace(seen) => Comes::NoPlace(seen.full(), seen.closed()),
-            Refusal::Memory => Comes::NoMemory,
-            Refusal::NoSeat => Comes::NoSeat,
-        },
-    }
+    false
 }
 
 /// Spawns a job and joins it on core 0. If `is_late` is true, core 0 has a round first, and then the pool is stopped.
 /// Returns true if the job's result is `wanted`, or if `wanted` is `None` and the join fails because the pool is
 /// stopped.
-fn joins<C: Contexts<Spawned<Task>>, R: Wait + Clock>(
-    rt: &R,
-    pool: &Pool<C>,
-    board: &Arc<Board>,
-    worker: &mut Worker<C::Seat, Task>,
-    sort: Sort,
-    is_late: bool,
-    wanted: Option<u64>,
-) -> bool
-    requires worker { IsWorkerOf C.sits C.idle pool.now.table pool.now.cores worker.old }
-    requires core { 0 < pool.now.cores }
-    ensures worker { IsWorkerOf C.sits C.idle pool.now.table pool.now.cores worker.new }
+fn joins<P: Player>(player: &mut P, sort: Sort, is_late: bool, wanted: Option<u64>) -> bool
+    ensures { player.new ≡ player.old }
 {
-    let Some(task) = Task::new(sort, board) else {
-        return false;
-    };
-    let Ok(handle) = pool.spawn(rt, worker, task) else {
+    let Ok(handle) = player.spawn(On::AnyKept, sort) else {
         return false;
     };
     if is_late {
-        let _ = pool.turn(rt, worker, 0);
-        pool.stop();
+        let _ = player.turn(0);
+        player.stop();
     }
-    match pool.join(rt, worker, 0, handle) {
+    match player.join(0, handle) {
         Ok(counted) => wanted == Some(counted),
-        Err((fault, _)) => wanted.is_none() && fault == PoolFault::Stopped,
+        Err(fault) => wanted.is_none() && fault == PoolFault::Stopped,
     }
 }
 
 /// Spawns a job while memory is used up, and makes rounds on core 0 until all jobs have ended. After a refusal it tries
 /// again with a little more memory. Returns true if all have ended, and a spawn and more than 20 rounds were refused.
-fn ends_in_need<C: Contexts<Spawned<Task>>, R: Wait + Clock>(
-    rt: &R,
-    alloc: Global,
-    pool: &Pool<C>,
-    board: &Arc<Board>,
-    worker: &mut Worker<C::Seat, Task>,
-    sort: Sort,
-) -> bool
-    requires worker { IsWorkerOf C.sits C.idle pool.now.table pool.now.cores worker.old }
-    requires core { 0 < pool.now.cores }
-    ensures worker { IsWorkerOf C.sits C.idle pool.now.table pool.now.cores worker.new }
+fn ends_in_need<P: Player>(player: &mut P, sort: Sort) -> bool
+    ensures { player.new ≡ player.old }
 {
-    let Ok(mut hoard) = Hoard::take(alloc) else {
+    let Ok(mut hoard) = Hoard::take(player.board().alloc) else {
         return false;
     };
     let mut is_spawned = false;
     let (mut spawns, mut rounds) = (0u32, 0u32);
     for _ in 0..TRIES {
-        if is_spawned && pool.live() == 0 {
+        if is_spawned && player.live() == 0 {
             break;
         }
         let is_done = if is_spawned {
-            let turned = pool.turn(rt, worker, 0).is_ok();
+            let turned = player.turn(0).is_ok();
             rounds = rounds.saturating_add(u32::from(!turned));
             turned
         } else {
-            is_spawned = match Task::new(sort, board) {
-                Some(task) => pool.spawn(rt, worker, task).is_ok(),
-                None => false,
-            };
+            is_spawned = player.spawn(On::AnyKept, sort).is_ok();
             spawns = spawns.saturating_add(u32::from(!is_spawned));
             is_spawned
         };
@@ -556,5 +399,5 @@ fn ends_in_need<C: Contexts<Spawned<Task>>, R: Wait + Clock>(
             break;
         }
     }
-    is_spawned && pool.live() == 0 && spawns > 0 && rounds > 20
+    is_spawned && player.live() == 0 && spawns > 0 && rounds > 20
 }

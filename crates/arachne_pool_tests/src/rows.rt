@@ -2,7 +2,8 @@
 use crate::board::Board;
 use crate::crew::{Crew, Share};
 use crate::orders::{GRANT, Order, RELEASE};
-use crate::rounds::{Act, Comes, Is, On, Row, begin, end};
+use crate::player::{Comes, On};
+use crate::rounds::{Act, Is, Row, begin, end};
 use crate::spells::{Spell, Until};
 use crate::tasks::{Joins, LEAF, PARENT, Sort, Task};
 use arachne_pool::Spawned;

@@ -1,7 +1,8 @@
 //! Rows of what a server wants of a pool: sleeps and wakes, refusals, statistics, and kernel threads that are woken at
 //! once.
 use crate::orders::{GRANT, RELEASE};
-use crate::rounds::{Act, Comes, Is, On, Row, Wakes};
+use crate::player::{Comes, On, Wakes};
+use crate::rounds::{Act, Is, Row};
 use crate::rows::{ALONE, ALONE_PARENT, ELEVEN, NOTHING, TO_THE_END, holds};
 use crate::spells::{Spell, Until};
 use crate::tasks::{Joins, LEAF, PARENT, Sort};

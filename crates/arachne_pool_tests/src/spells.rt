@@ -1,17 +1,14 @@
 //! The work of a row's two kernel threads.
-ghost use Rattle.std.specs.Prelude.{◌≡◌, ◌<◌, IfSome};
-ghost use Rattle.arachne_pool.specs.Workers.{IsWorkerOf};
+ghost use Rattle.std.specs.Prelude.{◌≡◌};
 
-use crate::board::Board;
-use crate::tasks::{LEAF, PARENT, Sort, Task};
-use arachne_contexts::{Contexts, Seats};
+use crate::player::{On, Player};
+use crate::rounds::spawn_many;
+use crate::tasks::{LEAF, PARENT, Sort};
 use arachne_core::OccWord;
-use arachne_pool::{Pool, PoolFault, Spawned, Worker};
+use arachne_pool::PoolFault;
 use arachne_shortage::Hoard;
 use std::sync::atomic::{AtomicU64, Ordering};
-use std::sync::{Arc, Wait};
-use std::thread::{sleep, yield_now};
-use std::time::{Clock, Duration};
+use std::thread::yield_now;
 
 /// The number of looks that a kernel thread takes at once before it yields its processor.
 const LOOKS: u32 = 1_000;
@@ -76,412 +73,252 @@ pub(crate) enum Until {
     NoneLives,
 }
 
-/// Does a spell as the kernel thread of a core, which may be none of the pool's. Returns the worker, if it still has
-/// its seat.
-pub(crate) fn work<C: Contexts<Spawned<Task>>, R: Wait + Clock>(
-    rt: &R,
-    pool: &Pool<C>,
-    board: &Arc<Board>,
-    worker: Worker<C::Seat, Task>,
-    core: u8,
-    spell: Spell,
-) -> Option<Worker<C::Seat, Task>>
-    requires { IsWorkerOf C.sits C.idle pool.now.table pool.now.cores worker }
-    ensures { IfSome result (IsWorkerOf C.sits C.idle pool.now.table pool.now.cores) }
+/// Does a spell as the kernel thread of a core, which may be none of the pool's.
+pub(crate) fn cast<P: Player>(player: &mut P, core: u8, spell: Spell)
+    ensures { player.new ≡ player.old }
 {
-    let mut worker = worker;
+    let cores = player.cores();
     match spell {
         Spell::Not => {}
-        Spell::ToTheEnd if core < pool.cores => {
-            let _ = pool.work(rt, &mut worker, core);
+        Spell::ToTheEnd if core < cores => {
+            let _ = player.work(core);
         }
-        Spell::ToTheEndOn(other) if other < pool.cores => {
-            let _ = pool.work(rt, &mut worker, other);
+        Spell::ToTheEndOn(other) if other < cores => {
+            let _ = player.work(other);
         }
-        Spell::ToTheStop if core < pool.cores => {
-            to_the_stop::<C, R>(rt, pool, board, &mut worker, core);
+        Spell::ToTheStop if core < cores => to_the_stop(player, core),
+        Spell::Rounds(rounds) if core < cores => {
+            turns(player, core, rounds, 0);
+            player.stop();
         }
-        Spell::Rounds(rounds) if core < pool.cores => {
-            turns::<C, R>(rt, pool, &mut worker, core, rounds);
-            pool.stop();
+        Spell::TurnsOut if core < cores => turns(player, core, u32::MAX, 0),
+        Spell::TurnsUntilOpen(other) if other < cores && core < cores => {
+            turns_until_open(player, other, core);
         }
-        Spell::TurnsOut if core < pool.cores => {
-            turns::<C, R>(rt, pool, &mut worker, core, u32::MAX);
+        Spell::InNeed if core < cores => in_need(player, core),
+        Spell::JoinsInNeed if core < cores => joins_in_need(player, core),
+        Spell::Spawns(jobs) => {
+            spawn_many(player, jobs, LEAF);
         }
-        Spell::TurnsUntilOpen(other) if other < pool.cores && core < pool.cores => {
-            turns_until_open::<C, R>(rt, pool, &mut worker, other, core);
+        Spell::Feeds(jobs) if cores > 1 => feeds(player, jobs),
+        Spell::Finishes(times) if cores > 1 => finishes(player, times),
+        Spell::Wakes(times, sleeps) => wakes(player, times, sleeps),
+        Spell::Polls(times, sort, until) if cores > 1 => polls(player, times, sort, until),
+        Spell::Fetches(own) if cores > 1 && own < cores => fetches(player, own),
+        Spell::WakesLast if core < cores => {
+            turns(player, core, u32::MAX, 1);
+            wakes(player, 1, false);
         }
-        Spell::InNeed if core < pool.cores => in_need::<C, R>(rt, pool, board, &mut worker, core),
-        Spell::JoinsInNeed if core < pool.cores => {
-            joins_in_need::<C, R>(rt, pool, board, &mut worker, core);
+        Spell::JoinsThere(times, sort, until) if core < cores => {
+            joins_there(player, core, times, sort, until);
         }
-        Spell::Spawns(jobs) => spawns::<C, R>(rt, pool, board, &mut worker, jobs),
-        Spell::Feeds(jobs) if pool.cores > 1 => {
-            feeds::<C, R>(rt, pool, board, &mut worker, jobs);
-        }
-        Spell::Finishes(times) if pool.cores > 1 => finishes::<C, R>(rt, pool, board, times),
-        Spell::Wakes(times, sleeps) => {
-            return wakes::<C, R>(rt, pool, board, worker, times, sleeps);
-        }
-        Spell::Polls(times, sort, until) if pool.cores > 1 => {
-            polls::<C, R>(rt, pool, board, &mut worker, times, sort, until);
-        }
-        Spell::Fetches(own) if pool.cores > 1 && own < pool.cores => {
-            fetches::<C, R>(rt, pool, board, &mut worker, own);
-        }
-        Spell::WakesLast if core < pool.cores => {
-            until_one::<C, R>(rt, pool, &mut worker, core);
-            return wakes::<C, R>(rt, pool, board, worker, 1, false);
-        }
-        Spell::JoinsThere(times, sort, until) if core < pool.cores => {
-            joins_there::<C, R>(rt, pool, board, &mut worker, core, times, sort, until);
-        }
-        _ => pool.stop(),
+        _ => player.stop(),
     }
-    Some(worker)
 }
 
 /// Does `Spell::ToTheStop`, and waits for the turn before each time.
-fn to_the_stop<C: Contexts<Spawned<Task>>, R: Wait + Clock>(
-    rt: &R,
-    pool: &Pool<C>,
-    board: &Board,
-    worker: &mut Worker<C::Seat, Task>,
-    core: u8,
-)
-    requires worker { IsWorkerOf C.sits C.idle pool.now.table pool.now.cores worker.old }
-    requires core { core < pool.now.cores }
-    ensures worker { IsWorkerOf C.sits C.idle pool.now.table pool.now.cores worker.new }
+fn to_the_stop<P: Player>(player: &mut P, core: u8)
+    ensures { player.new ≡ player.old }
 {
     let mut turns: u64 = 0;
-    for _ in rt.forever() {
-        if pool.is_stopped() {
+    for _ in 0..u64::MAX {
+        if player.is_stopped() {
             return;
         }
-        board.await_turn(rt, turns);
-        turns = board.turns();
-        let _ = pool.work(rt, worker, core);
-        board.comes_back();
+        player.await_turn(turns);
+        turns = player.board().turns();
+        let _ = player.work(core);
+        player.board().comes_back();
     }
 }
 
-/// Makes `rounds` rounds, or fewer if no job is left before.
-fn turns<C: Contexts<Spawned<Task>>, R: Wait + Clock>(
-    rt: &R,
-    pool: &Pool<C>,
-    worker: &mut Worker<C::Seat, Task>,
-    core: u8,
-    rounds: u32,
-)
-    requires worker { IsWorkerOf C.sits C.idle pool.now.table pool.now.cores worker.old }
-    requires core { core < pool.now.cores }
-    ensures worker { IsWorkerOf C.sits C.idle pool.now.table pool.now.cores worker.new }
+/// Makes `rounds` rounds, or fewer if at most `most` jobs are left before.
+fn turns<P: Player>(player: &mut P, core: u8, rounds: u32, most: u64)
+    ensures { player.new ≡ player.old }
 {
     for _ in 0..rounds {
-        if pool.live() == 0 {
+        if player.live() <= most {
             return;
         }
-        let _ = pool.turn(rt, worker, core);
+        let _ = player.turn(core);
     }
 }
 
 /// Does `Spell::TurnsUntilOpen`, with rounds on `core` until `own` is open.
-fn turns_until_open<C: Contexts<Spawned<Task>>, R: Wait + Clock>(
-    rt: &R,
-    pool: &Pool<C>,
-    worker: &mut Worker<C::Seat, Task>,
-    core: u8,
-    own: u8,
-)
-    requires worker { IsWorkerOf C.sits C.idle pool.now.table pool.now.cores worker.old }
-    requires core { core < pool.now.cores }
-    requires own { own < pool.now.cores }
-    ensures worker { IsWorkerOf C.sits C.idle pool.now.table pool.now.cores worker.new }
+fn turns_until_open<P: Player>(player: &mut P, core: u8, own: u8)
+    ensures { player.new ≡ player.old }
 {
     for _ in 0..GLANCES {
-        let _ = pool.turn(rt, worker, core);
-        if let Some(now) = OccWord::from_word(pool.table.glance(rt, own))
+        let _ = player.turn(core);
+        if let Some(now) = OccWord::from_word(player.word(own))
             && !now.is_closed()
         {
             break;
         }
-        sleep(rt, Duration::from_millis(5));
+        player.rest();
     }
-    pool.stop();
+    player.stop();
 }
 
 /// Does `Spell::InNeed`.
-fn in_need<C: Contexts<Spawned<Task>>, R: Wait + Clock>(
-    rt: &R,
-    pool: &Pool<C>,
-    board: &Board,
-    worker: &mut Worker<C::Seat, Task>,
-    core: u8,
-)
-    requires worker { IsWorkerOf C.sits C.idle pool.now.table pool.now.cores worker.old }
-    requires core { core < pool.now.cores }
-    ensures worker { IsWorkerOf C.sits C.idle pool.now.table pool.now.cores worker.new }
+fn in_need<P: Player>(player: &mut P, core: u8)
+    ensures { player.new ≡ player.old }
 {
-    await_more(rt, pool, &board.begun, 0);
-    let hoard = Hoard::take(board.alloc);
-    let worked = pool.work(rt, worker, core);
-    if hoard.is_err() || worked != Err(PoolFault::Memory) || !pool.is_stopped() {
-        board.answer();
-        pool.stop();
+    await_more(player, &player.board().begun, 0);
+    let hoard = Hoard::take(player.board().alloc);
+    let worked = player.work(core);
+    if hoard.is_err() || worked != Err(PoolFault::Memory) || !player.is_stopped() {
+        player.board().answer();
+        player.stop();
     }
 }
 
 /// Does `Spell::JoinsInNeed`.
-fn joins_in_need<C: Contexts<Spawned<Task>>, R: Wait + Clock>(
-    rt: &R,
-    pool: &Pool<C>,
-    board: &Arc<Board>,
-    worker: &mut Worker<C::Seat, Task>,
-    core: u8,
-)
-    requires worker { IsWorkerOf C.sits C.idle pool.now.table pool.now.cores worker.old }
-    requires core { core < pool.now.cores }
-    ensures worker { IsWorkerOf C.sits C.idle pool.now.table pool.now.cores worker.new }
+fn joins_in_need<P: Player>(player: &mut P, core: u8)
+    ensures { player.new ≡ player.old }
 {
-    if let Some(task) = Task::new(PARENT, board)
-        && let Ok((handle, _)) = pool.try_spawn_on(rt, worker, core, task)
-    {
-        await_more(rt, pool, &board.begun, 0);
-        let hoard = Hoard::take(board.alloc);
-        let joined = pool.join(rt, worker, core, handle);
-        if hoard.is_ok() && matches!(joined, Err((PoolFault::Memory, _))) && pool.is_stopped() {
+    if let Ok(handle) = player.spawn(On::Core(core), PARENT) {
+        await_more(player, &player.board().begun, 0);
+        let hoard = Hoard::take(player.board().alloc);
+        let joined = player.join(core, handle);
+        if hoard.is_ok() && joined == Err(PoolFault::Memory) && player.is_stopped() {
             return;
         }
     }
-    board.answer();
-    pool.stop();
-}
-
-/// Does `Spell::Spawns`.
-fn spawns<C: Contexts<Spawned<Task>>, R: Wait>(
-    rt: &R,
-    pool: &Pool<C>,
-    board: &Arc<Board>,
-    worker: &mut Worker<C::Seat, Task>,
-    jobs: u32,
-)
-    requires worker { IsWorkerOf C.sits C.idle pool.now.table pool.now.cores worker.old }
-    ensures worker { IsWorkerOf C.sits C.idle pool.now.table pool.now.cores worker.new }
-{
-    for _ in 0..jobs {
-        if let Some(task) = Task::new(LEAF, board) {
-            let _ = pool.spawn(rt, worker, task);
-        }
-    }
+    player.board().answer();
+    player.stop();
 }
 
 /// Does `Spell::Feeds`. It spawns the leaves by the two calls that name no core, in turn.
-fn feeds<C: Contexts<Spawned<Task>>, R: Wait + Clock>(
-    rt: &R,
-    pool: &Pool<C>,
-    board: &Arc<Board>,
-    worker: &mut Worker<C::Seat, Task>,
-    jobs: u32,
-)
-    requires worker { IsWorkerOf C.sits C.idle pool.now.table pool.now.cores worker.old }
-    requires core { 1 < pool.now.cores }
-    ensures worker { IsWorkerOf C.sits C.idle pool.now.table pool.now.cores worker.new }
+fn feeds<P: Player>(player: &mut P, jobs: u32)
+    ensures { player.new ≡ player.old }
 {
     for job in 0..jobs {
-        let Some(task) = Task::new(LEAF, board) else {
-            return;
-        };
-        await_sleep(rt, pool, 1);
-        let is_begun = match job % 2 {
-            0 => pool.spawn(rt, worker, task).is_ok(),
-            _ => pool.try_spawn(rt, worker, task).is_ok(),
-        };
-        if !is_begun {
-            pool.stop();
+        await_sleep(player, 1);
+        let on = if job % 2 == 0 { On::AnyKept } else { On::Any };
+        if player.spawn(on, LEAF).is_err() {
+            player.stop();
         }
-        await_ends(rt, pool, 1);
+        await_ends(player, 1);
     }
-    pool.finish();
-    let _ = pool.work(rt, worker, 0);
+    player.finish();
+    let _ = player.work(0);
 }
 
 /// Does `Spell::Finishes`.
-fn finishes<C: Seats, R: Wait>(rt: &R, pool: &Pool<C>, board: &Board, times: u32) {
+fn finishes<P: Player>(player: &P, times: u32) {
     for time in 0..times {
-        let rests = pool.statistics(1).rests;
-        pool.keep_open();
-        board.pass_turn();
-        await_rest(rt, pool, 1, rests);
-        await_sleep(rt, pool, 1);
-        pool.finish();
-        await_more(rt, pool, &board.returns, time);
+        let rests = player.statistics(1).rests;
+        player.keep_open();
+        player.board().pass_turn();
+        await_rest(player, 1, rests);
+        await_sleep(player, 1);
+        player.finish();
+        await_more(player, &player.board().returns, time);
     }
-    pool.stop();
-    board.pass_turn();
+    player.stop();
+    player.board().pass_turn();
 }
 
 /// Does `Spell::Wakes`.
-fn wakes<C: Contexts<Spawned<Task>>, R: Wait + Clock>(
-    rt: &R,
-    pool: &Pool<C>,
-    board: &Board,
-    worker: Worker<C::Seat, Task>,
-    times: u32,
-    sleeps: bool,
-) -> Option<Worker<C::Seat, Task>>
-    requires { IsWorkerOf C.sits C.idle pool.now.table pool.now.cores worker }
-    ensures { IfSome result (IsWorkerOf C.sits C.idle pool.now.table pool.now.cores) }
+fn wakes<P: Player>(player: &mut P, times: u32, sleeps: bool)
+    ensures { player.new ≡ player.old }
 {
-    let (worker, waker) = pool.split_waker(rt, worker);
-    let mut waker = waker?;
     for time in 0..times {
-        await_more(rt, pool, &board.sleeps, time);
+        await_more(player, &player.board().sleeps, time);
         if sleeps {
-            await_sleep(rt, pool, 1);
+            await_sleep(player, 1);
         }
-        board.answer();
-        let _ = pool.wake::<R, Task>(rt, &mut waker, board.id());
+        player.board().answer();
+        let id = player.board().id();
+        player.wake(id);
     }
-    Some(pool.join_waker(rt, worker, waker))
 }
 
 /// Does `Spell::Polls`.
-fn polls<C: Contexts<Spawned<Task>>, R: Wait + Clock>(
-    rt: &R,
-    pool: &Pool<C>,
-    board: &Arc<Board>,
-    worker: &mut Worker<C::Seat, Task>,
-    times: u32,
-    sort: Sort,
-    until: Until,
-)
-    requires worker { IsWorkerOf C.sits C.idle pool.now.table pool.now.cores worker.old }
-    requires core { 1 < pool.now.cores }
-    ensures worker { IsWorkerOf C.sits C.idle pool.now.table pool.now.cores worker.new }
+fn polls<P: Player>(player: &mut P, times: u32, sort: Sort, until: Until)
+    ensures { player.new ≡ player.old }
 {
     for time in 0..times {
-        let Some(task) = Task::new(sort, board) else {
+        let Ok(handle) = player.spawn(On::Core(1), sort) else {
             break;
         };
-        let Ok((handle, _)) = pool.try_spawn_on(rt, worker, 1, task) else {
-            break;
-        };
-        board.pass_turn();
-        await_more(rt, pool, &board.begun, time);
+        player.board().pass_turn();
+        await_more(player, &player.board().begun, time);
         match until {
             Until::WorkReturns => {
-                let _ = pool.work(rt, worker, 0);
+                let _ = player.work(0);
             }
-            Until::NoneLives => await_ends(rt, pool, 0),
+            Until::NoneLives => await_ends(player, 0),
         }
         if handle.poll().is_ok() {
-            board.answer();
+            player.board().answer();
         }
     }
-    pool.stop();
-    board.pass_turn();
+    player.stop();
+    player.board().pass_turn();
 }
 
 /// Does `Spell::Fetches`.
-fn fetches<C: Contexts<Spawned<Task>>, R: Wait + Clock>(
-    rt: &R,
-    pool: &Pool<C>,
-    board: &Arc<Board>,
-    worker: &mut Worker<C::Seat, Task>,
-    core: u8,
-)
-    requires worker { IsWorkerOf C.sits C.idle pool.now.table pool.now.cores worker.old }
-    requires core { 1 < pool.now.cores }
-    requires own { core < pool.now.cores }
-    ensures worker { IsWorkerOf C.sits C.idle pool.now.table pool.now.cores worker.new }
+fn fetches<P: Player>(player: &mut P, core: u8)
+    ensures { player.new ≡ player.old }
 {
-    await_more(rt, pool, &board.begun, 0);
-    if let Some(task) = Task::new(LEAF, board) {
-        let _ = pool.try_spawn_on(rt, worker, 1, task);
-    }
-    for _ in rt.forever() {
-        if board.begun.load(Ordering::SeqCst) > 1 || board.answers() > 0 {
+    await_more(player, &player.board().begun, 0);
+    let _ = player.spawn(On::Core(1), LEAF);
+    for _ in 0..u64::MAX {
+        if begun(player) > 1 || player.board().answers() > 0 {
             break;
         }
-        let found = matches!(pool.turn(rt, worker, core), Ok(true));
-        if found && board.begun.load(Ordering::SeqCst) <= 1 {
-            board.answer();
+        if player.turn(core) == Ok(true) && begun(player) <= 1 {
+            player.board().answer();
         }
     }
-    board.answer();
-    let _ = pool.work(rt, worker, core);
+    player.board().answer();
+    let _ = player.work(core);
 }
 
-/// Makes rounds until at most one job lives, or the pool is stopped.
-fn until_one<C: Contexts<Spawned<Task>>, R: Wait + Clock>(
-    rt: &R,
-    pool: &Pool<C>,
-    worker: &mut Worker<C::Seat, Task>,
-    core: u8,
-)
-    requires worker { IsWorkerOf C.sits C.idle pool.now.table pool.now.cores worker.old }
-    requires core { core < pool.now.cores }
-    ensures worker { IsWorkerOf C.sits C.idle pool.now.table pool.now.cores worker.new }
-{
-    for _ in rt.forever() {
-        if pool.live() <= 1 || pool.is_stopped() {
-            return;
-        }
-        let _ = pool.turn(rt, worker, core);
-    }
+/// Returns the number of jobs that have begun.
+fn begun<P: Player>(player: &P) -> u64 {
+    player.board().begun.load(Ordering::SeqCst)
 }
 
 /// Does `Spell::JoinsThere`.
-fn joins_there<C: Contexts<Spawned<Task>>, R: Wait + Clock>(
-    rt: &R,
-    pool: &Pool<C>,
-    board: &Arc<Board>,
-    worker: &mut Worker<C::Seat, Task>,
-    core: u8,
-    times: u32,
-    sort: Sort,
-    until: Until,
-)
-    requires worker { IsWorkerOf C.sits C.idle pool.now.table pool.now.cores worker.old }
-    requires core { core < pool.now.cores }
-    ensures worker { IsWorkerOf C.sits C.idle pool.now.table pool.now.cores worker.new }
+fn joins_there<P: Player>(player: &mut P, core: u8, times: u32, sort: Sort, until: Until)
+    ensures { player.new ≡ player.old }
 {
     for time in 0..times {
-        let Some(task) = Task::new(sort, board) else {
+        let Ok(handle) = player.spawn(On::Core(0), sort) else {
             break;
         };
-        let Ok((handle, _)) = pool.try_spawn_on(rt, worker, 0, task) else {
-            break;
-        };
-        board.pass_turn();
-        if pool.join(rt, worker, core, handle).is_err() {
+        player.board().pass_turn();
+        if player.join(core, handle).is_err() {
             break;
         }
-        if until == Until::WorkReturns && !has_returned(rt, board, time) {
+        if until == Until::WorkReturns && !has_returned(player, time) {
             break;
         }
-        board.answer();
+        player.board().answer();
     }
-    pool.stop();
-    board.pass_turn();
+    player.stop();
+    player.board().pass_turn();
 }
 
 /// Returns true if kernel threads have returned from `work` more than `than` times, by now or within ten seconds.
-fn has_returned<R: Clock>(rt: &R, board: &Board, than: u32) -> bool {
+fn has_returned<P: Player>(player: &P, than: u32) -> bool {
     for _ in 0..GLANCES {
-        if board.returns.load(Ordering::SeqCst) > u64::from(than) {
+        if player.board().returns.load(Ordering::SeqCst) > u64::from(than) {
             return true;
         }
-        sleep(rt, Duration::from_millis(5));
+        player.rest();
     }
     false
 }
 
 /// Waits until a count of the board is greater than `than`, or the pool is stopped.
-fn await_more<C: Seats, R: Wait>(rt: &R, pool: &Pool<C>, count: &AtomicU64, than: u32) {
+fn await_more<P: Player>(player: &P, count: &AtomicU64, than: u32) {
     let mut looks: u32 = 0;
-    for _ in rt.forever() {
-        if count.load(Ordering::SeqCst) > u64::from(than) || pool.is_stopped() {
+    for _ in 0..u64::MAX {
+        if count.load(Ordering::SeqCst) > u64::from(than) || player.is_stopped() {
             return;
         }
         looks = look_again(looks);
@@ -489,10 +326,10 @@ fn await_more<C: Seats, R: Wait>(rt: &R, pool: &Pool<C>, count: &AtomicU64, than
 }
 
 /// Waits until at most `most` jobs live, or the pool is stopped.
-fn await_ends<C: Seats, R: Wait>(rt: &R, pool: &Pool<C>, most: u64) {
+fn await_ends<P: Player>(player: &P, most: u64) {
     let mut looks: u32 = 0;
-    for _ in rt.forever() {
-        if pool.live() <= most || pool.is_stopped() {
+    for _ in 0..u64::MAX {
+        if player.live() <= most || player.is_stopped() {
             return;
         }
         looks = look_again(looks);
@@ -500,10 +337,10 @@ fn await_ends<C: Seats, R: Wait>(rt: &R, pool: &Pool<C>, most: u64) {
 }
 
 /// Waits until more than `than` rounds on a core have found nothing, or the pool is stopped.
-fn await_rest<C: Seats, R: Wait>(rt: &R, pool: &Pool<C>, core: u8, than: u64) {
+fn await_rest<P: Player>(player: &P, core: u8, than: u64) {
     let mut looks: u32 = 0;
-    for _ in rt.forever() {
-        if pool.statistics(core).rests > than || pool.is_stopped() {
+    for _ in 0..u64::MAX {
+        if player.statistics(core).rests > than || player.is_stopped() {
             return;
         }
         looks = look_again(looks);
@@ -511,10 +348,10 @@ fn await_rest<C: Seats, R: Wait>(rt: &R, pool: &Pool<C>, core: u8, than: u64) {
 }
 
 /// Waits until the kernel thread of a core sleeps, or the pool is stopped.
-fn await_sleep<C: Seats, R: Wait>(rt: &R, pool: &Pool<C>, core: u8) {
+fn await_sleep<P: Player>(player: &P, core: u8) {
     let mut looks: u32 = 0;
-    for _ in rt.forever() {
-        if pool.is_asleep(core) || pool.is_stopped() {
+    for _ in 0..u64::MAX {
+        if player.is_asleep(core) || player.is_stopped() {
             return;
         }
         looks = look_again(looks);

@@ -1,9 +1,9 @@
-use Rattle.arachne_pool.specs.Workers.{IsWorkerOf}
+use Rattle.std.proofs.Common.{◌≡◌}
 use Rattle.arachne_pool_tests.proofs.rounds.fills.Given as goal
 
--- between two spawns the worker is the pool's
+-- between two spawns the worker is the same pool's
 abbrev pub invariant-loop-nth : goal.invariant-loop-nth
-invariant-loop-nth g l = IsWorkerOf g.C.Seats.sits g.C.Seats.idle l.pool.table l.pool.cores l.worker
+invariant-loop-nth g l = l.player ≡ l.initial.player
 
 abbrev pub invariant-loop-core : goal.invariant-loop-core
-invariant-loop-core g l = IsWorkerOf g.C.Seats.sits g.C.Seats.idle l.pool.table l.pool.cores l.worker
+invariant-loop-core g l = l.player ≡ l.initial.player

@@ -1,6 +1,6 @@
-use Rattle.arachne_pool.specs.Workers.{IsWorkerOf}
+use Rattle.std.proofs.Common.{◌≡◌}
 use Rattle.arachne_pool_tests.proofs.rounds.fills_core.Given as goal
 
--- between two spawns the worker is the pool's
+-- between two spawns the worker is the same pool's
 abbrev pub invariant-loop : goal.invariant-loop
-invariant-loop g l = IsWorkerOf g.C.Seats.sits g.C.Seats.idle l.pool.table l.pool.cores l.worker
+invariant-loop g l = l.player ≡ l.initial.player

@@ -1,6 +1,6 @@
-use Rattle.arachne_pool.specs.Workers.{IsWorkerOf}
+use Rattle.std.proofs.Common.{◌≡◌}
 use Rattle.arachne_pool_tests.proofs.spells.feeds.Given as goal
 
--- between two jobs the worker is the pool's
+-- between two jobs the worker is the same pool's
 abbrev pub invariant-loop-job : goal.invariant-loop-job
-invariant-loop-job g l = IsWorkerOf g.C.Seats.sits g.C.Seats.idle l.pool.table l.pool.cores l.worker
+invariant-loop-job g l = l.player ≡ l.initial.player
