@@ -10,7 +10,7 @@ use crate::adding::{Adding, cut, join_held};
 use crate::codes::{DONE, NO_MEMORY, REFUSED};
 use std::alloc::Global;
 
-/// Makes `count` ledgers, each of total 0, and puts their whole share into a handle that holds nothing.
+/// Makes `count` ledgers, each of total 0, and puts their first share into a handle that holds nothing.
 ///
 /// Returns DONE; REFUSED if the handle holds something; NO_MEMORY.
 #[unsafe(no_mangle)]
@@ -59,7 +59,8 @@ pub extern "C" fn arachne_ledger_add(
 
 /// Reads the total of a ledger, modulo 2^64, once all other handles were joined into this one.
 ///
-/// Returns false, with nothing changed, if one was not, if the handle holds nothing, or if there is no such ledger.
+/// Returns false, with nothing changed, if another handle was not joined into this one, if the handle holds nothing, or
+/// if there is no such ledger.
 #[unsafe(no_mangle)]
 pub extern "C" fn arachne_ledger_total(
     alloc: Global,
@@ -91,8 +92,10 @@ pub extern "C" fn arachne_ledger_total(
 
 /// Splits a share in two, for another thread: `other` gets the second part, to which nothing was added.
 ///
-/// Returns DONE; REFUSED if `adder` holds nothing or `other` holds something; NO_MEMORY. A share may be split 127 times
-/// in a row. A further split succeeds too, but then no total can be read any more.
+/// Returns DONE; REFUSED if `adder` holds nothing or `other` holds something; NO_MEMORY.
+///
+/// After more than 127 splits in a row, each of a part of the one before, splits still succeed but no total can be
+/// read.
 #[unsafe(no_mangle)]
 #[tactic(auto, using(crate::proofs::AdderCut::is_split))]
 pub extern "C" fn arachne_ledger_split(
@@ -123,9 +126,9 @@ pub extern "C" fn arachne_ledger_split(
 
 /// Joins the share of `other` into that of `adder`, so that `other` holds nothing.
 ///
-/// Returns false, with nothing changed, if one of them holds nothing. Both must be of one set of ledgers, which is not
-/// checked: otherwise totals of the ledgers of `adder` may be read before all of their handles were joined, and those
-/// of `other` can't be read any more.
+/// Returns false, with nothing changed, if one of the handles holds nothing. Both handles must be of one set of
+/// ledgers, which is not checked. If they are of two sets, totals of the ledgers of `adder` may be read before all of
+/// their handles were joined, and totals of the ledgers of `other` can't be read any more.
 #[unsafe(no_mangle)]
 pub extern "C" fn arachne_ledger_join(
     alloc: Global,
@@ -150,7 +153,7 @@ pub extern "C" fn arachne_ledger_join(
     is_joined
 }
 
-/// Frees the share that a handle holds, if it holds one, and the ledgers with the last of their handles.
+/// Frees the share of a handle, if it has one, and the ledgers with the last of their handles.
 ///
 /// The other handles can't read a total any more.
 #[unsafe(no_mangle)]

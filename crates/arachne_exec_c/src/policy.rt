@@ -1,6 +1,6 @@
 //! The exports for the core policy.
 //!
-//! An estimator lies in the caller's memory, and no call allocates. Each call is defined for any bytes there.
+//! An estimator lies in the caller's memory, and no call allocates. Each call is defined whatever bytes are there.
 ghost use Rattle.std.specs.Prelude.{◌≡◌, ◌≢◌, ◌≤◌, ◌↔◌, List, [], IsTrue, MatchBool};
 ghost use Rattle.arachne_policy.specs.declared.samples.Sample.{Sample as Past};
 ghost use Rattle.arachne_policy.specs.State.{most_cores, StandsFor};
@@ -30,7 +30,8 @@ pub struct ArachneSample {
     pub elapsed: u64,
 }
 
-/// Makes an estimator that has seen no sample. Returns false, with nothing changed, if `max` is greater than 64.
+/// Makes an estimator that no sample was given to yet. Returns false, with nothing changed, if `max` is greater than
+/// 64.
 #[unsafe(no_mangle)]
 pub extern "C" fn arachne_estimator_new(
     up: u64,
@@ -67,7 +68,7 @@ pub extern "C" fn arachne_estimator_judge(
     ensures judged { (result ≢ refused) ↔ MayJudge estimator.old sample.now }
     ensures bad { result ≡ refused → estimator.new ≡ estimator.old }
     ensures settings { (state_of estimator.new).settings ≡ (state_of estimator.old).settings }
-    // The answer is the advice after the samples so far; the estimator then stands for these and this one.
+    // The result is the advice after the earlier samples; `estimator` then stands for these samples and `sample`.
     ensures history { (past : List Past) → StandsFor (state_of estimator.old) past → MayJudge estimator.old sample.now
         → HasJudged past estimator.old sample.now result estimator.new }
 {

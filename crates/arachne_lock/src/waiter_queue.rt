@@ -8,7 +8,7 @@ use std::marker::Model;
 
 /// A queue that has no task twice.
 ///
-/// A set of its members is kept beside it, so the cost of `contains` doesn't grow with the queue.
+/// A set of the queue's tasks is kept beside the queue, so the cost of `contains` doesn't grow with the queue.
 #[derive(Debug, Drop)]
 pub(crate) struct WaiterQueue {
     order: VecDeque<u64>,
@@ -56,7 +56,7 @@ impl WaiterQueue {
         Ok(())
     }
 
-    /// Removes the front and returns it.
+    /// Removes the task at the front, and returns it.
     pub(crate) fn pop(&mut self) -> Option<u64>
         ensures front { result ≡ slice_get self.old 0 }
         ensures rest { self.new ≡ drop 1 self.old }

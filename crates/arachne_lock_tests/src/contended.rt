@@ -20,7 +20,7 @@ fn poll(polls_left: &mut u64) -> Option<()> {
     Some(())
 }
 
-/// Asks for a lock, and polls until it is held. Returns the number of the grant.
+/// Asks for a lock, and polls until the thread holds it. Returns the number of the grant.
 fn enter(
     locks: &Locks,
     seat: &mut LockSetSeat,
@@ -47,7 +47,7 @@ fn enter(
     None
 }
 
-/// Frees a lock. Returns `None` if it wasn't held.
+/// Frees a lock. Returns `None` if the thread didn't hold the lock.
 fn leave(
     locks: &Locks,
     seat: &mut LockSetSeat,
@@ -100,7 +100,8 @@ fn work(locks: &Locks, mut seat: LockSetSeat, who: u64) -> (LockSetSeat, Option<
     (seat, held)
 }
 
-/// Has two threads contend for two locks. Returns the number of holds of each, and then the number of events of a lock.
+/// Has two threads contend for two locks. Returns the number of holds of each thread, and then the number of events of
+/// the second lock.
 fn contend<R: Threads + Sync>(
     rt: &R,
     alloc: Global,

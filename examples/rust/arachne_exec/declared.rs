@@ -17,8 +17,8 @@ pub const API_VERSION: u32 = 1;
 /// The call succeeded.
 pub const DONE: u32 = 0;
 
-/// The handle holds nothing, or something although it must be empty; or its seat may not make this call now; or
-/// there is no such block, lock or ledger. Nothing has changed.
+/// The handle holds nothing, or it holds something although it must be empty; or the handle's seat may not make
+/// this call now; or there is no such block, lock or ledger. Nothing has changed.
 pub const REFUSED: u32 = 1;
 
 /// Memory was refused. Nothing has changed.
@@ -27,7 +27,7 @@ pub const NO_MEMORY: u32 = 2;
 /// Another thread was at the lock. Nothing has changed: try again.
 pub const CONTENDED: u32 = 3;
 
-/// Another thread was first. Nothing has changed: try again, for a worker's number with another number.
+/// Another thread was first. Nothing has changed: try again, with another number if the call registers a worker.
 pub const LOST: u32 = 4;
 
 /// `who` holds the lock.
@@ -42,13 +42,13 @@ pub const ALREADY_IN: u32 = 7;
 /// The lock is free.
 pub const FREED: u32 = 8;
 
-/// The lock was handed on to the one that had waited longest: wake it.
+/// The lock was handed on to the task that had waited longest: wake that task.
 pub const HANDED_ON: u32 = 9;
 
-/// `who` doesn't hold the lock. To a withdrawal: `who` neither holds it nor waits for it.
+/// `who` doesn't hold the lock. As the answer to a withdrawal: `who` neither holds the lock nor waits for it.
 pub const NOT_HOLDER: u32 = 10;
 
-/// `who` waited for the lock, and waits no longer: the lock is not handed on to it any more.
+/// `who` waited for the lock, and waits no longer: the lock is not handed on to `who` any more.
 pub const LEFT: u32 = 11;
 
 /// No place of the block is free.
@@ -57,10 +57,10 @@ pub const FULL: u32 = 12;
 /// The job is in the handle's hand: run it.
 pub const RUN: u32 = 13;
 
-/// The worker has set its idle bit, and then found none of its blocks shown: sleep until you are unparked.
+/// The worker has set its idle bit, and then found no block that may have ready jobs: sleep until you are unparked.
 pub const PARK: u32 = 14;
 
-/// No job was taken, or a block is shown that may have one: try again.
+/// No job was taken, or a block may have a job: try again.
 pub const AGAIN: u32 = 15;
 
 /// The job is ready.
@@ -69,11 +69,12 @@ pub const READY: u32 = 16;
 /// The job waits for a wake.
 pub const BLOCKED: u32 = 17;
 
-/// The job is ready, or runs. A take or a start uses the wake up; if none does, the job is ready again when it
-/// would block next. The name that the next job at a free place will have is marked in the same way.
+/// The job is ready or runs, and the wake is recorded. A take or a start uses up that record. If neither follows,
+/// the job is ready again when it would block next. A wake for the next job of a free place, by the name that this
+/// job will have, is recorded in the same way.
 pub const MARKED: u32 = 18;
 
-/// The job was marked already.
+/// A wake of the job was recorded already.
 pub const ALREADY_MARKED: u32 = 19;
 
 /// No job has this name now.
@@ -88,10 +89,10 @@ pub const ADD: u32 = 22;
 /// Give a core back.
 pub const REMOVE: u32 = 23;
 
-/// The `unpark` of an answer that has no worker to unpark.
+/// The value of `unpark` in an answer if no worker must be unparked.
 pub const NOBODY: u32 = 64;
 
-/// A seat at an executor, or nothing, in C's layout: one pointer, which is null if nothing is held.
+/// A seat at an executor in C's layout: one pointer, which is null if there is no seat.
 #[repr(C)]
 pub struct ArachneExec {
     opaque: *mut u8,
@@ -114,7 +115,8 @@ pub struct ArachneExecLeft {
 #[repr(C)]
 #[derive(Clone, Copy, Debug, PartialEq, Eq)]
 pub struct ArachneExecTold {
-    /// The name of the job that was spawned or is in hand: 20 bits of its place, and 44 of the place's generation.
+    /// The name of the job that was spawned or is in hand: 20 bits for its place, and 44 for the place's
+    /// generation.
     pub name: u64,
     /// The number of the job in hand, as it was spawned.
     pub job: u64,
@@ -123,7 +125,7 @@ pub struct ArachneExecTold {
     pub unpark: u32,
 }
 
-/// A seat at a set of locks, or nothing, in C's layout: one pointer, which is null if nothing is held.
+/// A seat at a set of locks in C's layout: one pointer, which is null if there is no seat.
 #[repr(C)]
 pub struct ArachneLocks {
     opaque: *mut u8,
@@ -137,14 +139,14 @@ impl ArachneLocks {
 #[repr(C)]
 #[derive(Clone, Copy, Debug, PartialEq, Eq)]
 pub struct ArachneLockTold {
-    /// The number of the event: of the grant, the ask, the free or the leave.
+    /// The number of the event: the grant, the ask, the free or the leave.
     pub at: u64,
-    /// The one that holds the lock now, if a free handed it on; the number of that grant is `at` + 1.
+    /// The waiter that holds the lock now, if a free handed it on. The number of that grant is `at` + 1.
     pub next: u64,
     pub code: u32,
 }
 
-/// A share of a set of ledgers, or nothing, in C's layout: one pointer, which is null if nothing is held.
+/// A share of a set of ledgers in C's layout: one pointer, which is null if there is no share.
 #[repr(C)]
 pub struct ArachneAdder {
     opaque: *mut u8,
@@ -176,7 +178,7 @@ pub struct ArachneSample {
 }
 
 unsafe extern "C" {
-    /// Makes an executor of `shards` shards, and puts its whole seat into a handle that holds nothing.
+    /// Makes an executor of `shards` shards, and puts its first seat into a handle that holds nothing.
     ///
     /// Shard s has the blocks 64 s to 64 s + 63, each of 64 places; worker s % 64 looks after it. Returns DONE;
     /// REFUSED if the handle holds something, or if `shards` is greater than 256; NO_MEMORY.
@@ -187,32 +189,35 @@ unsafe extern "C" {
     /// Splits a seat in two, for another thread: `other` gets the second part, with no job in hand and no worker
     /// number.
     ///
-    /// Returns DONE; REFUSED if `exec` holds nothing or `other` holds something; NO_MEMORY. A seat may be split 127
-    /// times in a row. A further split succeeds too, but then the executor can't be ended any more.
+    /// Returns DONE; REFUSED if `exec` holds nothing or `other` holds something; NO_MEMORY.
+    ///
+    /// After more than 127 splits in a row, each of a part of the one before, splits still succeed but the executor
+    /// can't be ended any more.
     ///
     /// Threads: safe beside calls with other handles; two at once with `exec` or `other` are undefined behaviour.
     pub fn arachne_exec_split(exec: *mut ArachneExec, other: *mut ArachneExec) -> u32;
 
     /// Joins the seat of `other` into that of `exec`, so that `other` holds nothing.
     ///
-    /// Returns DONE, or REFUSED if one of them holds nothing, or if `other` has a job in hand or is a worker. Both
-    /// must be of one executor, which is not checked: otherwise the executor of `other` can't be ended any more,
-    /// and the end of that of `exec` may return too few jobs.
+    /// Returns DONE, or REFUSED if one of the handles holds nothing, or if `other` has a job in hand or is a
+    /// worker. Both handles must be of one executor, which is not checked. If they are of two executors, the
+    /// executor of `other` can't be ended any more, and the end of the executor of `exec` may return too few jobs.
     ///
     /// Threads: safe beside calls with other handles; two at once with `exec` or `other` are undefined behaviour.
     pub fn arachne_exec_join(exec: *mut ArachneExec, other: *mut ArachneExec) -> u32;
 
     /// Ends the executor, writes the jobs that are left to the beginning of `left`, and empties the handle.
     ///
-    /// These are the jobs that were spawned and have not ended, each as often as it is left, without jobs of number
-    /// 0. Returns DONE with their number; REFUSED if the handle holds nothing or has a job in hand, if not all
-    /// other handles were joined into it, or if `left` has no room for a job of each of the 4,096 places of each
-    /// shard; NO_MEMORY. Unless it returns DONE, the count is 0, and the executor and `left` are unchanged.
+    /// The jobs that are left were spawned and have not ended; jobs of number 0 are not written. A number that
+    /// several jobs have is written once for each of these jobs. Returns DONE with the count of jobs written;
+    /// REFUSED if the handle holds nothing or has a job in hand, or if not all other handles were joined into this
+    /// one; NO_MEMORY. Returns REFUSED also if `left` has less room than 4,096 jobs for each shard. Unless the code
+    /// is DONE, the count is 0, and the executor and `left` are unchanged.
     ///
     /// Threads: safe beside calls with other handles; two at once with `exec` are undefined behaviour.
     pub fn arachne_exec_end(exec: *mut ArachneExec, left: *mut u64, left_room: usize) -> ArachneExecLeft;
 
-    /// Frees the seat that a handle holds, if it holds one, and the executor with the last of its handles.
+    /// Frees the seat of a handle, if it has one, and the executor with the last of its handles.
     ///
     /// A job in hand stays at its place for ever, and the other handles can't end the executor any more.
     ///
@@ -235,24 +240,25 @@ unsafe extern "C" {
 
     /// Puts a job at a free place of a block, where it is ready: one try.
     ///
-    /// Returns READY with its name, and the worker to unpark; FULL; LOST; REFUSED if the handle holds nothing or
-    /// there is no such block. A job with the number 0 is not returned by the end.
+    /// Returns READY with the job's name, and the worker to unpark; FULL; LOST; REFUSED if the handle holds nothing
+    /// or there is no such block. A job with the number 0 is not returned by `arachne_exec_end`.
     ///
     /// Threads: safe beside calls with other handles; two at once with `exec` are undefined behaviour.
     pub fn arachne_exec_spawn(exec: *mut ArachneExec, block: usize, job: u64) -> ArachneExecTold;
 
-    /// Puts a job at a free place of a block and into the hand, so that nobody else can take it: one try.
+    /// Tries once to put a job at a free place of a block and into the handle's hand, so that nobody else can take
+    /// the job.
     ///
-    /// Returns RUN with its name and number; FULL; LOST; REFUSED if the handle holds nothing or has a job in hand,
-    /// or if there is no such block.
+    /// Returns RUN with the job's name and number; FULL; LOST; REFUSED if the handle holds nothing or has a job in
+    /// hand, or if there is no such block.
     ///
     /// Threads: safe beside calls with other handles; two at once with `exec` are undefined behaviour.
     pub fn arachne_exec_spawn_here(exec: *mut ArachneExec, block: usize, job: u64) -> ArachneExecTold;
 
     /// Returns the blocks of a shard that may have ready jobs, a bit for each of its 64 blocks, by one load.
     ///
-    /// A block whose bit is clear has none, or somebody is about to set the bit. Returns 0 also if the handle holds
-    /// nothing or there is no such shard.
+    /// A block whose bit is clear has no ready job, or another call is about to set the bit. Returns 0 also if the
+    /// handle holds nothing or there is no such shard.
     ///
     /// Threads: safe beside calls with other handles; two at once with `exec` are undefined behaviour.
     pub fn arachne_exec_shown(exec: *mut ArachneExec, shard: usize) -> u64;
@@ -264,40 +270,43 @@ unsafe extern "C" {
     /// Threads: safe beside calls with other handles; two at once with `exec` are undefined behaviour.
     pub fn arachne_exec_ready(exec: *mut ArachneExec, block: usize) -> u64;
 
-    /// Takes a ready job of a block into the hand, whichever worker looks after the block: one try.
+    /// Tries once to take a ready job of a block into the handle's hand. Any worker may look after the block.
     ///
-    /// Returns RUN with its name and number; AGAIN; REFUSED if the handle holds nothing or has a job in hand, or if
-    /// there is no such block.
+    /// Returns RUN with the job's name and number; AGAIN; REFUSED if the handle holds nothing or has a job in hand,
+    /// or if there is no such block.
     ///
     /// Threads: safe beside calls with other handles; two at once with `exec` are undefined behaviour.
     pub fn arachne_exec_take(exec: *mut ArachneExec, block: usize) -> ArachneExecTold;
 
-    /// Takes up to `most` ready jobs of a block into the hand, by one step; a `most` of 0 counts as 1.
+    /// Takes up to `most` ready jobs of one block (64 places) in one atomic step. They are then in the handle's
+    /// hand: nobody else can run them. A `most` of 0 counts as 1.
     ///
-    /// Returns their places, a bit for each of the block's 64. The lowest is the newest: calls on the job in hand
-    /// concern it, and the next one once it rests or has ended. `arachne_exec_start` returns its name and number.
-    /// Returns 0 if it took none, if the handle holds nothing or has a job in hand, or if there is no such block.
+    /// Returns the places of the jobs that were taken, a bit for each of the block's 64 places. The job at the
+    /// lowest place is the newest: calls on the job in hand concern this job, and then the job at the next place,
+    /// once the newest rests or has ended. `arachne_exec_start` returns the newest job's name and number. Returns 0
+    /// if no job was taken, if the handle is empty or has a job in hand already, or if there is no such block.
     ///
     /// Threads: safe beside calls with other handles; two at once with `exec` are undefined behaviour.
     pub fn arachne_exec_take_many(exec: *mut ArachneExec, block: usize, most: u32) -> u64;
 
-    /// Begins to run the newest job in hand, of several that were taken at once: uses up a wake that has come by
-    /// now.
+    /// Begins to run the newest job in hand, of several that were taken at once: uses up a wake that has come since
+    /// the take.
     ///
-    /// Returns RUN with its name and number, or REFUSED if the handle has no job in hand.
+    /// Returns RUN with the job's name and number, or REFUSED if the handle has no job in hand.
     ///
     /// Threads: safe beside calls with other handles; two at once with `exec` are undefined behaviour.
     pub fn arachne_exec_start(exec: *mut ArachneExec) -> ArachneExecTold;
 
-    /// Takes the next job of the worker's blocks into the hand.
+    /// Takes the next job of the worker's blocks into the handle's hand.
     ///
-    /// Returns RUN with its name and number; PARK; AGAIN; REFUSED if the handle holds nothing, if its seat is no
-    /// worker, or if a job is in hand.
+    /// Returns RUN with the job's name and number; PARK; AGAIN; REFUSED if the handle holds nothing, if its seat is
+    /// no worker, or if a job is in hand.
     ///
     /// Threads: safe beside calls with other handles; two at once with `exec` are undefined behaviour.
     pub fn arachne_exec_next(exec: *mut ArachneExec) -> ArachneExecTold;
 
-    /// Sets the worker's idle bit, and looks if its blocks are shown: the last part of `arachne_exec_next`.
+    /// Sets the worker's idle bit, and then checks if a block of the worker may have ready jobs. This is the last
+    /// part of `arachne_exec_next`.
     ///
     /// Returns PARK; AGAIN, with the bit cleared again; REFUSED if the handle holds nothing or its seat is no
     /// worker.
@@ -341,9 +350,9 @@ unsafe extern "C" {
     /// Threads: safe beside calls with other handles; two at once with `exec` are undefined behaviour.
     pub fn arachne_exec_wake(exec: *mut ArachneExec, name: u64) -> ArachneExecTold;
 
-    /// Wakes the job of a name, and takes it into the hand if it was blocked: one try.
+    /// Tries once to wake the job of a name, and to take the job into the handle's hand if it was blocked.
     ///
-    /// Returns RUN with its name and number; MARKED; ALREADY_MARKED; GONE; LOST; REFUSED if the handle holds
+    /// Returns RUN with the job's name and number; MARKED; ALREADY_MARKED; GONE; LOST; REFUSED if the handle holds
     /// nothing or has a job in hand.
     ///
     /// Threads: safe beside calls with other handles; two at once with `exec` are undefined behaviour.
@@ -356,7 +365,7 @@ unsafe extern "C" {
     /// Threads: safe beside calls with other handles; two at once with `locks` are undefined behaviour.
     pub fn arachne_locks_new(locks: *mut ArachneLocks, count: usize) -> u32;
 
-    /// Splits off another seat, for another thread, and puts it into `other`.
+    /// Splits a seat in two, for another thread: `other` gets the new seat.
     ///
     /// Returns DONE; REFUSED if `locks` holds nothing or `other` holds something; NO_MEMORY.
     ///
@@ -365,18 +374,19 @@ unsafe extern "C" {
 
     /// Joins the seat of `other` into that of `locks`, so that `other` holds nothing.
     ///
-    /// Returns DONE, or REFUSED if one of them holds nothing. Both must be of one set of locks, which is not
-    /// checked: otherwise the seat of `other` is only freed, as by `arachne_locks_close`.
+    /// Returns DONE, or REFUSED if one of the handles holds nothing. Both handles must be of one set of locks,
+    /// which is not checked. If they are of two sets, the seat of `other` is only freed, as by
+    /// `arachne_locks_close`.
     ///
     /// Threads: safe beside calls with other handles; two at once with `locks` or `other` are undefined behaviour.
     pub fn arachne_locks_join(locks: *mut ArachneLocks, other: *mut ArachneLocks) -> u32;
 
-    /// Frees the seat that a handle holds, if it holds one, and the locks with the last of their handles.
+    /// Frees the seat of a handle, if it has one, and the locks with the last of their handles.
     ///
     /// Threads: safe beside calls with other handles; two at once with `locks` are undefined behaviour.
     pub fn arachne_locks_close(locks: *mut ArachneLocks);
 
-    /// Asks for a lock for `who`: one try.
+    /// Tries once to ask for a lock for `who`.
     ///
     /// Returns GRANTED; QUEUED; ALREADY_IN; NO_MEMORY, only if `who` would have to wait; CONTENDED; REFUSED if the
     /// handle holds nothing or there is no such lock.
@@ -384,7 +394,7 @@ unsafe extern "C" {
     /// Threads: safe beside calls with other handles; two at once with `locks` are undefined behaviour.
     pub fn arachne_lock_ask(locks: *mut ArachneLocks, lock: usize, who: u64) -> ArachneLockTold;
 
-    /// Frees a lock that `who` holds: one try.
+    /// Tries once to free a lock that `who` holds.
     ///
     /// Returns FREED; HANDED_ON, to `next`; NOT_HOLDER; CONTENDED; REFUSED if the handle holds nothing or there is
     /// no such lock.
@@ -392,23 +402,23 @@ unsafe extern "C" {
     /// Threads: safe beside calls with other handles; two at once with `locks` are undefined behaviour.
     pub fn arachne_lock_free(locks: *mut ArachneLocks, lock: usize, who: u64) -> ArachneLockTold;
 
-    /// Takes `who` out of the queue of a lock, such as when its future is dropped: one try.
+    /// Tries once to take `who` out of the queue of a lock, such as when the future of `who` is dropped.
     ///
-    /// Returns LEFT; GRANTED if it holds the lock by now, and must free it; NOT_HOLDER; CONTENDED; REFUSED if the
-    /// handle holds nothing or there is no such lock.
+    /// Returns LEFT; GRANTED if `who` was granted the lock meanwhile, and must free it; NOT_HOLDER; CONTENDED;
+    /// REFUSED if the handle holds nothing or there is no such lock.
     ///
     /// Threads: safe beside calls with other handles; two at once with `locks` are undefined behaviour.
     pub fn arachne_lock_withdraw(locks: *mut ArachneLocks, lock: usize, who: u64) -> ArachneLockTold;
 
-    /// Looks if `who` holds a lock: one try.
+    /// Tries once to look if `who` holds a lock.
     ///
-    /// Returns GRANTED with the number of its grant; NOT_HOLDER; CONTENDED; REFUSED if the handle holds nothing or
-    /// there is no such lock.
+    /// Returns GRANTED with the number of the grant to `who`; NOT_HOLDER; CONTENDED; REFUSED if the handle holds
+    /// nothing or there is no such lock.
     ///
     /// Threads: safe beside calls with other handles; two at once with `locks` are undefined behaviour.
     pub fn arachne_lock_check(locks: *mut ArachneLocks, lock: usize, who: u64) -> ArachneLockTold;
 
-    /// Makes `count` ledgers, each of total 0, and puts their whole share into a handle that holds nothing.
+    /// Makes `count` ledgers, each of total 0, and puts their first share into a handle that holds nothing.
     ///
     /// Returns DONE; REFUSED if the handle holds something; NO_MEMORY.
     ///
@@ -424,38 +434,40 @@ unsafe extern "C" {
 
     /// Reads the total of a ledger, modulo 2^64, once all other handles were joined into this one.
     ///
-    /// Returns false, with nothing changed, if one was not, if the handle holds nothing, or if there is no such
-    /// ledger.
+    /// Returns false, with nothing changed, if another handle was not joined into this one, if the handle holds
+    /// nothing, or if there is no such ledger.
     ///
     /// Threads: safe beside calls with other handles; two at once with `adder` are undefined behaviour.
     pub fn arachne_ledger_total(adder: *mut ArachneAdder, ledger: usize, total: *mut u64) -> bool;
 
     /// Splits a share in two, for another thread: `other` gets the second part, to which nothing was added.
     ///
-    /// Returns DONE; REFUSED if `adder` holds nothing or `other` holds something; NO_MEMORY. A share may be split
-    /// 127 times in a row. A further split succeeds too, but then no total can be read any more.
+    /// Returns DONE; REFUSED if `adder` holds nothing or `other` holds something; NO_MEMORY.
+    ///
+    /// After more than 127 splits in a row, each of a part of the one before, splits still succeed but no total can
+    /// be read.
     ///
     /// Threads: safe beside calls with other handles; two at once with `adder` or `other` are undefined behaviour.
     pub fn arachne_ledger_split(adder: *mut ArachneAdder, other: *mut ArachneAdder) -> u32;
 
     /// Joins the share of `other` into that of `adder`, so that `other` holds nothing.
     ///
-    /// Returns false, with nothing changed, if one of them holds nothing. Both must be of one set of ledgers, which
-    /// is not checked: otherwise totals of the ledgers of `adder` may be read before all of their handles were
-    /// joined, and those of `other` can't be read any more.
+    /// Returns false, with nothing changed, if one of the handles holds nothing. Both handles must be of one set of
+    /// ledgers, which is not checked. If they are of two sets, totals of the ledgers of `adder` may be read before
+    /// all of their handles were joined, and totals of the ledgers of `other` can't be read any more.
     ///
     /// Threads: safe beside calls with other handles; two at once with `adder` or `other` are undefined behaviour.
     pub fn arachne_ledger_join(adder: *mut ArachneAdder, other: *mut ArachneAdder) -> bool;
 
-    /// Frees the share that a handle holds, if it holds one, and the ledgers with the last of their handles.
+    /// Frees the share of a handle, if it has one, and the ledgers with the last of their handles.
     ///
     /// The other handles can't read a total any more.
     ///
     /// Threads: safe beside calls with other handles; two at once with `adder` are undefined behaviour.
     pub fn arachne_ledger_close(adder: *mut ArachneAdder);
 
-    /// Makes an estimator that has seen no sample. Returns false, with nothing changed, if `max` is greater than
-    /// 64.
+    /// Makes an estimator that no sample was given to yet. Returns false, with nothing changed, if `max` is greater
+    /// than 64.
     ///
     /// Threads: safe beside calls with other memory; two at once with `estimator` are undefined behaviour.
     pub fn arachne_estimator_new(up: u64, hysteresis: u64, max: u64, estimator: *mut ArachneEstimator) -> bool;
