@@ -39,7 +39,7 @@ pub(crate) fn forget_parker() {
 
 /// Runs a future on the calling thread, which sleeps while the future waits.
 ///
-/// Within a task it blocks the worker; use `await` there.
+/// Within a task the call blocks the worker; use `await` there.
 ///
 /// ```
 /// let (sender, receiver) = arachne::channel(1);
@@ -69,8 +69,8 @@ pub fn block_on<F: Future>(future: F) -> F::Output {
 /// Nanoseconds after which a waiting `block_on` fires the timers of its thread itself.
 const LATE: u64 = 2_000_000;
 
-/// Parks until this thread is unparked, or its timers are late: the worker that looks after them is in a long poll, or
-/// is this thread.
+/// Parks until this thread is unparked, or its timers are late because the worker that looks after them is in a long
+/// poll, or is this thread.
 fn park() {
     let timers = timer::of_this_thread();
     let due = timers.map_or(u64::MAX, |timers| timers.next().saturating_add(LATE));
@@ -124,7 +124,7 @@ impl Future for Yield {
     }
 }
 
-/// The future of `poll_fn`. It may be moved between polls.
+/// The future of `poll_fn`. The future may be moved between polls.
 ///
 /// ```
 /// use std::task::{Context, Poll};
@@ -143,7 +143,7 @@ impl<F> fmt::Debug for PollFn<F> {
     }
 }
 
-/// Returns a future that calls `poll` at each poll. It is std's function, which rustc 1.63 lacks.
+/// Returns a future that calls `poll` at each poll. This is std's function of the same name, which rustc 1.63 lacks.
 ///
 /// ```
 /// use std::task::Poll;
@@ -156,7 +156,7 @@ impl<F> fmt::Debug for PollFn<F> {
 /// assert_eq!(arachne::block_on(third), 3);
 /// ```
 ///
-/// It can wait for the first of several futures:
+/// Such a future can wait for the first of several futures:
 ///
 /// ```
 /// use std::{future::Future, pin::Pin, task::Poll, time::Duration};

@@ -11,15 +11,15 @@ use std::time::Duration;
 /// A tick that comes this late counts as missed.
 const LATE: Duration = Duration::from_millis(5);
 
-/// In place of a time beyond the clock's range: thirty years, in which no process waits.
+/// Used in place of a time beyond the clock's range: thirty years, for which no process waits.
 const NEVER: Duration = Duration::from_secs(30 * 365 * 86_400);
 
-/// Returns the moment a period after another one.
+/// Returns the time that is `period` after `moment`.
 fn later(moment: Instant, period: Duration) -> Instant {
     moment.checked_add(period).unwrap_or_else(|| moment + NEVER)
 }
 
-/// When the ticks after a missed one come; see `Interval::set_missed_tick_behavior`.
+/// When the ticks that follow a missed tick come; see `Interval::set_missed_tick_behavior`.
 ///
 /// ```
 /// use arachne::MissedTickBehavior;
@@ -37,12 +37,12 @@ fn later(moment: Instant, period: Duration) -> Instant {
 /// ```
 #[derive(Clone, Copy, PartialEq, Eq, Debug, Default)]
 pub enum MissedTickBehavior {
-    /// The missed ticks come at once, one after the other.
+    /// The missed ticks come at once, one after another.
     #[default]
     Burst,
-    /// The next tick comes a period after the late one.
+    /// The next tick comes a period after the late tick.
     Delay,
-    /// The missed ticks are left out; the next comes at its original time.
+    /// The missed ticks are left out. The next tick comes at its original time.
     Skip,
 }
 
@@ -75,7 +75,7 @@ pub struct Interval {
 /// ```
 ///
 /// # Panics
-/// If the period is zero.
+/// Panics if the period is zero.
 #[track_caller]
 pub fn interval(period: Duration) -> Interval {
     interval_at(Instant::now(), period)
@@ -93,7 +93,7 @@ pub fn interval(period: Duration) -> Interval {
 /// ```
 ///
 /// # Panics
-/// If the period is zero.
+/// Panics if the period is zero.
 #[track_caller]
 pub fn interval_at(start: Instant, period: Duration) -> Interval {
     assert!(period > Duration::ZERO, "an interval's period is more than zero");
@@ -168,7 +168,7 @@ impl Interval {
         self.period
     }
 
-    /// Sets when the ticks after a missed one come: `Burst` by default. See the example at `MissedTickBehavior`.
+    /// Sets when the ticks that follow a missed tick come: `Burst` by default. See the example at `MissedTickBehavior`.
     pub fn set_missed_tick_behavior(&mut self, behavior: MissedTickBehavior) {
         self.missed = behavior;
     }

@@ -1,15 +1,15 @@
 //! Sockets and other descriptors over the runtime's epoll.
 //!
-//! A socket belongs to the runtime in which it first waits. Once that has ended, to wait for it fails, in whatever
-//! runtime; `from_std(socket.into_std()?)` makes it anew.
+//! A socket belongs to the runtime in which it first waits. Once that runtime has ended, a wait for the socket fails in
+//! any runtime; `from_std(socket.into_std()?)` makes a new socket of it.
 //!
 //! Names are std's. `bind` and `from_std` don't wait, so they aren't `async`. Reads and writes take `&self`, so tasks
-//! may share a socket (by an `Arc`, say). Any number of them may wait for it in its methods; an event wakes all. Of
-//! several tasks that call a `poll_` function of one direction, or read by the traits of tokio or futures-io, only the
-//! last one is woken.
+//! may share a socket (by an `Arc`, say). Any number of tasks may wait for one socket in its methods; an event wakes
+//! all of them. Of several tasks that call a `poll_` function of one direction, or read by the traits of tokio or
+//! futures-io, only the last one is woken.
 //!
 //! Futures of single operations, such as `read`, `write`, `accept` and `recv_from`, lose nothing if they are dropped.
-//! `read_exact` and `write_all` may have moved a part of the bytes by then.
+//! `read_exact` and `write_all` may have moved a part of the bytes when they are dropped.
 //!
 //! ```
 //! use arachne::net::{TcpListener, TcpStream};
@@ -51,7 +51,8 @@ pub use unix::{UnixListener, UnixStream};
 #[derive(Clone)]
 struct Registered {
     shared: &'static Shared,
-    /// The count of the runtime's `Door`. A later runtime that uses the same state has another count.
+    /// The count of the runtime's `Door` (which lets calls in only while the runtime exists): how often it was opened
+    /// or closed. A later runtime that uses the same state has another count.
     turns: u64,
     io: Arc<Io>,
     key: Key,
@@ -64,7 +65,7 @@ struct Registration {
     registering: Mutex<()>,
 }
 
-/// The part of a future that waits for a socket to read or to write, as any number may at once.
+/// The part of a future that waits until a socket can be read or written. Any number of futures may wait at once.
 struct Waiting<'a, const READS: bool> {
     of: &'a Registration,
     key: u64,
@@ -114,7 +115,7 @@ mod once {
 
     pub(super) struct Once<T>(AtomicPtr<T>);
 
-    // SAFETY: as for a `Box<T>` that is shared once it is written.
+    // SAFETY: as for a `Box<T>` that is shared once it was written.
     unsafe impl<T: Send + Sync> Sync for Once<T> {}
     // SAFETY: the same.
     unsafe impl<T: Send> Send for Once<T> {}
@@ -126,7 +127,7 @@ mod once {
 
         #[inline]
         pub(super) fn get(&self) -> Option<&T> {
-            // SAFETY: what was written stays until the drop.
+            // SAFETY: the value that was written stays until the drop.
             unsafe { self.0.load(Acquire).as_ref() }
         }
 
@@ -151,7 +152,7 @@ mod once {
     }
 }
 
-/// Returns true if the current poll may read now; if not, the task yields to its worker first.
+/// Returns true if the current poll may read now. If not, the task must first yield to its worker.
 ///
 /// A poll may always make one read, and more until its worker's next look is due. Under a waker that isn't the task's
 /// own, as in a `block_on`, no read is put off: such a poll doesn't return to the worker.
@@ -174,7 +175,7 @@ impl<S: AsRawFd> Source<S> {
         self.socket
     }
 
-    /// Returns the entry in the reactor; makes it at the first call, in the current runtime.
+    /// Returns the socket's entry in the reactor. The first call makes the entry, in the current runtime.
     fn registered(&self) -> io::Result<&Registered> {
         let Registration { at, registering, .. } = &self.of;
         if let Some(at) = at.get() {
@@ -213,7 +214,8 @@ impl<S: AsRawFd> Source<S> {
         })
     }
 
-    /// Polls the operation; see `attempt`. Of several tasks that poll one direction the last one is woken.
+    /// Polls the operation; see `attempt`. If several tasks poll one direction (reading or writing), only the last of
+    /// them is woken.
     #[inline]
     fn poll<T>(
         &self,
@@ -259,7 +261,7 @@ impl<S: AsRawFd> Source<S> {
         let mut untold = false;
         loop {
             if state & (ready | closed) == 0 {
-                // Before the state is read again: an event changes the state, and then wakes who is registered.
+                // Before the state is read again: an event changes the state, and then wakes whoever is registered.
                 register(io, cx.waker());
                 state = io.state.load(SeqCst);
                 if state & (ready | closed) == 0 {
@@ -306,15 +308,15 @@ impl<S: AsRawFd> Source<S> {
 /// ```
 ///
 /// # Panics
-/// Outside of a runtime.
+/// Panics outside of a runtime.
 pub async fn lookup_host(host: impl ToSocketAddrs + Send + 'static) -> io::Result<Vec<SocketAddr>> {
     crate::spawn_blocking(move || host.to_socket_addrs().map(Iterator::collect)).await?
 }
 
-/// The backlog of a listener. std has 128; a client beyond it tries again after a second.
+/// The backlog of a listener. std's is 128; a client beyond the backlog tries again after a second.
 const BACKLOG: i32 = 4096;
 
-/// Polls for a connection. Fails once the end has begun and all who had connected are accepted.
+/// Polls for a connection. Fails once the runtime's end has begun and all connections that had arrived are accepted.
 fn poll_accept<S: AsRawFd, T>(
     listener: &Source<S>,
     cx: &mut Context<'_>,
@@ -329,19 +331,19 @@ fn poll_accept<S: AsRawFd, T>(
             return polled;
         }
         if in_own_poll(cx.waker(), |worker| worker.put_off.get()) {
-            // The attempt was put off, and comes in the next poll.
+            // The attempt was put off, and is made in the next poll.
             cx.waker().wake_by_ref();
             return Poll::Pending;
         }
         if was_stopping {
-            // All who had connected before are accepted.
+            // All connections that had arrived before are accepted.
             return Poll::Ready(Err(io::Error::new(io::ErrorKind::Other, "the runtime is about to end")));
         }
         // The end began during the attempt.
     }
 }
 
-/// Waits for a connection; also woken when the end begins.
+/// Waits for a connection. The task is also woken when the runtime's end begins.
 async fn accept<S: AsRawFd, T>(listener: &Source<S>, accept: impl Fn(&S) -> io::Result<T>) -> io::Result<T> {
     let (mut stopping, mut waiting) = (crate::drain::stopping(), listener.waiting());
     poll_fn(|cx: &mut Context<'_>| {
@@ -354,9 +356,9 @@ async fn accept<S: AsRawFd, T>(listener: &Source<S>, accept: impl Fn(&S) -> io::
     .await
 }
 
-/// Any descriptor that epoll can watch: a pipe, an eventfd, a socket of a kind that has no type here.
+/// Any descriptor that epoll can watch: a pipe, an eventfd, or a kind of socket that has no type in this crate.
 ///
-/// Its reads and writes are calls of `S` that return `WouldBlock` instead of waiting.
+/// Reads and writes are calls of `S` that return `WouldBlock` instead of waiting.
 ///
 /// ```
 /// use std::{io::{Read, Write}, os::unix::net::UnixStream};
@@ -374,7 +376,7 @@ pub struct Async<S: AsRawFd>(Source<S>);
 impl<S: AsRawFd> Async<S> {
     /// Takes a descriptor, and makes it non-blocking. `source` must keep the same descriptor.
     ///
-    /// If epoll can't watch it, the first read or write that has to wait fails, with `PermissionDenied`.
+    /// If epoll can't watch the descriptor, the first read or write that has to wait fails, with `PermissionDenied`.
     ///
     /// ```
     /// # fn main() -> std::io::Result<()> {
@@ -472,11 +474,11 @@ impl<S: AsRawFd + fmt::Debug> fmt::Debug for Async<S> {
     }
 }
 
-/// Conversions and the descriptor, for each type of socket. `$make` makes one of std's for the example.
+/// Conversions and the descriptor, for each type of socket. `$make` makes a socket of std's for the example.
 macro_rules! socket {
     ($name:ident, $std:ty, $make:literal) => {
         impl $name {
-            /// Takes a socket of std's, and makes it non-blocking. Its other options stay as they are.
+            /// Takes a socket of std's, and makes it non-blocking. The socket's other options stay as they are.
             ///
             /// ```
             /// # fn main() -> std::io::Result<()> {
@@ -504,8 +506,8 @@ macro_rules! socket {
             }
         }
 
-        /// Gives access to options that have no method here. Don't read or write by the descriptor: the runtime would
-        /// not see it.
+        /// Gives access to options that have no method of this type. Don't read or write by the descriptor: the runtime
+        /// would not see it.
         impl AsRawFd for $name {
             fn as_raw_fd(&self) -> RawFd {
                 self.0.socket.as_raw_fd()
@@ -521,7 +523,7 @@ macro_rules! socket {
     };
 }
 
-/// Reads and writes, for each type of connection. `$pair` makes two that are connected for the examples.
+/// Reads and writes, for each type of connection. `$pair` makes two connected sockets for the examples.
 macro_rules! stream {
     ($name:ident, $pair:literal) => {
         impl $name {
@@ -583,7 +585,8 @@ macro_rules! stream {
                 self.0.poll(cx, false, len, |mut socket| socket.write_vectored(bytes), |&n| n)
             }
 
-            /// Reads at most `buffer.len()` bytes, once there are some. Returns their number, 0 at the end.
+            /// Reads at most `buffer.len()` bytes, once there are some. Returns the number of bytes read; 0 at the
+            /// connection's end.
             ///
             /// ```
             /// # fn main() -> std::io::Result<()> {
@@ -600,7 +603,7 @@ macro_rules! stream {
                 self.0.wait::<true, _>(len, |mut socket| socket.read(buffer), |&n| n).await
             }
 
-            /// Fills the buffer. Fails with `UnexpectedEof` if the connection ends before.
+            /// Fills the buffer. Fails with `UnexpectedEof` if the connection ends before the buffer is full.
             ///
             /// ```
             /// # fn main() -> std::io::Result<()> {
@@ -622,7 +625,7 @@ macro_rules! stream {
                 Ok(())
             }
 
-            /// Writes some of the bytes, at least one, once there is room. Returns their number.
+            /// Writes some of the bytes, at least one, once there is room. Returns the number of bytes written.
             ///
             /// ```
             /// # fn main() -> std::io::Result<()> {

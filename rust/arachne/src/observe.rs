@@ -1,6 +1,6 @@
 //! Observing a runtime: the states of its tasks, hooks, and a histogram of the time for which ready tasks waited.
 //!
-//! A runtime built without `Builder::observed` records none of this; it pays one test per step.
+//! A runtime built without `Builder::observed` records none of this, and only makes one test per step.
 
 use crate::core::Job;
 use crate::shared::Shared;
@@ -14,8 +14,8 @@ use std::time::Duration;
 
 /// Callbacks at the steps of tasks, for a tracing library, say; see `Builder::hooks`.
 ///
-/// Each is called on the thread that makes the step, and must not panic. `id` is a number that no other task of the
-/// runtime ever has.
+/// Each hook is called on the thread that makes the step, and must not panic. `id` is a number that no other task of
+/// the runtime ever has.
 ///
 /// ```
 /// use std::sync::{Arc, atomic::{AtomicUsize, Ordering::SeqCst}};
@@ -36,7 +36,7 @@ pub trait Hooks: Send + Sync {
     fn spawned(&self, _about: &About) {}
     /// A poll of this task begins.
     fn poll_begins(&self, _id: u64, _about: &About) {}
-    /// The poll ends. If the task has ended, `ended` follows.
+    /// The poll ends. If the task has ended, a call of `ended` follows.
     fn poll_ends(&self, _id: u64) {}
     /// The task that waits at this place was made ready.
     fn woken(&self, _place: usize) {}
@@ -51,10 +51,13 @@ pub(crate) const HISTOGRAM: usize = 24;
 struct Record {
     spawned: AtomicPtr<Location<'static>>,
     label: AtomicPtr<Label>,
-    /// The task's name plus one (0: none), and for each of three states since when the task has been in it (0: not).
+    /// The task's name plus one, or 0 if there is no task.
     name: AtomicU64,
+    /// The time since which the task waits, or 0 if it doesn't.
     waits_since: AtomicU64,
+    /// The time since which the task is ready, or 0 if it isn't.
     ready_since: AtomicU64,
+    /// The time since which the task runs, or 0 if it doesn't.
     runs_since: AtomicU64,
 }
 
@@ -69,11 +72,11 @@ pub(crate) struct Observer {
 #[derive(Clone, Copy, PartialEq, Eq, Debug)]
 #[non_exhaustive]
 pub enum Doing {
-    /// It waits to be woken.
+    /// The task waits to be woken.
     Waits,
-    /// It waits for a worker.
+    /// The task waits for a worker.
     Ready,
-    /// A worker polls it.
+    /// A worker polls the task.
     Runs,
 }
 
@@ -83,11 +86,11 @@ pub enum Doing {
 pub struct TaskInfo {
     /// A number that no other task of the runtime ever has.
     pub id: u64,
-    /// Where it was spawned, and its name.
+    /// Where the task was spawned, and its name.
     pub about: About,
-    /// Its current state.
+    /// The task's current state.
     pub doing: Doing,
-    /// How long it has been in that state.
+    /// The time for which the task has been in that state.
     pub age: Duration,
 }
 
@@ -192,7 +195,7 @@ impl Observer {
 impl Record {
     fn info(&self, now: u64) -> Option<TaskInfo> {
         let id = self.name.load(Acquire).checked_sub(1)?;
-        // SAFETY: what was stored there lives for ever.
+        // SAFETY: a reference that was stored there lives for ever.
         let spawned: &'static Location<'static> = unsafe { self.spawned.load(Relaxed).as_ref()? };
         // SAFETY: the same.
         let name: Option<&'static Label> = unsafe { self.label.load(Relaxed).as_ref() };
@@ -215,7 +218,7 @@ impl Shared {
     pub(crate) fn running(&self, worker: usize) -> Option<(u64, About)> {
         let worker = &self.workers[worker].0;
         let name = worker.running.load(Relaxed);
-        // SAFETY: what was stored there lives for ever.
+        // SAFETY: a reference that was stored there lives for ever.
         let spawned: &'static Location<'static> = unsafe { worker.site.load(Relaxed).as_ref()? };
         // SAFETY: the same.
         let label: Option<&'static Label> = unsafe { worker.label.load(Relaxed).as_ref() };

@@ -1,11 +1,12 @@
 //! The epoll of a runtime: the events of its sockets, and the waking of the worker that sleeps there.
 //!
-//! One worker waits there. The tasks of the events that it gets stay in its hand, its list of jobs to run next, in the
-//! order of the events. So it asks only for as many as have room there (`asks` in worker.rs): at most 8, and fewer if 8
-//! polls take more than about 100 us; the only active worker asks for more. The other events stay with the kernel for
-//! whoever looks next, so that they don't wait for a worker that loses its processor; if there may be more, a sleeping
-//! worker is woken. A worker that has ready jobs of its own looks too; the tasks that it wakes then become ready in
-//! their blocks, unless it is the only active worker.
+//! One worker at a time waits in the epoll. The tasks that these events wake go, in the events' order, to the hand of
+//! the worker that waited (its list of jobs to run next). So a worker asks only for as many events as have room in its
+//! hand (`asks` in worker.rs): at most 8, and fewer if 8 polls take more than about 100 us. A worker that is the only
+//! active one asks for more. The other events stay with the kernel for the next worker that looks, so that they don't
+//! wait for a worker that loses its processor; if there may be more, a sleeping worker is woken. A worker that has
+//! ready jobs of its own looks too; the tasks that it wakes then become ready in their blocks, unless it is the only
+//! active worker.
 
 use crate::sync::atomic::{AtomicU64, AtomicUsize, Ordering::*};
 use crate::sync::{Arc, Condvar, Mutex};
@@ -21,15 +22,15 @@ pub(crate) const WRITE: u64 = 2;
 pub(crate) const READ_CLOSED: u64 = 4;
 pub(crate) const WRITE_CLOSED: u64 = 8;
 const TICK: u64 = 256;
-/// In place of a name: the waker is not that of a task of this runtime.
+/// Used in place of a name, if a waker doesn't belong to a task of this runtime.
 const OTHER: u64 = NOBODY - 1;
 /// The key of the eventfd that ends a wait.
 const WOKEN: u64 = 0;
 /// The most events of one look.
 pub(crate) const EVENTS: usize = 64;
 
-/// A waker that is registered for one event. That of a task of this runtime is kept in one word, without a lock; others
-/// take a lock.
+/// A waker that is registered for one event. If it belongs to a task of this runtime, it is kept in one word, without a
+/// lock. Other wakers take a lock.
 pub(crate) struct Slot {
     table: usize,
     name: AtomicU64,
@@ -77,25 +78,28 @@ impl Slot {
 
 /// The readiness of a descriptor, and the wakers of the tasks that wait for it.
 ///
-/// The bits above the lowest eight count the events, so that a bit is cleared only if there was no event since it was
-/// read.
+/// The bits above the lowest eight count the events, so that a bit is cleared only if there was no event since the bit
+/// was read.
 pub(crate) struct Io {
     pub(crate) state: AtomicU64,
-    /// The last waker of the `poll_` functions, which replace it at each call.
+    /// The last waker of the `poll_` functions that read, which replace it at each call.
     pub(crate) reader: Slot,
+    /// The last waker of the `poll_` functions that write, which replace it at each call.
     pub(crate) writer: Slot,
-    /// The wakers of futures, of which any number may wait.
+    /// The wakers of the futures that wait to read, any number of them.
     pub(crate) readers: Waiters,
+    /// The wakers of the futures that wait to write, any number of them.
     pub(crate) writers: Waiters,
 }
 
-/// The futures that wait for one direction of a descriptor. An event wakes all.
+/// The futures that wait for one direction of a descriptor. An event wakes all of these futures.
 pub(crate) struct Waiters {
     table: usize,
-    /// The name of one task of this runtime, which needs no lock. Its future may be gone.
+    /// The name of one task of this runtime that waits, which needs no lock. The future of that task may be gone.
     first: AtomicU64,
-    /// The number of others, and their wakers by key.
+    /// The number of the other wakers.
     count: AtomicUsize,
+    /// The next key, and the other wakers by key.
     others: Mutex<(u64, Vec<(u64, Waker)>)>,
 }
 
@@ -104,9 +108,9 @@ impl Waiters {
         Waiters { table, first: AtomicU64::new(NOBODY), count: AtomicUsize::new(0), others: Mutex::default() }
     }
 
-    /// Registers a future's waker. `key` is 0 at first, and then the future's until `leave`.
+    /// Registers a future's waker. `key` must be 0 at first, and is the future's key from then until `leave`.
     ///
-    /// The caller must read the state after that: an event changes the state before it looks here.
+    /// The caller must read the descriptor's state after this call: an event changes the state before it wakes.
     #[inline]
     pub(crate) fn join(&self, key: &mut u64, waker: &Waker) {
         if *key == 0 {
@@ -128,7 +132,7 @@ impl Waiters {
         if let Some((_, old)) = waiting.iter_mut().find(|(of, _)| *of == *key) {
             if !old.will_wake(waker) {
                 let old = std::mem::replace(old, waker.clone());
-                // Without the lock: the drop of a waker may drop a future that leaves.
+                // Without the lock: the drop of a waker may drop a future that calls `leave`.
                 drop(others);
                 drop(old);
             }
@@ -140,7 +144,7 @@ impl Waiters {
         self.count.store(waiting.len(), SeqCst);
     }
 
-    /// Forgets a future that is dropped.
+    /// Removes the waker of a future that is dropped.
     pub(crate) fn leave(&self, key: u64) {
         let mut others = self.others.lock().unwrap();
         let left = others.1.iter().position(|(of, _)| *of == key).map(|at| others.1.swap_remove(at));
@@ -183,7 +187,7 @@ impl Io {
         }
     }
 
-    /// Clears bits, unless there was an event since `seen` was read. Returns the state after that.
+    /// Clears `bits` in the state, unless there was an event since `seen` was read. Returns the state after the call.
     #[inline]
     pub(crate) fn clear(&self, seen: u64, bits: u64) -> u64 {
         match self.state.compare_exchange(seen, seen & !bits, SeqCst, SeqCst) {
@@ -219,14 +223,14 @@ impl Io {
     }
 }
 
-/// The descriptors by key. A key has a use count, so that a late event of a removed descriptor finds nobody.
+/// The descriptors by key. A key contains a use count, so that a late event of a removed descriptor finds nobody.
 #[derive(Default)]
 struct Sources {
     all: Vec<(u32, Option<Arc<Io>>)>,
     free: Vec<u32>,
 }
 
-/// The events of one look at the epoll. Those beyond the number asked for stay with the kernel, in order.
+/// The events of one look at the epoll. Events beyond the number asked for stay with the kernel, in order.
 pub(crate) struct Found {
     events: [Event; EVENTS],
     count: usize,
@@ -254,7 +258,7 @@ impl Found {
 
 pub(crate) struct Reactor {
     epoll: RawFd,
-    /// The eventfd that ends a wait. It stays raised until a waiter has seen it.
+    /// The eventfd that ends a wait. The eventfd stays raised until a waiter has seen it.
     event: RawFd,
     used: AtomicUsize,
     sources: Mutex<Sources>,
@@ -276,7 +280,7 @@ impl Reactor {
         self.used.load(Relaxed) != 0
     }
 
-    /// Ends the wait of the worker that waits here, or else the next wait.
+    /// Ends the wait of the worker that waits in this epoll, or else the next wait.
     pub(crate) fn notify(&self) {
         sys::raise(self.event);
     }
@@ -325,7 +329,7 @@ impl Reactor {
         io.as_ref().filter(|_| *uses as u64 == data >> 32).cloned()
     }
 
-    /// Wakes all who wait for a descriptor, without an event.
+    /// Wakes all tasks that wait for a descriptor, without an event.
     pub(crate) fn wake_all(&self) {
         let sources: Vec<_> = self.sources.lock().unwrap().all.iter().filter_map(|(_, io)| io.clone()).collect();
         for io in sources {
@@ -334,7 +338,7 @@ impl Reactor {
         }
     }
 
-    /// Returns at most `most` events that are there now.
+    /// Returns at most `most` of the events that have occurred, without waiting.
     pub(crate) fn look(&self, most: usize) -> Found {
         Found::of(self.epoll, 0, most)
     }
@@ -351,7 +355,7 @@ impl Reactor {
         found
     }
 
-    /// Wakes the tasks that wait for these events. Returns the number of descriptors that had one.
+    /// Wakes the tasks that wait for these events. Returns the number of descriptors that had an event.
     pub(crate) fn tell(&self, found: &Found) -> usize {
         let sockets = found.events[..found.count].iter().filter(|event| event.data != WOKEN);
         sockets
@@ -363,7 +367,7 @@ impl Reactor {
     }
 }
 
-/// A worker sleeps on its bell while another waits in the epoll.
+/// The bell on which a worker sleeps while another worker waits in the epoll.
 #[derive(Default)]
 pub(crate) struct Bell {
     rung: Mutex<bool>,
@@ -377,7 +381,7 @@ impl Bell {
         self.heard.notify_one();
     }
 
-    /// Waits for at most `timeout` milliseconds (-1: for ever). Returns true if it was rung since the last wait.
+    /// Waits for at most `timeout` milliseconds (-1: for ever). Returns true if the bell was rung since the last wait.
     pub(crate) fn wait(&self, timeout: i32) -> bool {
         let rung = self.rung.lock().unwrap();
         let silent = |rung: &mut bool| !*rung;

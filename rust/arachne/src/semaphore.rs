@@ -50,7 +50,9 @@ impl fmt::Debug for Semaphore {
 /// ```
 /// let permits = arachne::Semaphore::new(0);
 /// permits.close();
-/// assert_eq!(arachne::block_on(permits.acquire()).unwrap_err().to_string(), "the semaphore is closed");
+/// let error = arachne::block_on(permits.acquire()).unwrap_err();
+/// assert_eq!(error.to_string(), "the semaphore is closed");
+/// assert_eq!(std::io::Error::from(error).kind(), std::io::ErrorKind::Other);     // so `?` serves in I/O code, too
 /// ```
 #[derive(Clone, Copy, PartialEq, Eq, Debug)]
 #[non_exhaustive]
@@ -62,6 +64,12 @@ impl fmt::Display for AcquireError {
     }
 }
 impl std::error::Error for AcquireError {}
+
+impl From<AcquireError> for std::io::Error {
+    fn from(error: AcquireError) -> std::io::Error {
+        std::io::Error::new(std::io::ErrorKind::Other, error)
+    }
+}
 
 /// The error of `Semaphore::try_acquire`.
 ///
@@ -75,7 +83,7 @@ impl std::error::Error for AcquireError {}
 pub enum TryAcquireError {
     /// The semaphore is closed.
     Closed,
-    /// There are too few permits, or others wait for some.
+    /// There are too few permits, or others wait for permits.
     NoPermits,
 }
 
@@ -195,7 +203,7 @@ impl Semaphore {
         Ok(())
     }
 
-    /// Adds `count` permits, and wakes those who wait for them.
+    /// Adds `count` permits, and wakes the tasks that can have them.
     ///
     /// ```
     /// let permits = std::sync::Arc::new(arachne::Semaphore::new(0));
@@ -205,7 +213,7 @@ impl Semaphore {
     /// ```
     ///
     /// # Panics
-    /// If there would be more permits than a `usize` counts.
+    /// Panics if there would be more permits than a `usize` counts.
     #[track_caller]
     pub fn add_permits(&self, count: usize) {
         let mut state = self.state.lock().unwrap();
@@ -219,9 +227,9 @@ impl Semaphore {
         self.grant(state);
     }
 
-    /// Closes the semaphore: all who wait for permits, or request some later, get an error.
+    /// Closes the semaphore: all who wait for permits, or request permits later, get an error.
     ///
-    /// Permits that are held stay valid.
+    /// Permits that were given stay valid.
     ///
     /// ```
     /// let permits = arachne::Semaphore::new(1);
@@ -242,7 +250,8 @@ impl Semaphore {
         self.state.lock().unwrap().closed
     }
 
-    /// Gives permits to the first in line, as far as there are enough, and wakes them after the lock is released.
+    /// Gives permits to the first waiters in line, as far as there are enough, and wakes these after the lock is
+    /// released.
     fn grant(&self, mut state: crate::sync::MutexGuard<'_, State>) {
         let mut granted = Vec::new();
         while state.line.front().map_or(false, |node| node.wants <= state.permits) {
@@ -257,7 +266,7 @@ impl Semaphore {
     }
 }
 
-/// The future of `Semaphore::acquire`. If it is dropped while it waits, it leaves the line.
+/// The future of `Semaphore::acquire`. A future that is dropped while it waits leaves the line of waiters.
 ///
 /// ```
 /// let permits = arachne::Semaphore::new(1);
@@ -285,7 +294,7 @@ impl<'a> Future for Acquire<'a> {
         if let Some(node) = &self.node {
             node.slot.set(cx.waker());
             if !node.granted.load(SeqCst) {
-                // Checked after the waker is set: `close` sets the flag before it wakes the line.
+                // Checked after the waker is set: `close` sets the flag before it wakes all waiters.
                 return if semaphore.is_closed() { Poll::Ready(Err(AcquireError)) } else { Poll::Pending };
             }
             self.node = None;
@@ -328,7 +337,7 @@ impl Drop for Acquire<'_> {
     }
 }
 
-/// Permits of a semaphore, given back when this is dropped.
+/// Permits of a semaphore, given back when this value is dropped.
 ///
 /// ```
 /// let permits = arachne::Semaphore::new(2);
@@ -343,7 +352,7 @@ pub struct SemaphorePermit<'a> {
     count: usize,
 }
 
-/// Like `SemaphorePermit`, of a semaphore in an `Arc`: it may go to another task.
+/// Like `SemaphorePermit`, but of a semaphore in an `Arc`: the permits may go to another task.
 ///
 /// ```
 /// let permits = std::sync::Arc::new(arachne::Semaphore::new(1));

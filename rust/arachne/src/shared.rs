@@ -1,4 +1,4 @@
-//! The state that a runtime's kernel threads share, and the state of each of them.
+//! The state that a runtime's kernel threads share, and each thread's own state.
 
 use crate::arbiter::Client;
 use crate::blocking::Pool;
@@ -26,18 +26,18 @@ mod explored;
 #[cfg(feature = "explore")]
 pub use explored::{forget_runtimes, forget_thread, set_active};
 
-/// The most runtimes of a process at a time: each needs a table of waker functions.
+/// The most runtimes of a process at a time: each runtime needs a table of waker functions.
 pub(crate) const TABLES: usize = 32;
 
-/// No worker's number.
+/// A number that no worker has.
 pub(crate) const NO_ONE: usize = usize::MAX;
 
 #[allow(clippy::declare_interior_mutable_const)]
 const NO_TABLE: AtomicPtr<Shared> = AtomicPtr::new(ptr::null_mut());
 static ALL: [AtomicPtr<Shared>; TABLES] = [NO_TABLE; TABLES];
-/// The number of `Shared` made so far, and those that no runtime uses now.
+/// The number of `Shared` made so far, and the `Shared` that no runtime uses now.
 ///
-/// They are never freed, since a waker may be kept for ever.
+/// A `Shared` is never freed, since a waker may be kept for ever.
 static POOL: Mutex<(usize, Vec<&'static Shared>)> = Mutex::new((0, Vec::new()));
 
 /// The state that a runtime's kernel threads share.
@@ -46,31 +46,38 @@ pub(crate) struct Shared {
     pub(crate) root: Mutex<Root>,
     pub(crate) workers: Box<[Line<Worker>]>,
     pub(crate) reactor: Reactor,
-    /// The worker that waits in the epoll, and its deputy, which polls it now and then while the former runs tasks.
+    /// The worker that waits in the epoll.
     pub(crate) waits: Line<AtomicUsize>,
+    /// The deputy: the worker that polls the epoll now and then while the worker `waits` runs tasks.
     pub(crate) deputy: Line<AtomicUsize>,
     /// The time of the last look at the epoll by a worker that runs tasks.
     pub(crate) looked: Line<AtomicU64>,
-    /// Milliseconds between two looks at the others by the deputy, and by the worker that waits in the epoll.
+    /// Milliseconds between two looks of the deputy at the other workers.
     pub(crate) rests: AtomicI32,
+    /// Milliseconds between two looks at the other workers by the worker that waits in the epoll.
     pub(crate) pauses: AtomicI32,
-    /// By shard, its blocks that may have a free place, as bits.
+    /// Nanoseconds between two looks of the worker that covers for the first worker, if only the first has a core; else
+    /// 0.
+    pub(crate) covers: Line<AtomicU64>,
+    /// For each shard, its blocks that may have a free place, as bits.
     pub(crate) roomy: Box<[Line<AtomicU64>]>,
-    /// By place, the name of the last task that waited there, so that it can be ended with the runtime.
+    /// For each place, the name of the last task that waited there, so that this task can be ended with the runtime.
     pub(crate) names: Box<[AtomicU64]>,
-    /// The workers that sleep, as bits, and the number that search for work. They only decide which worker it is worth
-    /// waking.
+    /// The workers that sleep, as bits. They only decide which worker it is worth waking.
     pub(crate) sleepers: Line<AtomicU64>,
+    /// The number of workers that search for work. It only decides whether it is worth waking another.
     pub(crate) searching: Line<AtomicUsize>,
+    /// The number of active workers.
     pub(crate) active: Line<AtomicUsize>,
     /// Tasks that wait for a free place, and have not begun.
     pub(crate) queue: Mutex<VecDeque<Raw>>,
+    /// The number of tasks in `queue`.
     pub(crate) queued: Line<AtomicUsize>,
-    /// No queued task can get a place until a task ends.
+    /// True if no queued task can get a place until a task ends.
     pub(crate) clogged: AtomicBool,
     pub(crate) stop: AtomicBool,
     pub(crate) next_home: AtomicUsize,
-    /// The timers of threads that are no workers. They belong to the first worker.
+    /// The timers of threads that are no workers. These timers belong to the first worker.
     pub(crate) visitors: Timers,
     pub(crate) blocking: Pool,
     pub(crate) observer: Observer,
@@ -101,17 +108,19 @@ pub(crate) struct Worker {
     pub(crate) bell: Bell,
     pub(crate) hand: Hand,
     pub(crate) timers: Timers,
-    /// True while the core is given back.
+    /// True while the worker's core is given back.
     pub(crate) given_back: (Mutex<bool>, Condvar),
-    /// The worker has laid down all jobs in its hand, and waits for its core.
+    /// True if the worker has made all jobs in its hand ready, and waits for its core.
     pub(crate) away: AtomicBool,
-    /// The worker's shards. To the core each belongs to a worker number, which is its index modulo `NUMBERS`.
+    /// The worker's shards. The core knows each shard by a worker number: the shard's index modulo `NUMBERS`.
     pub(crate) shards: Box<[usize]>,
-    /// The number of its shards, from the first on, that ever had a task. It only grows; the others are not searched.
+    /// The number of the worker's shards, from the first on, that ever had a task. This number only grows. The shards
+    /// beyond it are not searched.
     pub(crate) used: AtomicUsize,
-    /// The block of its shards in which the next task may find room.
+    /// The block, counted over the worker's shards, in which the next task may find a place.
     pub(crate) roomy: Line<AtomicUsize>,
-    /// The rights to park, one for each worker number of its shards. The worker that looks after these takes the lock.
+    /// The rights to park, one for each worker number of the worker's shards. Whoever looks after these shards takes
+    /// the lock.
     pub(crate) parking: Mutex<Vec<Parking>>,
     pub(crate) polls: AtomicU64,
     pub(crate) spawned: AtomicU64,
@@ -119,17 +128,21 @@ pub(crate) struct Worker {
     pub(crate) takes: AtomicU64,
     pub(crate) wakes: AtomicU64,
     pub(crate) parks: AtomicU64,
-    /// Looks counted for the policy, and the sum of the ready jobs at them.
+    /// The number of looks at the ready jobs that were counted for the policy.
     pub(crate) scans: AtomicU64,
+    /// The sum of the numbers of ready jobs at these looks.
     pub(crate) runnable: AtomicU64,
-    /// Nanoseconds without work, and the time since which there is none (0: there is work).
+    /// Nanoseconds that the worker was without work.
     pub(crate) idle: AtomicU64,
+    /// The time since which the worker is without work; 0 if it has work.
     pub(crate) idle_since: AtomicU64,
-    /// The thread's `/proc` file `schedstat`: the time it ran, and the time it waited for a processor.
+    /// The `/proc` file `schedstat` of the worker's thread: the time it ran, and the time it waited for a processor.
     pub(crate) account: Mutex<Option<File>>,
-    /// For the watcher: the name of the task that is polled now, where it was spawned, and its label.
+    /// For the watcher: the name of the task that is polled now.
     pub(crate) running: AtomicU64,
+    /// For the watcher: where that task was spawned.
     pub(crate) site: AtomicPtr<Location<'static>>,
+    /// For the watcher: the label of that task.
     pub(crate) label: AtomicPtr<Label>,
 }
 
@@ -182,13 +195,13 @@ impl Worker {
         &self.shards[..self.used.load(Relaxed)]
     }
 
-    /// Returns the nanoseconds without work until now.
+    /// Returns the nanoseconds for which the worker had no work until now.
     pub(crate) fn idle_time(&self, now: u64) -> u64 {
         let since = self.idle_since.load(Relaxed);
         self.idle.load(Relaxed) + if since == 0 { 0 } else { now.saturating_sub(since) }
     }
 
-    /// Ends the time without work, and returns the current time.
+    /// Ends the worker's time without work, and returns the current time.
     pub(crate) fn ends_idling(&self) -> u64 {
         let now = now();
         add(&self.idle, now.saturating_sub(self.idle_since.swap(0, Relaxed)));
@@ -205,17 +218,17 @@ impl Worker {
     }
 }
 
-/// Returns the shared state of this number, if one was ever made.
+/// Returns the `Shared` of this number, if one was ever made.
 #[inline]
 pub(crate) fn shared_of(table: usize) -> Option<&'static Shared> {
-    // SAFETY: what was stored there once is never freed.
+    // SAFETY: a `Shared` that was stored there is never freed.
     unsafe { ALL[table].load(Acquire).as_ref() }
 }
 
 impl Shared {
-    /// Returns an unused `Shared` of this shape: one of an ended runtime, or a new one.
+    /// Returns an unused `Shared` of this shape: that of an ended runtime, or a new one.
     ///
-    /// Fails if all 32 are in use or of other shapes, or if memory or descriptors are refused.
+    /// Fails if all 32 are in use or have other shapes, or if memory or descriptors are refused.
     pub(crate) fn get(workers: usize, shards: usize, observed: bool) -> io::Result<&'static Shared> {
         let mut pool = POOL.lock().unwrap();
         let alike =
@@ -236,7 +249,7 @@ impl Shared {
         Ok(shared)
     }
 
-    /// Makes a new `Shared`, which is never freed. Returns None if memory for its table is refused.
+    /// Makes a new `Shared`, which is never freed. Returns None if memory for the table is refused.
     fn make(table: usize, workers: usize, shards: usize, observed: bool) -> io::Result<Option<&'static Shared>> {
         let mut root = match Root::new(shards) {
             Some(root) => root,
@@ -263,6 +276,7 @@ impl Shared {
             looked: Line::default(),
             rests: AtomicI32::new(1),
             pauses: AtomicI32::new(1),
+            covers: Line::default(),
             roomy: (0..shards).map(|_| Line::default()).collect(),
             names: (0..places).map(|_| AtomicU64::new(NOBODY)).collect(),
             sleepers: Line::default(),
@@ -325,28 +339,31 @@ impl Shared {
         (self.spawned() - ended).max(0) as u64
     }
 
-    /// Returns the number of tasks for which a drain waits, those of the background left out.
+    /// Returns the number of tasks for which a drain waits: all but those of `spawn_background`.
     ///
-    /// It is never too low, even while tasks begin and end: `spawned` counts a background task before `background.0`
-    /// does, and `background.1` counts it before `ended` does. So the counts must be read in the reverse order.
+    /// The number is never too low, even while tasks begin and end: `spawned` counts a background task before
+    /// `background.0` does, and `background.1` counts it before `ended` does. So the counts must be read in the reverse
+    /// order.
     pub(crate) fn awaited(&self) -> u64 {
         let ended = self.ended() - self.background.1.load(SeqCst) as i64;
         let background = self.background.0.load(SeqCst) as i64;
         (self.spawned() - background - ended).max(0) as u64
     }
 
-    /// Returns true if the runtime of these turns of the door has ended, or is about to, so that nobody looks for its
-    /// events any more.
+    /// Returns true if the runtime that was made at the count `turns` of the `Door` has ended, or is about to end:
+    /// nobody looks for its events any more.
     ///
-    /// Returns false in a poll of one of its own tasks, which is dropped instead.
+    /// Returns false in a poll of one of that runtime's own tasks: that task is dropped instead.
     pub(crate) fn has_ended(&self, turns: u64) -> bool {
         let in_own_task = || Context::with(|worker| worker.map_or(false, |worker| ptr::eq(worker.shared, self)));
         self.door.turns() != turns || self.stop.load(SeqCst) && !in_own_task()
     }
 
-    /// Wakes those who wait for its sockets and timers in another runtime, or in blocking work, after its end.
+    /// Wakes the tasks that still wait for this runtime's sockets and timers after its end, in another runtime or in
+    /// blocking work.
     ///
-    /// From then on to wait for a socket fails, and a sleep goes on in the runtime in which it is polled.
+    /// After this call a wait for a socket of this runtime fails, and a sleep goes on in the runtime in which it is
+    /// polled.
     pub(crate) fn let_go(&self) {
         self.reactor.wake_all();
         let timers = self.workers.iter().map(|worker| &worker.0.timers);
@@ -355,18 +372,19 @@ impl Shared {
         }
     }
 
-    /// Gives this state back, for a later runtime. No thread of the ended one uses it any more.
+    /// Gives this state back, for a later runtime. No thread of the ended runtime uses the state any more.
     pub(crate) fn give(&'static self) {
         POOL.lock().unwrap().1.push(self);
     }
 
-    /// Returns the worker to whose blocks this place belongs.
+    /// Returns the worker whose blocks contain this place.
     #[inline]
     pub(crate) fn home(&self, place: usize) -> usize {
         place / (BLOCK * SHARD) % NUMBERS % self.workers.len()
     }
 
-    /// Returns the worker that looks after this one's blocks and timers: itself, or another if it has no core.
+    /// Returns the worker that looks after the blocks and timers of `worker`: itself, or another worker if it has no
+    /// core.
     #[inline]
     pub(crate) fn keeper(&self, worker: usize) -> usize {
         let active = self.active.0.load(SeqCst);
@@ -384,19 +402,22 @@ pub(crate) struct Context {
     pub(crate) me: usize,
     pub(crate) hands: Hands,
     pub(crate) worker: &'static Worker,
-    /// No other thread ever takes jobs out of this worker's hand.
+    /// True if no other thread ever takes jobs out of this worker's hand.
     pub(crate) alone: bool,
-    /// The name of the task that runs here, and whether it woke itself.
+    /// The name of the task that runs on this worker.
     pub(crate) current: Cell<u64>,
+    /// True if the task that runs on this worker woke itself.
     pub(crate) woken: Cell<bool>,
-    /// The number of reads of sockets in this poll, and true if another was put off. The time at which the worker last
-    /// looked out or was idle.
+    /// The number of reads of sockets in this poll.
     pub(crate) reads: Cell<u32>,
+    /// True if a read of a socket was put off in this poll.
     pub(crate) put_off: Cell<bool>,
+    /// The time at which this worker last looked for sockets, timers and other workers' tasks, or was idle.
     pub(crate) looked: Cell<u64>,
-    /// A job that is woken runs next here. If false, the first `room` woken jobs go into this worker's line, in order,
-    /// the others become ready in their blocks, and no worker is woken to help.
+    /// True if a job that is woken on this worker runs next on it. If false, `room` decides where a woken job goes.
     pub(crate) keeps: Cell<bool>,
+    /// If `keeps` is false: the number of woken jobs that still go into this worker's line (its local queue), in order.
+    /// The others become ready in their blocks, and no worker is woken to help.
     pub(crate) room: Cell<usize>,
     random: Cell<u64>,
 }
@@ -435,7 +456,7 @@ impl Context {
         call(unsafe { context.as_ref() })
     }
 
-    /// Runs `f` with this context as the thread's.
+    /// Runs `f`, during which this context is the thread's.
     pub(crate) fn enter<R>(&self, f: impl FnOnce() -> R) -> R {
         struct Leave;
         impl Drop for Leave {
@@ -448,9 +469,9 @@ impl Context {
         f()
     }
 
-    /// Returns true if the current poll may read a socket: once always, and again until the next look is due.
+    /// Returns true if the current poll may read a socket: always once, and again until the next look is due.
     ///
-    /// So a socket that always has more doesn't keep its worker.
+    /// So a socket that always has more data doesn't keep its worker.
     #[inline]
     pub(crate) fn may_read(&self) -> bool {
         let reads = self.reads.replace(self.reads.get() + 1);
@@ -497,7 +518,7 @@ pub(crate) fn entered<R>(shared: &'static Shared, f: impl FnOnce() -> R) -> R {
     f()
 }
 
-/// The seats of a thread that is no worker, by runtime.
+/// For each runtime, the seat by which this thread, which is no worker of the runtime, calls it.
 struct Visitor {
     seats: Vec<Option<Hands>>,
 }
@@ -530,7 +551,7 @@ pub(crate) fn with_hands<R>(shared: &'static Shared, call: impl FnOnce(&Hands) -
     match (visited, call) {
         (Ok(Some(result)), _) => result,
         (_, Some(call)) => {
-            // The thread is ending and its seats are gone, or they are in use: seats for this call only.
+            // The thread is ending and its seats are gone, or they are in use: makes seats for this call only.
             let mut root = shared.root.lock().unwrap_or_else(|e| e.into_inner());
             let hands = root.crew(1, 1).and_then(|mut crew| crew.pop()).expect("no memory for a seat");
             let result = call(&hands);

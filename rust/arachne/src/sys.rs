@@ -1,6 +1,6 @@
 //! The calls of Linux that the crate needs: epoll, eventfd, sockets, affinity, time slices, a shared page.
 //!
-//! They are declared by hand, as in Linux's C library on 64 bits. The functions around the calls are safe.
+//! The calls are declared by hand, as in Linux's C library on 64 bits. The functions around the calls are safe.
 
 use crate::sync::atomic::{AtomicI32, AtomicU32, Ordering::*};
 use crate::sync::{clock, told, wait as wait_in};
@@ -24,6 +24,7 @@ extern "C" {
     fn epoll_wait(epoll: i32, events: *mut Event, most: i32, timeout: i32) -> i32;
     fn eventfd(count: u32, flags: i32) -> i32;
     fn poll(descriptors: *mut Polled, count: u64, timeout: i32) -> i32;
+    fn ppoll(descriptors: *mut Polled, count: u64, timeout: *const [i64; 2], mask: *const u64) -> i32;
     fn close(fd: i32) -> i32;
     fn read(fd: i32, bytes: *mut u8, count: usize) -> isize;
     fn write(fd: i32, bytes: *const u8, count: usize) -> isize;
@@ -65,7 +66,7 @@ struct Header {
     flags: i32,
 }
 
-/// A descriptor beside a message: its length, SOL_SOCKET, SCM_RIGHTS, the descriptor.
+/// A control message that carries a descriptor: its length, SOL_SOCKET, SCM_RIGHTS, and the descriptor.
 #[derive(Default)]
 #[repr(C)]
 struct Rights {
@@ -97,27 +98,33 @@ fn checked(result: i32) -> io::Result<i32> {
 }
 
 pub(crate) fn new_epoll() -> io::Result<RawFd> {
-    // SAFETY: a call with numbers alone.
+    // SAFETY: a call with numbers only.
     checked(unsafe { epoll_create1(CLOSE_ON_EXEC) })
 }
 
 pub(crate) fn new_event() -> io::Result<RawFd> {
-    // SAFETY: a call with numbers alone.
+    // SAFETY: a call with numbers only.
     checked(unsafe { eventfd(0, CLOSE_ON_EXEC | NON_BLOCKING) })
 }
 
+/// Returns a new event, which is closed as the file is dropped.
+pub(crate) fn new_event_file() -> io::Result<File> {
+    // SAFETY: the descriptor is new, and nobody else has it.
+    Ok(unsafe { File::from_raw_fd(new_event()?) })
+}
+
 pub(crate) fn close_fd(fd: RawFd) {
-    // SAFETY: a call with a number alone; the caller has the descriptor for itself, and doesn't use it again.
+    // SAFETY: a call with a number only. Only the caller has the descriptor, and doesn't use it again.
     unsafe { close(fd) };
 }
 
 pub(crate) fn watch(epoll: RawFd, fd: RawFd, events: u32, data: u64) -> io::Result<()> {
-    // SAFETY: the event lives through the call, which keeps a copy.
+    // SAFETY: the event lives through the call, and the kernel keeps a copy.
     checked(unsafe { epoll_ctl(epoll, ADD, fd, &mut Event { events, data }) }).map(drop)
 }
 
 pub(crate) fn unwatch(epoll: RawFd, fd: RawFd) {
-    // SAFETY: the event lives through the call, which doesn't read it.
+    // SAFETY: the event lives through the call, and the kernel doesn't read it.
     unsafe { epoll_ctl(epoll, DELETE, fd, &mut Event { events: 0, data: 0 }) };
 }
 
@@ -134,7 +141,7 @@ pub(crate) fn wait(epoll: RawFd, events: &mut [Event], timeout: i32) -> usize {
 /// Raises an event, which makes its descriptor readable.
 pub(crate) fn raise(event: RawFd) {
     let one = 1u64.to_ne_bytes();
-    // SAFETY: there are eight bytes to read from.
+    // SAFETY: there are eight bytes to read.
     unsafe { write(event, one.as_ptr(), 8) };
     told();
 }
@@ -142,7 +149,7 @@ pub(crate) fn raise(event: RawFd) {
 /// Clears an event.
 pub(crate) fn lower(event: RawFd) {
     let mut count = [0; 8];
-    // SAFETY: there are eight bytes to write to.
+    // SAFETY: there is room for eight bytes.
     unsafe { read(event, count.as_mut_ptr(), 8) };
 }
 
@@ -150,7 +157,7 @@ pub(crate) fn lower(event: RawFd) {
 pub(crate) fn set_nonblocking(fd: RawFd) -> io::Result<()> {
     const GET_FLAGS: i32 = 3;
     const SET_FLAGS: i32 = 4;
-    // SAFETY: calls with numbers alone.
+    // SAFETY: calls with numbers only.
     let flags = checked(unsafe { fcntl(fd, GET_FLAGS) })?;
     // SAFETY: the same.
     checked(unsafe { fcntl(fd, SET_FLAGS, flags | NON_BLOCKING) }).map(drop)
@@ -158,7 +165,7 @@ pub(crate) fn set_nonblocking(fd: RawFd) -> io::Result<()> {
 
 /// Sets the backlog of a socket that listens already.
 pub(crate) fn listen(fd: RawFd, backlog: i32) -> io::Result<()> {
-    // SAFETY: a call with numbers alone.
+    // SAFETY: a call with numbers only.
     checked(unsafe { listen_call(fd, backlog) }).map(drop)
 }
 
@@ -181,10 +188,10 @@ pub(crate) fn start_connect(to: &std::net::SocketAddr) -> io::Result<RawFd> {
     begin_connect(family, &mut bytes[..len])
 }
 
-/// Like `start_connect`, to a Unix socket's path. Fails with `WouldBlock` if its backlog is full.
+/// Like `start_connect`, to a Unix socket's path. Fails with `WouldBlock` if the listener's backlog is full.
 pub(crate) fn connect_unix(path: &Path) -> io::Result<RawFd> {
     let (path, mut bytes) = (path.as_os_str().as_bytes(), [0u8; 110]);
-    // The path is ended by a zero byte.
+    // The path must be followed by a zero byte.
     if path.is_empty() || path.len() > 107 || path.contains(&0) {
         return Err(io::ErrorKind::InvalidInput.into());
     }
@@ -195,9 +202,9 @@ pub(crate) fn connect_unix(path: &Path) -> io::Result<RawFd> {
 /// Starts a connection to an address in the family's layout, whose first two bytes are the family.
 fn begin_connect(family: u16, address: &mut [u8]) -> io::Result<RawFd> {
     address[..2].copy_from_slice(&family.to_ne_bytes());
-    // SAFETY: a call with numbers alone.
+    // SAFETY: a call with numbers only.
     let fd = checked(unsafe { socket(family as i32, 1 | CLOSE_ON_EXEC | NON_BLOCKING, 0) })?;
-    // SAFETY: the address has as many bytes as are said.
+    // SAFETY: the address has as many bytes as its length says.
     match checked(unsafe { connect(fd, address.as_ptr(), address.len() as u32) }) {
         Err(error) if error.raw_os_error() != Some(IN_PROGRESS) => {
             close_fd(fd);
@@ -221,7 +228,7 @@ pub(crate) fn now() -> u64 {
 /// Returns the processors that the calling thread may run on; none if the call fails.
 pub(crate) fn affinity() -> Vec<usize> {
     let mut mask = [0u64; 16];
-    // SAFETY: the mask has the 128 bytes that are said.
+    // SAFETY: the mask has 128 bytes.
     let len = unsafe { sched_getaffinity(0, 128, mask.as_mut_ptr()) };
     if len < 0 {
         return Vec::new();
@@ -234,11 +241,12 @@ pub(crate) fn pin(cpu: usize) -> bool {
     set_affinity(0, &[cpu])
 }
 
-/// Keeps a thread of this process on these processors; 0 is the calling one. Returns true if it succeeds.
+/// Keeps a thread of this process on these processors; thread 0 is the calling thread. Returns true if the call
+/// succeeds.
 pub(crate) fn set_affinity(thread: u32, cpus: &[usize]) -> bool {
     let mut mask = [0u64; 16];
     cpus.iter().for_each(|cpu| mask[cpu / 64 % 16] |= 1 << (cpu % 64));
-    // SAFETY: the mask has the 128 bytes that are said.
+    // SAFETY: the mask has 128 bytes.
     unsafe { sched_setaffinity(thread as i32, 128, mask.as_ptr()) == 0 }
 }
 
@@ -280,7 +288,8 @@ pub(crate) fn map_page(file: &File, at: *mut AtomicU32) -> io::Result<*mut Atomi
     const SHARED: i32 = 1;
     const FIXED: i32 = 0x10;
     let flags = if at.is_null() { SHARED } else { SHARED | FIXED };
-    // SAFETY: only an earlier page is mapped there, and its readers find a number before the call and after it.
+    // SAFETY: only an earlier page is mapped at that address. Whoever reads the number there finds one before and after
+    // the call.
     let mapped = unsafe { mmap(at as *mut u8, PAGE, READ, flags, file.as_raw_fd(), 0) };
     if mapped as isize == -1 {
         return Err(io::Error::last_os_error());
@@ -291,11 +300,11 @@ pub(crate) fn map_page(file: &File, at: *mut AtomicU32) -> io::Result<*mut Atomi
 /// The initial value; rustc 1.63 doesn't take the expression within the array.
 #[allow(clippy::declare_interior_mutable_const)]
 const NO_EVENT: AtomicI32 = AtomicI32::new(-1);
-/// The event to raise, by signal.
+/// For each signal, the eventfd to raise.
 static SIGNALLED: [AtomicI32; 65] = [NO_EVENT; 65];
 
 extern "C" fn handler(number: i32) {
-    // Within a signal handler this may only raise an event.
+    // Within a signal handler this call may only raise an event.
     if let Some(event) = SIGNALLED.get(number as usize) {
         raise(event.load(SeqCst));
     }
@@ -303,7 +312,7 @@ extern "C" fn handler(number: i32) {
 
 /// The signals of faults: SIGILL, SIGBUS, SIGFPE and SIGSEGV.
 ///
-/// A handler that returns would begin the instruction that failed again, for ever.
+/// If a handler of such a signal returned, the instruction that failed would begin again, for ever.
 const FAULTS: [i32; 4] = [4, 7, 8, 11];
 
 /// Makes a signal raise this event, instead of its previous action or event. Fails for a signal of a fault.
@@ -321,10 +330,10 @@ pub(crate) fn raise_at(number: i32, event: RawFd) -> io::Result<()> {
     }
 }
 
-/// Clears an event that is raised. Returns false if it isn't.
+/// Clears an event that is raised. Returns false if the event isn't raised.
 pub(crate) fn take_event(event: RawFd) -> bool {
     let mut count = [0; 8];
-    // SAFETY: there are eight bytes to write to.
+    // SAFETY: there is room for eight bytes.
     unsafe { read(event, count.as_mut_ptr(), 8) == 8 }
 }
 
@@ -343,6 +352,16 @@ pub(crate) fn await_event(event: RawFd) -> bool {
     }
 }
 
+/// Waits until one of these descriptors is readable or has failed, for at most `nanos`. Returns for each whether it is
+/// readable or has failed.
+pub(crate) fn readable(fds: [RawFd; 2], nanos: u64) -> [bool; 2] {
+    let mut polled = fds.map(|fd| Polled { fd, wanted: 1, found: 0 });
+    let time = [nanos as i64 / 1_000_000_000, nanos as i64 % 1_000_000_000];
+    // SAFETY: there are two descriptors and a time, which live through the call, and no mask.
+    unsafe { ppoll(polled.as_mut_ptr(), 2, &time, std::ptr::null()) };
+    polled.map(|it| it.found != 0)
+}
+
 /// The numbers of the calls `sched_setattr` and `sched_getattr`, on architectures for which they are known.
 #[cfg(target_arch = "x86_64")]
 const SCHEDULING: Option<(i64, i64)> = Some((314, 315));
@@ -351,15 +370,16 @@ const SCHEDULING: Option<(i64, i64)> = Some((274, 275));
 #[cfg(not(any(target_arch = "x86_64", target_arch = "aarch64", target_arch = "riscv64")))]
 const SCHEDULING: Option<(i64, i64)> = None;
 
-/// Requests a time slice of `nanos` for the calling thread (Linux 6.12 and later). Returns None if it isn't possible.
+/// Requests a time slice of `nanos` for the calling thread (Linux 6.12 and later). Returns None if the system doesn't
+/// grant it.
 ///
-/// A waking thread with a shorter slice gets a processor sooner. A thread of another policy than the default one is
-/// left unchanged.
+/// A waking thread with a shorter slice gets a processor sooner. A thread whose policy isn't the default one is left
+/// unchanged.
 pub(crate) fn ask_for_slices(nanos: u64) -> Option<()> {
     let (set, get) = SCHEDULING?;
     // `struct sched_attr`: its size and the policy, flags, priorities, the slice, and three for other policies.
     let mut attributes = [0u64; 7];
-    // SAFETY: the attributes have the 56 bytes that are said.
+    // SAFETY: the attributes have 56 bytes.
     let got = unsafe { syscall(get, 0i32, attributes.as_mut_ptr(), 56u32, 0u32) };
     if got != 0 || attributes[0] >> 32 != 0 {
         return None;

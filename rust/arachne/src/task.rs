@@ -1,7 +1,7 @@
 //! A task: its future, then its output, behind one pointer.
 //!
-//! It is shared by the runtime, until the task has ended, and by its handles, until they are dropped; the last one
-//! frees it.
+//! The task is shared by the runtime, until the task has ended, and by its handles, until they are dropped. Whoever is
+//! the last of these frees the task.
 
 use crate::sync::atomic::{AtomicU32, AtomicU64, Ordering::*};
 use crate::sync::Mutex;
@@ -18,19 +18,19 @@ use std::task::{Context, Poll, Waker};
 
 /// The task has ended, and its output is stored.
 const COMPLETE: u32 = 1;
-/// There is a `JoinHandle`.
+/// Set if there is a `JoinHandle`.
 const JOINED: u32 = 2;
-/// `join_waker` is set; only the thread that ends the task may read it.
+/// `join_waker` is set. Only the thread that ends the task may read it.
 const WAITING: u32 = 4;
 /// The thread that ended the task no longer touches it.
 const SETTLED: u32 = 8;
-/// The task must end at its next turn.
+/// The task must end when a worker runs it next.
 const ABORTED: u32 = 16;
-/// There were abort handles before the task ended: the thread that ends it touches it until `SETTLED`.
+/// There were abort handles before the task ended, so the thread that ends the task touches it until `SETTLED` is set.
 const SHARED: u32 = 32;
-/// One abort handle; the bits from here on count them.
+/// One abort handle: the bits of the state from this bit on count the abort handles.
 const ONE: u32 = 64;
-/// There is a `JoinHandle` or an abort handle.
+/// Set if there is a `JoinHandle` or an abort handle.
 const HELD: u32 = JOINED | !(ONE - 1);
 
 /// The value with which a task panicked; see `JoinError::Panicked`.
@@ -94,7 +94,8 @@ impl JoinError {
         matches!(self, JoinError::Panicked(_))
     }
 
-    /// Returns true if the task was aborted, or if the runtime ended before it; see the example at `JoinHandle`.
+    /// Returns true if the task was aborted, or if the runtime ended before the task did; see the example at
+    /// `JoinHandle`.
     #[must_use]
     pub fn is_cancelled(&self) -> bool {
         !self.is_panic()
@@ -109,7 +110,7 @@ impl JoinError {
     /// ```
     ///
     /// # Panics
-    /// If the task didn't panic; see `try_into_panic`.
+    /// Panics if the task didn't panic; see `try_into_panic`.
     #[must_use]
     #[track_caller]
     pub fn into_panic(self) -> Box<dyn Any + Send> {
@@ -175,10 +176,11 @@ impl From<JoinError> for std::io::Error {
 }
 
 struct VTable {
-    /// Polls the future. Returns true if it has ended; then the output is stored.
+    /// Polls the future. Returns true if the future has ended; then its output is stored.
     poll: unsafe fn(*mut Header, &mut Context<'_>) -> bool,
     /// Drops the future, and stores an error as its output.
     cancel: unsafe fn(*mut Header, JoinError),
+    /// Moves the output to the given pointer.
     take_output: unsafe fn(*mut Header, *mut ()),
     /// Drops the output, unless it was taken.
     drop_output: unsafe fn(*mut Header),
@@ -187,8 +189,9 @@ struct VTable {
 
 pub(crate) struct Header {
     state: AtomicU32,
-    /// The runtime's number. It and `name`, the task's name there, are written before the first poll.
+    /// The runtime's number. It is written before the first poll.
     table: AtomicU32,
+    /// The task's name in that runtime. It is written before the first poll.
     name: AtomicU64,
     vtable: &'static VTable,
     join_waker: UnsafeCell<Option<Waker>>,
@@ -206,9 +209,9 @@ pub(crate) struct Header {
 #[derive(Clone, Copy, PartialEq, Eq, Debug)]
 #[non_exhaustive]
 pub struct About {
-    /// Where it was spawned.
+    /// Where the task was spawned.
     pub spawned: &'static Location<'static>,
-    /// Its name, if it was given one.
+    /// The task's name, if it was given one.
     pub name: Option<&'static Label>,
 }
 
@@ -223,7 +226,7 @@ pub struct Label(String);
 static LABELS: Mutex<Vec<&'static Label>> = Mutex::new(Vec::new());
 
 impl Label {
-    /// Returns the label of this text. Makes it at the first call; see the example at `Label`.
+    /// Returns the label of this text. Makes the label at the first call; see the example at `Label`.
     pub fn of(text: &str) -> &'static Label {
         let mut labels = LABELS.lock().unwrap();
         if let Some(label) = labels.iter().find(|label| label.0 == text) {
@@ -269,7 +272,7 @@ struct Task<F: Future> {
 /// The runtime's reference to a task, as the number that the core stores: made by `new`, consumed by its end.
 pub(crate) type Raw = u64;
 
-/// Makes a task of a future. Returns the runtime's reference, and the handle on the output.
+/// Makes a task of a future. Returns the runtime's reference, and the handle on the task's output.
 pub(crate) fn new<F>(future: F, about: About) -> (Raw, JoinHandle<F::Output>)
 where
     F: Future + Send + 'static,
@@ -314,8 +317,8 @@ fn at(raw: Raw) -> *mut Header {
     raw as usize as *mut Header
 }
 
-/// Polls a task, or ends it if it was aborted. Returns true if it has ended; then its handle was woken, and `raw` is
-/// consumed.
+/// Polls a task, or ends it if it was aborted. Returns true if the task has ended; in this case its handle was woken,
+/// and `raw` is consumed.
 ///
 /// # Safety
 /// `raw` must be from `new` and not consumed, and the caller must have the task in hand.
@@ -339,7 +342,7 @@ pub(crate) unsafe fn run(raw: Raw, table: usize, name: u64, cx: &mut Context<'_>
 /// Cancels a task that has not ended.
 ///
 /// # Safety
-/// As for `run`.
+/// `raw` must be as for `run`.
 pub(crate) unsafe fn end(raw: Raw) {
     let header = at(raw);
     ((*header).vtable.cancel)(header, JoinError::Cancelled);
@@ -349,13 +352,13 @@ pub(crate) unsafe fn end(raw: Raw) {
 /// Returns where the task was spawned, and its name.
 ///
 /// # Safety
-/// As for `run`.
+/// `raw` must be as for `run`.
 #[inline]
 pub(crate) unsafe fn about(raw: Raw) -> About {
     (*at(raw)).about
 }
 
-/// Marks a task as ended, wakes who waits for it, and frees it if there is no handle.
+/// Marks a task as ended, wakes whoever waits for its output, and frees the task if there is no handle.
 unsafe fn complete(header: *mut Header) {
     let before = (*header).state.fetch_or(COMPLETE, AcqRel);
     if before & HELD == 0 {
@@ -373,7 +376,8 @@ unsafe fn complete(header: *mut Header) {
             ((*header).vtable.free)(header);
         }
     }
-    // With neither flag the handle owns the task as soon as it sees COMPLETE, so it must not be touched from here on.
+    // If neither flag was set, the handle owns the task as soon as it sees COMPLETE, so the task must not be touched
+    // from here on.
 }
 
 /// Returns true if a task in this state is no longer touched by the thread that ended it.
@@ -381,7 +385,7 @@ fn is_settled(state: u32) -> bool {
     state & COMPLETE != 0 && (state & (WAITING | SHARED) == 0 || state & SETTLED != 0)
 }
 
-/// Marks the task to end at its next turn, and wakes it.
+/// Marks the task to end when a worker runs it next, and wakes it.
 fn abort(header: &Header) {
     header.state.fetch_or(ABORTED, SeqCst);
     let name = header.name.load(SeqCst);
@@ -394,7 +398,7 @@ unsafe fn poll<F: Future>(header: *mut Header, cx: &mut Context<'_>) -> bool {
     let task = header.cast::<Task<F>>();
     let stage = (*task).stage.get();
     let polled = catch_unwind(AssertUnwindSafe(|| match &mut *stage {
-        // SAFETY: the future stays in its box until it is dropped there.
+        // SAFETY: the future stays in the task's box until it is dropped there.
         Stage::Running(future) => Pin::new_unchecked(future).poll(cx),
         _ => unreachable!("a task was polled after its end"),
     }));
@@ -445,9 +449,9 @@ unsafe fn free<F: Future>(header: *mut Header) {
     let _ = catch_unwind(AssertUnwindSafe(|| drop(task)));
 }
 
-/// A handle on a task, and the future of its output. Dropping it leaves the task running.
+/// A handle on a task, and the future of its output. Dropping the handle leaves the task running.
 ///
-/// It must not be polled again once it was ready: that panics.
+/// A handle must not be polled again after it was ready: that panics.
 ///
 /// ```
 /// let runtime = arachne::Runtime::new(2);
@@ -494,9 +498,9 @@ impl<T> JoinHandle<T> {
         self.header().state.load(Acquire) & COMPLETE != 0
     }
 
-    /// Aborts the task: its future is dropped at its next turn, and the output is `JoinError::Aborted`.
+    /// Aborts the task: its future is dropped when a worker runs it next, and the output is `JoinError::Aborted`.
     ///
-    /// A task that has ended, or ends in the current turn, keeps its output. See the example at `JoinHandle`.
+    /// A task that has ended, or ends in the poll in progress, keeps its output. See the example at `JoinHandle`.
     pub fn abort(&self) {
         abort(self.header());
     }
@@ -521,12 +525,12 @@ impl<T> JoinHandle<T> {
 }
 
 impl<T> JoinHandle<T> {
-    /// Returns true if the task has ended. Otherwise keeps the waker, which is woken at its end.
+    /// Returns true if the task has ended. If not, keeps `waker`, which is woken when the task ends.
     pub(crate) fn is_there(&mut self, waker: &Waker) -> bool {
         let header = self.header();
         let mut state = header.state.load(Acquire);
         if state & (COMPLETE | WAITING) == WAITING {
-            // Takes the waker back before it is changed, unless the task ends first.
+            // Takes the old waker back before it is replaced, unless the task ends first.
             state = header.state.fetch_and(!WAITING, AcqRel);
             if state & COMPLETE != 0 {
                 header.state.fetch_or(WAITING, AcqRel);
@@ -534,7 +538,7 @@ impl<T> JoinHandle<T> {
         }
         if state & COMPLETE == 0 {
             let place = header.join_waker.get();
-            // SAFETY: with WAITING clear, and COMPLETE clear when that was seen, the waker is the handle's.
+            // SAFETY: WAITING is clear, and COMPLETE was clear after that, so only the handle uses the waker.
             unsafe {
                 if !matches!(&*place, Some(old) if old.will_wake(waker)) {
                     *place = Some(waker.clone());
@@ -553,7 +557,7 @@ impl<T> JoinHandle<T> {
     fn take(&mut self) -> Poll<Result<T, JoinError>> {
         let mut output: Poll<Result<T, JoinError>> = Poll::Pending;
         let to: *mut Poll<Result<T, JoinError>> = &mut output;
-        // SAFETY: the output is stored, and of this type; only the handle takes it.
+        // SAFETY: the output is stored, and has this type. Only the handle takes it.
         unsafe { (self.header().vtable.take_output)(self.at.as_ptr(), to.cast()) };
         output
     }
@@ -582,7 +586,7 @@ impl<T> Drop for JoinHandle<T> {
     fn drop(&mut self) {
         let header = self.header();
         if header.state.load(Relaxed) & SHARED != 0 {
-            // If the task has ended, the output is this handle's to drop; otherwise that of the thread that ends it.
+            // If the task has ended, this handle drops the output; otherwise the thread that ends the task does.
             let leave = |state| (state & COMPLETE == 0).then_some(state & !JOINED);
             if header.state.fetch_update(AcqRel, Acquire, leave).is_ok() {
                 return;
@@ -590,10 +594,10 @@ impl<T> Drop for JoinHandle<T> {
             // SAFETY: the output is stored, and nobody else takes it.
             unsafe { (header.vtable.drop_output)(self.at.as_ptr()) };
         }
-        // If the task has not ended, or its end isn't settled, the thread that ends it or an abort handle frees it.
+        // If the task has not ended, or SETTLED isn't set, the thread that ends the task or an abort handle frees it.
         let before = header.state.fetch_and(!JOINED, AcqRel);
         if before & HELD == JOINED && is_settled(before) {
-            // SAFETY: the ender no longer touches it, and the handles are gone.
+            // SAFETY: the thread that ended the task no longer touches it, and the handles are gone.
             unsafe { (header.vtable.free)(self.at.as_ptr()) };
         }
     }
@@ -610,7 +614,7 @@ impl<T> Drop for JoinHandle<T> {
 /// assert!(handle.is_finished());
 /// ```
 pub struct AbortHandle(Option<NonNull<Header>>);
-// SAFETY: it gives only atomic access; the last handle frees the task, whose output is `Send`.
+// SAFETY: the handle gives only atomic access. The last handle frees the task, whose output is `Send`.
 unsafe impl Send for AbortHandle {}
 // SAFETY: the same.
 unsafe impl Sync for AbortHandle {}
@@ -638,7 +642,7 @@ impl AbortHandle {
 impl Clone for AbortHandle {
     fn clone(&self) -> AbortHandle {
         if let Some(header) = self.header() {
-            // As in `Arc`: there can only be this many if handles are leaked.
+            // As in `Arc`: there can be this many handles only if some are leaked.
             if header.state.fetch_add(ONE, Relaxed) > u32::MAX / 2 {
                 std::process::abort();
             }
@@ -652,7 +656,7 @@ impl Drop for AbortHandle {
         if let (Some(at), Some(header)) = (self.0, self.header()) {
             let before = header.state.fetch_sub(ONE, AcqRel);
             if before & HELD == ONE && is_settled(before) {
-                // SAFETY: the ender no longer touches it, and the handles are gone.
+                // SAFETY: the thread that ended the task no longer touches it, and the handles are gone.
                 unsafe { (header.vtable.free)(at.as_ptr()) };
             }
         }

@@ -1,4 +1,4 @@
-//! Wakers of tasks: the waker's one word is the task's name, and each runtime has a table of functions.
+//! Wakers of tasks: the waker's only word is the task's name, and each runtime has a table of functions.
 //!
 //! So cloning and dropping a waker costs nothing, and the waker of a task that has ended wakes nobody.
 
@@ -8,7 +8,7 @@ use crate::shared::{add, shared_of, with_hands, Context as Worker, TABLES};
 use std::mem::ManuallyDrop;
 use std::task::{RawWaker, RawWakerVTable, Waker};
 
-/// No task's name.
+/// A name that no task has.
 pub(crate) const NOBODY: u64 = u64::MAX;
 
 unsafe fn clone<const TABLE: usize>(data: *const ()) -> RawWaker {
@@ -29,7 +29,7 @@ macro_rules! tables {
 static VTABLES: [RawWakerVTable; TABLES] =
     tables!(0 1 2 3 4 5 6 7 8 9 10 11 12 13 14 15 16 17 18 19 20 21 22 23 24 25 26 27 28 29 30 31);
 
-/// Returns the waker of a task. It needs no drop.
+/// Returns the waker of a task. The waker needs no drop.
 #[inline]
 pub(crate) fn waker_of(table: usize, name: u64) -> ManuallyDrop<Waker> {
     // SAFETY: the functions of VTABLES take any word.
@@ -49,7 +49,7 @@ pub(crate) fn in_own_poll(waker: &Waker, of: impl FnOnce(&Worker) -> bool) -> bo
     Worker::with(|worker| worker.map_or(false, |worker| is_of_running(waker, worker) && of(worker)))
 }
 
-/// Returns the name of the running task, if this is its waker and it is a task of this runtime.
+/// Returns the name of the task of this waker, if the task belongs to this runtime.
 #[inline]
 pub(crate) fn name_in(waker: &Waker, table: usize) -> Option<u64> {
     Worker::with(|worker| {
@@ -67,7 +67,7 @@ pub(crate) fn wake_name(table: usize, name: u64) {
     Worker::with(|worker| match worker {
         Some(worker) if worker.shared.table == table => {
             if worker.current.get() == name {
-                // It is being polled by this worker, which makes it ready again once the poll returns.
+                // The task is being polled by this worker, which makes it ready again once the poll returns.
                 worker.woken.set(true);
                 return;
             }

@@ -19,7 +19,7 @@ pub fn threads_of(process: u32) -> Threads {
     Box::new(entries.filter_map(|entry| entry.file_name().to_str()?.parse().ok()))
 }
 
-/// Returns the threads of a process, of those that it has begun, and of all that these have.
+/// Returns the threads of a process, of the processes that it has begun, and of all that these have begun.
 pub fn family(process: u32) -> Threads {
     let (mut others, mut room) = (Vec::new(), FAMILY - 1);
     let (mut process, mut threads) = (process, threads_of(process));
@@ -49,12 +49,13 @@ fn begun_by(process: u32, thread: u32) -> Vec<u32> {
 /// Returns when a thread of a process began, in hundredths of a second since the machine did; None if it has ended.
 pub fn began(process: u32, thread: u32) -> Option<u64> {
     let text = fs::read_to_string(format!("/proc/{process}/task/{thread}/stat")).ok()?;
-    // Its name is in brackets, and may have any letters.
+    // The thread's name is in brackets, and may have any letters.
     text.rsplit_once(')')?.1.split_whitespace().nth(19)?.parse().ok()
 }
 
-/// Returns the number of the thread that its process calls `thread`: another one if that is in a PID namespace of its
-/// own. Returns None if there is no such thread, or if the process is in no namespace below this one's.
+/// Returns the number of the thread that its process calls `thread`: the two numbers differ if the process is in a PID
+/// namespace of its own. Returns None if there is no such thread, or if the process is in no namespace below this
+/// one's.
 pub fn thread_of(process: u32, thread: u32) -> Option<u32> {
     if names_of(process, process)?.len() <= 1 {
         return Some(thread);

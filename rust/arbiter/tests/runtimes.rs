@@ -60,8 +60,8 @@ fn workers() -> Vec<String> {
     threads.filter(|it| name(it).trim().strip_prefix("arachne-").map_or(false, |n| n.parse::<u32>().is_ok())).collect()
 }
 
-/// Returns the number of processors that the daemon grants: all but one of those that this thread has before it is a
-/// client's.
+/// Returns the number of processors that the daemon grants: all but one of those that this thread has before it belongs
+/// to a client.
 fn cores() -> usize {
     arachne::available_cores() - 1
 }
@@ -105,7 +105,7 @@ fn a_runtime_goes_on_without_its_daemon_and_joins_the_next() {
             becomes("it goes on by itself", || !runtime.stats().arbiter && active(runtime) == cores);
             load.gets_on("it gets on without an arbiter");
         }
-        // But by cpusets somebody has to be left who removes them.
+        // But with cpusets somebody has to be left who removes them.
         if !with_guardian || std::env::var_os("ARBITER_CPUSET").is_none() {
             becomes("its workers may run everywhere", || workers().iter().all(|it| processors_of(it) == all));
         }
@@ -117,7 +117,7 @@ fn a_runtime_goes_on_without_its_daemon_and_joins_the_next() {
     }
     drop((low, high));
     drop(daemon);
-    // Runtimes of one shape are used again: the next knows nothing of the last one's arbiter.
+    // A runtime of the same shape uses the state again: it knows nothing of the last runtime's arbiter.
     let alone = Builder::new(cores).build().unwrap();
     assert_eq!(alone.block_on(alone.spawn(async { 42 })).unwrap(), 42);
     assert_eq!((active(&alone), alone.stats().arbiter), (cores, false));
@@ -146,7 +146,8 @@ extern "C" {
     fn pause() -> i32;
 }
 
-/// Forks once it has all cores: the child has its connections and its page, and none of its kernel threads.
+/// A runtime that forks once it has all cores. The child process has the runtime's connections and its page, and none
+/// of its kernel threads.
 #[test]
 #[ignore = "the test before runs it, and kills it once it has all cores"]
 fn a_runtime_to_kill() {
@@ -180,7 +181,7 @@ fn the_core_that_is_left_over_goes_round_within_a_priority() {
     }
 }
 
-/// The batch has what the one that asks by its load leaves.
+/// The batch runtime gets the cores that are left by the runtime that asks according to its load.
 #[test]
 fn cores_follow_the_load_between_two_priorities() {
     let daemon = Daemon::new("policy");
@@ -250,7 +251,7 @@ fn what_a_worker_begins_does_not_stay_on_its_core() {
     arachne::block_on(task).unwrap();
 }
 
-/// The second runtime begins while its process has only the processors of the rest, as the first one has all cores.
+/// The second runtime begins while its process has only the processors of the set `rest`, as the first has all cores.
 #[test]
 fn a_runtime_that_begins_in_the_rest_is_not_kept_there() {
     let (daemon, cores) = (Daemon::new("rest"), cores());
@@ -272,15 +273,15 @@ fn a_runtime_that_begins_in_the_rest_is_not_kept_there() {
     arachne::block_on(task).unwrap();
 }
 
-/// Returns true if this thread may run on the processors of the first one, which is no worker.
+/// Returns true if this thread may run on the processors of the process's first thread, which is no worker.
 fn is_free() -> bool {
     let link = fs::read_link("/proc/thread-self").unwrap();
     let me = link.file_name().unwrap().to_str().unwrap();
     processors_of(me) == processors_of(&std::process::id().to_string())
 }
 
-/// The core of a worker is asked back while it is in a poll, which blocks until what it makes ready then has run: by
-/// the other worker, which has nothing else to do and waits for sockets.
+/// A worker's core is asked back while the worker is in a poll that blocks until a task that it makes ready has run.
+/// The other worker, which has nothing else to do and waits for sockets, must run that task.
 #[test]
 fn what_is_in_hand_is_run_though_the_core_was_asked_back() {
     let all = arachne::available_cores();
@@ -305,6 +306,26 @@ fn what_is_in_hand_is_run_though_the_core_was_asked_back() {
         is_back.store(true, SeqCst);
         arachne::block_on(task).unwrap();
         high.shutdown();
+    }
+}
+
+/// The only worker with a core is in a poll. The other worker, which waits for a core, runs the task that the poll
+/// waits for.
+#[test]
+fn what_is_behind_a_poll_is_run_by_who_waits_for_a_core() {
+    let daemon = Daemon::new("covers");
+    let runtime = Builder::new(2).policy(Policy::default()).arbiter(&daemon.socket.0, 0, 0).build().unwrap();
+    for pause in [0, 1, 30] {
+        becomes("it has one core", || runtime.stats().arbiter && active(&runtime) == 1);
+        thread::sleep(Duration::from_millis(pause));
+        let ran = flag();
+        let task = runtime.spawn(async move {
+            let runs = ran.clone();
+            let behind = arachne::spawn(async move { runs.store(true, SeqCst) });
+            becomes("what is behind the poll is run", || ran.load(SeqCst));
+            behind.await.unwrap();
+        });
+        arachne::block_on(task).unwrap();
     }
 }
 

@@ -28,8 +28,8 @@ struct Table {
     summary: Box<[Line<AtomicU64>]>,
     idle: Line<AtomicU64>,
 }
-// SAFETY: only the seat that has a place in hand accesses its slot: the one that cleared its bit in the free or the
-// ready word, or took its mark from blocked. Those steps order the accesses.
+// SAFETY: only the seat that has a place in hand accesses the place's slot: the seat that cleared the place's bit in
+// the free or the ready word, or changed its mark from blocked. Those steps order the accesses.
 unsafe impl Sync for Table {}
 // SAFETY: as above; the numbers in the slots belong to no thread.
 unsafe impl Send for Table {}
@@ -48,16 +48,16 @@ impl Table {
     /// Returns the slot of a place.
     ///
     /// # Safety
-    /// It may only be accessed while the caller's seat has the place in hand.
+    /// The slot may only be accessed while the caller's seat has the place in hand.
     #[inline]
     unsafe fn slot(&self, place: usize) -> *mut u64 {
         self.blocks[place / BLOCK].slots[place % BLOCK].get()
     }
 
-    /// Makes the job of a place ready. Returns true if the caller must wake the worker of its shard.
+    /// Makes the job of a place ready. Returns true if the caller must wake the worker of the place's shard.
     ///
-    /// If the ready word had a bit already, the thread that set its first one does the rest. The order closes the race
-    /// with `park`: the ready bit, then the summary bit, then a look at the idle bit.
+    /// If the ready word had a bit already, the thread that set the word's first bit does the remaining steps. Their
+    /// order closes the race with `park`: the ready bit, then the summary bit, then a look at the idle bit.
     #[inline]
     fn publish(&self, place: usize) -> bool {
         let block = place / BLOCK;
@@ -97,14 +97,14 @@ impl Table {
 /// A runtime's table, from which threads get their seats.
 pub(crate) struct Root(Arc<Table>);
 
-/// A thread's access to a table. It may move to another thread, and is used by one at a time.
+/// A thread's access to a table. The value may move to another thread, and is used by one thread at a time.
 pub(crate) struct Hands {
     table: Arc<Table>,
-    /// Makes it not `Sync`.
+    /// Makes `Hands` not `Sync`.
     _one_thread: Cell<()>,
 }
 
-/// The right to park the shards of one number.
+/// The right to park the shards of one worker number.
 pub(crate) struct Parking {
     table: Arc<Table>,
     number: usize,
@@ -112,7 +112,7 @@ pub(crate) struct Parking {
 }
 
 impl Root {
-    /// Makes a table of `shards` shards, at most 256. Returns None if that is out of range.
+    /// Makes a table of `shards` shards. Returns None if `shards` is greater than 256.
     pub(crate) fn new(shards: usize) -> Option<Root> {
         if shards == 0 || shards > MOST_SHARDS {
             return None;
@@ -130,12 +130,12 @@ impl Root {
         })))
     }
 
-    /// Makes the access of `threads` threads.
+    /// Returns the access (`Hands`) of each of `threads` threads.
     pub(crate) fn crew(&mut self, threads: usize, _most: usize) -> Option<Vec<Hands>> {
         Some((0..threads).map(|_| Hands { table: self.0.clone(), _one_thread: Cell::new(()) }).collect())
     }
 
-    /// Takes a thread's access back, with nothing in hand.
+    /// Takes a thread's access back, which must have no job in hand.
     pub(crate) fn join(&mut self, hands: Hands) {
         debug_assert!(Arc::ptr_eq(&self.0, &hands.table));
     }
@@ -146,9 +146,11 @@ impl Root {
 }
 
 impl Parking {
-    /// Sets the number's idle bit, and then looks at all its ready words. Returns true if they were empty.
+    /// Sets the idle bit of this worker number, and then looks at all ready words of its shards. Returns true if all
+    /// these words were empty.
     ///
-    /// In this order: a thread that publishes sets its ready bit before it looks at the idle bit.
+    /// The order of the two steps matters: a thread that publishes a job sets its ready bit before it looks at the idle
+    /// bit.
     pub(crate) fn park(&self) -> bool {
         let table = &*self.table;
         table.idle.0.fetch_or(1 << self.number, SeqCst);
@@ -166,14 +168,14 @@ impl Parking {
         true
     }
 
-    /// Clears the number's idle bit: the worker that looks after it is awake.
+    /// Clears the idle bit of this worker number: the worker that looks after it is awake.
     pub(crate) fn wake_up(&self) {
         self.table.wake_up(self.number);
     }
 }
 
 impl Hands {
-    /// Puts a job into a place of the block. With `keep` it stays in this thread's hand.
+    /// Puts a job into a place of the block. With `keep` the job stays in this thread's hand.
     #[inline]
     pub(crate) fn spawn(&self, block: usize, job: u64, keep: bool) -> Spawned {
         let free = &self.table.blocks[block].free.0;
@@ -199,7 +201,8 @@ impl Hands {
         }
     }
 
-    /// Records that this thread has taken a job out of another's hand. Always returns true in this form.
+    /// Records that this thread has taken a job out of another thread's hand. Always returns true in this form of the
+    /// core.
     #[inline]
     pub(crate) fn gets(&self, _job: &Job, _of: usize) -> bool {
         true
@@ -215,7 +218,8 @@ impl Hands {
         }
     }
 
-    /// Takes one ready job of a block. If no other thread takes at the time, None means that there is none.
+    /// Takes one ready job of a block. None means that the block has no ready job, unless another thread takes a job at
+    /// the same time.
     pub(crate) fn take_any(&self, block: usize) -> Option<Job> {
         let mut any = self.ready(block);
         self.take_next(block, &mut any)
@@ -256,13 +260,14 @@ impl Hands {
         self.table.summary[shard].0.load(SeqCst)
     }
 
-    /// Hides an empty block, unless it has jobs by now. Returns false, as nothing is left to hide.
+    /// Hides an empty block, unless it has got jobs meanwhile. Always returns false in this form of the core: nothing
+    /// is left to hide.
     pub(crate) fn hide(&self, block: usize) -> bool {
         self.table.hide(block);
         false
     }
 
-    /// Makes a job in hand ready. Returns true if the caller must wake the worker of its shard.
+    /// Makes a job in hand ready. Returns true if the caller must wake the worker of the job's shard.
     #[inline]
     pub(crate) fn rest_ready(&self, job: &Job) -> bool {
         // SAFETY: the job is in this thread's hand.
@@ -270,7 +275,7 @@ impl Hands {
         self.table.publish(job.place())
     }
 
-    /// Blocks a job in hand until a wake, unless there was one since it was taken or begun.
+    /// Blocks a job in hand until a wake, unless a wake has come since the job was taken or begun.
     #[inline]
     pub(crate) fn rest_blocked(&self, job: &Job) -> Rested {
         let mark = self.table.mark(job.place());
@@ -285,7 +290,7 @@ impl Hands {
         Rested::InHand
     }
 
-    /// Ends a job in hand. Its place is free, and its name is never used again.
+    /// Ends a job in hand. The job's place is then free, and its name is never used again.
     #[inline]
     pub(crate) fn finish(&self, job: &Job) {
         let next = (job.name >> PLACE_BITS) + 1;
@@ -295,7 +300,7 @@ impl Hands {
         }
     }
 
-    /// Wakes the job of this name. If it waited, `keep` takes it into this thread's hand.
+    /// Wakes the job of this name. If the job waited and `keep` is true, takes it into this thread's hand.
     #[inline]
     pub(crate) fn wake(&self, name: u64, keep: bool) -> Woken {
         let (place, generation) = (place_of(name), name >> PLACE_BITS);
@@ -316,7 +321,7 @@ impl Hands {
                 Err(now) => seen = now,
                 Ok(_) if seen & BLOCKED == 0 => return Woken::Marked,
                 Ok(_) if keep => {
-                    // SAFETY: this thread took the mark from blocked.
+                    // SAFETY: this thread changed the mark from blocked.
                     return Woken::Kept(Job { name, job: unsafe { *self.table.slot(place) }, seat: 0 });
                 }
                 Ok(_) => return Woken::Ready { unpark: self.table.publish(place) },
@@ -329,22 +334,22 @@ const FREE: u8 = 0;
 const HELD: u8 = 1;
 const QUEUED: u8 = 2;
 
-/// The core's part of a lock: its holder, and the line of those who wait.
+/// The core's part of a lock: its holder, and the queue of waiters.
 #[derive(Default)]
 pub(crate) struct LockCore {
-    /// `FREE`, `HELD` with an empty line, or `QUEUED`: held with waiters.
+    /// `FREE`; `HELD`, with nobody waiting; or `QUEUED`: held, with waiters in `line`.
     state: AtomicU8,
     line: Mutex<VecDeque<u64>>,
 }
 
 impl LockCore {
-    /// Takes the lock if it is free. Returns the name in which it is held.
+    /// Takes the lock if it is free. Returns the name of the holder.
     #[inline]
     pub(crate) fn try_ask(&self) -> Option<u64> {
         self.state.compare_exchange(FREE, HELD, SeqCst, SeqCst).is_ok().then_some(1)
     }
 
-    /// Asks for the lock, in a name that no other waiter or holder has: an even number.
+    /// Asks for the lock under the name `who`, an even number that no other waiter or holder has.
     #[inline]
     pub(crate) fn ask(&self, who: u64) -> Asked {
         let mut line = self.line.lock().unwrap();
@@ -373,7 +378,7 @@ impl LockCore {
         next.map_or(Freed::Free, Freed::HandedOn)
     }
 
-    /// Removes a waiter from the line. Returns false if it holds the lock by now.
+    /// Removes a waiter from the queue. Returns false if the waiter was granted the lock meanwhile.
     pub(crate) fn withdraw(&self, who: u64) -> bool {
         let mut line = self.line.lock().unwrap();
         let found = line.iter().position(|&w| w == who);
@@ -401,7 +406,7 @@ pub(crate) struct Estimator {
     load: u64,
     hysteresis: u64,
     most: u64,
-    /// By number of cores, the use (thousandths of a core) when that many were last asked for.
+    /// For each number of cores, the use (in thousandths of a core) at which this number was last asked for.
     used: Vec<u64>,
 }
 

@@ -26,9 +26,10 @@ use std::os::unix::io::{AsRawFd, FromRawFd};
 pub struct TcpListener(pub(super) Source<std::net::TcpListener>);
 
 impl TcpListener {
-    /// Listens at the first of these addresses that is free. Unlike tokio's it isn't `async`.
+    /// Listens at the first of these addresses that is free. Unlike tokio's `bind`, this one isn't `async`.
     ///
-    /// Its backlog is 4,096, or the system's `somaxconn` if that is less; that of `from_std` is unchanged.
+    /// The listener's backlog is 4,096, or the system's `somaxconn` if that is less. A listener of `from_std` keeps its
+    /// backlog.
     ///
     /// ```
     /// let listener = arachne::net::TcpListener::bind("127.0.0.1:0").unwrap();
@@ -40,15 +41,15 @@ impl TcpListener {
         TcpListener::from_std(listener)
     }
 
-    /// Returns the address at which it listens; see the example at `bind`.
+    /// Returns the address at which the socket listens; see the example at `bind`.
     pub fn local_addr(&self) -> io::Result<SocketAddr> {
         self.0.socket.local_addr()
     }
 
-    /// Waits for a connection. Returns it with the other side's address.
+    /// Waits for a connection. Returns the connection with the other side's address.
     ///
-    /// Fails once the runtime's end has begun and all who had connected are accepted; `is_stopping` is true then. See
-    /// the example at `TcpListener`.
+    /// Fails once the runtime's end has begun and all connections that had arrived are accepted; `is_stopping` is true
+    /// then. See the example at `TcpListener`.
     pub async fn accept(&self) -> io::Result<(TcpStream, SocketAddr)> {
         let (stream, from) = accept(&self.0, |listener| listener.accept()).await?;
         Ok((TcpStream::from_std(stream)?, from))
@@ -72,7 +73,7 @@ pub struct TcpStream(pub(super) Source<std::net::TcpStream>);
 impl TcpStream {
     /// Connects to the first of these addresses that accepts.
     ///
-    /// A host name is looked up on this thread, which blocks it; in a task use `lookup_host` first.
+    /// A host name is looked up on the calling thread, which is blocked meanwhile; in a task use `lookup_host` first.
     ///
     /// ```
     /// # fn main() -> std::io::Result<()> {
@@ -124,7 +125,7 @@ impl TcpStream {
         self.0.socket.nodelay()
     }
 
-    /// Sets if small writes are sent at once, without waiting for the last ones to be confirmed (`TCP_NODELAY`).
+    /// Sets `TCP_NODELAY`: if true, small writes are sent at once, without waiting for earlier ones to be confirmed.
     ///
     /// ```
     /// # fn main() -> std::io::Result<()> {
@@ -139,7 +140,7 @@ impl TcpStream {
         self.0.socket.set_nodelay(nodelay)
     }
 
-    /// Like `read`, but leaves the bytes there: the next read returns them again.
+    /// Like `read`, but leaves the bytes in the socket: the next read returns them again.
     ///
     /// ```
     /// # fn main() -> std::io::Result<()> {
