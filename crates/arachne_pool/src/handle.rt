@@ -5,7 +5,7 @@ use crate::job::PoolJob;
 use crate::outcome::ResultReceiver;
 use std::marker::Model;
 
-/// The handle of a job. It gives the result once, is used up by that, and can't be copied.
+/// The handle of a job. A handle gives the job's result once, is used up by that, and can't be copied.
 ///
 /// Contracts see the job, as it was spawned.
 #[derive(Drop)]
@@ -20,14 +20,14 @@ impl<J: PoolJob> Model for Handle<J> {
 }
 
 impl<J: PoolJob> Handle<J> {
-    /// Returns the handle of the job whose result comes to this receiver.
+    /// Returns the handle of the job whose result this receiver gets.
     pub(crate) fn of(receiver: ResultReceiver<J>) -> Handle<J>
         ensures { result ≡ receiver.opening.key.job.value }
     {
         Handle { receiver }
     }
 
-    /// Returns the job's result if it has ended, and the handle otherwise. It takes no memory and never blocks.
+    /// Returns the job's result if it has ended, and the handle otherwise. The call takes no memory and never blocks.
     pub fn poll(self) -> Result<J::Output, Handle<J>>
         ensures output { IfOk result (J.is_result self) }
         ensures same { IfErr result (λ back. back ≡ self) }

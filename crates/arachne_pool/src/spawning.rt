@@ -1,5 +1,5 @@
-//! Spawns that keep no job: if no core has a place for it, it is returned at once.
-ghost use Rattle.std.specs.Prelude.{◌≡◌, ◌<◌, [], ◌∷◌, IfErr, IfOk, OnErr, OnOk};
+//! Spawns that keep no job: a job for which no core has a free place is returned at once.
+ghost use Rattle.std.specs.Prelude.{◌≡◌, ◌<◌, [], ◌∷◌, IfErr, IfOk, OnErr};
 ghost use Rattle.arachne_contexts.specs.Out.{Claim, KeepsOut};
 ghost use Rattle.arachne_pool.specs.Grounds.{AddsOut};
 ghost use Rattle.arachne_pool.specs.Spawning.{HandsBack, IsNext, RefusesAfter, RefusesFor, SpawnsOne, slots_in};
@@ -19,15 +19,15 @@ use rand_xoshiro::Xoshiro256PlusPlus;
 use std::sync::Wait;
 use thiserror::Error;
 
-/// Why a job was not spawned.
+/// The reason why a job was not spawned.
 #[derive(Clone, Copy, Debug, PartialEq, Eq, Error)]
 pub enum Refusal {
-    /// Each core that the job may be on was asked in this call, and none had a place.
+    /// Each core on which the job may be was asked in this call, and none had a free place.
     #[error("no core has a place")]
     NoPlace(NoPlaces),
     #[error("out of memory")]
     Memory,
-    /// The table has disowned the worker's seat.
+    /// The worker has no seat, since the table did not know one of its places or jobs.
     #[error("the worker has no seat")]
     NoSeat,
 }
@@ -52,8 +52,8 @@ impl<C: Seats> Pool<C> {
     ghost use Rattle.arachne_pool.specs.Workers.{IsWorkerOf};
 
     /// Spawns a job on the core that `claim_normal` of `arachne_arbiter` chooses, and returns its handle. If no core
-    /// has a place, the job is returned, and all is as before. So there are at most as many jobs as places, and those
-    /// that run or wait in these.
+    /// has a free place, the job is returned, and nothing has changed. So there are at most as many jobs as places, not
+    /// counting children that run or wait in their parents' places.
     pub fn try_spawn<H: Wait, J: PoolJob>(
         &self,
         rt: &H,
@@ -82,7 +82,7 @@ impl<C: Seats> Pool<C> {
         }
     }
 
-    /// Spawns a job on this core, if that has a place. Returns its handle and the place.
+    /// Spawns a job on this core, if the core has a free place. Returns the job's handle and the place.
     pub fn try_spawn_on<H: Wait, J: PoolJob>(
         &self,
         rt: &H,
@@ -111,40 +111,6 @@ impl<C: Seats> Pool<C> {
                     Ok(handle) => Ok((handle, place)),
                     Err(refused) => Err(refused),
                 }
-            }
-            Err(why) => {
-                worker.seat = Some(seat);
-                Err(Refused::of(job, why))
-            }
-        }
-    }
-
-    /// Spawns a job as `try_spawn` does, without a handle: its result is dropped.
-    pub fn spawn_detached<H: Wait, J: PoolJob>(
-        &self,
-        rt: &H,
-        worker: &mut Worker<C::Seat, J>,
-        job: J,
-    ) -> Result<(), Refused<J>>
-    where
-        C: Contexts<Spawned<J>>,
-        requires worker { IsWorkerOf C.sits C.idle self.now.table self.now.cores worker.old }
-        requires fresh { J.awaits job [] }
-        ensures worker { IsWorkerOf C.sits C.idle self.now.table self.now.cores worker.new }
-        ensures kept { worker.new ≡ record worker.old { seat = worker.new.seat; tally = worker.new.tally; told = worker.new.told } }
-        ensures begun { OnOk result (SpawnsOne worker.old worker.new) }
-        ensures handed_back { IfErr result (λ back. HandsBack 0 self.now.cores self.now.slots job worker.old worker.new back.job back.why) }
-    {
-        let Some(mut seat) = worker.seat.take() else {
-            return Err(Refused::of(job, Refusal::NoSeat));
-        };
-        let chooser = &mut worker.bench.chooser;
-        match claim_any::<H, J, C>(rt, self, &mut seat, chooser, job.is_exclusive()) {
-            Ok(claim) => {
-                worker.bench.tally.count_spawned();
-                let job = Spawned::begin(worker.bench.alloc, job, None, None);
-                self.post_at(rt, worker, seat, claim, job);
-                Ok(())
             }
             Err(why) => {
                 worker.seat = Some(seat);
@@ -194,7 +160,8 @@ impl<C: Seats> Pool<C> {
         }
     }
 
-    /// Posts a job that a worker has counted at a place that its seat has claimed, and signals that core's worker.
+    /// Posts a job, which the worker has counted, at a place that the worker's seat has claimed. Signals the worker of
+    /// that place's core.
     fn post_at<H: Wait, J: PoolJob>(
         &self,
         rt: &H,
@@ -210,7 +177,7 @@ impl<C: Seats> Pool<C> {
         ensures worker { IsWorkerOf C.sits C.idle self.now.table self.now.cores worker.new }
         ensures kept { worker.new ≡ record worker.old { seat = worker.new.seat; told = worker.old.tally } }
     {
-        // Before the job is posted: its end must not be counted before its spawn.
+        // Before the job is posted: the job's end must not be counted before its spawn.
         self.live.add(worker.core, worker.bench.news());
         let mut seat = seat;
         match post::<H, J, C>(rt, self, &mut seat, claim, job) {
@@ -223,7 +190,8 @@ impl<C: Seats> Pool<C> {
     }
 }
 
-/// Claims a place for a job, by choice, or else on the first core that has one. If none has one, each was asked.
+/// Claims a place for a job: on a core drawn at random, or else on the first core that has a free place. If no place
+/// was found, each core was asked.
 fn claim_any<H: Wait, J: PoolJob, C: Contexts<Spawned<J>>>(
     rt: &H,
     pool: &Pool<C>,
@@ -250,8 +218,8 @@ fn claim_any<H: Wait, J: PoolJob, C: Contexts<Spawned<J>>>(
     Err(Refusal::NoPlace(seen))
 }
 
-/// Claims a place on this core, if it has one. Otherwise it is counted with those that were seen without one. Tries
-/// again if another took the place meanwhile.
+/// Claims a place on this core, if one is free. If none is free, adds the core to `seen`, the cores that had no free
+/// place. Tries again if another kernel thread took the place meanwhile.
 fn claim_on<H: Wait, J: PoolJob, C: Contexts<Spawned<J>>>(
     rt: &H,
     pool: &Pool<C>,

@@ -17,42 +17,42 @@ use std::time::Clock;
 /// The pool's table.
 type Table = WordContexts<Spawned<Task>>;
 
-/// A job that has a core for itself, the first that is empty.
+/// A job that has a core for itself, the first empty core.
 pub(crate) const ALONE: Sort = Sort {
     is_exclusive: true,
     ..LEAF
 };
 
-/// An exclusive job that forks another for a core of its own and joins it.
+/// An exclusive job that forks another exclusive job and joins it.
 pub(crate) const ALONE_PARENT: Sort = Sort {
     is_exclusive: true,
     ..PARENT
 };
 
-/// One that ends at its eleventh step.
+/// A job that ends at its eleventh step.
 pub(crate) const ELEVEN: Sort = Sort { steps: 10, ..LEAF };
 
 /// A tree of jobs with three children each, four generations deep: 121 jobs.
-const TREE: Sort = Sort {
+pub(crate) const TREE: Sort = Sort {
     depth: 4,
     forks: 3,
     ..LEAF
 };
 
-/// One that goes on for longer than any test.
+/// A job that goes on for longer than any test.
 const ENDLESS: Sort = Sort {
     steps: u32::MAX,
     ..LEAF
 };
 
-/// One that goes on for so long that a kernel thread which has nothing to do meanwhile is parked before its end.
+/// A job that goes on for so long that a kernel thread which has nothing to do meanwhile is parked before the job ends.
 const LONG: Sort = Sort {
     steps: 2_000_000,
     bound: 1_000,
     ..LEAF
 };
 
-/// Four trees are spawned, by a worker that has worked for core 0 and so keeps those that find no place.
+/// Four trees are spawned, by a worker that has worked for core 0 and so keeps the jobs that find no place.
 const TREES: &[Act] = &[
     Act::Works(0),
     Act::Spawns(TREE),

@@ -8,43 +8,43 @@ use crate::tasks::{Joins, LEAF, PARENT, Sort};
 use arachne_core::CORES;
 use std::test::Fail;
 
-/// One that sleeps until an answer has come.
+/// A job that sleeps until an answer was counted.
 const SLEEPER: Sort = Sort { answers: 1, ..LEAF };
 
-/// A job that forks another and then sleeps. The other one sleeps too.
+/// A job that forks another job and then sleeps. The forked job sleeps too.
 const BESIDE: Sort = Sort {
     joins: Joins::Never,
     answers: 9,
     ..PARENT
 };
 
-/// One that goes on for so long that a kernel thread which waits for it sleeps.
+/// A job that goes on for so long that a kernel thread which waits for it sleeps.
 const LONG: Sort = Sort {
     steps: 50_000,
     bound: 1_000,
     ..LEAF
 };
 
-/// One that goes on for as long in one slice.
+/// A job that goes on for as long as `LONG`, in one slice.
 const LONG_AT_ONCE: Sort = Sort {
     bound: LONG.steps,
     ..LONG
 };
 
-/// One that goes on for far longer in one slice.
+/// A job that goes on for far longer than `LONG_AT_ONCE`, in one slice.
 const LONGEST: Sort = Sort {
     steps: 2_000_000,
     bound: 2_000_000,
     ..LEAF
 };
 
-/// One that is in its first step until an answer has come.
+/// A job whose first step lasts until an answer was counted.
 const HELD: Sort = Sort {
     is_held: true,
     ..LEAF
 };
 
-/// One that takes some microseconds to be dropped.
+/// A job that takes some microseconds to be dropped.
 const LADEN: Sort = Sort {
     luggage: 500,
     ..LEAF
@@ -53,8 +53,8 @@ const LADEN: Sort = Sort {
 /// The number of times that a kernel thread is woken.
 const OFTEN: u32 = 100;
 
-/// The most sleeps of kernel threads that may time out in a [`Row`], although something was there for them. If each
-/// signal of one kind is lost, they time out nearly as often as one is sent.
+/// The most sleeps of kernel threads that may time out in a [`Row`], although there was something for them to do. If
+/// all signals of one kind are lost, sleeps time out nearly as often as such a signal is sent.
 const FEW: u64 = OFTEN as u64 / 4;
 
 const ROWS: &[Row] = &[
@@ -195,7 +195,6 @@ const ROWS: &[Row] = &[
             Act::Has(1, 1, Is::Open),
             Act::Tries(On::Any, LEAF, Comes::NoPlace(2, 1)),
             Act::Tries(On::Any, ALONE, Comes::NoPlace(2, 1)),
-            Act::Tries(On::AnyDetached, LEAF, Comes::NoPlace(2, 1)),
             Act::Tries(On::Core(0), LEAF, Comes::NoPlace(1, 0)),
             Act::Tries(On::Core(1), LEAF, Comes::NoPlace(1, 0)),
             Act::Tries(On::Core(2), LEAF, Comes::NoPlace(0, 1)),
@@ -205,7 +204,7 @@ const ROWS: &[Row] = &[
             Act::Tries(On::Core(1), LEAF, Comes::Begins),
             Act::Has(1, 1, Is::Open),
             Act::Turns(1, true),
-            Act::Tries(On::AnyDetached, LEAF, Comes::Begins),
+            Act::Tries(On::Any, LEAF, Comes::Begins),
             Act::Has(1, 1, Is::Open),
             Act::Turns(0, true),
             Act::Turns(1, true),
@@ -286,7 +285,7 @@ const ROWS: &[Row] = &[
         ..NOTHING
     },
     Row {
-        shows: "a spawn that is refused memory leaves all as it was, and a wake and a spawn without a handle take none",
+        shows: "a spawn that is refused memory leaves all as it was, and a slice and a wake take none",
         cores: 1,
         slots: 3,
         acts: &[
@@ -295,7 +294,9 @@ const ROWS: &[Row] = &[
             Act::Tries(On::Core(0), LEAF, Comes::NoMemory),
             Act::Has(0, 0, Is::Open),
             Act::Lives(0),
-            Act::Tries(On::AnyDetached, SLEEPER, Comes::Begins),
+            Act::Frees,
+            Act::Tries(On::Any, SLEEPER, Comes::Begins),
+            Act::Hoards,
             Act::Turns(0, true),
             Act::Answers,
             Act::Wakes(0, 0, Wakes::It),
@@ -341,11 +342,11 @@ const ROWS: &[Row] = &[
         ..NOTHING
     },
     Row {
-        shows: "an exclusive job that is spawned without a handle gets a core alone, as with one",
+        shows: "an exclusive job gets a core alone, by whichever call it is spawned",
         cores: 3,
         slots: 2,
         acts: &[
-            Act::Tries(On::AnyDetached, ALONE, Comes::Begins),
+            Act::Tries(On::Any, ALONE, Comes::Begins),
             Act::Has(0, 1, Is::Alone),
             Act::Tries(On::Any, ALONE, Comes::Begins),
             Act::Has(1, 1, Is::Alone),
@@ -556,7 +557,7 @@ const AMPLE: &[Row] = &[Row {
     ..NOTHING
 }];
 
-/// The numbers of places of a core. Each is tried with each number of cores.
+/// The numbers of places of a core. Each number is tried with each number of cores.
 const SLOTS_OF: [u8; 4] = [1, 8, 30, 56];
 
 #[test]
