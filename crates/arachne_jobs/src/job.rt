@@ -297,6 +297,7 @@ impl<'p> JobOf<'p> for Job<'p> {
 
 impl<'p> Job<'p> {
     /// Returns the job of this thread, and the end at which its outcome is got.
+    #[inline(always)]
     fn of(
         alloc: Global,
         thread: Thread<'p>,

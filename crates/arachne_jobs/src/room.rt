@@ -1,4 +1,5 @@
-//! Words that all workers of a run share and read before each fork: free places, children that wait, tags.
+//! Words that all workers of a run share and read before each fork: counts of free places and waiting children, next
+//! tags.
 ghost use Rattle.std.specs.Prelude.{◌≡◌, ◌↔◌, ◌+◌, ◌<◌, ◌≤◌, ◌*◌, ◌%◌, ◌^◌, IsTrue};
 ghost use Rattle.arachne_jobs.specs.declared.tags.TheConstants.{BLOCK};
 
@@ -6,10 +7,11 @@ use crate::tags::BLOCK;
 use crossbeam_utils::CachePadded;
 use std::sync::atomic::{AtomicU64, Ordering};
 
-/// The numbers of free places, of children that wait for one, and of blocks of tags that are drawn.
+/// The numbers of free places, of children that wait for a place, and of blocks of tags that are drawn.
 ///
-/// The first two may be a little off, and only say whether a fork is worth a look: the table decides who gets a place,
-/// and a child's cell who runs the child. Each number has a cache line of its own.
+/// The numbers of free places and of children that wait may be a little off. The numbers only say whether it is worth
+/// looking for a place at a fork: the table decides who gets a place, and a child's cell decides who runs the child.
+/// Each number has a cache line of its own.
 #[derive(Drop)]
 pub struct Room {
     free: CachePadded<AtomicU64>,
@@ -20,8 +22,8 @@ pub struct Room {
 }
 
 impl Room {
-    /// Returns words that show all places of these cores as free, no child that waits (at most `most_waiting` may), and
-    /// no block of tags as drawn. The root's tag, 0, is in no block.
+    /// Returns words that show all places of these cores as free, no waiting child (`most_waiting` is the most), and no
+    /// block of tags as drawn. The root's tag, 0, is in no block.
     pub fn new(cores: u8, slots: u8, most_waiting: u64) -> Room
         ensures { result.most ≡ most_waiting }
     {
@@ -63,7 +65,7 @@ impl Room {
         self.is_room_beside(seen(&self.waiting))
     }
 
-    /// Returns whether one more child may wait beside these.
+    /// Returns whether one more child may wait, if `waiting` children wait already.
     #[inline(always)]
     fn is_room_beside(&self, waiting: u64) -> bool
         ensures { IsTrue result ↔ waiting < self.now.most }
@@ -83,8 +85,8 @@ impl Room {
         self.waiting.fetch_sub(1, Ordering::SeqCst);
     }
 
-    /// Draws a block and returns its first tag. No other thread of the run has a tag of it, if fewer than 2^58 are
-    /// drawn.
+    /// Draws a block and returns its first tag. No other thread of the run has a tag of that block, if fewer than 2^58
+    /// blocks are drawn.
     pub fn next_block(&self) -> u64
         ensures { result % BLOCK ≡ 1 }
     {
@@ -107,13 +109,13 @@ fn places_of(cores: u8, slots: u8) -> u64
     u64::from(cores) * u64::from(slots)
 }
 
-/// Reads a number, which is below 0 for a moment if something is taken before it was counted.
+/// Reads a number as 0 if it is below 0, as it is for a moment if something is taken before it was counted.
 #[inline(always)]
 fn seen(number: &AtomicU64) -> u64 {
     or_zero(number.load(Ordering::SeqCst))
 }
 
-/// Returns the number, or 0 if it has wrapped below 0.
+/// Returns `number`, or 0 if it has wrapped below 0.
 #[inline(always)]
 fn or_zero(number: u64) -> u64
     ensures above { number < 2 ^ 63 → result ≡ number }

@@ -1,4 +1,4 @@
-//! The ties of a job to others, in one box, and the ties of ended jobs.
+//! The ties of a job to other jobs (its ends of cells, and its parent's id), in one box, and the ties of ended jobs.
 ghost use Rattle.std.specs.Prelude.{◌≡◌, ◌≤◌, ◌+◌, [], IfOk, vec_len, vec_capacity};
 
 use crate::ends::End;
@@ -6,14 +6,14 @@ use arachne_core::ThreadId;
 use std::alloc::{AllocError, Global};
 use std::marker::Model;
 
-/// The ends of cells that a job has, the newest last, and the id under which its parent runs. No lifetime is in it.
+/// The ends of cells that a job has, the newest last, and the id under which its parent runs. The type has no lifetime.
 #[derive(Drop)]
 pub struct Ties {
     pub(crate) ends: Vec<End>,
     pub(crate) parent: Option<ThreadId>,
 }
 
-/// The most ties that are kept.
+/// The most ties of ended jobs that are kept.
 const MOST: usize = 64;
 
 /// The ties of ended jobs, with the room of their lists, for jobs that begin.
@@ -33,14 +33,14 @@ impl Model for SpareTies {
 }
 
 impl SpareTies {
-    /// Returns an empty store. It takes no memory.
+    /// Returns an empty store. Takes no memory.
     pub(crate) fn new(alloc: Global) -> SpareTies {
         SpareTies {
             ties: Vec::new(alloc),
         }
     }
 
-    /// Returns ties to this parent and to no cell, with room for an end.
+    /// Returns ties to this parent and to no cell, with room for the end of one cell.
     #[inline(always)]
     pub(crate) fn take(
         &mut self,
@@ -67,7 +67,7 @@ impl SpareTies {
         Ok(ties)
     }
 
-    /// Keeps the ties of an ended job, unless there are enough.
+    /// Keeps the ties of an ended job, unless `MOST` are kept already.
     #[inline(always)]
     pub(crate) fn keep(&mut self, ties: Box<Ties>) {
         if self.ties.len() < MOST {

@@ -1,4 +1,4 @@
-//! The ledgers and the locks of a run, and what a worker has of them.
+//! The ledgers and the locks of a run, and a worker's share and seats of them.
 ghost use Rattle.std.specs.Prelude.{◌≡◌, ◌%◌, ◌^◌, All, Err, IfErr, IfOk, IsOk, length, map};
 ghost use Rattle.arachne_ledger.specs.Views.{IsShareOf, IsWhole as IsWholeShare};
 ghost use Rattle.arachne_sleep.specs.History.{IsSound};
@@ -28,17 +28,18 @@ pub(crate) struct Holdings {
     pub(crate) lock_seats: LockSeats,
 }
 
-/// The rest of the ledgers and the locks once all workers have ended.
+/// The numbers in the words of the ledgers, and the histories of the locks, once all workers have ended.
 #[derive(Drop)]
 pub(crate) struct Remains {
-    /// The words of the ledgers.
+    /// The numbers in the words of the ledgers.
     pub(crate) words: Vec<u64>,
     /// The history of each lock.
     pub(crate) histories: Vec<History>,
 }
 
 impl Resources {
-    /// Returns this many ledgers and locks, and all of their holdings.
+    /// Returns `ledgers` ledgers and `locks` locks, and the first share of the ledgers with the first seat of each
+    /// lock.
     pub(crate) fn new(
         alloc: Global,
         ledgers: u8,
@@ -53,7 +54,7 @@ impl Resources {
         Ok((Resources { ledgers, locks }, Holdings { share, lock_seats }))
     }
 
-    /// Halves the holdings. Returns the whole if memory is refused.
+    /// Splits the holdings in two. Returns the holdings whole if memory is refused.
     pub(crate) fn split(
         &self,
         alloc: Global,
@@ -90,7 +91,7 @@ impl Resources {
         }
     }
 
-    /// Returns what is left once all holdings are joined. The error is `Token` if they are not whole.
+    /// Returns what is left once all holdings are joined into `holdings`. The error is `Token` if some were not joined.
     pub(crate) fn close(self, alloc: Global, holdings: Holdings) -> Result<Remains, WorkerFault>
         requires { AreHoldingsOf self holdings }
         ensures count { IfOk result (λ remains. length remains.histories.items ≡ length self.locks) }
@@ -109,7 +110,8 @@ impl Resources {
     }
 }
 
-/// Returns the history of each lock, in their order. The error is `Token` if not all of their seats were returned.
+/// Returns the history of each lock, in the order of the locks. The error is `Token` if not all seats of the locks were
+/// returned.
 fn closed_locks(
     alloc: Global,
     locks: SleepLocks,
@@ -132,7 +134,8 @@ fn closed_locks(
     }
 }
 
-/// Returns the words of the ledgers, which are the sums of the share. The error is `Token` if the share is not whole.
+/// Returns the numbers in the words of the ledgers, which are equal to the sums of `share`. The error is `Token` if not
+/// all other shares were joined into `share`.
 fn closed_words(alloc: Global, ledgers: Ledgers, share: Share) -> Result<Vec<u64>, WorkerFault>
     requires { IsShareOf ledgers share }
     ensures missing { (IsWholeShare share → ⊥) → result ≡ Err Token }

@@ -19,7 +19,8 @@ pub struct CoreWorker<'a, H, D> {
     pub shared: &'a SharedWords,
     pub core: u8,
     pub slots: u8,
-    /// It may run a thread of another core at that one's place, if the thread was handed a lock.
+    /// True if the worker may run a thread of another core, at the thread's place there, after the thread was handed a
+    /// lock.
     pub helps: bool,
     pub agenda: Agenda,
     /// The number of slices that this worker has begun.
@@ -83,7 +84,7 @@ impl<'a, H: Wait + Clock, D: Desk> CoreWorker<'a, H, D> {
 
     /// Applies the orders that are due, and waits.
     ///
-    /// `idle` is the number of consecutive rounds before the last one that found nothing.
+    /// `idle` is the number of consecutive rounds that found nothing, without the last one.
     pub fn rest_for(&mut self, idle: u32)
         ensures desk { self.new.desk ≡ self.old.desk }
         ensures same { (self.new.agenda ≡ self.old.agenda) × (self.new.slices ≡ self.old.slices) }
@@ -99,8 +100,8 @@ impl<'a, H: Wait + Clock, D: Desk> CoreWorker<'a, H, D> {
         }
     }
 
-    /// Gives a turn to each thread that is known to be possibly ready, then takes a ticket. Returns whether there was
-    /// either.
+    /// Gives a turn to each thread that may be ready by what the worker knows, then takes a ticket (the entry of a
+    /// child that waits for a place). Returns whether a thread was ready or a ticket was there.
     fn scan(&mut self) -> Result<bool, Halt>
         ensures desk { self.new.desk ≡ self.old.desk }
         ensures ended { IsOk result → self.new.agenda.scan ≡ 0 }
@@ -117,7 +118,7 @@ impl<'a, H: Wait + Clock, D: Desk> CoreWorker<'a, H, D> {
     }
 
     /// Gives a turn to each thread on the core. If none is ready, prepares to wait, and parks if the core is closed and
-    /// empty. Returns whether there was one, or the worker was parked.
+    /// empty. Returns whether a thread was ready, or the worker was parked.
     fn scan_all(&mut self) -> Result<bool, Halt>
         ensures desk { self.new.desk ≡ self.old.desk }
         ensures ended { IsOk result → self.new.agenda.scan ≡ 0 }
@@ -127,7 +128,8 @@ impl<'a, H: Wait + Clock, D: Desk> CoreWorker<'a, H, D> {
         if self.run_each()? {
             return Ok(true);
         }
-        // Before each wait: others can't use a kept place, and nobody else signals a post that was kept back.
+        // Before each wait: others can't use a place that this worker keeps, and nobody else signals a post whose
+        // signal is delayed.
         give_all_back(&mut self.desk)?;
         tell_all(&mut self.agenda, self.shared);
         if self.desk.is_waited_for() || !self.desk.is_drained() {
@@ -139,7 +141,7 @@ impl<'a, H: Wait + Clock, D: Desk> CoreWorker<'a, H, D> {
         Ok(true)
     }
 
-    /// Gives a turn to each ready thread of the scan, in ascending order. Returns whether there was one.
+    /// Gives a turn to each ready thread of the scan, in ascending order. Returns whether any thread was ready.
     fn run_each(&mut self) -> Result<bool, Halt>
         ensures desk { self.new.desk ≡ self.old.desk }
         ensures ended { IsOk result → self.new.agenda.scan ≡ 0 }
@@ -153,8 +155,8 @@ impl<'a, H: Wait + Clock, D: Desk> CoreWorker<'a, H, D> {
         Ok(found)
     }
 
-    /// Gives a turn to the thread at an index, if it is ready. Before the scan goes on, it also gives one to each
-    /// thread that `next` returns then. Returns whether one was ready.
+    /// Gives a turn to the thread at an index, if it is ready. Before the scan goes on, also gives a turn to each
+    /// thread that `next` returns after that. Returns whether any of these threads was ready.
     fn run_at(&mut self, index: u8) -> Result<bool, Halt>
         ensures desk { self.new.desk ≡ self.old.desk }
         ensures scan { self.new.agenda.scan ≡ self.old.agenda.scan }
@@ -168,7 +170,7 @@ impl<'a, H: Wait + Clock, D: Desk> CoreWorker<'a, H, D> {
             if self.shared.is_stopped() {
                 break;
             }
-            // Before each slice: by the slice that has just ended an order may be due.
+            // Before each slice: an order may be due since the last slice ended.
             self.tend();
             let mut waits = false;
             match self.desk.take(place) {
@@ -185,12 +187,12 @@ impl<'a, H: Wait + Clock, D: Desk> CoreWorker<'a, H, D> {
                 None => return Ok(found),
             }
         }
-        // Its thread got no turn.
+        // The thread at `place` got no turn.
         self.note(place);
         Ok(found)
     }
 
-    /// Takes a ticket, if the core has a place for its child. Returns whether there was one.
+    /// Takes a ticket, if the core has a place for the ticket's child. Returns whether there was a ticket.
     fn take_ticket(&mut self) -> Result<bool, Halt>
         ensures desk { self.new.desk ≡ self.old.desk }
         ensures others { (self.new.agenda.scan ≡ self.old.agenda.scan) × (self.new.agenda.next ≡ self.old.agenda.next) × (self.new.slices ≡ self.old.slices) }
@@ -223,7 +225,7 @@ impl<'a, H: Wait + Clock, D: Desk> CoreWorker<'a, H, D> {
         }
     }
 
-    /// Applies the orders that are due, and wakes the workers that must learn of them.
+    /// Applies the orders that are due, and wakes the workers that they concern.
     fn apply_orders(&mut self)
         ensures desk { self.new.desk ≡ self.old.desk }
         ensures same { (self.new.agenda ≡ self.old.agenda) × (self.new.slices ≡ self.old.slices) }
@@ -231,7 +233,7 @@ impl<'a, H: Wait + Clock, D: Desk> CoreWorker<'a, H, D> {
         let (applied, receivers) = self.desk.tend();
         if let Some(count) = applied {
             self.desk.told(WorkerEvent::Applied(count));
-            // The worker of a core that was closed may sleep, and has to look.
+            // The worker of a core that was closed may sleep, and must look at its core.
             self.shared.hint_cores(u64::MAX);
         }
         if receivers != 0 {

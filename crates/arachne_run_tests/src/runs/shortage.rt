@@ -1,5 +1,5 @@
-//! Runs in a process whose memory is used up, each with a little more memory than the previous one: every run ends with
-//! a fault that says so, until one has a report.
+//! Runs in a process whose memory is used up, each with a little more memory than the previous one. Every run ends with
+//! the fault that memory was refused, until a run has a report.
 ghost use Rattle.arachne_lang.specs.Checked.{IsChecked};
 ghost use Rattle.arachne_lang.specs.Program.{source_of};
 
@@ -21,18 +21,17 @@ use std::test::Fail;
 use std::thread::Threads;
 use std::time::Clock;
 
-/// The maximum number of runs of a row on one core. One of them has a report.
+/// The maximum number of runs of a row on one core. The last of these runs has a report.
 const RUNS: u64 = 2_000;
 
-/// The maximum number of runs of a row on several cores. None need have a report: once all memory was used up, the C
-/// library gives none to a kernel thread that has just begun, whatever was given back.
+/// The maximum number of runs of a row on several cores. No run need have a report: once all memory was used up, the C
+/// library gives no memory to a kernel thread that has just begun, whatever was given back.
 const RUNS_ON_CORES: u64 = 200;
 
 /// The number of bytes that each run has more than the previous one.
 const BYTES: usize = 400;
 
-/// The number of times that a run on one core is repeated, with the memory of the first that had a report and `SLACK`
-/// bytes more. The C library keeps a few freed blocks of each size for requests of the same size.
+/// The number of times that a run on one core is repeated with just enough memory for a report, and `SLACK` bytes more.
 const REPEATED: usize = 2_000;
 
 const SLACK: usize = 200_000;
@@ -80,7 +79,7 @@ const WANTED: Source = Source {
     expr: "(sweep add 1 (num 0) (num 50) (hold 0 (num 1)))",
 };
 
-/// More threads than places. Some of them wait for a place.
+/// More threads than places. Some of the threads wait for a place.
 const WAITING: Source = Source {
     ledgers: 0,
     locks: 0,
@@ -165,7 +164,7 @@ type Tried = Result<bool, RunFault>;
 /// The run has a report that shows the row's facts.
 const WELL: Tried = Ok(true);
 
-/// Returns whether memory was refused. On several cores it may have been refused to a new kernel thread.
+/// Returns whether memory was refused. On several cores memory may have been refused to a new kernel thread.
 fn is_want(tried: Tried, cores: u64) -> bool {
     match tried {
         Err(RunFault::Worker(WorkerFault::Memory)) => true,
@@ -176,8 +175,8 @@ fn is_want(tried: Tried, cores: u64) -> bool {
 
 /// Runs a row's program with no memory, and then with `BYTES` bytes more each time.
 ///
-/// Stops if the outcome is `last`, or anything but a lack of memory. Returns the number of runs before, and the last
-/// outcome.
+/// Stops if the outcome is `last`, or anything but a lack of memory. Returns the number of runs before the last run,
+/// and the outcome of the last run.
 fn refused<R: Threads + Wait + Clock + Sync>(
     rt: &R,
     alloc: Global,
@@ -203,8 +202,8 @@ fn refused<R: Threads + Wait + Clock + Sync>(
     (most, came)
 }
 
-/// Returns whether a row's program has its report `times` times. If each run left memory behind, the last ones would
-/// have none.
+/// Returns whether a row's program has its report `times` times. If each run left memory behind, the last runs would
+/// have no memory.
 fn goes_well<R: Threads + Wait + Clock + Sync>(
     rt: &R,
     alloc: Global,
@@ -224,9 +223,11 @@ fn goes_well<R: Threads + Wait + Clock + Sync>(
     true
 }
 
-/// Runs a row's program while memory is used up. Returns the number of runs that were refused it, and the last outcome.
+/// Runs a row's program while memory is used up. Returns the number of runs for which memory was refused, and the
+/// outcome of the last run.
 ///
-/// On one core the program must then have its report again and again. If it has not, the outcome is a lack of memory.
+/// On one core the program must then have its report again and again. If the program has no report then, the outcome is
+/// a lack of memory.
 fn without_memory<R: Threads + Wait + Clock + Sync>(
     rt: &R,
     alloc: Global,
@@ -270,7 +271,8 @@ fn row_ends<R: Threads + Wait + Clock + Sync>(
     Ok(())
 }
 
-/// Checks that a row's runs before and after the shortage went well, and that those in the shortage ended as they must.
+/// Checks that a row's runs before and after the shortage went well, and that the runs in the shortage ended as they
+/// must.
 fn judge(
     machine: Machine,
     last: Tried,
