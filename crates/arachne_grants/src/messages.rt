@@ -22,21 +22,21 @@ const ASK: u32 = 4;
 /// A message of a client.
 #[derive(Clone, Copy, Debug, PartialEq, Eq)]
 pub enum ClientMessage {
-    /// A client's first message: its priority, of which 0 goes first, the cores that it reserves, and the most that it
-    /// may ask for.
+    /// A client's first message: its priority (0 goes first), the number of cores that it reserves, and the most cores
+    /// that it may ask for.
     Hello {
         priority: u8,
         reserved: u16,
         most: u16,
     },
-    /// A kernel thread of a client joins it, at a place.
+    /// A kernel thread joins its client, at one of the client's places.
     Join {
         client: u32,
         thread: u32,
         place: u8,
         floats: bool,
     },
-    /// The thread gives its core back, if it has one, and waits for another.
+    /// The thread gives its core back, if it has one, and waits for another core.
     Wait,
     /// The client asks for this number of cores.
     Ask {
@@ -44,7 +44,7 @@ pub enum ClientMessage {
     },
 }
 
-/// The reason why bytes begin with no message: the first number that no message has there.
+/// The reason why bytes begin with no message: it names the first of their four numbers that is not valid.
 #[derive(Clone, Copy, Debug, PartialEq, Eq)]
 pub enum MessageFault {
     /// There are fewer than `MESSAGE_BYTES` bytes.
@@ -86,12 +86,12 @@ pub fn read_message(bytes: &[u8]) -> Result<ClientMessage, MessageFault>
     })
 }
 
-/// The law that bytes begin with one message at most, and then have no fault.
+/// The law that bytes begin with at most one message, and that bytes which begin with one have no fault.
 pub fn messages_are_unambiguous(bytes: &[u8])
     ensures { IsUnambiguous bytes.now }
 {}
 
-/// Returns the number that four bytes give.
+/// Returns the number whose bytes begin at `at`.
 fn number_at(bytes: &[u8], at: usize) -> u32
     requires { at + 4 ≤ length bytes.now }
     ensures { result ≡ number_at bytes.now at }

@@ -1,4 +1,4 @@
-//! The handle that C holds.
+//! The handle by which C holds an arbiter.
 ghost use Rattle.std.specs.Prelude.{◌≡◌, ◌↔◌, IfNone, IfSome, IsSome, IsTrue};
 ghost use Rattle.std.specs.declared.option.Option.{Option};
 ghost use Rattle.std.specs.declared.option.Option.TheVariants.{None, Some};
@@ -13,7 +13,7 @@ use std::alloc::Global;
 use std::marker::Model;
 use std::mem;
 
-/// An arbiter, or nothing, in C's layout: one pointer, which is null if nothing is held.
+/// An arbiter in C's layout: one pointer, which is null if there is no arbiter.
 #[repr(C)]
 pub struct ArachneArbiter {
     at: *mut u8,
@@ -46,7 +46,7 @@ impl ArachneArbiter {
         }
     }
 
-    /// Takes the arbiter out of the handle, if it holds one.
+    /// Takes the arbiter out of the handle, if the handle has one.
     pub(crate) fn take(&mut self, alloc: Global) -> Option<Box<CoreArbiter>>
         ensures none { IfNone result (self.old.value ≡ None) }
         ensures some { IfSome result (λ taken. self.old.value ≡ Some taken.value) }
@@ -56,7 +56,7 @@ impl ArachneArbiter {
         mem::replace(self, empty).into_handle().into_box()
     }
 
-    /// Puts an arbiter into the handle. Any other that it held is freed.
+    /// Puts an arbiter into the handle. An arbiter that the handle had before is freed.
     pub(crate) fn put(&mut self, value: Box<CoreArbiter>)
         ensures { self.new.value ≡ Some value.value }
     {

@@ -1,4 +1,4 @@
-//! Laws of the language's definitions. They are contracts of functions with empty bodies.
+//! Laws of the language's definitions. Each law is the contract of a function with an empty body.
 ghost use Rattle.std.specs.Prelude.{◌≡◌, ◌≢◌, ◌⊎◌, ℕ, List, map};
 ghost use Rattle.std.specs.List.{AllPairs};
 ghost use Rattle.arachne_lang.specs.declared.text_fault.TextFault.{TextFault};
@@ -12,7 +12,7 @@ pub fn names_differ()
     ensures { (program : Source) → AllPairs (λ a b. a ≢ b) (map (λ line. line.name) (meaning_of program).threads) }
 {}
 
-/// The law that two programs have different texts.
+/// The law that different programs have different texts.
 pub fn texts_differ()
     ensures { (some : Source) → (other : Source) → text_of some ≡ text_of other → some ≡ other }
 {}
@@ -22,7 +22,7 @@ pub fn accepted_texts_have_no_fault()
     ensures { (program : Source) → (fault : TextFault) → IsAccepted program → ¬ HasFault (text_of program) fault }
 {}
 
-/// The law that every text is that of an accepted program, or has a first fault.
+/// The law that every text is the text of an accepted program, or has a first fault.
 pub fn other_texts_have_a_first_fault()
     ensures { (bytes : List ℕ) → ((program : Source) × IsAccepted program × (text_of program ≡ bytes)) ⊎ ((first : TextFault) × IsFirstFault bytes first) }
 {}

@@ -2,7 +2,7 @@
 use crate::name::Name;
 use crate::sequence::Sequence;
 
-/// A thread's name, and for each lock the number of times that it held it, modulo 2^64.
+/// A thread's name, and for each lock the number of times that the thread held it, modulo 2^64.
 #[derive(Debug, PartialEq, Eq, Drop)]
 pub struct Line {
     pub name: Name,
@@ -16,6 +16,6 @@ pub struct Meaning {
     pub value: u64,
     /// For each ledger, the sum of the amounts that were tallied to it, modulo 2^64.
     pub totals: Sequence<u64>,
-    /// The lines of its threads, the root's first.
+    /// The lines of the program's threads, the root's first.
     pub threads: Sequence<Line>,
 }

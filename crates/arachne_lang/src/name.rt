@@ -11,8 +11,8 @@ use std::marker::Model;
 
 /// A thread's name: the numbers of the forks that lead to it from the root. The root's name is empty.
 ///
-/// Up to 30 numbers below 256, or up to 6 below 2^32, are stored in the name's own 32 bytes. Others are stored in a
-/// `Vec`.
+/// Up to 30 numbers below 256, or up to 6 below 2^32, are stored in the name's own 32 bytes. Other names are stored in
+/// a `Vec`.
 #[derive(Debug, Drop)]
 pub struct Name {
     forks: Forks,
@@ -20,11 +20,11 @@ pub struct Name {
 
 const _: () = prove!(size_of::<Name>() == 32);
 
-/// The numbers of the forks, the root's first.
+/// The numbers of the forks from the root to the thread, in this order.
 #[derive(Debug, Drop)]
 enum Forks {
     Bytes(ByteList),
-    /// At least one of them is 256 or more.
+    /// Numbers of which at least one is 256 or more.
     Words(WordList),
     Heap(Vec<u64>),
 }
@@ -73,7 +73,8 @@ impl Name {
         }
     }
 
-    /// Returns the numbers of that child's name, or `None` if they don't fit into a `WordList`.
+    /// Returns the numbers in the name of the child that this thread forks as its `number`-th, or `None` if they don't
+    /// fit into a `WordList`.
     fn words_with(&self, number: u64) -> Option<WordList>
         ensures { SomeIff result (FitsWords (self.now ++ number ∷ [])) (self.now ++ number ∷ []) }
     {
@@ -84,7 +85,8 @@ impl Name {
         }
     }
 
-    /// Returns the name of that child, whose numbers fit into none of the short lists.
+    /// Returns the name of the child that this thread forks as its `number`-th, if the name fits into none of the short
+    /// lists.
     #[inline(never)]
     fn long_child(&self, alloc: Global, number: u64) -> Result<Name, AllocError>
         requires bytes { ¬ FitsBytes (self.now ++ number ∷ []) }
@@ -112,7 +114,7 @@ impl Name {
         }
     }
 
-    /// Returns the number at place `k`, from 0.
+    /// Returns the number at index `k` of the name, counted from 0.
     pub fn number(&self, k: usize) -> u64
         requires { k < length self.now }
         ensures { result ≡ slice_index self.now k }

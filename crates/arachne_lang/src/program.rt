@@ -11,9 +11,9 @@ ghost use Rattle.arachne_lang.specs.SameDecides.{same_tree-Decides, same_source-
 /// The cores on which a forked thread may run.
 #[derive(Clone, Copy, Debug, PartialEq, Eq)]
 pub enum Class {
-    /// A core that it shares with others.
+    /// The thread runs on a core that it shares with others.
     Normal,
-    /// A core that it has for itself.
+    /// The thread runs on a core that it has for itself.
     Exclusive,
 }
 
@@ -26,9 +26,9 @@ pub enum Operation {
     Min,
     Max,
     Xor,
-    /// 1 if the first is less, else 0.
+    /// Gives 1 if the first number is less, else 0.
     Lt,
-    /// 1 if both are the same, else 0.
+    /// Gives 1 if both numbers are the same, else 0.
     Eq,
 }
 
@@ -54,15 +54,15 @@ impl Operation {
 /// The way in which a sweep reduces its values to one.
 #[derive(Clone, Copy, Debug, PartialEq, Eq)]
 pub enum Reduction {
-    /// Their sum, from 0.
+    /// The sum of the values, from 0.
     Sum,
-    /// Their product, from 1.
+    /// The product of the values, from 1.
     Product,
-    /// Their exclusive or, from 0.
+    /// The exclusive or of the values, from 0.
     Parity,
-    /// The least of them, from 2^64 - 1.
+    /// The least of the values, from 2^64 - 1.
     Least,
-    /// The greatest of them, from 0.
+    /// The greatest of the values, from 0.
     Greatest,
 }
 
@@ -81,7 +81,7 @@ impl Reduction {
         }
     }
 
-    /// Returns the value that a sweep starts from, the neutral element of the operation.
+    /// Returns the value from which a sweep starts, the neutral element of the operation.
     #[inline(always)]
     pub fn unit(self) -> u64
         ensures { result ≡ unit_of self }
@@ -103,24 +103,26 @@ pub enum Expr {
     Var(u64),
     /// The number of items of an array.
     Len(u64),
-    /// The item of an array at an index, from 0; the value is 0 if there is no such item.
+    /// The item of an array at an index, from 0. The value is 0 if there is no such item.
     Item(u64, Box<Expr>),
     /// An operation of two expressions.
     Binary(Operation, Box<Expr>, Box<Expr>),
-    /// The second if the first is not 0, else the third. The other one is not evaluated.
+    /// The value of the second expression if the first's value is not 0, else the value of the third. Only one of the
+    /// second and the third is evaluated.
     If(Box<Expr>, Box<Expr>, Box<Expr>),
-    /// The second, with the value of the first as the newest variable.
+    /// The value of the second expression, in which the value of the first is the newest variable.
     Let(Box<Expr>, Box<Expr>),
-    /// The value of the second, after the value of the first has been added to a ledger.
+    /// The value of the second expression, after the value of the first has been added to a ledger.
     Tally(u64, Box<Expr>, Box<Expr>),
     /// An expression that is evaluated while the thread holds a lock.
     Hold(u64, Box<Expr>),
-    /// A fork: the child's expression, the expression that the thread evaluates while the child runs, and the one that
-    /// it evaluates after the join. In the last the two newest variables are the child's value and then that of the
-    /// second.
+    /// A fork: the child's expression, the expression that the thread evaluates while the child runs, and the
+    /// expression that the thread evaluates after the join. In the third expression the two newest variables are the
+    /// child's value and then the value of the second expression.
     Fork(Class, Box<Expr>, Box<Expr>, Box<Expr>),
-    /// A fold over a range, from the first to below the second; the third is the first value, the fourth the body. In
-    /// the body the two newest variables are the number and then the value so far.
+    /// A fold (a loop) over a range of numbers. The range goes from the first expression's value to below the second's.
+    /// The third expression gives the first value. The fourth is the body, in which the two newest variables are the
+    /// number and then the value so far.
     Fold(Box<Expr>, Box<Expr>, Box<Expr>, Box<Expr>),
     /// A sweep: its grain; a range, from the first expression to below the second; and the body, in which the number is
     /// the newest variable. A range that is longer than the grain is halved, and the left half is a child thread.
@@ -137,7 +139,7 @@ pub struct Program {
 }
 
 impl Expr {
-    /// Returns whether both are the same expression. Stops at the first difference.
+    /// Returns whether `self` and `other` are the same expression. Stops at the first difference.
     fn is_same(&self, other: &Expr) -> bool
         ensures { IsTrue result ↔ (tree_of self.now ≡ tree_of other.now) }
     {
@@ -192,7 +194,7 @@ fn are_same_arrays(some: &[Vec<u64>], others: &[Vec<u64>]) -> bool
 }
 
 impl Program {
-    /// Returns whether both are the same program. Stops at the first difference.
+    /// Returns whether `self` and `other` are the same program. Stops at the first difference.
     fn is_same(&self, other: &Program) -> bool
         ensures { IsTrue result ↔ (source_of self.now ≡ source_of other.now) }
     {

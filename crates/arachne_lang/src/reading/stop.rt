@@ -5,7 +5,7 @@ ghost use Rattle.arachne_lang.specs.declared.reading.stop.Stop.TheVariants.{Memo
 use crate::text_fault::TextFault;
 use std::alloc::AllocFailed;
 
-/// The reason why reading stops. A fault of the text has the bytes that are left, from the one at which it stands.
+/// The reason why reading stops. If the reason is a fault of the text, it contains the text from the fault on.
 #[derive(Clone, Copy)]
 pub enum Stop<'t> {
     /// Memory was refused.
@@ -21,7 +21,7 @@ pub enum Stop<'t> {
 impl<'t> Stop<'t> {
     ghost use Rattle.arachne_lang.specs.Reading.{fault_within};
 
-    /// Returns the fault of the whole `text`, of which the bytes that are left are the end.
+    /// Returns this reason as a fault of the whole `text`, which must end with the text that the reason contains.
     pub fn fault(self, text: &[u8]) -> TextFault
         ensures { result ≡ fault_within text.now self.entry }
     {

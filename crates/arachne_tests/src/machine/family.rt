@@ -1,4 +1,4 @@
-//! Runs all threads of a program: children are handed back to their parents, or are given away and joined.
+//! Runs all threads of a program: children are handed back to their parents, or run on their own and are joined.
 ghost use Rattle.std.specs.Prelude.{◌≡◌, Some, false, IsTrue};
 ghost use Rattle.arachne_lang.specs.Program.{source_of};
 ghost use Rattle.arachne_machine.specs.declared.pause.Pending.TheVariants as pause;
@@ -17,17 +17,17 @@ const MOST: u64 = 100_000;
 /// The way in which children run.
 #[derive(Clone, Copy, Debug, PartialEq, Eq)]
 pub(super) enum Way {
-    /// In the parent's place: a child is handed back at its fork.
+    /// Children run in their parent's place: each is handed back at its fork.
     AtFork,
-    /// The same, but the root's first child has then handed one back itself.
+    /// Like `AtFork`, but the root's first child is handed back only after a child was handed back to it.
     GrownAtFork,
-    /// In the place of the thread that awaits it: a child is handed back there.
+    /// Children run in the place of the thread that awaits them: each is handed back at its join.
     AtJoin,
-    /// The same, but it has gone on before, with others in its place.
+    /// Like `AtJoin`, but the child has gone on before, with other threads in its place.
     GrownAtJoin,
-    /// On its own. It is joined once it has ended.
+    /// Each child runs on its own, and is joined once it has ended.
     Alone,
-    /// The same, but only for exclusive children: others begin immediately in their parent's place.
+    /// Like `Alone`, but only for exclusive children: others begin immediately in their parent's place.
     AloneIfExclusive,
 }
 
@@ -59,7 +59,7 @@ pub(super) struct Heard {
     pub(super) next: u64,
 }
 
-/// A run: the way of its children, the budgets of the next call and of those after it, its memory, and its records.
+/// A run: the way of its children, the budgets of the next call and of the later calls, its memory, and its records.
 #[derive(Drop)]
 pub(super) struct Round {
     way: Way,
@@ -126,7 +126,7 @@ impl Round {
 
 /// The threads, children and outcomes of a run, with room for all.
 ///
-/// Each of `threads` waits for a child, but the last, which runs. `children` were given away and have not begun.
+/// Each of `threads` but the last waits for a child, and the last runs. `children` were forked and have not begun.
 /// `outcomes` has the outcome that must be joined next.
 #[derive(Drop)]
 struct Family<'p> {
@@ -170,7 +170,7 @@ fn place<'p>(thread: &mut Thread<'p>, child: Thread<'p>, round: &mut Round) -> b
     }
 }
 
-/// Runs a thread to its next pause. A forked child is handed back to it immediately.
+/// Runs a thread to its next pause. A forked child is handed back to the thread immediately.
 fn go_on_in_place(thread: &mut Thread, round: &mut Round) -> bool {
     if round.budget == 0 || thread.pending().is_some() {
         return false;
@@ -186,7 +186,7 @@ fn go_on_in_place(thread: &mut Thread, round: &mut Round) -> bool {
     }
 }
 
-/// Runs a thread to its next pause. A forked child is given away.
+/// Runs a thread to its next pause. A forked child is added to `children`.
 fn go_on_apart<'p>(
     alloc: Global,
     thread: &mut Thread<'p>,
@@ -243,7 +243,7 @@ fn lose_outcome(_outcome: Outcome) -> bool {
     false
 }
 
-/// Hands the newest child to the thread that awaits it, in whose place it runs then.
+/// Hands the newest child to the thread that awaits it. The child then runs in that thread's place.
 ///
 /// If memory is refused, the child is put back among `children`.
 fn begin<'p>(thread: &mut Thread<'p>, children: &mut Vec<Thread<'p>>, round: &mut Round) -> bool {
@@ -367,7 +367,7 @@ fn hand_grown(thread: &mut Thread) -> bool {
     child.in_place(grandchild).is_ok() && thread.in_place(child).is_ok()
 }
 
-/// Starts the root thread of a program. If memory is refused, tries again with a little more each time.
+/// Starts the root thread of a program. If memory is refused, tries again with a little more memory each time.
 fn start<'p>(alloc: Global, program: &'p Program, round: &mut Round) -> Option<Thread<'p>> {
     for _ in 0..MOST {
         match Thread::start(alloc, program, 9) {
@@ -394,7 +394,7 @@ fn set_off<'p>(
     threads.push(root).is_ok()
 }
 
-/// Takes an outcome apart. If memory is refused, tries again with a little more each time.
+/// Takes an outcome apart. If memory is refused, tries again with a little more memory each time.
 fn parts(outcome: Outcome, round: &mut Round) -> Option<OutcomeParts> {
     let mut outcome = outcome;
     for _ in 0..MOST {

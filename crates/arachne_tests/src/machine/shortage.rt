@@ -1,4 +1,4 @@
-//! The memory of a run: ample, or none at each call, which is then repeated with a little more each time.
+//! The memory of a run: ample, or none at each call, which is then repeated with a little more memory each time.
 use super::first_wrong;
 use arachne_shortage::Hoard;
 use std::alloc::Global;
@@ -51,12 +51,12 @@ impl Memory {
         self.give_back(FEW);
     }
 
-    /// Gives back enough for one growth, after it was refused.
+    /// Gives back enough for one growth, after a growth was refused.
     pub(super) fn spare_much(&mut self) {
         self.give_back(MANY);
     }
 
-    /// Takes what was given back, unless the last call was refused.
+    /// Takes the memory that was given back, unless the last call was refused.
     pub(super) fn begin_call(&mut self) -> Option<()> {
         if self.lately {
             self.lately = false;
@@ -65,7 +65,7 @@ impl Memory {
         self.take_again()
     }
 
-    /// Takes what was given back.
+    /// Takes the memory that was given back.
     pub(super) fn take_again(&mut self) -> Option<()> {
         if let Some(hoard) = &mut self.hoard {
             hoard.take_again().ok()?;

@@ -1,4 +1,4 @@
-//! Tests of a lock without memory for those who ask for it: it stays as it was, and they ask again.
+//! Tests of a lock if memory for its asks is refused: the lock stays as it was, and the threads ask again.
 ghost use Rattle.std.specs.Prelude.{IfOk};
 ghost use Rattle.arachne_sleep.specs.Views.{IsSeatOf, IsWhole};
 
@@ -48,7 +48,7 @@ fn asks_at_last(lock: &mut LockState, tag: u64, hoard: &mut Hoard) -> Option<u64
     None
 }
 
-/// Frees the lock of a thread of the crowd. Returns whether the thread had it, and the one after it is next.
+/// Frees the lock of a thread of the crowd. Returns whether the thread had the lock, and the thread after it is next.
 fn leaves(lock: &mut LockState, tag: u64) -> bool {
     let due = tag.wrapping_add(1);
     let next = if due < CROWD {
@@ -60,7 +60,7 @@ fn leaves(lock: &mut LockState, tag: u64) -> bool {
         && matches!(lock.free(thread(tag, 0)), Ok(freed) if freed.next == next)
 }
 
-/// Lets the crowd ask without memory, and then free the lock in turn, which needs none.
+/// Lets the crowd ask without memory, and then free the lock in turn, which needs no memory.
 ///
 /// Returns the number of refused asks.
 fn comes_and_leaves(lock: &mut LockState, hoard: &mut Hoard) -> Option<u64> {
@@ -91,7 +91,7 @@ fn a_wanted_lock_stays_as_it_was(rt: HostRuntime) -> Result<(), AllocError> {
 
 /// Lets the crowd ask for a shared lock, each thread until there is memory, and returns the number of refusals.
 ///
-/// Returns `None` if a call finds the lock's guard taken, since each call must give it back.
+/// Returns `None` if a call finds the lock's guard taken, since each call must give the guard back.
 fn all_ask(lock: &SleepLock, seat: &mut LockSeat, hoard: &mut Hoard) -> Option<u64>
     requires { IsSeatOf lock.now seat.old }
     ensures { IsSeatOf lock.now seat.new }
@@ -116,7 +116,8 @@ fn all_ask(lock: &SleepLock, seat: &mut LockSeat, hoard: &mut Hoard) -> Option<u
     None
 }
 
-/// Frees a shared lock of the first thread of the crowd. Returns whether it had it, and the second is next.
+/// Frees a shared lock of the first thread of the crowd. Returns whether that thread had the lock, and the second
+/// thread is next.
 fn first_leaves(lock: &SleepLock, seat: &mut LockSeat) -> bool
     requires { IsSeatOf lock.now seat.old }
     ensures { IsSeatOf lock.now seat.new }
@@ -130,7 +131,8 @@ fn first_leaves(lock: &SleepLock, seat: &mut LockSeat) -> bool
     }
 }
 
-// Under `rt try --test --fail-alloc N` the Nth allocation is refused. A call that fails by that is made once more.
+// Under `rt try --test --fail-alloc N` the Nth allocation is refused. A call that fails because of this is made once
+// more.
 fn make(alloc: Global) -> Result<(SleepLock, LockSeat), AllocError>
     ensures seat { IfOk result (λ made. IsSeatOf made.0 made.1) }
     ensures whole { IfOk result (λ made. IsWhole made.1) }
@@ -141,7 +143,7 @@ fn make(alloc: Global) -> Result<(SleepLock, LockSeat), AllocError>
     }
 }
 
-/// Splits a lock's seat, joins it again and closes the lock. Returns its history.
+/// Splits a lock's seat, joins it again and closes the lock. Returns the lock's history.
 fn closed(lock: SleepLock, seat: LockSeat) -> Option<History>
     requires own { IsSeatOf lock seat }
 {
@@ -168,7 +170,7 @@ fn refusals(alloc: Global, lock: &SleepLock, seat: &mut LockSeat) -> Option<u64>
     refused
 }
 
-/// Returns the same, and the length of the history.
+/// Returns the number of refusals for the crowd, and the length of the lock's history.
 fn wanted(alloc: Global) -> Option<(u64, usize)> {
     let (lock, mut seat) = make(alloc).ok()?;
     let refused = refusals(alloc, &lock, &mut seat)?;
