@@ -34,7 +34,7 @@ enum {
     ARACHNE_NO_MEMORY = 2,
     /* Another thread was at the lock. Nothing has changed: try again. */
     ARACHNE_CONTENDED = 3,
-    /* Another thread was first. Nothing has changed: try again, for a worker's number with another number. */
+    /* Another thread was first. Nothing has changed: try again; for a worker's number, with another number. */
     ARACHNE_LOST = 4,
     /* `who` holds the lock. */
     ARACHNE_GRANTED = 5,
@@ -46,7 +46,7 @@ enum {
     ARACHNE_FREED = 8,
     /* The lock was handed on to the one that had waited longest: wake it. */
     ARACHNE_HANDED_ON = 9,
-    /* `who` doesn't hold the lock. To a withdrawal: `who` neither holds it nor waits for it. */
+    /* `who` doesn't hold the lock. As the answer to a withdrawal: `who` neither holds the lock nor waits for it. */
     ARACHNE_NOT_HOLDER = 10,
     /* `who` waited for the lock, and waits no longer: the lock is not handed on to it any more. */
     ARACHNE_LEFT = 11,
@@ -54,18 +54,20 @@ enum {
     ARACHNE_FULL = 12,
     /* The job is in the handle's hand: run it. */
     ARACHNE_RUN = 13,
-    /* The worker has set its idle bit, and then found none of its blocks shown: sleep until you are unparked. */
+    /* The worker has set its idle bit, and then found no block that may have ready jobs: sleep until you are
+     * unparked. */
     ARACHNE_PARK = 14,
-    /* No job was taken, or a block is shown that may have one: try again. */
+    /* No job was taken, or a block may have one: try again. */
     ARACHNE_AGAIN = 15,
     /* The job is ready. */
     ARACHNE_READY = 16,
     /* The job waits for a wake. */
     ARACHNE_BLOCKED = 17,
-    /* The job is ready, or runs. A take or a start uses the wake up; if none does, the job is ready again when
-     * it would block next. The name that the next job at a free place will have is marked in the same way. */
+    /* The job is ready or runs, and the wake is recorded. A take or a start uses up that record. If neither
+     * comes, the job is ready again when it would block next. A wake for the next job of a free place, by the
+     * name that this job will have, is recorded in the same way. */
     ARACHNE_MARKED = 18,
-    /* The job was marked already. */
+    /* A wake of the job was recorded already. */
     ARACHNE_ALREADY_MARKED = 19,
     /* No job has this name now. */
     ARACHNE_GONE = 20,
@@ -75,7 +77,7 @@ enum {
     ARACHNE_ADD = 22,
     /* Give a core back. */
     ARACHNE_REMOVE = 23,
-    /* The `unpark` of an answer that has no worker to unpark. */
+    /* The value of `unpark` in an answer if no worker must be unparked. */
     ARACHNE_NOBODY = 64,
 };
 
@@ -97,7 +99,7 @@ typedef struct {
 
 /* The answer of an executor. */
 typedef struct {
-    /* The name of the job that was spawned or is in hand: 20 bits of its place, and 44 of the place's
+    /* The name of the job that was spawned or is in hand: 20 bits for its place, and 44 for the place's
      * generation. */
     uint64_t name;
     /* The number of the job in hand, as it was spawned. */
@@ -107,7 +109,8 @@ typedef struct {
     uint32_t unpark;
 } arachne_exec_told;
 
-/* Makes an executor of `shards` shards, and puts its whole seat into a handle that holds nothing.
+/* Makes an executor of `shards` shards, and puts its seat, with the whole weight, into a handle that holds
+ * nothing.
  *
  * Shard s has the blocks 64 s to 64 s + 63, each of 64 places; worker s % 64 looks after it. Returns DONE;
  * REFUSED if the handle holds something, or if `shards` is greater than 256; NO_MEMORY.
@@ -126,19 +129,20 @@ uint32_t arachne_exec_split(arachne_exec *exec, arachne_exec *other);
 
 /* Joins the seat of `other` into that of `exec`, so that `other` holds nothing.
  *
- * Returns DONE, or REFUSED if one of them holds nothing, or if `other` has a job in hand or is a worker. Both
- * must be of one executor, which is not checked: otherwise the executor of `other` can't be ended any more, and
- * the end of that of `exec` may return too few jobs.
+ * Returns DONE, or REFUSED if one of the handles holds nothing, or if `other` has a job in hand or is a worker.
+ * Both handles must be of one executor, which is not checked. If they are of two executors, the executor of
+ * `other` can't be ended any more, and the end of the executor of `exec` may return too few jobs.
  *
  * Threads: safe beside calls with other handles; two at once with `exec` or `other` are undefined behaviour. */
 uint32_t arachne_exec_join(arachne_exec *exec, arachne_exec *other);
 
 /* Ends the executor, writes the jobs that are left to the beginning of `left`, and empties the handle.
  *
- * These are the jobs that were spawned and have not ended, each as often as it is left, without jobs of number
- * 0. Returns DONE with their number; REFUSED if the handle holds nothing or has a job in hand, if not all other
- * handles were joined into it, or if `left` has no room for a job of each of the 4,096 places of each shard;
- * NO_MEMORY. Unless it returns DONE, the count is 0, and the executor and `left` are unchanged.
+ * The jobs that are left were spawned and have not ended; jobs of number 0 are not written. A number that
+ * several jobs have is written once for each of these jobs. Returns DONE with the count of jobs written; REFUSED
+ * if the handle holds nothing or has a job in hand, or if not all other handles were joined into it; NO_MEMORY.
+ * Returns REFUSED also if `left` has less room than 4,096 jobs for each shard. Unless the code is DONE, the
+ * count is 0, and the executor and `left` are unchanged.
  *
  * Threads: safe beside calls with other handles; two at once with `exec` are undefined behaviour. */
 arachne_exec_left arachne_exec_end(arachne_exec *exec, uint64_t *left, size_t left_room);
@@ -165,24 +169,24 @@ uint32_t arachne_exec_leave(arachne_exec *exec);
 
 /* Puts a job at a free place of a block, where it is ready: one try.
  *
- * Returns READY with its name, and the worker to unpark; FULL; LOST; REFUSED if the handle holds nothing or
- * there is no such block. A job with the number 0 is not returned by the end.
+ * Returns READY with the job's name, and the worker to unpark; FULL; LOST; REFUSED if the handle holds nothing
+ * or there is no such block. A job with the number 0 is not returned by `arachne_exec_end`.
  *
  * Threads: safe beside calls with other handles; two at once with `exec` are undefined behaviour. */
 arachne_exec_told arachne_exec_spawn(arachne_exec *exec, size_t block, uint64_t job);
 
 /* Puts a job at a free place of a block and into the hand, so that nobody else can take it: one try.
  *
- * Returns RUN with its name and number; FULL; LOST; REFUSED if the handle holds nothing or has a job in hand, or
- * if there is no such block.
+ * Returns RUN with the job's name and number; FULL; LOST; REFUSED if the handle holds nothing or has a job in
+ * hand, or if there is no such block.
  *
  * Threads: safe beside calls with other handles; two at once with `exec` are undefined behaviour. */
 arachne_exec_told arachne_exec_spawn_here(arachne_exec *exec, size_t block, uint64_t job);
 
 /* Returns the blocks of a shard that may have ready jobs, a bit for each of its 64 blocks, by one load.
  *
- * A block whose bit is clear has none, or somebody is about to set the bit. Returns 0 also if the handle holds
- * nothing or there is no such shard.
+ * A block whose bit is clear has no ready job, or another call is about to set the bit. Returns 0 also if the
+ * handle holds nothing or there is no such shard.
  *
  * Threads: safe beside calls with other handles; two at once with `exec` are undefined behaviour. */
 uint64_t arachne_exec_shown(arachne_exec *exec, size_t shard);
@@ -196,37 +200,39 @@ uint64_t arachne_exec_ready(arachne_exec *exec, size_t block);
 
 /* Takes a ready job of a block into the hand, whichever worker looks after the block: one try.
  *
- * Returns RUN with its name and number; AGAIN; REFUSED if the handle holds nothing or has a job in hand, or if
- * there is no such block.
+ * Returns RUN with the job's name and number; AGAIN; REFUSED if the handle holds nothing or has a job in hand,
+ * or if there is no such block.
  *
  * Threads: safe beside calls with other handles; two at once with `exec` are undefined behaviour. */
 arachne_exec_told arachne_exec_take(arachne_exec *exec, size_t block);
 
 /* Takes up to `most` ready jobs of a block into the hand, by one step; a `most` of 0 counts as 1.
  *
- * Returns their places, a bit for each of the block's 64. The lowest is the newest: calls on the job in hand
- * concern it, and the next one once it rests or has ended. `arachne_exec_start` returns its name and number.
- * Returns 0 if it took none, if the handle holds nothing or has a job in hand, or if there is no such block.
+ * Returns the places of the jobs that were taken, a bit for each of the block's 64 places. The job at the lowest
+ * place is the newest: calls on the job in hand concern this job, and then the job at the next place, once the
+ * newest rests or has ended. `arachne_exec_start` returns the newest job's name and number. Returns 0 if no job
+ * was taken, if the handle holds nothing or has a job in hand, or if there is no such block.
  *
  * Threads: safe beside calls with other handles; two at once with `exec` are undefined behaviour. */
 uint64_t arachne_exec_take_many(arachne_exec *exec, size_t block, uint32_t most);
 
 /* Begins to run the newest job in hand, of several that were taken at once: uses up a wake that has come by now.
  *
- * Returns RUN with its name and number, or REFUSED if the handle has no job in hand.
+ * Returns RUN with the job's name and number, or REFUSED if the handle has no job in hand.
  *
  * Threads: safe beside calls with other handles; two at once with `exec` are undefined behaviour. */
 arachne_exec_told arachne_exec_start(arachne_exec *exec);
 
 /* Takes the next job of the worker's blocks into the hand.
  *
- * Returns RUN with its name and number; PARK; AGAIN; REFUSED if the handle holds nothing, if its seat is no
- * worker, or if a job is in hand.
+ * Returns RUN with the job's name and number; PARK; AGAIN; REFUSED if the handle holds nothing, if its seat is
+ * no worker, or if a job is in hand.
  *
  * Threads: safe beside calls with other handles; two at once with `exec` are undefined behaviour. */
 arachne_exec_told arachne_exec_next(arachne_exec *exec);
 
-/* Sets the worker's idle bit, and looks if its blocks are shown: the last part of `arachne_exec_next`.
+/* Sets the worker's idle bit, and then looks if one of its blocks may have ready jobs: the last part of
+ * `arachne_exec_next`.
  *
  * Returns PARK; AGAIN, with the bit cleared again; REFUSED if the handle holds nothing or its seat is no worker.
  *
@@ -271,8 +277,8 @@ arachne_exec_told arachne_exec_wake(arachne_exec *exec, uint64_t name);
 
 /* Wakes the job of a name, and takes it into the hand if it was blocked: one try.
  *
- * Returns RUN with its name and number; MARKED; ALREADY_MARKED; GONE; LOST; REFUSED if the handle holds nothing
- * or has a job in hand.
+ * Returns RUN with the job's name and number; MARKED; ALREADY_MARKED; GONE; LOST; REFUSED if the handle holds
+ * nothing or has a job in hand.
  *
  * Threads: safe beside calls with other handles; two at once with `exec` are undefined behaviour. */
 arachne_exec_told arachne_exec_wake_here(arachne_exec *exec, uint64_t name);
@@ -290,7 +296,7 @@ typedef struct {
 typedef struct {
     /* The number of the event: of the grant, the ask, the free or the leave. */
     uint64_t at;
-    /* The one that holds the lock now, if a free handed it on; the number of that grant is `at` + 1. */
+    /* The waiter that holds the lock now, if a free handed it on. The number of that grant is `at` + 1. */
     uint64_t next;
     uint32_t code;
 } arachne_lock_told;
@@ -311,8 +317,8 @@ uint32_t arachne_locks_split(arachne_locks *locks, arachne_locks *other);
 
 /* Joins the seat of `other` into that of `locks`, so that `other` holds nothing.
  *
- * Returns DONE, or REFUSED if one of them holds nothing. Both must be of one set of locks, which is not checked:
- * otherwise the seat of `other` is only freed, as by `arachne_locks_close`.
+ * Returns DONE, or REFUSED if one of the handles holds nothing. Both handles must be of one set of locks, which
+ * is not checked. If they are of two sets, the seat of `other` is only freed, as by `arachne_locks_close`.
  *
  * Threads: safe beside calls with other handles; two at once with `locks` or `other` are undefined behaviour. */
 uint32_t arachne_locks_join(arachne_locks *locks, arachne_locks *other);
@@ -340,7 +346,7 @@ arachne_lock_told arachne_lock_free(arachne_locks *locks, size_t lock, uint64_t 
 
 /* Takes `who` out of the queue of a lock, such as when its future is dropped: one try.
  *
- * Returns LEFT; GRANTED if it holds the lock by now, and must free it; NOT_HOLDER; CONTENDED; REFUSED if the
+ * Returns LEFT; GRANTED if `who` holds the lock by now, and must free it; NOT_HOLDER; CONTENDED; REFUSED if the
  * handle holds nothing or there is no such lock.
  *
  * Threads: safe beside calls with other handles; two at once with `locks` are undefined behaviour. */
@@ -379,8 +385,8 @@ bool arachne_ledger_add(arachne_adder *adder, size_t ledger, uint64_t amount);
 
 /* Reads the total of a ledger, modulo 2^64, once all other handles were joined into this one.
  *
- * Returns false, with nothing changed, if one was not, if the handle holds nothing, or if there is no such
- * ledger.
+ * Returns false, with nothing changed, if another handle was not joined into this one, if the handle holds
+ * nothing, or if there is no such ledger.
  *
  * Threads: safe beside calls with other handles; two at once with `adder` are undefined behaviour. */
 bool arachne_ledger_total(arachne_adder *adder, size_t ledger, uint64_t *total);
@@ -395,9 +401,9 @@ uint32_t arachne_ledger_split(arachne_adder *adder, arachne_adder *other);
 
 /* Joins the share of `other` into that of `adder`, so that `other` holds nothing.
  *
- * Returns false, with nothing changed, if one of them holds nothing. Both must be of one set of ledgers, which
- * is not checked: otherwise totals of the ledgers of `adder` may be read before all of their handles were
- * joined, and those of `other` can't be read any more.
+ * Returns false, with nothing changed, if one of the handles holds nothing. Both handles must be of one set of
+ * ledgers, which is not checked. If they are of two sets, totals of the ledgers of `adder` may be read before
+ * all of their handles were joined, and totals of the ledgers of `other` can't be read any more.
  *
  * Threads: safe beside calls with other handles; two at once with `adder` or `other` are undefined behaviour. */
 bool arachne_ledger_join(arachne_adder *adder, arachne_adder *other);

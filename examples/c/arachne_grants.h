@@ -63,9 +63,10 @@ enum {
 
 /* ---- Messages */
 
-/* A message of a client. Fields that it does not use are 0. */
+/* A message of a client. Fields that the message does not use are 0. */
 typedef struct {
-    /* HELLO, JOIN, WAIT or ASK; otherwise the reason that the bytes do not begin with a message. */
+    /* HELLO, JOIN, WAIT or ASK if the bytes begin with such a message. If the bytes begin with no message, the
+     * reason for that. */
     uint32_t code;
     uint32_t priority;
     uint32_t reserved;
@@ -94,9 +95,9 @@ typedef struct {
 } arachne_arbiter;
 #define ARACHNE_ARBITER_NULL {0}
 
-/* The action that the caller must take on a thread. Fields that it does not use are 0. */
+/* The action that the caller must take on a thread. Fields that the action does not use are 0. */
 typedef struct {
-    /* TAKEN, PLACED, GRANTED or NOTHING; REFUSED if the handle holds nothing. */
+    /* TAKEN, PLACED, GRANTED or NOTHING, or REFUSED if the handle holds nothing. */
     uint32_t code;
     uint32_t core;
     size_t client;
@@ -105,9 +106,9 @@ typedef struct {
 
 /* A client's share of the cores. */
 typedef struct {
-    /* The number of cores that it may have. */
+    /* The number of cores that the client may have. */
     uint32_t allowed;
-    /* The number of cores that its threads have. */
+    /* The number of cores that the client's threads have. */
     uint32_t held;
 } arachne_share;
 
@@ -126,8 +127,8 @@ void arachne_arbiter_close(arachne_arbiter *arbiter);
 /* Adds a client with its priority, of which 0 goes first, and the cores that it reserves and may ask for at
  * most.
  *
- * Its number is from 0 to 63, and no other client's. Returns DONE or REFUSED. The caller must check that the
- * client is entitled to these.
+ * The client's number is from 0 to 63, and no other client's. Returns DONE or REFUSED. The caller must check
+ * that the client is entitled to this priority and these cores.
  *
  * Threads: safe beside calls with other handles; two at once with `arbiter` are undefined behaviour. */
 uint32_t arachne_arbiter_hello(arachne_arbiter *arbiter, size_t client, uint8_t priority, uint32_t reserved, uint32_t most);
@@ -137,7 +138,7 @@ uint32_t arachne_arbiter_hello(arachne_arbiter *arbiter, size_t client, uint8_t 
  * Threads: safe beside calls with other handles; two at once with `arbiter` are undefined behaviour. */
 uint32_t arachne_arbiter_ask(arachne_arbiter *arbiter, size_t client, uint32_t cores);
 
-/* Removes a client, with all of its threads. Returns DONE, or REFUSED if its number is greater than 63.
+/* Removes a client, with all of its threads. Returns DONE, or REFUSED if the client's number is greater than 63.
  *
  * Threads: safe beside calls with other handles; two at once with `arbiter` are undefined behaviour. */
 uint32_t arachne_arbiter_leave(arachne_arbiter *arbiter, size_t client);
@@ -155,7 +156,7 @@ uint32_t arachne_arbiter_join(arachne_arbiter *arbiter, size_t client, size_t pl
  * Threads: safe beside calls with other handles; two at once with `arbiter` are undefined behaviour. */
 uint32_t arachne_arbiter_wait(arachne_arbiter *arbiter, size_t client, size_t place);
 
-/* Removes a thread. Returns DONE, or REFUSED if its client's number or its place is greater than 63.
+/* Removes a thread. Returns DONE, or REFUSED if the client's number or the thread's place is greater than 63.
  *
  * Threads: safe beside calls with other handles; two at once with `arbiter` are undefined behaviour. */
 uint32_t arachne_arbiter_end(arachne_arbiter *arbiter, size_t client, size_t place);
@@ -174,7 +175,7 @@ arachne_action arachne_arbiter_take_back(arachne_arbiter *arbiter, size_t client
 
 /* Gives a free core to a thread that can take one, of a client that has fewer than it may have.
  *
- * The higher priority goes first. Returns GRANTED if the thread waited, PLACED if it floats, or NOTHING.
+ * A client of higher priority goes first. Returns GRANTED if the thread waited, PLACED if it floats, or NOTHING.
  *
  * Threads: safe beside calls with other handles; two at once with `arbiter` are undefined behaviour. */
 arachne_action arachne_arbiter_give(arachne_arbiter *arbiter);

@@ -1,6 +1,7 @@
 //! Links the proved library, libarachne_exec_c.a with the kit's liblibc_c.a, from the folder that ARACHNE_LIBS names.
 //!
-//! If that is not set, they are taken from the folder above the crate, where `scripts/release` puts them.
+//! If ARACHNE_LIBS is not set, the libraries are taken from the folder above the crate, where `scripts/release` puts
+//! them.
 use std::path::{Path, PathBuf};
 
 fn main() {

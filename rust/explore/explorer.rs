@@ -7,12 +7,13 @@
 //! it knows which threads wait.
 //!
 //! Time is virtual. A point takes some nanoseconds, and if no thread can run, time jumps to the next one that sleeps.
-//! If none does, that is a *hang*, and so is a run of more than `LONGEST`. More than `STEPS` points are a *livelock*.
-//! Freed memory keeps a pattern until the end of the run: an atomic or a lock that has the pattern, or a block whose
-//! pattern has changed, was used after it was freed. A run must free all that it has allocated.
+//! If no thread sleeps for a time, that is a *hang*, and so is a run of more than `LONGEST`. More than `STEPS` points
+//! are a *livelock*. Freed memory keeps a pattern until the end of the run: an atomic or a lock that has the pattern,
+//! or a block whose pattern has changed, was used after it was freed. A run must free all that it has allocated.
 //!
-//! Each of these, a failed assertion and a fault print the last points (`TRACE=1000` for more), the point at which each
-//! thread waits, and the load's name with the seed, which repeats the run. `explore/run` builds and runs it.
+//! A hang, a livelock, a use of freed memory, a failed assertion and a fault each print the last points (`TRACE=1000`
+//! for more), the point at which each thread waits, and the load's name with the seed, which repeats the run.
+//! `explore/run` builds and runs it.
 //!
 //! The crate, and the model of the core, use atomics, locks and threads only through `sync.rs`. So the model's steps
 //! are points too, and nothing is assumed of it; the proved library is not tested here. Each point is sequentially
@@ -53,7 +54,7 @@ type Job = Box<dyn FnOnce() + Send>;
 
 struct Thread {
     state: Cell<State>,
-    /// The object that it waits for, until when, and in which epoll; and true if it was woken.
+    /// The object that the thread waits for, until when, and in which epoll; and true if the thread was woken.
     on: Cell<usize>,
     until: Cell<u64>,
     epoll: Cell<i32>,
@@ -98,7 +99,8 @@ struct World {
     lowest: Cell<u64>,
     /// The thread that will lose its processor, the point at which it does, and for how many nanoseconds.
     loss: Cell<(usize, u64, u64)>,
-    /// The scheduler chooses anew at this point, at this time, and whenever a thread was woken.
+    /// The point, and the time, at which the scheduler chooses the running thread anew. The scheduler also chooses anew
+    /// when a thread was woken.
     alarm: Cell<u64>,
     timer: Cell<u64>,
     stirred: Cell<bool>,
@@ -199,7 +201,7 @@ impl World {
         self.began.set(self.steps.get());
     }
 
-    /// The first of those that can run goes on. Returns once that is this one.
+    /// Lets the first of the threads that can run go on. Returns once the calling thread may go on.
     fn go_on(&self, me: usize) {
         let next = loop {
             self.stirred.set(false);
@@ -240,7 +242,8 @@ impl World {
         }
     }
 
-    /// Nobody can run: the next who sleeps wakes, unless an epoll has something to tell that nobody said.
+    /// Lets time pass, as no thread can run: the next thread that sleeps wakes, unless an epoll has an event that
+    /// nobody announced.
     fn pass_time(&self, timer: u64) {
         for thread in self.all().filter(|thread| thread.state.get() == State::Waits && thread.epoll.get() >= 0) {
             let mut what = [thread.epoll.get(), 1];
@@ -257,7 +260,7 @@ impl World {
         self.now.set(timer);
     }
 
-    /// Lets this thread wait. Returns true if it was woken before its time.
+    /// Lets this thread wait. Returns true if the thread was woken before its time.
     fn wait(&self, me: usize, on: usize, until: u64, epoll: i32) -> bool {
         let thread = &self.threads[me];
         (thread.on.set(on), thread.until.set(until), thread.epoll.set(epoll), thread.told.set(false));
@@ -266,7 +269,7 @@ impl World {
         thread.told.get()
     }
 
-    /// Those that wait for this can run: all, or one by chance.
+    /// Lets threads that wait for this object run: all of them, or one by chance.
     fn tell(&self, on: usize, one: bool) {
         let waits = |thread: &&Thread| thread.state.get() == State::Waits && thread.on.get() == on;
         let count = self.all().filter(waits).count();
@@ -325,7 +328,7 @@ impl World {
     }
 }
 
-/// Makes a point of this thread, if it is one of a run.
+/// Makes a point of the calling thread (another thread may take over there), if it is a thread of a run.
 #[inline]
 fn point(what: &'static str, at: &'static Location<'static>) {
     let me = me();
@@ -375,8 +378,8 @@ pub fn fail(what: &str) -> ! {
     unsafe { _exit(1) }
 }
 
-/// Before the first run. All threads stay on one processor, so that one wakes another for little; a panic on any, and a
-/// fault, ends the process. `clean` frees what a kernel thread keeps for its next calls.
+/// Prepares the process for the first run. All threads stay on one processor, so that one wakes another for little; a
+/// panic on any, and a fault, ends the process. `clean` frees what a kernel thread keeps for its next calls.
 pub fn prepare(clean: fn()) {
     extern "C" fn fault(_: i32) {
         fail("a fault: something was used after it was freed, most likely");
@@ -430,8 +433,8 @@ pub fn prepare(clean: fn()) {
     std::panic::set_hook(Box::new(|panic| fail(&panic.to_string())));
 }
 
-/// Runs a load once by this seed; how many points and switches it took. All threads that it begins have to end, and all
-/// that it allocates has to be freed, by itself or by `end`.
+/// Runs a load once by this seed. Returns the numbers of points and of switches that it took. All threads that the load
+/// begins have to end, and all that the load allocates has to be freed, by the load or by `end`.
 pub fn run(name: &'static str, load: fn(), exact: bool, seed: u64, end: fn()) -> (u64, u64) {
     let world = world();
     (world.load.set(name), world.seed.set(seed), world.exact.set(exact));
@@ -458,7 +461,7 @@ pub fn run(name: &'static str, load: fn(), exact: bool, seed: u64, end: fn()) ->
     (world.steps.get(), world.switches.get())
 }
 
-/// This thread has no processor for `time`, once `points` more points have passed.
+/// Takes the processor from the calling thread for `time`, once `points` more points have passed.
 pub fn lose_processor(points: usize, time: std::time::Duration) {
     let world = world();
     let from = world.steps.get() + points as u64;
@@ -466,7 +469,7 @@ pub fn lose_processor(points: usize, time: std::time::Duration) {
     world.alarm.set(world.alarm.get().min(from));
 }
 
-/// A number below that, by the seed.
+/// Returns a number below `count`, by the seed.
 pub fn choose(count: usize) -> usize {
     world().random() as usize % count
 }

@@ -112,7 +112,7 @@ impl Drop for OnDrop {
     }
 }
 
-/// Abort handles are made, cloned and dropped while their task ends: its contents are dropped exactly once.
+/// Abort handles are made, cloned and dropped while their task ends: the task's contents are dropped exactly once.
 fn aborts() {
     let (runtime, dropped) = (runtime(2), Arc::new(Count::default()));
     let within = OnDrop(dropped.clone());
@@ -184,8 +184,8 @@ fn closing() {
     assert_eq!(permits.available_permits(), free + count);
 }
 
-/// Handles spawn while their runtime ends, and while another begins that gets its tables: each task ends, or never
-/// begins, and none is the other runtime's.
+/// Handles spawn while their runtime ends, and while another runtime begins and gets the tables. Each task ends, or
+/// never begins, and no task gets into the other runtime.
 fn door() {
     let (first, dropped) = (runtime(2), Arc::new(Count::default()));
     let (handle, within) = (first.handle(), dropped.clone());
@@ -289,10 +289,21 @@ fn apart() {
     assert!(late < 300_000, "after {} us", late / 1000);
 }
 
-/// A worker loses its processor as it ends a poll, or a little later: all that is ready there begins soon, but for the
-/// one task that it has taken to run.
+/// A worker loses its processor as it ends a poll, or a little later: all tasks that are ready there begin soon, but
+/// for the one that it has taken to run.
 fn stands() {
-    let (runtime, begun, late) = (runtime(2 + choose(2)), Arc::new(Count::default()), Arc::new(Count::default()));
+    stands_on(runtime(2 + choose(2)));
+}
+
+/// The same of the only worker with a core, for which another one covers.
+fn covered() {
+    let runtime = runtime(2 + choose(2));
+    arachne::set_active(&runtime, 1);
+    stands_on(runtime);
+}
+
+fn stands_on(runtime: Runtime) {
+    let (begun, late) = (Arc::new(Count::default()), Arc::new(Count::default()));
     thread::sleep(choose(12) as u32 * MS);
     let (tells, counts) = (begun.clone(), late.clone());
     let begins = move |since: u64| {
@@ -491,7 +502,7 @@ fn handles() {
     }
 }
 
-/// Counts its drop.
+/// A value that counts its drop.
 struct Counted(Arc<Count>);
 impl Drop for Counted {
     fn drop(&mut self) {
@@ -825,9 +836,9 @@ impl Drop for Leaves {
     }
 }
 
-/// Name, load, and whether its time is exact.
+/// A load's name, its function, and whether its time is exact.
 type Load = (&'static str, fn(), bool);
-const LOADS: [Load; 30] = [
+const LOADS: [Load; 31] = [
     ("sleepers", sleepers, false),
     ("prompt", prompt, true),
     ("returned", returned, false),
@@ -835,6 +846,7 @@ const LOADS: [Load; 30] = [
     ("behind", behind, true),
     ("apart", apart, true),
     ("stands", stands, true),
+    ("covered", covered, true),
     ("relief", relief, false),
     ("ticks", ticks, false),
     ("stale", stale, false),

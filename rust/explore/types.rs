@@ -116,7 +116,7 @@ unsafe impl<T: ?Sized + Send> Sync for Mutex<T> {}
 
 pub struct MutexGuard<'a, T: ?Sized>(&'a Mutex<T>);
 
-/// A thread that waits for this waits for its address.
+/// Returns the object's address, for which a thread waits that waits for the object.
 fn id<T: ?Sized>(of: &T) -> usize {
     of as *const T as *const u8 as usize
 }
@@ -260,7 +260,7 @@ impl Condvar {
 
 // ------------------------------------------------------------------------------------------- time, epoll, threads
 
-/// Nanoseconds of virtual time.
+/// Returns the nanoseconds of virtual time.
 pub fn now() -> u64 {
     world().now.get()
 }

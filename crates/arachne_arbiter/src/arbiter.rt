@@ -1,4 +1,4 @@
-//! The part of core 0's kernel thread in the orders of a run.
+//! The arbiter of a run: core 0's kernel thread applies the orders by which cores are taken back and granted again.
 ghost use Rattle.std.specs.Prelude.{◌≡◌, ℕ, ◌<◌, ◌≤◌, length, if◌then◌else◌, IfOk, MatchBool};
 ghost use Rattle.arachne_core.specs.declared.layout.TheConstants.{CORES};
 ghost use Rattle.arachne_policy.specs.Orders.{AreInOrder};
@@ -16,9 +16,9 @@ use std::alloc::{AllocError, Global};
 use std::marker::Model;
 use std::sync::Wait;
 
-/// Applies core orders to a table, and drains the cores that they close.
+/// Applies core orders to a table, and moves threads away from the cores that these orders close.
 ///
-/// Only one kernel thread has it, and nobody else closes or opens cores as long as it exists.
+/// Only one kernel thread has the arbiter, and nobody else closes or opens cores as long as the arbiter exists.
 ///
 /// Contracts see the orders, the number of cores, and the number of orders that were applied.
 #[derive(Debug, Drop)]
@@ -40,7 +40,7 @@ impl Model for Arbiter {
 impl Arbiter {
     ghost use Rattle.arachne_arbiter.specs.Orders.{with_next, IsDue, IsNoneDue, HasAppliedDue};
 
-    /// Creates an arbiter of `orders`, of which none was applied, for `cores` cores, all of which are open.
+    /// Creates an arbiter for `cores` open cores, which has applied none of `orders` yet.
     ///
     /// The error is a refusal of memory.
     pub fn new(alloc: Global, orders: Vec<CoreOrder>, cores: u8) -> Result<Arbiter, AllocError>
@@ -63,8 +63,9 @@ impl Arbiter {
 
     /// Applies the orders that are due, and moves threads away from one closed core.
     ///
-    /// Returns the cores to which threads were moved, a bit for each. The kernel thread must call it before each of its
-    /// slices, and while it finds nothing to run. `slices` is read only while an order is left.
+    /// Returns the cores to which threads were moved, a bit for each. Core 0's kernel thread must call this before each
+    /// of its slices, and while it finds nothing to run. `slices` (the counts of ended slices) is read only while an
+    /// order is left to apply.
     pub fn tend<H: Wait, T: Tagged, C: Contexts<T>>(
         &mut self,
         cores: &Cores<'_, H, T, C>,
@@ -108,7 +109,7 @@ impl Arbiter {
         while self.apply_next(cores, seat, parking, ended) {}
     }
 
-    /// Applies the next order, if it is due once `ended` slices have ended. Returns whether it was.
+    /// Applies the next order, if it is due once `ended` slices have ended. Returns whether the order was due.
     fn apply_next<H: Wait, T: Tagged, C: Contexts<T>>(
         &mut self,
         cores: &Cores<'_, H, T, C>,
@@ -146,9 +147,10 @@ impl Arbiter {
 
     /// Moves threads away from one of the cores that orders have closed, each core in its turn.
     ///
-    /// Returns the cores to which threads were moved, a bit for each. A thread at rest goes to the first other core, in
-    /// ascending order, that has room. A thread stays if it is held, not posted yet, or exclusive. Once all closed
-    /// cores are drained, no core is looked at.
+    /// Returns the cores to which threads were moved, a bit for each. A thread that no worker has in hand goes to the
+    /// first other core, in ascending order, that has room. A thread stays if a worker has it in hand, if it was not
+    /// put at its place yet, or if it has its core for itself. Looks at no core once all closed cores are drained (have
+    /// no thread left).
     pub fn drain<H: Wait, T: Tagged, C: Contexts<T>>(
         &mut self,
         cores: &Cores<'_, H, T, C>,

@@ -5,16 +5,16 @@ ghost use Rattle.arachne_arbiter.specs.Choice.{core_chosen, HasPlace, is_candida
 use arachne_core::{CORES, OccWord, SLOTS};
 use arachne_policy::{CoreLoad, two_choices};
 
-/// Returns whether a core takes threads that share it: it is open, and no thread has it exclusively.
+/// Returns whether a core takes threads that share it: the core is open, and no thread has it exclusively.
 fn is_candidate(occupancy: OccWord) -> bool
     ensures { result ≡ is_candidate_at occupancy }
 {
     !occupancy.is_closed() && !occupancy.is_exclusive()
 }
 
-/// Returns whether a core of `slots` places has one for a thread that shares it.
+/// Returns whether a core of `slots` places has a place for a thread that shares the core.
 ///
-/// It has if it is open, no thread has it exclusively, and a place is free.
+/// The core has such a place if it is open, no thread has it exclusively, and one of its places is free.
 pub fn has_place(occupancy: OccWord, slots: u8) -> bool
     requires { slots ≤ SLOTS }
     ensures { IsTrue result ↔ HasPlace slots occupancy }
@@ -22,10 +22,11 @@ pub fn has_place(occupancy: OccWord, slots: u8) -> bool
     is_candidate(occupancy) && occupancy.lowest_free_below(slots).is_some()
 }
 
-/// Returns the core that two random choices, by `word`, give among the cores that take threads which share them.
+/// Draws two cores by the random `word`, of those that take threads which share a core, and returns the less loaded of
+/// them.
 ///
-/// `occupancies` are those of the cores from 0 on. A core takes such threads if it is open and no thread has it
-/// exclusively. Returns `None` if there is no such core.
+/// `occupancies` has the occupancy word (which places are occupied, as bits) of each core, from core 0 on. A core takes
+/// such threads if it is open and no thread has it exclusively. Returns `None` if there is no such core.
 pub fn first_core(word: u64, occupancies: &[OccWord]) -> Option<u8>
     requires { length occupancies.now ≤ CORES }
     ensures chosen { result ≡ core_chosen word (loads_of occupancies.now (length occupancies.now)) }

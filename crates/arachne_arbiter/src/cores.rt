@@ -1,4 +1,4 @@
-//! The cores of a table.
+//! The cores of a context table, as a kernel thread uses them.
 ghost use Rattle.std.specs.Prelude.{◌≡◌, ◌<◌, ◌≤◌};
 ghost use Rattle.arachne_core.specs.declared.layout.TheConstants.{CORES, SLOTS};
 ghost use Rattle.arachne_contexts.specs.Out.{KeepsOut};
@@ -8,7 +8,7 @@ use arachne_core::{CORES, OccWord};
 use std::marker::PhantomData;
 use std::sync::Wait;
 
-/// A table with its numbers of cores and of places, for a kernel thread that works at it.
+/// A context table with its number of cores and of places per core, as a kernel thread uses it.
 #[derive(Drop)]
 pub struct Cores<'a, H, T, C: Seats> {
     pub rt: &'a H,
@@ -17,7 +17,7 @@ pub struct Cores<'a, H, T, C: Seats> {
     pub count: u8,
     /// The number of places of each core, 1 to 56.
     pub slots: u8,
-    /// The type of what the table's contexts hold.
+    /// The type of the values in the table's contexts.
     pub of: PhantomData<T>,
     ghost counted: { C.core_count table.now ≡ count },
     ghost few: { count ≤ CORES },

@@ -9,7 +9,7 @@ use arachne_core::Place;
 use std::alloc::{AllocError, Global};
 use std::sync::Wait;
 
-/// The closed cores that may still have threads, and the one of them that had its turn last.
+/// The closed cores that may still have threads, and the last of them from which threads were moved away.
 #[derive(Debug, Drop)]
 pub(crate) struct Draining {
     waiting: Vec<bool>,
@@ -20,7 +20,7 @@ pub(crate) struct Draining {
 }
 
 impl Draining {
-    /// Creates it for `cores` cores, none of which is closed. The error is a refusal of memory.
+    /// Creates the record for `cores` cores, none of which is closed. The error is a refusal of memory.
     pub(crate) fn new(alloc: Global, cores: u8) -> Result<Draining, AllocError>
         ensures { IfOk result (λ draining. draining.waiting.items ≡ replicate cores false) }
     {
@@ -49,9 +49,9 @@ impl Draining {
         self.waiting[usize::from(core)] = false;
     }
 
-    /// Moves threads away from one of the waiting cores, each core in its turn.
+    /// Moves threads away from one of the cores that must be drained; the next call takes the next core.
     ///
-    /// Adds to `receivers` the cores to which threads were moved. Looks at no core if none is waiting.
+    /// Adds to `receivers` the cores to which threads were moved. Looks at no core if none must be drained.
     pub(crate) fn round<H: Wait, T: Tagged, C: Contexts<T>>(
         &mut self,
         cores: &Cores<'_, H, T, C>,
@@ -78,7 +78,7 @@ impl Draining {
         }
     }
 
-    /// Returns the waiting core whose turn is next, or `None` if no core is waiting.
+    /// Returns the core that is drained next, or `None` if none must be drained.
     fn next_core(&mut self, cores: u8) -> Option<u8>
         requires { vec_len self.old.waiting ≡ cores }
         ensures next { IfSome result (λ core. (core < cores) × (slice_index_or self.old.waiting.items core false ≡ true)) }
@@ -99,11 +99,12 @@ impl Draining {
 }
 
 impl<'a, H: Wait, T: Tagged, C: Contexts<T>> Cores<'a, H, T, C> {
-    /// Moves the threads that are at rest on a closed core to other cores. Returns whether the core was empty.
+    /// Moves the threads that no worker has in hand from a closed core to other cores. Returns whether the core was
+    /// empty.
     ///
-    /// A thread goes to the first other core, in ascending order, that has room, and that core is added to
-    /// `receivers`. A thread is left for a later call if it is held or not posted yet, if its move lost a race, or if
-    /// no core has room.
+    /// A thread goes to the first other core, in ascending order, that has room, and that core is added to `receivers`.
+    /// A thread is left for a later call if a worker has it in hand, if it was not put at its place yet, if another
+    /// step changed the place meanwhile, or if no core has room.
     pub(crate) fn move_away(&self, seat: &mut C::Seat, core: u8, receivers: &mut u64) -> bool
         requires seat { C.sits self.now.table.now seat.old }
         requires core { core < self.now.count }

@@ -1,4 +1,4 @@
-//! Core orders, taken one after another.
+//! Core orders (that a core is taken back, or granted again), which are taken one after another.
 ghost use Rattle.std.specs.Prelude.{◌≡◌, ◌+◌, ◌<◌, ◌≤◌, ◌↔◌, length, IsTrue, IfOk, IfSome, MatchOption};
 ghost use Rattle.arachne_core.specs.declared.layout.TheConstants.{CORES};
 ghost use Rattle.arachne_policy.specs.Orders.{AreInOrder};
@@ -10,15 +10,15 @@ use std::marker::Model;
 /// The effect of an order.
 #[derive(Clone, Copy, Debug, PartialEq, Eq)]
 pub enum Effect {
-    /// It closes this core.
+    /// The order closes this core.
     Closes(u8),
-    /// It opens this core.
+    /// The order opens this core.
     Opens(u8),
-    /// It releases a core that is closed, or grants one that is open.
+    /// The order changes nothing: it releases a core that is closed, or grants one that is open.
     Nothing,
 }
 
-/// Core orders, the number of them that were applied, and the cores that these have closed.
+/// A list of core orders, the number of orders that were applied, and the cores that these have closed.
 ///
 /// Contracts see the list, the number of cores, and the number of orders that were applied.
 #[derive(Debug, Drop)]
@@ -42,7 +42,7 @@ impl Model for Orders {
 impl Orders {
     ghost use Rattle.arachne_arbiter.specs.Orders.{is_closed_after, next_effect, with_next, IsDue, IsNoneDue, IsWithin};
 
-    /// Creates it of a list of which no order was applied, for `cores` cores, all of which are open.
+    /// Creates the orders from `list`, of which none was applied yet, for `cores` cores, all of which are open.
     ///
     /// The error is a refusal of memory.
     pub fn new(alloc: Global, list: Vec<CoreOrder>, cores: u8) -> Result<Orders, AllocError>
@@ -73,7 +73,7 @@ impl Orders {
         self.applied == self.list.len()
     }
 
-    /// Returns whether the orders that were applied have left a core closed.
+    /// Returns whether the orders that were applied have left this core closed.
     pub fn has_closed(&self, core: u8) -> bool
         requires { core < self.now.cores }
         ensures { result ≡ is_closed_after self.now.list self.now.applied core }
@@ -83,7 +83,7 @@ impl Orders {
 
     /// Counts the next order as applied and returns its effect, if it is due once `ended` slices have ended.
     ///
-    /// Returns `None` and changes nothing if it is not due, or if all orders were applied.
+    /// Returns `None` and changes nothing if the next order is not due, or if all orders were applied.
     pub fn next_due(&mut self, ended: u64) -> Option<Effect>
         ensures due { MatchOption result (IsNoneDue self.old ended) (λ _. IsDue self.old ended) }
         ensures effect { IfSome result (λ effect. (effect ≡ next_effect self.old) × IsWithin self.old.cores effect) }

@@ -6,19 +6,20 @@ use std::marker::Model;
 use std::thread;
 use std::time::{Clock, Duration, Instant};
 
-/// A yield that takes more microseconds than this gave other work a whole turn, which is some milliseconds.
+/// If a yield of the processor takes longer than this (microseconds), another process has had a time slice of some
+/// milliseconds.
 const AT_ONCE: u64 = 2000;
 
-/// The number of rounds with work for which a kernel thread doesn't yield after such a yield.
+/// After a yield that took long, a kernel thread doesn't yield for this many rounds of its loop that find work.
 const ROUNDS_WITHOUT_YIELDS: u32 = 4096;
 
 /// Decides whether a kernel thread that waits may yield its processor.
 ///
-/// On an idle machine a yield returns immediately. Beside other work it gives away a whole turn, which delays all who
-/// wait for what this kernel thread has. So each yield is timed, and after one that took long the next waits don't
-/// yield: they spin for a short time, and then sleep.
+/// On an idle machine a yield returns immediately. If other processes want the processor, a yield gives away a whole
+/// time slice, which delays all who wait for what this kernel thread has. So each yield is timed. After one that took
+/// long, the next waits don't yield: they spin for a short time, and then sleep.
 ///
-/// Contracts see the number of rounds with work that are left without a yield. They don't see the clock.
+/// Contracts see for how many rounds that find work no yield is allowed, but not the clock.
 #[derive(Drop)]
 pub struct Pace {
     rounds: u32,
@@ -45,14 +46,14 @@ impl Pace {
         self.rounds == 0
     }
 
-    /// Records that a round has found work.
+    /// Records that a round of the worker's loop has found work.
     pub fn found(&mut self)
         ensures { self.new ≡ self.old - 1 }
     {
         self.rounds = self.rounds.saturating_sub(1);
     }
 
-    /// Yields the processor once, and forbids further yields for a while if this one took long.
+    /// Yields the processor once, and forbids further yields for a while if this yield took long.
     pub fn yield_once<H: Clock>(&mut self, rt: &H)
         ensures { (self.new ≡ self.old) ⊎ (self.new ≡ ROUNDS_WITHOUT_YIELDS) }
     {

@@ -12,14 +12,14 @@ use std::thread::Parker;
 
 /// One parker for each core, on which the core's kernel thread sleeps.
 ///
-/// An unpark before the park is kept, and that park returns immediately. So a kernel thread that checks whether it must
-/// park, and then parks, misses no unpark between the two.
+/// An unpark that comes before the park is kept: the park then returns immediately. So a kernel thread that checks
+/// whether it must park, and then parks, misses no unpark between the two.
 #[derive(Drop)]
 pub struct Parking {
     parkers: Vec<CachePadded<Parker>>,
 }
 
-/// Evidence that all parked kernel threads were unparked. Only [`Parking::unpark_all`] returns it.
+/// Evidence that all parked kernel threads were unparked. Only [`Parking::unpark_all`] returns a value of this type.
 #[derive(Drop)]
 pub struct Unparked {
     all: (),
@@ -37,7 +37,7 @@ impl Parking {
         Ok(Parking { parkers })
     }
 
-    /// Sleeps until the core is unparked. Only the core's kernel thread may call it.
+    /// Sleeps until the core is unparked. Only the core's kernel thread may call `park`.
     pub fn park<H: Wait>(&self, rt: &H, core: u8)
         requires { core < parked_cores self.now }
     {
@@ -61,9 +61,10 @@ impl Parking {
 }
 
 impl<'a, H: Wait, T: Tagged, C: Contexts<T>> Cores<'a, H, T, C> {
-    /// Parks a core's kernel thread if the core is closed and empty. Returns whether it was.
+    /// Parks a core's kernel thread if the core is closed and empty. Returns whether the kernel thread parked.
     ///
-    /// If so, the kernel thread was unparked since, and must look again. Only the core's kernel thread may call it.
+    /// If the kernel thread did park, it has been unparked since, and must look for work again. Only the core's kernel
+    /// thread may call `park_if_drained`.
     pub fn park_if_drained(&self, seat: &mut C::Seat, parking: &Parking, core: u8) -> bool
         requires seat { C.sits self.now.table.now seat.old }
         requires core { core < self.now.count }

@@ -15,9 +15,9 @@ use std::sync::Wait;
 impl<'a, H: Wait, T: Tagged, C: Contexts<T>> Cores<'a, H, T, C> {
     /// Claims a place for a thread that shares its core with others.
     ///
-    /// Takes it on the core that two random choices give, or else on the first other core that has one. Returns `None`
-    /// if no core has a place. The error is a refusal of memory for what is posted at the place. Draws one word from
-    /// the chooser in each case.
+    /// Takes the place on the less loaded of two cores drawn at random, or else on the first other core that has one.
+    /// Returns `None` if no core has a place. The error is a refusal of memory for the thread that will be put at the
+    /// place. Draws exactly one word from `chooser` (a random generator), whatever the result.
     pub fn claim_normal<R: Rng>(
         &self,
         seat: &mut C::Seat,
@@ -41,7 +41,8 @@ impl<'a, H: Wait, T: Tagged, C: Contexts<T>> Cores<'a, H, T, C> {
         self.claim_on_chosen(seat, word)
     }
 
-    /// Claims a place on the core that two random choices by `word` give, or else on the first other core that has one.
+    /// Claims a place on the less loaded of two cores that `word` draws at random, or else on the first other core that
+    /// has a place.
     fn claim_on_chosen(&self, seat: &mut C::Seat, word: u64) -> Result<Option<C::Claim>, AllocError>
         requires { C.sits self.now.table.now seat.old }
         ensures seat { C.sits self.now.table.now seat.new }
@@ -62,7 +63,8 @@ impl<'a, H: Wait, T: Tagged, C: Contexts<T>> Cores<'a, H, T, C> {
 
     /// Claims the first open and empty core for an exclusive thread.
     ///
-    /// Returns `None` if there is no such core. The error is a refusal of memory for what is posted at the place.
+    /// Returns `None` if there is no such core. The error is a refusal of memory for the thread that will be put at the
+    /// place.
     pub fn claim_exclusive(&self, seat: &mut C::Seat) -> Result<Option<C::Claim>, AllocError>
         requires { C.sits self.now.table.now seat.old }
         ensures seat { C.sits self.now.table.now seat.new }
@@ -80,8 +82,8 @@ impl<'a, H: Wait, T: Tagged, C: Contexts<T>> Cores<'a, H, T, C> {
 
     /// Returns whether a core seems to have a place for a thread that shares it.
     ///
-    /// It looks without a seat, and only up to the first core that has a place. The result is a hint: only a claim
-    /// decides.
+    /// Reads the cores' words without a seat, and stops at the first core that has a place. The result is a hint: only
+    /// a claim decides.
     pub(crate) fn is_any_free(&self) -> bool {
         for core in 0..self.count {
             let seen = OccWord::from_word(self.table.glance(self.rt, core));
@@ -132,9 +134,9 @@ impl<'a, H: Wait, T: Tagged, C: Contexts<T>> Cores<'a, H, T, C> {
         Ok(None)
     }
 
-    /// Claims a place on a core. Returns `None` if it has none.
+    /// Claims a place on a core. Returns `None` if the core has no place.
     ///
-    /// Tries again if another claim took the place in the meantime. Draws no word.
+    /// Tries again if another claim took the place in the meantime. Draws no random word.
     pub fn claim_on(&self, seat: &mut C::Seat, core: u8) -> Result<Option<C::Claim>, AllocError>
         requires seat { C.sits self.now.table.now seat.old }
         requires core { core < self.now.count }
@@ -152,7 +154,7 @@ impl<'a, H: Wait, T: Tagged, C: Contexts<T>> Cores<'a, H, T, C> {
         unreachable!()
     }
 
-    /// Claims a whole core. Returns `None` if it is not both open and empty.
+    /// Claims a whole core. Returns `None` if the core is not both open and empty.
     ///
     /// Tries again if the core's word changed in the meantime.
     fn claim_whole(&self, seat: &mut C::Seat, core: u8) -> Result<Option<C::Claim>, AllocError>

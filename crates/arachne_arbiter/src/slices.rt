@@ -6,7 +6,8 @@ use crossbeam_utils::CachePadded;
 use std::alloc::{AllocError, Global};
 use std::sync::atomic::{AtomicU64, Ordering};
 
-/// One count of ended slices for each core, on a cache line of its own. Only the core's kernel thread writes it.
+/// One count of ended slices for each core, on a cache line of its own. Only the core's kernel thread writes the core's
+/// count.
 #[derive(Drop)]
 pub struct SliceCounts {
     counts: Vec<CachePadded<AtomicU64>>,
@@ -26,7 +27,7 @@ impl SliceCounts {
 
     /// Adds one to the count of a core, which stays at 2^64 - 1.
     ///
-    /// Only the core's kernel thread may call it: two calls at the same time would count one slice.
+    /// Only the core's kernel thread may call `count`: two calls at the same time would count one slice.
     pub fn count(&self, core: u8)
         requires { core < counted_cores self.now }
     {

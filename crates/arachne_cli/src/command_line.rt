@@ -21,7 +21,7 @@ use std::convert::AsStr;
 pub enum Request {
     /// Run a program on several cores.
     Run(RunSettings),
-    /// Answer on one thread.
+    /// Answer the request on one thread.
     Serial(SerialRequest),
 }
 
@@ -32,20 +32,20 @@ pub enum SerialRequest {
     Eval { names: bool },
     /// Say whether a program may run.
     Check,
-    /// Judge samples with these settings.
+    /// Print the core policy's advice for samples of a load, with these settings.
     Policy(Settings),
 }
 
 /// The settings of a run.
 #[derive(Debug, Drop)]
 pub struct RunSettings {
-    /// The number of cores. Any number is taken here: the run refuses those that it cannot have.
+    /// The number of cores. Any number is accepted here; the run later refuses a number that it cannot have.
     pub cores: u64,
-    /// The seed of the choices of all cores.
+    /// The seed of the random generators by which each core's forks choose a core.
     pub seed: u64,
-    /// The maximum number of steps of a slice. Any number is taken, as for `cores`.
+    /// The maximum number of steps of a slice. Any number is accepted here, as for `cores`.
     pub quantum: u64,
-    /// The number of threads for which each core has a place. Any number is taken, as for `cores`.
+    /// The number of threads for which each core has a place. Any number is accepted here, as for `cores`.
     pub slots: u64,
     /// True if a line for each thread is printed.
     pub names: bool,
@@ -53,7 +53,7 @@ pub struct RunSettings {
     pub orders: Sequence<CoreOrder>,
 }
 
-/// The reason why the words make no request.
+/// The reason why the words of the command line are no request.
 #[derive(Debug, Drop)]
 pub enum NotAsked {
     /// The order word of this index is the first malformed one.
@@ -303,7 +303,7 @@ fn number_in(matches: &ArgMatches<'_>, option: &str) -> Option<u64>
     }
 }
 
-/// Returns the request to judge samples, if it asks for at most 64 cores.
+/// Returns the request to judge samples, if the words ask for at most 64 cores.
 fn policy_in(matches: &ArgMatches<'_>) -> Option<Request>
     ensures asked { result ≡ policy_asked (rows_of (found_of matches.now)) }
     ensures allowed { IfSome result IsAllowed }
@@ -402,7 +402,7 @@ fn request_in(alloc: Global, matches: &ArgMatches<'_>) -> Result<Option<Request>
     }
 }
 
-/// Returns the request that the words make. The first word is the program's own name.
+/// Returns the request that the words make. The first of the words is the program's own name.
 ///
 /// Fails if the program does not take the words, if an order word is malformed, or if memory is refused.
 pub fn read_words<'a, S: AsStr>(alloc: Global, words: &'a [S]) -> Result<Request, NotAsked>

@@ -20,7 +20,7 @@ pub const FAULT: u8 = 1;
 
 pub const WORDS: u8 = 2;
 
-/// Room for the line of any fault.
+/// A capacity in bytes that is enough for the line of any fault.
 const LINE: usize = 64;
 
 /// Writes the whole output, and flushes it once. Fails at the first error of the writer.

@@ -55,7 +55,7 @@ impl From<AllocError> for Fault {
 }
 
 impl Fault {
-    /// Returns the line for the fault.
+    /// Returns the line that reports the fault.
     pub fn line(self) -> FaultLine
         ensures { result ≡ line_of self }
     {
@@ -118,14 +118,14 @@ impl Fault {
     }
 }
 
-/// The line for a fault.
+/// The line of text that reports a fault.
 #[derive(Clone, Copy)]
 pub struct FaultLine {
     pub number: u8,
     pub place: Place,
 }
 
-/// The place of a fault, which its line names after the number.
+/// The place of a fault, which the line of the fault names after the number.
 #[derive(Clone, Copy)]
 pub enum Place {
     Nowhere,

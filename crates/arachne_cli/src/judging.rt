@@ -1,4 +1,4 @@
-//! Judges samples one after another.
+//! Judges samples of a load one after another, as the command `policy` does.
 
 ghost use Rattle.std.specs.Prelude.{◌≡◌, ◌≢◌, ◌≤◌, length, IfOk, IfErr, string_bytes};
 ghost use Rattle.arachne_policy.specs.declared.limits.TheConstants.{MAX_CORES};
@@ -37,7 +37,7 @@ pub fn judgement(alloc: Global, text: &[u8], settings: Settings) -> Result<Strin
     judge(alloc, settings, samples.as_slice())
 }
 
-/// Returns a line for each sample, with the advice on it after those before it.
+/// Returns a line for each sample, with the core policy's advice, which depends on the samples before it too.
 ///
 /// Fails at the first sample that cannot be judged, or if memory is refused.
 fn judge(alloc: Global, settings: Settings, samples: &[Sample]) -> Result<String, Fault>

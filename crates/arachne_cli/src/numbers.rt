@@ -1,4 +1,4 @@
-//! Reads numbers and words at the front of a text, for samples and orders.
+//! Reads a number or a word at the front of a text: the parts of a sample (`samples`) and of a core order (`orders`).
 ghost use Rattle.std.specs.Prelude.{◌≡◌, ◌+◌, ◌*◌, ◌^◌};
 ghost use Rattle.arachne_lang.specs.Reading.{digits_at, figures_at, number_at, word_at};
 ghost use Rattle.arachne_cli.specs.Reading.{Gives};
@@ -32,7 +32,7 @@ impl<'t> ReadingStop<'t> {
     }
 }
 
-/// Reads this word. Returns the text after it.
+/// Reads this word. Returns the text after the word.
 pub fn word<'t>(text: &'t [u8], word: &[u8]) -> Result<&'t [u8], ReadingStop<'t>>
     ensures { Gives (λ rest. rest.now) result (word_at word.now text.now) }
 {

@@ -1,4 +1,4 @@
-//! Reads the words of core orders.
+//! Reads the words of the command line that spell core orders, such as `250:grant:3`.
 
 ghost use Rattle.std.specs.Prelude.{◌≡◌, ◌↔◌, ℕ, List, Some, option_map};
 ghost use Rattle.arachne_policy.specs.declared.orders.CoreOrder.{CoreOrder as Order};

@@ -7,7 +7,8 @@ use arachne_lang::{Line, Meaning, Name};
 use std::alloc::{AllocError, Global};
 use std::fmt::Write;
 
-/// Returns the output for a meaning. With `names` it has a line for each thread.
+/// Returns the output for the meaning of a program (its value, totals and threads). With `names` it has a line for each
+/// thread.
 pub fn render(alloc: Global, meaning: &Meaning, names: bool) -> Result<String, AllocError>
     ensures { IfOk result (λ text. string_bytes text ≡ output_of names meaning.now) }
 {
@@ -61,7 +62,7 @@ fn write_totals(text: &mut String, totals: &[u64]) -> Result<(), AllocError>
     Ok(())
 }
 
-/// Writes the line of the thread with this name. `holds` is the number of times that it held each lock.
+/// Writes the line of the thread with this name. `holds` is the number of times that the thread held each lock.
 #[tactic(auto, using(crate::proofs::Lines::after_spaces_append))]
 pub fn write_thread(text: &mut String, name: &Name, holds: &[u64]) -> Result<(), AllocError>
     ensures { OnOk result (string_bytes text.new ≡ string_bytes text.old ++ thread_line (record { name = name.now; holds = holds.now })) }

@@ -61,7 +61,7 @@ fn verdict(alloc: Global, text: &[u8]) -> Result<String, Fault>
     Ok(output)
 }
 
-/// Returns the program that a text spells, if it may run.
+/// Returns the program that a text spells, if that program may run.
 pub fn checked_program(alloc: Global, text: &[u8]) -> Result<Program, Fault>
     requires { length text.now ≤ input_limit }
     ensures program { IfOk result (λ program. IsProgramOf text.now (source_of program)) }
@@ -76,9 +76,9 @@ pub fn checked_program(alloc: Global, text: &[u8]) -> Result<Program, Fault>
 
 /// Runs the program, if its words make a request that one thread answers. Returns the status.
 ///
-/// The first word is the program's own name. The status is 0 if all went well, and 1 if there was a fault, whose line
-/// goes to the faults stream. It is 2 if the words were not understood or ask for a run. Nothing is written to the
-/// output before all of it is known.
+/// The first of the words is the program's own name. The status is 0 if all went well, and 1 if there was a fault,
+/// whose line goes to the faults stream. The status is 2 if the words were not understood or ask for a run. Nothing is
+/// written to the output before all of it is known.
 pub fn drive<S: AsStr, I: Read, W: Write, E: Write>(
     alloc: Global,
     words: &[S],

@@ -44,7 +44,8 @@ pub fn read_input<R: Read>(alloc: Global, input: &mut R) -> Result<Vec<u8>, Faul
 
 /// Writes all of the bytes.
 ///
-/// Fails at the first error of the writer, or if a write takes no byte. Then a prefix of the bytes has been written.
+/// Fails at the first error of the writer, or if a write takes no byte. After a failure a prefix of the bytes has been
+/// written.
 pub fn write_bytes<W: Write>(writer: &mut W, bytes: &[u8]) -> Result<(), Fault>
     ensures ok { OnOk result (Appends (W.contents writer.old) (W.contents writer.new) bytes.now) }
     ensures err { IfErr result (λ fault. fault ≡ Fault.Write) }

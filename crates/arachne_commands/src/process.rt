@@ -21,7 +21,7 @@ use std::sync::Wait;
 use std::thread::Threads;
 use std::time::Clock;
 
-/// The status with which the program ends. `main` can neither make nor drop one.
+/// The status with which the program ends. `main` can neither make nor drop a `Status`.
 pub struct Status {
     code: u8,
 }
@@ -47,7 +47,7 @@ pub fn run<R: Threads + Wait + Clock + Sync + Env + Alloc<A = Global> + Input + 
     }
 }
 
-/// Runs the program on these words and streams. The status and the clauses are those of `drive`.
+/// Runs the program on these words and streams. The status and the contract are those of `drive`.
 pub fn run_on<R: Threads + Wait + Clock + Sync, S: AsStr, I: Read, W: Write, E: Write>(
     rt: &R,
     alloc: Global,
@@ -73,7 +73,7 @@ pub fn run_on<R: Threads + Wait + Clock + Sync, S: AsStr, I: Read, W: Write, E: 
     }
 }
 
-/// Ends the program if its words cannot be read. The status and the clauses are those of `refuse_words`.
+/// Ends the program if its words cannot be read. The status and the contract are those of `refuse_words`.
 pub fn run_without_words<E: Write>(error: &io::Error, faults: &mut E) -> Status
     ensures memory { error_kind error.now ≡ ErrorKind.OutOfMemory
         → (result.code ≡ 1) × AppendsFront (E.contents faults.old) (E.contents faults.new) (fault_line Fault.Memory) }

@@ -62,10 +62,10 @@ fn run_of<R: Threads + Wait + Clock + Sync>(
 
 /// Runs the program on the words of the command line and on these streams. Returns the status.
 ///
-/// The first word is the program's own name. The status is 0 if all went well, and 1 if there was a fault, whose line
-/// goes to the faults stream. It is 2 if an order word of a run is malformed, with the line of that fault, or if the
-/// words were not understood, with the text of `clap`. Nothing is written to the output before all of it is known. A
-/// run may wait, and starts threads.
+/// The first of the words is the program's own name. The status is 0 if all went well, and 1 if there was a fault,
+/// whose line goes to the faults stream. The status is 2 if an order word of a run is malformed, with the line of that
+/// fault, or if the words were not understood, with the text of `clap`. Nothing is written to the output before all of
+/// it is known. A run may wait, and starts kernel threads.
 pub fn drive<R: Threads + Wait + Clock + Sync, S: AsStr, I: Read, W: Write, E: Write>(
     rt: &R,
     alloc: Global,

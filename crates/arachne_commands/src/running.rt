@@ -38,7 +38,7 @@ pub fn run_program<'p, R: Threads + Wait + Clock + Sync>(
     )
 }
 
-/// Returns the setup of a run with these settings, and the choosers of its cores.
+/// Returns the setup of a run with these settings, and the choosers (random generators) of its cores.
 fn set_up(
     alloc: Global,
     settings: RunSettings,
@@ -63,7 +63,8 @@ fn set_up(
     Ok((setup, choosers))
 }
 
-/// Returns the number of choosers for this number of cores: one for each, but none if there are too many cores.
+/// Returns how many choosers (random generators) to make for `cores` cores: one for each, but none if there are too
+/// many cores.
 ///
 /// The run refuses too many cores before it looks at the choosers.
 fn served(cores: u64) -> u64
@@ -72,7 +73,7 @@ fn served(cores: u64) -> u64
     if cores > u64::from(CORES) { 0 } else { cores }
 }
 
-/// Returns the choosers of `cores` cores. The seed of core k is `seed + k`.
+/// Returns the choosers (random generators) of `cores` cores. The seed of core k is `seed + k`.
 fn choosers(alloc: Global, seed: u64, cores: u64) -> Result<Vec<Xoshiro256PlusPlus>, AllocError>
     ensures { IfOk result (λ choosers. choosers.items ≡ choosers_of seed cores) }
 {

@@ -1,4 +1,4 @@
-//! Tests of the program over readers, writers, a memory and words of a test's own.
+//! Tests of the program over readers, writers, memory and words that the tests make.
 use arachne_commands::{refuse_words, run_without_words};
 use std::alloc::Global;
 use std::io::{self, Eprint, ErrorKind};
@@ -10,7 +10,7 @@ mod shortage;
 mod spelling;
 mod streams;
 
-/// The error with which the words cannot be read, the exit code, and the beginning of the printed text.
+/// The error with which reading the words fails, the exit code, and the beginning of the printed text.
 const NO_WORDS: &[(ErrorKind, u8, &str)] = &[
     (ErrorKind::OutOfMemory, 1, "fault 30\n"),
     (ErrorKind::InvalidData, 2, "error: "),

@@ -1,4 +1,4 @@
-//! Tests of the program's commands by public calls only. No proof depends on them.
+//! Tests of the program's commands by public calls only. No proof depends on these tests.
 #![tactic(auto)]
 
 #[cfg(test)]

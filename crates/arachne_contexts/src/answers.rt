@@ -1,5 +1,5 @@
-//! The results of a table's calls. If a result has a word, the call saw that word, and it shows why the result is
-//! right.
+//! The results of a table's calls. If a result has a number, it is the atomic word that the call read, which shows why
+//! the result is right.
 ghost use Rattle.std.specs.Prelude.{◌≡◌};
 ghost use Rattle.arachne_contexts.specs.Answers.{settled_claim, settled_wake};
 
@@ -8,14 +8,15 @@ use crate::held::Held;
 /// The result of a claim.
 #[derive(Drop)]
 pub enum Claimed<C> {
-    /// The caller has the place, and posts at it or gives it back.
+    /// The caller has the place, and must put a thread there or give the place back.
     Place(C),
-    /// The core has no free index, or is exclusive; or a claim of the whole core found something on it. This is the
-    /// core's occupancy word.
+    /// No place could be claimed: the core has no free index, is exclusive, or (for a claim of the whole core) is not
+    /// empty. The number is the core's occupancy word (which places are occupied, as bits).
     Full(u64),
-    /// The core takes no threads. This is its occupancy word.
+    /// The core takes no threads. The number is the core's occupancy word (which places are occupied, as bits).
     Closed(u64),
-    /// The core's occupancy word changed between the look and the claim. This is the word that was found.
+    /// The core's occupancy word (which places are occupied, as bits) changed between its reading and the claim. The
+    /// number is the word that was found instead.
     Lost(u64),
 }
 
@@ -40,9 +41,11 @@ impl<C> Claimed<C> {
 pub enum Taken<T, H> {
     /// The caller has the thread, to run it.
     Run(Held<T, H>),
-    /// There is no ready thread at the place. This is the mark word of the context that the table names there.
+    /// There is no ready thread at the place. The number is the mark word (the packed state) of the context at the
+    /// place.
     NotReady(u64),
-    /// The mark word changed between the look and the take. This is the word that was found.
+    /// The mark word (the context's packed state) changed between its reading and the take. The number is the word that
+    /// was found instead.
     Lost(u64),
 }
 
@@ -59,11 +62,13 @@ pub enum Rested {
 pub enum Woken {
     /// The thread was woken: it was blocked and is ready now, or it is held and will be ready once it is put back.
     Woken,
-    /// The thread is ready, or is held and was woken before. This is its mark word.
+    /// The thread is ready, or is held and was woken before. The number is the mark word (the packed state) of the
+    /// thread's context.
     Already(u64),
     /// No thread has the id any more, or none ever had it.
     Gone,
-    /// The mark word changed between the look and the wake. This is the word that was found.
+    /// The mark word (the context's packed state) changed between its reading and the wake. The number is the word that
+    /// was found instead.
     Lost(u64),
 }
 
@@ -85,14 +90,15 @@ impl Woken {
 #[derive(Clone, Copy, Debug, PartialEq, Eq)]
 pub enum Moved {
     Moved,
-    /// The target core has no free index, takes no threads, or is exclusive. This is its occupancy word.
+    /// The target core has no free index, takes no threads, or is exclusive. The number is the core's occupancy word
+    /// (which places are occupied, as bits).
     NoRoom(u64),
-    /// No thread is at the place.
+    /// No thread has been put at the place.
     Unposted,
-    /// The thread is held.
+    /// The thread is held: a seat has it in hand.
     Running,
     /// The thread's core is exclusive to it.
     Alone,
-    /// The place, the target core or the thread changed meanwhile. This is the word that was found.
+    /// The place, the target core or the thread changed meanwhile. The number is the word that was found instead.
     Lost(u64),
 }

@@ -1,4 +1,4 @@
-//! The trait of context tables.
+//! The trait of context tables, by which workers create, take, wake and move threads.
 ghost use Rattle.std.specs.Prelude.{◌≡◌, ◌≢◌, ℕ, ◌*◌, ◌<◌, List, [], ◌∷◌, IfOk, IfErr};
 ghost use Rattle.arachne_core.specs.Occupancy.{IsOccupancyWord};
 ghost use Rattle.arachne_core.specs.Marked.{IsMarkWord};
@@ -17,7 +17,8 @@ use std::sync::Wait;
 
 /// A context table for threads of one type.
 ///
-/// Each claim and each held thread must be spent through the seat that got it.
+/// Each claim must be spent through the seat that got it: a thread is put at the place, or the place is given back.
+/// Each thread that a seat has taken must be put back or finished through that seat.
 pub trait Contexts<T: Tagged>: Seats {
     /// A place that a seat has claimed.
     type Claim: Placed + Drop;
@@ -25,22 +26,23 @@ pub trait Contexts<T: Tagged>: Seats {
     /// The handle of a thread that a seat holds, by which the table knows the thread.
     type Hold: Identified + Drop;
 
-    /// These claims and threads are out with the seat, in any order: it has claimed or taken them and not spent them.
+    /// The claims and threads of the list, in any order, are those that the seat has claimed or taken and not yet
+    /// spent.
     ghost has: { Self → Self.Seat → List (Out Self.Claim Self.Hold) → Type 0 };
 
-    /// By all that the seat has seen, each thread that was posted has ended or is one of these.
+    /// By all that the seat knows, each thread that was put into the table has ended or is in the list.
     ///
-    /// Each is named once, by its id and its tag. For a form of table whose seats don't know what was posted this is
-    /// always true.
+    /// The list names each thread once, by its id and its tag. A table whose seats keep no record of the threads put
+    /// into it has a `settles` that is always true.
     ghost settles: { Self → Self.Seat → List (ThreadId × ℕ) → Type 0 };
 
-    /// Returns the occupancy word of a core, read without a seat.
+    /// Returns the occupancy word of a core (which places are occupied, as bits), read without a seat.
     ///
-    /// The contract promises nothing of the word. It is only for choosing a core.
+    /// The contract promises nothing of the word: it only helps to choose a core.
     fn glance<R: Wait>(&self, rt: &R, core: u8) -> u64
         requires core { core < Self.core_count self.now };
 
-    /// Returns the occupancy word of a core.
+    /// Returns the occupancy word of a core: which places are occupied, as bits.
     fn look<R: Wait>(&self, rt: &R, seat: &mut Self::Seat, core: u8) -> u64
         requires seat { Self.sits self.now seat.old }
         requires core { core < Self.core_count self.now }
@@ -49,7 +51,7 @@ pub trait Contexts<T: Tagged>: Seats {
         ensures out { KeepsOut (has self.now) seat.old seat.new }
         ensures word { IsOccupancyWord result };
 
-    /// Returns the mark word of a context.
+    /// Returns the mark word of a context: its packed state, place and generation.
     fn look_mark<R: Wait>(&self, rt: &R, seat: &mut Self::Seat, context: u32) -> u64
         requires seat { Self.sits self.now seat.old }
         requires context { context < Self.core_count self.now * Self.slot_count self.now }
@@ -60,7 +62,7 @@ pub trait Contexts<T: Tagged>: Seats {
 
     /// Tries once to claim the lowest free index of a core.
     ///
-    /// Fails if memory for what will be posted there is refused. Then nothing has changed.
+    /// Fails if memory for the thread that will be put there is refused. If the call fails, nothing has changed.
     fn claim<R: Wait>(
         &self,
         rt: &R,
@@ -76,7 +78,7 @@ pub trait Contexts<T: Tagged>: Seats {
 
     /// Tries once to claim an empty core for one thread, at index 0.
     ///
-    /// Fails if memory for what will be posted there is refused. Then nothing has changed.
+    /// Fails if memory for the thread that will be put there is refused. If the call fails, nothing has changed.
     fn claim_alone<R: Wait>(
         &self,
         rt: &R,
@@ -90,7 +92,7 @@ pub trait Contexts<T: Tagged>: Seats {
         ensures out { GetsClaim (has self.now) seat.old seat.new result }
         ensures answer { IfOk result (ClaimsWhole Self.Claim.place_of core) };
 
-    /// Frees a claimed place at which nothing was posted.
+    /// Frees a claimed place at which no thread was put.
     ///
     /// Returns the claim as an error if the table doesn't know it.
     fn give_back<R: Wait>(
@@ -106,7 +108,7 @@ pub trait Contexts<T: Tagged>: Seats {
         ensures out { Spends (has self.now) (a_claim claim) seat.old seat.new result }
         ensures handed_back { IfErr result (λ back. back ≡ claim) };
 
-    /// Posts a thread at a claimed place.
+    /// Posts a thread: puts it at a claimed place, ready to run.
     ///
     /// The thread is ready, even if its core was closed after the claim. Returns the claim and the value as an error if
     /// the table doesn't know the claim.
@@ -158,7 +160,7 @@ pub trait Contexts<T: Tagged>: Seats {
         ensures answer { IfOk result (RestsAs rest) }
         ensures handed_back { IfErr result (λ back. back ≡ held) };
 
-    /// Ends a thread, and frees its place unless its context has had its last generation.
+    /// Ends a thread, and frees its place unless the context's generation (the count of its threads) is the last.
     ///
     /// Returns the thread as an error if the table doesn't know it, or if its tag has changed.
     fn finish<R: Wait>(
@@ -183,7 +185,8 @@ pub trait Contexts<T: Tagged>: Seats {
         ensures out { KeepsOut (has self.now) seat.old seat.new }
         ensures answer { WakesAs id result };
 
-    /// Closes a core, which then takes no more threads. Returns its occupancy word from before.
+    /// Closes a core, which then takes no more threads. Returns the core's occupancy word (which places are occupied,
+    /// as bits) from before.
     fn close_core<R: Wait>(&self, rt: &R, seat: &mut Self::Seat, core: u8) -> u64
         requires seat { Self.sits self.now seat.old }
         requires core { core < Self.core_count self.now }
@@ -192,7 +195,7 @@ pub trait Contexts<T: Tagged>: Seats {
         ensures out { KeepsOut (has self.now) seat.old seat.new }
         ensures word { IsOccupancyWord result };
 
-    /// Opens a core. Returns its occupancy word from before.
+    /// Opens a core. Returns the core's occupancy word (which places are occupied, as bits) from before.
     fn open_core<R: Wait>(&self, rt: &R, seat: &mut Self::Seat, core: u8) -> u64
         requires seat { Self.sits self.now seat.old }
         requires core { core < Self.core_count self.now }
@@ -209,7 +212,7 @@ pub trait Contexts<T: Tagged>: Seats {
         ensures weight { Self.weight seat.new ≡ Self.weight seat.old }
         ensures out { KeepsOut (has self.now) seat.old seat.new };
 
-    /// Moves the thread at a place to the lowest free index of another core, if it is at rest.
+    /// Moves the thread at a place to the lowest free index of another core, if no seat holds the thread.
     fn move_one<R: Wait>(&self, rt: &R, seat: &mut Self::Seat, place: Place, to: u8) -> Moved
         requires seat { Self.sits self.now seat.old }
         requires core { place.core < Self.core_count self.now }
@@ -221,10 +224,11 @@ pub trait Contexts<T: Tagged>: Seats {
         ensures out { KeepsOut (has self.now) seat.old seat.new }
         ensures answer { MovesAs (Self.slot_count self.now) result };
 
-    /// Closes the table. Returns what was posted and not finished, each thread once, in the order of the contexts.
+    /// Closes the table. Returns the threads that were put into the table and not finished, each once, in the order of
+    /// their contexts.
     ///
-    /// The seat must be whole, and nothing may be out with it. If memory is refused, returns the table and the seat as
-    /// an error.
+    /// The seat must have the whole weight (no other seat is in use), and must have spent all that it claimed or took.
+    /// If memory is refused, returns the table and the seat as an error.
     fn close<R: Wait>(
         self,
         rt: &R,
@@ -240,12 +244,12 @@ pub trait Contexts<T: Tagged>: Seats {
         ensures weight { IfErr result (λ back. Self.weight back.1 ≡ Self.weight seat) }
         ensures idle { IfErr result (λ back. Self.idle back.0 back.1) };
 
-    /// A seat is idle exactly if nothing is out with it.
+    /// A seat is idle exactly if it has spent all that it claimed or took.
     ghost nothing_out: { (table : Self) (seat : Self.Seat) → Self.idle table seat → has table seat [] };
 
     ghost is_idle: { (table : Self) (seat : Self.Seat) → has table seat [] → Self.idle table seat };
 
-    /// The order of what is out has no meaning.
+    /// A list of a seat's unspent claims and threads means the same in any order.
     ghost swapped: { (table : Self) (seat : Self.Seat) (first second : Out Self.Claim Self.Hold) (outs : List (Out Self.Claim Self.Hold))
         → has table seat (first ∷ second ∷ outs) → has table seat (second ∷ first ∷ outs) };
 }

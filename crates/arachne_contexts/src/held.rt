@@ -25,11 +25,11 @@ pub trait Identified: Placed {
 
 /// A thread that a seat has taken: its value, and the handle by which the table knows it.
 ///
-/// The value may be changed, but its tag must not.
+/// The value may be changed, but not its tag (a number by which the table knows the thread).
 #[derive(Drop)]
 pub struct Held<T, H> {
     pub value: T,
-    /// The handle of the thread. It must stay with the value with which it was taken.
+    /// The handle of the thread. The handle must stay with the value with which it was taken.
     pub hold: H,
 }
 

@@ -1,8 +1,8 @@
 //! Context tables: the trait of every form of table, for those who run threads.
 //!
-//! A table has contexts, one for each place of its cores. Whoever calls it has a seat. A seat claims a place, posts a
-//! thread there, takes threads that are ready, and puts them back or finishes them. A thread is a value of the caller's
-//! type: the table needs nothing of it but its tag.
+//! A table has contexts, one for each place of its cores. All calls go through a seat: to claim a place, put a thread
+//! there, take threads that are ready, and put them back or finish them. A thread is a value of the caller's type: the
+//! table needs nothing of it but its tag.
 #![tactic(auto)]
 
 mod answers;

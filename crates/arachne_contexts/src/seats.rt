@@ -13,10 +13,10 @@ use std::sync::Wait;
 pub trait Seats {
     type Seat: Drop;
 
-    /// The seat belongs to this table.
+    /// True if the seat belongs to this table.
     ghost sits: { Self → Self.Seat → Type 0 };
 
-    /// Nothing is out with the seat: all that it has claimed or taken is spent.
+    /// True if the seat has spent all that it has claimed or taken.
     ghost idle: { Self → Self.Seat → Type 0 };
 
     /// The seat's part of the whole weight.
@@ -48,7 +48,8 @@ pub trait Seats {
 
     /// Splits a seat in two, each with half of its weight, rounded up for the first.
     ///
-    /// If the weight is 1 or 0, both get weight 0. All that was claimed or taken through the seat must be spent before.
+    /// If the weight is 1 or 0, both seats get weight 0. All that was claimed or taken through the seat must be spent
+    /// before.
     fn split<R: Wait>(&self, rt: &R, seat: Self::Seat) -> (Self::Seat, Self::Seat)
         requires seat { Self.sits self.now seat }
         requires idle { Self.idle self.now seat }

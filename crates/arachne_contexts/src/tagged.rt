@@ -1,9 +1,9 @@
-//! The values of a table.
+//! The values that a context table keeps, one for each thread. Each value has a tag, a number.
 ghost use Rattle.std.specs.Prelude.{◌≡◌, ℕ};
 
 /// A value with a tag.
 ///
-/// A thread that was posted is known by its id and its tag.
+/// The table knows a thread by its id and its tag.
 pub trait Tagged {
     ghost tag_of: { Self → ℕ };
 

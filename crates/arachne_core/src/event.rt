@@ -1,4 +1,4 @@
-//! The events of a context table.
+//! The events of a context table. The *carrier* of an event is the number of the seat that makes it.
 
 ghost use Rattle.std.specs.Prelude.{Some};
 ghost use Rattle.arachne_core.specs.ContextTable.{refusal_text};
@@ -10,7 +10,7 @@ use std::fmt;
 
 /// An event of a context table.
 ///
-/// Each atomic step of a table is one of these. A step that changes nothing is `Still`.
+/// Each atomic step of a table is one of these events. A step that changes nothing is `Still`.
 #[derive(Clone, Copy, Debug, PartialEq, Eq)]
 pub enum Event {
     /// The carrier claims a free context on a core that is neither closed nor exclusive.
@@ -23,7 +23,7 @@ pub enum Event {
         carrier: u32,
         context: u32,
     },
-    /// The carrier posts a thread with this tag in a context that it has claimed.
+    /// The carrier puts a thread with this tag into a context that it has claimed.
     Post {
         carrier: u32,
         context: u32,
@@ -73,10 +73,10 @@ pub enum Event {
     Still,
 }
 
-/// The reason why an event was not applied. The World is unchanged then.
+/// The reason why an event was not applied. The state of the table (the World) is unchanged then.
 #[derive(Clone, Copy, Debug, PartialEq, Eq)]
 pub enum NotApplied {
-    /// The World does not allow the event, or has no such core or context.
+    /// The state of the table does not allow the event, or has no such core or context.
     NotAllowed,
     /// The event is allowed, but memory for its record was refused.
     Memory,

@@ -1,4 +1,5 @@
-//! Laws of the World's definitions and of the words. Each is a function with an empty body, whose contract is the law.
+//! Laws of the World (the state of a context table in the definitions) and of packed words. Each law is the contract of
+//! a function with an empty body.
 
 ghost use Rattle.std.specs.Prelude.{◌≡◌, ℕ, ◌+◌, ◌-◌, ◌*◌, ◌/◌, ◌%◌, ◌^◌, ◌<◌, ◌↔◌, List, length, slice_index_or, true, false, bit_and, bit_or};
 ghost use Rattle.arachne_core.specs.declared.mark.Mark.{Mark};
@@ -12,41 +13,45 @@ ghost use Rattle.arachne_core.specs.Run.{IsOpening, IsRun, after_all, SharesNoth
 
 use crate::layout::{CORE_BITS, CORES, GENERATION_BITS, LAST_GENERATION, MASK_BITS, SLOTS};
 
-/// The opening World is owned once.
+/// In the World of a new table each context has a place of its own, and no two threads share a context or a place. So
+/// that World is owned once (`OwnedOnce`).
 pub fn opening_is_owned_once()
     ensures { (w : World) (first : ℕ) → IsOpening w first → OwnedOnce w }
 {}
 
-/// Every event keeps the World owned once.
+/// Every event that is allowed keeps the World owned once: no two threads share a context or a place.
 pub fn events_keep_owned_once()
     ensures { (w : World) (e : Event) → OwnedOnce w → Allowed w e → OwnedOnce (after w e) }
 {}
 
-/// Every run keeps the World owned once, whatever its events.
+/// Any sequence of allowed events keeps the World owned once: no two threads share a context or a place.
 pub fn runs_keep_owned_once()
     ensures { (w : World) (es : List Event) → OwnedOnce w → IsRun w es → OwnedOnce (after_all w es) }
 {}
 
-/// In a World that is owned once, no two live threads share a context, a place or a carrier's hold.
+/// If the World (the state of the table) is owned once (`OwnedOnce`), no two live threads share a context or a place,
+/// and none is held by two carriers.
 pub fn owned_once_shares_nothing()
     ensures { (w : World) → OwnedOnce w → SharesNothing w }
 {}
 
-/// A held thread keeps its carrier in every run, until that carrier puts it back or ends it.
+/// A thread that is held by a carrier (a seat's number) stays held by it, whatever events follow, until that carrier
+/// puts it back or ends it.
 ///
-/// So no thread has two carriers, and between two takes of a context its first carrier has let go of it.
+/// So no thread is held by two carriers at the same time: before a context is taken again, its first carrier has let go
+/// of it.
 pub fn holder_keeps_its_thread()
     ensures { (w : World) (es : List Event) (h x : ℕ) → IsHeldBy h (w.state x) → IsRun w es → NeverLetsGo h x es → IsHeldBy h ((after_all w es).state x) }
 {}
 
-/// A core that is closed and has no occupied place stays so in every run, until it is opened.
+/// A core that is closed and has no occupied place stays so, whatever events follow, until it is opened.
 pub fn drained_core_stays_drained()
     ensures { (w : World) (es : List Event) (c : ℕ) → IsDrained w c → IsRun w es → NeverOpens c es → IsDrained (after_all w es) c }
 {}
 
 /// The sizes of the machine: up to 64 cores of up to 56 places, and generations of 48 bits.
 ///
-/// The fields of the words have room for exactly these.
+/// The fields of the packed words have room for exactly these sizes.
 pub fn sizes()
     ensures cores { (CORES ≡ 64) × (CORES ≡ 2 ^ CORE_BITS) }
     ensures slots { (SLOTS ≡ 56) × (MASK_BITS ≡ SLOTS) }
@@ -60,20 +65,20 @@ pub fn occupancy_words_read_as_packed()
 
 /// A number is an occupancy word exactly if it has 64 bits and its count is the number of set bits of its mask.
 ///
-/// Such a number is packed again from what is read from it.
+/// Reading such a number and packing the result gives the same number.
 pub fn occupancy_words_pack_as_read()
     ensures { (word : ℕ) → IsOccupancyWord word ↔ ((word < 2 ^ 64) × (count_field word ≡ count_of (occupancy_of word).occupied)) }
 {}
 
 /// Adding the bit of a free index i, and one in the field of the count, occupies that index.
 ///
-/// This sets bit i of the mask, raises the count by one, and changes no other field.
+/// The addition sets bit i of the mask, raises the count by one, and changes no other field.
 pub fn adding_an_index()
     ensures { (word i : ℕ) → IsOccupancyWord word → i < MASK_BITS → slice_index_or (occupancy_of word).occupied i false ≡ false
         → HasOneMore word i (word + (2 ^ i + 2 ^ MASK_BITS)) }
 {}
 
-/// Subtracting the same two bits from a word in which index i is occupied undoes that.
+/// Subtracting the bit of an occupied index i, and one in the field of the count, frees that index.
 pub fn taking_an_index_away()
     ensures { (word i : ℕ) → IsOccupancyWord word → i < MASK_BITS → slice_index_or (occupancy_of word).occupied i false ≡ true
         → HasOneMore (word - (2 ^ i + 2 ^ MASK_BITS)) i word }
@@ -104,9 +109,10 @@ pub fn mark_words_read_as_packed()
     ensures { (bits : ℕ) (m : Marked) → m.place.index < 2 ^ 6 → m.place.core < 2 ^ bits → marked_of bits (mark_word bits m) ≡ m }
 {}
 
-/// A number is a mark word exactly if it has 64 bits, its mark is one of the six, and its index is one of a core's.
+/// A number is a mark word exactly if it has 64 bits, its mark is one of the six, and its index is one that a core can
+/// have.
 ///
-/// Such a number is packed again from what is read from it.
+/// Reading such a number and packing the result gives the same number.
 pub fn mark_words_pack_as_read()
     ensures { (bits word : ℕ) → IsMarkWord bits word ↔ ((word < 2 ^ 64) × (word % 2 ^ 3 < 6) × (word / 2 ^ 4 % 2 ^ 6 < SLOTS)) }
 {}

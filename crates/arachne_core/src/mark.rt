@@ -1,6 +1,6 @@
-//! The mark of a context: its state without the carrier and the tag.
+//! The mark of a context: its state, without the seat (carrier) that has it and without the thread's tag.
 
-/// The state of a context, as its mark word shows it.
+/// The state of a context, as its mark word (state, place and generation, packed) shows it.
 #[derive(Clone, Copy, Debug, PartialEq, Eq)]
 pub enum Mark {
     /// There is no thread. The context is free or claimed.
@@ -9,9 +9,9 @@ pub enum Mark {
     Ready = 1,
     /// The thread waits to be woken.
     Blocked = 2,
-    /// A carrier runs the thread.
+    /// A seat has the thread in hand, to run it.
     Held = 3,
-    /// A carrier runs the thread, which was woken since it was taken.
+    /// A seat has the thread in hand, and the thread was woken since it was taken.
     Woken = 4,
     /// The thread of the context's last generation has ended.
     Spent = 5,

@@ -1,4 +1,4 @@
-//! The mark word of a context.
+//! The mark word of a context: its state, place and generation, packed.
 
 ghost use Rattle.std.specs.Prelude.{◌≡◌, ◌<◌, ◌≤◌, ◌↔◌, IsSome, IfSome, ◌^◌};
 ghost use Rattle.arachne_core.specs.Marked.{Marked, mark_word, marked_of, IsMarkWord, FitsWord};
@@ -65,7 +65,8 @@ impl MarkWord {
         }
     }
 
-    /// Reads a word. Returns `None` if its mark is not one of the six or its index not one of a core's.
+    /// Reads a word. Returns `None` if the word's mark is not one of the six, or its index is not one that a core can
+    /// have.
     pub fn from_word(word: u64) -> Option<Self>
         ensures some { IsSome result ↔ IsMarkWord CORE_BITS word }
         ensures value { IfSome result (λ mark. mark ≡ marked_of CORE_BITS word) }
@@ -77,7 +78,7 @@ impl MarkWord {
         }
     }
 
-    /// Reads a word of the first layout, in which the core had 4 bits and the generation 50.
+    /// Reads a mark word of the older layout, in which the core had 4 bits and the generation 50.
     ///
     /// Returns the word with the same fields, or `None` if the mark is not one of the six, the index not one of a
     /// core's, or the generation past the last.
@@ -113,7 +114,7 @@ impl MarkWord {
         Mark::from_code(self.word & MARK_MASK)
     }
 
-    /// Returns the `alone` bit: whether the thread was posted on a core that is exclusive to it.
+    /// Returns the `alone` bit: whether the thread was put on a core that is exclusive to it.
     pub fn is_alone(self) -> bool
         ensures { result ≡ self.alone }
     {

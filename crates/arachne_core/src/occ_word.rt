@@ -1,4 +1,4 @@
-//! The occupancy word of a core.
+//! The occupancy word of a core: which of its places are occupied.
 
 ghost use Rattle.std.specs.Prelude.{◌≡◌, ◌≢◌, ◌<◌, ◌≤◌, ◌↔◌, ◌+◌, ◌^◌, ℕ, IsTrue, true, false, IsSome, IfSome, IfNone, EachIndex, slice_index_or, slice_set};
 ghost use Rattle.arachne_core.specs.Occupancy.{mask_of, count_of, flags, occupancy_word, occupancy_of, IsOccupancyWord, vacant};
@@ -66,7 +66,7 @@ impl OccWord {
         }
     }
 
-    /// Reads a word. Returns `None` if its count is not the number of set bits in its mask.
+    /// Reads a word. Returns `None` if the word's count is not the number of set bits in its mask.
     pub fn from_word(word: u64) -> Option<Self>
         ensures some { IsSome result ↔ IsOccupancyWord word }
         ensures value { IfSome result (λ occ. occ ≡ occupancy_of word) }

@@ -6,8 +6,8 @@ use crate::place::Place;
 
 /// The state of a context.
 ///
-/// A carrier is whoever holds or has claimed contexts, as a seat at the table. A tag is the number that was posted with
-/// the thread.
+/// A carrier is whoever has claimed contexts or holds their threads: in a table, a seat. A tag is the number that was
+/// put into the table with the thread.
 #[derive(Clone, Copy, Debug, PartialEq, Eq)]
 pub enum State {
     /// There is no thread, and nobody is about to post one.
@@ -29,7 +29,7 @@ pub enum State {
 pub enum Rest {
     /// The thread may be taken again.
     Ready,
-    /// The thread waits to be woken. If it was woken while it was held, it is ready instead.
+    /// The thread waits to be woken. If the thread was woken while it was held, it is ready instead.
     Blocked,
 }
 
@@ -38,7 +38,7 @@ pub enum Rest {
 pub struct Context {
     /// The place at which the context stands.
     pub place: Place,
-    /// The number of threads that have ended here, added to the table's first generation.
+    /// The number of threads that have ended in the context, added to the table's first generation.
     pub generation: u64,
     pub state: State,
 }

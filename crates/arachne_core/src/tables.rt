@@ -1,4 +1,4 @@
-//! The lists that make up a World, and each event on them.
+//! The lists that make up a World (the state of a context table), and the effect of each event on them.
 
 ghost use Rattle.std.specs.Prelude.{◌≡◌, ◌≢◌, ℕ, ◌<◌, ◌≤◌, ◌+◌, ◌*◌, ◌↔◌, length, map, IsTrue, IsOk, IfOk, IfErr, OnOk, OnErr, replicate, ◌++◌, ◌∷◌, []};
 ghost use Rattle.std.specs.List.{range_with_len};
@@ -80,7 +80,8 @@ impl Tables {
         })
     }
 
-    /// Reserves memory for `posts` more posts and `retires` more retires.
+    /// Reserves memory for `posts` more posts (threads put into the table) and `retires` more retires (ends of
+    /// threads).
     pub fn reserve(&mut self, posts: usize, retires: usize) -> Result<(), AllocError>
         ensures kept { self.new ≡ record self.old { posts = self.new.posts; retires = self.new.retires } }
         ensures grown { (self.old.posts ≤ self.new.posts) × (self.old.retires ≤ self.new.retires) }
@@ -244,7 +245,7 @@ impl Tables {
 
     // ---- whether an event is allowed
 
-    /// Returns whether the World allows the event.
+    /// Returns whether the event is allowed in this state of the table.
     pub fn allows(&self, event: Event) -> bool
         ensures { IsTrue result ↔ Allowed (world_of self.now) event }
     {
@@ -504,7 +505,7 @@ impl Tables {
     }
 }
 
-/// Returns the contexts at first, by number.
+/// Returns the contexts of a new table, by number.
 fn first_contexts(
     alloc: Global,
     count: u32,
@@ -525,14 +526,14 @@ fn first_contexts(
     Ok(contexts)
 }
 
-/// Returns the cores at first: open, with no index occupied.
+/// Returns the cores of a new table: open, with no index occupied.
 fn first_cores(alloc: Global, count: u8) -> Result<Vec<OccWord>, AllocError>
     ensures { IfOk result (λ made. made.items ≡ replicate count vacant) }
 {
     vec![in alloc; OccWord::empty(); usize::from(count)]
 }
 
-/// Returns the context at each place at first: the one whose number is the place's.
+/// Returns the context at each place of a new table: the one whose number is the place's.
 fn first_residents(alloc: Global, count: u32) -> Result<Vec<u32>, AllocError>
     ensures { IfOk result (λ made. made.items ≡ range_with_len 0 count) }
 {

@@ -1,4 +1,4 @@
-//! The World as a value: an exact copy of its definitions.
+//! The World (the state of a context table) as a Rattle type that a program can use, equal to the World of the specs.
 
 use crate::event::{Event, NotApplied};
 use crate::layout::{CORES, LAST_GENERATION, SLOTS};
@@ -12,8 +12,8 @@ use std::marker::Model;
 
 /// A context table in which each event happens at once.
 ///
-/// It is owned once at every moment: each context, place and thread has exactly one owner. The cost of an event does
-/// not depend on the number of contexts.
+/// At every moment each context, place and thread has exactly one owner. The cost of an event does not depend on the
+/// number of contexts.
 #[derive(Debug, Drop)]
 pub struct World {
     tables: Tables,
@@ -37,7 +37,7 @@ impl World {
     ghost use Rattle.arachne_core.specs.Run.{IsOpening};
     ghost use Rattle.arachne_core.specs.ContextTable.{world_of, ShowsCore, IsVacantFrom, marked, Answers};
 
-    /// Creates a World of `cores` cores with `slots` places each. All its contexts are free, in generation
+    /// Creates a World of `cores` cores with `slots` places each. All contexts of the World are free, in generation
     /// `first_generation`.
     pub fn new(
         alloc: Global,
@@ -59,7 +59,8 @@ impl World {
         Ok(World { tables })
     }
 
-    /// Reserves memory for `posts` more posts and `retires` more retires, which then take none.
+    /// Reserves memory for `posts` more posts (threads put into the table) and `retires` more retires (ends of
+    /// threads), which then take none.
     pub fn reserve(&mut self, posts: usize, retires: usize) -> Result<(), AllocError>
         ensures kept { self.new ≡ record self.old { posts = self.new.posts; retires = self.new.retires } }
         ensures grown { (self.old.posts ≤ self.new.posts) × (self.old.retires ≤ self.new.retires) }
@@ -72,8 +73,8 @@ impl World {
 
     /// Applies the event, if it is allowed.
     ///
-    /// Returns `NotAllowed` if it is not, and `Memory` if memory was refused. Then the World is unchanged. Only a post
-    /// or a retire takes memory, if none was reserved for it.
+    /// Returns `NotAllowed` if the event is not allowed, and `Memory` if memory was refused. After an error the World
+    /// is unchanged. Only a post or a retire takes memory, if none was reserved for it.
     pub fn apply(&mut self, event: Event) -> Result<(), NotApplied>
         ensures answer { Answers event self.old self.new result }
         ensures err { OnErr result (self.new ≡ self.old) }
@@ -104,7 +105,7 @@ impl World {
         self.tables.slots()
     }
 
-    /// Does nothing. Its contract says that a World is owned once.
+    /// Does nothing. The contract is a law: each context, place and thread of a World has exactly one owner.
     pub fn is_owned_once(&self)
         ensures { OwnedOnce (world_of self.now) }
     {
@@ -136,7 +137,7 @@ impl World {
         self.tables.context(context).state
     }
 
-    /// Returns the occupancy word of a core.
+    /// Returns the occupancy word of a core: which places are occupied, as bits.
     pub fn occ(&self, core: u8) -> OccWord
         requires { core < (world_of self.now).cores }
         ensures shows { ShowsCore (world_of self.now) core result }
@@ -145,7 +146,7 @@ impl World {
         self.tables.core(core)
     }
 
-    /// Returns the mark word of a context.
+    /// Returns the mark word of a context: its packed state, place and generation.
     pub fn mark(&self, context: u32) -> MarkWord
         requires { IsContext (world_of self.now) context }
         ensures { result ≡ marked (world_of self.now) context }

@@ -14,7 +14,7 @@ use Rattle.arachne_weights.specs.declared.token.Token.{Token}
 use Rattle.arachne_weights.specs.Tokens.{held, spent}
 use Rattle.arachne_exec.specs.declared.view.Notes.{Notes}
 use Rattle.arachne_exec.specs.Layout.{summary_at, ready_at, free_at, mark_at, last_generation, retired, worker_of, others, words_of}
-use Rattle.arachne_exec.specs.Board.{IsLawful}
+use Rattle.arachne_exec.specs.Board.{IsLawful, IsLast}
 use Rattle.arachne_exec.specs.Changes.{blank, older, first_of, second_of, both_of}
 use Rattle.arachne_exec.specs.Steps.{Mine, IsLive, Looks, Takes, TakesMany, Claims, Frees, Readies, Spawns, Begins, Blocks, Renews, Retires, Hears, Wakes, Marks, FindsShown, Shows, Hides, LooksAgain, LooksIdle, Unparks, Rises, Rests, LooksNext, Registers, Leaves}
 use Rattle.arachne_exec.specs.Seats.{Places, IsLaidOut, CallView, HasNewest, HasFoundMark}
@@ -49,11 +49,11 @@ module _ (table : TableId) (key n : ℕ) (laid : IsLaidOut table key n) (exec : 
   abbrev pub Asks : ℕ → (ℕ → ℕ) → (ℕ → Mine → Type 0) → Type 0
   Asks word f then = (home ≡ table) × (word < table.words) × Allows (IsLawful key) table.slots id me word f then
 
-  pub look-asks : (word : ℕ) → word < words_of (64 * exec.shards) → Asks word (λ x. x) (Looks (step table.slots word 0 0 none) me)
-  look-asks word inside = (
+  pub look-asks : (word : ℕ) → word < words_of (64 * exec.shards) → view.known.unshown ≡ 0 → Asks word (λ x. x) (Looks (step table.slots word 0 0 none) me)
+  look-asks word inside calm = (
     at-home,
     omega (arith, laid.words, inside, count),
-    subst (λ (m : Mine). Allows (IsLawful key) table.slots id m word (λ x. x) (Looks (step table.slots word 0 0 none) m)) (sym whole) (looks key table.slots id me.0.weight me.0.known me.1 word),
+    subst (λ (m : Mine). Allows (IsLawful key) table.slots id m word (λ x. x) (Looks (step table.slots word 0 0 none) m)) (sym whole) (looks key table.slots id me.0.weight me.0.known me.1 word (ap (λ (k : Notes). k.unshown) known-is ∙ calm)),
   )
 
   -- ---- the words of a place
@@ -127,12 +127,13 @@ module _ (table : TableId) (key n : ℕ) (laid : IsLaidOut table key n) (exec : 
             (readies key table.slots id me.0.weight me.0.known q x (rest view.slots) (hand x x has) low (ap (λ (k : Notes). k.unshown) known-is ∙ shown)),
       )
 
-      pub spawn-asks : HasNewest q 0 x view → view.known.unspawned ≡ q + 1 → view.known.unshown ≡ 0 → (mask : ℕ) → word ≡ ready_at (q / 64) → mask ≡ 2 ^ (q % 64) → Asks word (λ z. bit_or z mask) (Spawns (step table.slots word mask 0 none) me)
-      spawn-asks has claimed shown mask e o = (
+      pub spawn-asks : HasNewest q 0 x view → view.known.unspawned ≡ q + 1 → IsLast (mark_at q) view.known.looks → view.known.unshown ≡ 0 → (mask : ℕ) → word ≡ ready_at (q / 64) → mask ≡ 2 ^ (q % 64) → Asks word (λ z. bit_or z mask) (Spawns (step table.slots word mask 0 none) me)
+      spawn-asks has claimed named shown mask e o = (
         at-home,
         ready-inside e,
         subst (λ (z : ℕ × ℕ × Mine). Allows (IsLawful key) table.slots id z.2 z.0 (λ a. bit_or a z.1) (Spawns (step table.slots z.0 z.1 0 none) z.2)) (λ i. (sym e i, sym o i, sym (mine 0 x has) i))
-            (spawns key table.slots id me.0.weight me.0.known q x (rest view.slots) (hand 0 x has) low (ap (λ (k : Notes). k.unspawned) known-is ∙ claimed) (ap (λ (k : Notes). k.unshown) known-is ∙ shown)),
+            (spawns key table.slots id me.0.weight me.0.known q x (rest view.slots) (hand 0 x has) low (ap (λ (k : Notes). k.unspawned) known-is ∙ claimed) (subst (λ (k : Notes). IsLast (mark_at q) k.looks) (sym known-is) named)
+            (ap (λ (k : Notes). k.unshown) known-is ∙ shown)),
       )
 
       pub begin-asks : HasNewest q 0 x view → view.known.unspawned ≡ q + 1 → word ≡ mark_at q → Asks word (λ z. z) (Begins (step table.slots word 0 0 none) me)
@@ -140,7 +141,7 @@ module _ (table : TableId) (key n : ℕ) (laid : IsLaidOut table key n) (exec : 
         at-home,
         mark-inside e,
         subst (λ (m : Mine). Allows (IsLawful key) table.slots id m word (λ z. z) (Begins (step table.slots word 0 0 none) m)) (sym (mine 0 x has))
-            (begins key table.slots id me.0.weight me.0.known q x (rest view.slots) word (hand 0 x has) (ap (λ (k : Notes). k.unspawned) known-is ∙ claimed)),
+            (begins key table.slots id me.0.weight me.0.known q x (rest view.slots) word (hand 0 x has) (ap (λ (k : Notes). k.unspawned) known-is ∙ claimed) e),
       )
 
       pub block-asks : HasNewest q x x view → (old new : ℕ) → word ≡ mark_at q → old % 4 ≡ 0 → new ≡ old + 2 → Asks word (λ z. either (eqb z old) new z) (Blocks (step table.slots word old new none) me)
@@ -278,14 +279,14 @@ module _ (table : TableId) (key n : ℕ) (laid : IsLaidOut table key n) (exec : 
           (leaves key table.slots id me.0.weight me.0.known me.1 worker small (ap (λ (k : Notes). k.worker) known-is ∙ is_worker)),
     )
 
-  pub next-asks : (word worker next : ℕ) → word ≡ summary_at (worker + 64 * next) → view.known.worker ≡ worker + 1 → worker + 64 * next < exec.shards → view.known.seen ≡ next
+  pub next-asks : (word worker next : ℕ) → word ≡ summary_at (worker + 64 * next) → view.known.worker ≡ worker + 1 → worker + 64 * next < exec.shards → view.known.seen ≡ next → view.known.unshown ≡ 0
       → Asks word (λ z. z) (LooksNext (step table.slots word 0 0 none) me)
-  next-asks word worker next e is_worker inside so_far = (
+  next-asks word worker next e is_worker inside so_far calm = (
     at-home,
     omega (arith, laid.words, inside, e, count),
     subst (λ (z : ℕ × Mine). Allows (IsLawful key) table.slots id z.1 z.0 (λ a. a) (LooksNext (step table.slots z.0 0 0 none) z.1))
         (λ i. (sym (e ∙ ap (λ (c : ℕ). summary_at (worker + 64 * c)) (sym (ap (λ (k : Notes). k.seen) known-is ∙ so_far))) i, sym whole i))
-        (looks_next key table.slots id me.0.weight me.0.known me.1 worker (ap (λ (k : Notes). k.worker) known-is ∙ is_worker)),
+        (looks_next key table.slots id me.0.weight me.0.known me.1 worker (ap (λ (k : Notes). k.worker) known-is ∙ is_worker) (ap (λ (k : Notes). k.unshown) known-is ∙ calm)),
   )
 
 -- ---- seats

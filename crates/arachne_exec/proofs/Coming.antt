@@ -1,5 +1,5 @@
 -- What a step has noted, and that seats which have come about are tokens that can.
-use Rattle.std.proofs.Common.{◌≡◌, ◌≢◌, ◌⊎◌, inl, inr, ⊎_elim, ℕ, zero, suc, ◌^◌, List, ◌∷◌, get_or, set, refl, sym, ◌∙◌, subst, arith}
+use Rattle.std.proofs.Common.{◌≡◌, ◌≢◌, ◌⊎◌, inl, inr, ⊎_elim, ℕ, zero, suc, ◌+◌, ◌^◌, ◌<◌, List, ◌∷◌, ◌++◌, get_or, set, refl, sym, ◌∙◌, subst, arith}
 use Rattle.std.specs.Int.{bit_at}
 use Rattle.std.specs.Int.RustNames.{bit_or}
 use Rattle.std.proofs.lemmas.List.{set-get_or}
@@ -12,10 +12,10 @@ use Rattle.arachne_weights.specs.Tokens.{held}
 use Rattle.arachne_weights.specs.Tokens as tokens
 use Rattle.arachne_exec.specs.declared.view.Notes.{Notes}
 use Rattle.arachne_exec.specs.declared.view.SleepDeed.{SleepDeed}
-use Rattle.arachne_exec.specs.declared.view.SleepDeed.TheVariants.{LayDown, Rose}
-use Rattle.arachne_exec.specs.Layout.{numbers_at, ready_at, mark_at}
+use Rattle.arachne_exec.specs.declared.view.SleepDeed.TheVariants.{LayDown, LayOn, Rose}
+use Rattle.arachne_exec.specs.Layout.{idle_at, numbers_at, ready_at, mark_at}
 use Rattle.arachne_exec.specs.Changes.{blank, splitting, together, heard_more, lain_more, risen_more}
-use Rattle.arachne_exec.specs.Board.{Board, IsLawful, Adds, HasChanged, IsTold, after_step, HasCome, begins, acts, splits, joins}
+use Rattle.arachne_exec.specs.Board.{Board, IsLawful, Adds, AddsDeed, KeepsJobs, MayNote, HasChanged, IsTold, after_step, HasCome, begins, acts, splits, joins}
 use Rattle.arachne_exec.proofs.Bits.{set_same, set_other}
 
 -- ---- one more is noted, or none
@@ -24,13 +24,14 @@ pub adds-heard : (n place : ℕ) (xs : List ℕ) → Adds xs (heard_more n place
 adds-heard zero place xs = inl refl
 adds-heard (suc n) place xs = inr (place, refl)
 
-pub adds-risen : (n worker : ℕ) (xs : List SleepDeed) → Adds xs (risen_more n worker xs)
-adds-risen zero worker xs = inl refl
-adds-risen (suc n) worker xs = inr (Rose worker, refl)
+module _ (found put worker : ℕ) (xs : List SleepDeed) where
+  pub adds-risen : (n : ℕ) → bit_at found worker ≡ n → n < 2 → bit_at put worker ≡ 0 → AddsDeed idle_at found put xs (risen_more n worker xs)
+  adds-risen zero was low now = inl refl
+  adds-risen (suc n) was low now = inr (Rose worker, refl, (refl, omega (arith, was, low), now))
 
-pub adds-lain : (n worker : ℕ) (xs : List SleepDeed) → Adds xs (lain_more n worker xs)
-adds-lain zero worker xs = inr (LayDown worker, refl)
-adds-lain (suc n) worker xs = inl refl
+  pub adds-lain : (n : ℕ) → bit_at found worker ≡ n → n < 2 → bit_at put worker ≡ 1 → AddsDeed idle_at found put xs (lain_more n worker xs)
+  adds-lain zero was low now = inr (LayDown worker, refl, (refl, was, now))
+  adds-lain (suc n) was low now = inr (LayOn worker, refl, (refl, omega (arith, was, low), now))
 
 -- ---- the worker numbers have not changed, and no ready bit was cleared
 
@@ -56,9 +57,13 @@ changes-elsewhere word found put numbers ready = ⊎_elim (λ is. numbers is.0) 
 abbrev pub Idles : Notes → Notes → Type 0
 Idles k l = (l.spawned ≡ k.spawned) × (l.ended ≡ k.ended) × (l.woken ≡ k.woken) × (l.heard ≡ k.heard) × (l.blocked ≡ k.blocked) × (l.unblocked ≡ k.unblocked) × (l.freed ≡ k.freed) × (l.sleeps ≡ k.sleeps) × (l.splits ≡ k.splits) × (l.unspawned ≡ k.unspawned)
 
+-- the hand keeps what it has
+abbrev pub Holds : Notes → Notes → Type 0
+Holds k l = (jobs : List (ℕ × ℕ)) × (l.hand ≡ jobs ++ k.hand) × (l.rested ≡ k.rested)
+
 module _ {word found put : ℕ} {k l : Notes} where
-  told : (l.looks ≡ (word, found) ∷ k.looks) ⊎ ((place : ℕ) × (word ≡ mark_at place) × (l.looks ≡ (word, put) ∷ k.looks)) ⊎ ((l.looks ≡ k.looks) × ¬ HasChanged word found put) → Idles k l → IsTold word found put k l
-  told looks e = record {
+  told : ((l.looks ≡ (word, found) ∷ k.looks) × MayNote word k) ⊎ ((place : ℕ) × (word ≡ mark_at place) × (l.looks ≡ (word, put) ∷ k.looks)) ⊎ ((l.looks ≡ k.looks) × ¬ HasChanged word found put) → Idles k l → KeepsJobs k l → IsTold word found put k l
+  told looks e hand = record {
     looks = looks;
     spawned = inl e.0;
     owed_job = inl e.9;
@@ -68,15 +73,20 @@ module _ {word found put : ℕ} {k l : Notes} where
     blocked = inl e.4;
     unblocked = inl e.5;
     freed = inl e.6;
+    hand = hand;
     sleeps = inl e.7;
     splits = e.8;
   }
 
-  pub told-found : l.looks ≡ (word, found) ∷ k.looks → Idles k l → IsTold word found put k l
-  told-found looks e = told (inl looks) e
+  pub told-found : l.looks ≡ (word, found) ∷ k.looks → MayNote word k → Idles k l → Holds k l → IsTold word found put k l
+  told-found looks may e hand = told (inl (looks, may)) e (inl hand)
 
-  pub told-nothing : l.looks ≡ k.looks → ¬ HasChanged word found put → Idles k l → IsTold word found put k l
-  told-nothing looks same e = told (inr (inr (looks, same))) e
+  pub told-nothing : l.looks ≡ k.looks → ¬ HasChanged word found put → Idles k l → Holds k l → IsTold word found put k l
+  told-nothing looks same e hand = told (inr (inr (looks, same))) e (inl hand)
+
+  -- a job was made ready
+  pub told-rested : l.looks ≡ k.looks → ¬ HasChanged word found put → Idles k l → l.rested ≡ k.rested + 1 → IsTold word found put k l
+  told-rested looks same e rested = told (inr (inr (looks, same))) e (inr (inl rested))
 
 module _ (shards id w : ℕ) (s : Board) (h : IsLawful shards s) (k : Notes) (mine : get_elem? s.views id ≡ some (held w k)) (i : ℕ) (l : Notes) where
   pub comes : (put : ℕ) (homes : List (maybe.Option ℕ)) → IsTold i (get_or s.words i 0) put k l → HasCome shards (after_step s id w i put l homes)

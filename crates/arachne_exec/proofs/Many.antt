@@ -72,7 +72,7 @@ module _ (shards slots id w block pick : ℕ) (inside : block < 64 * shards) (s 
       let next : Notes = gaining ((q, job.0) ∷ c.jobs) l in let views = set-set s.views id seat (held w next) in
       let homes : List (maybe.Option ℕ) = homes_after s.homes xs (chain c.act (takes q job.0)) in
       let came = subst (λ (z : List ℕ × List (Token Notes)). HasCome shards (record { words = z.0; homes = homes; views = z.1 })) (λ j. (sym words j, sym views j))
-      (comes shards id w s h k mine (ready_at block) next now homes (told-found refl (refl, refl, refl, refl, refl, refl, refl, refl, refl, refl))) in
+      (comes shards id w s h k mine (ready_at block) next now homes (told-found refl (λ d e. omega (arith, e)) (refl, refl, refl, refl, refl, refl, refl, refl, refl, refl) ((q, job.0) ∷ c.jobs, refl, refl))) in
       let law = taken-law shards slots id w t c.lawful (gaining c.jobs l) come q within bit_there l.looks came (λ p e. absurd (omega (arith, e))) in
       record {
         jobs = (q, job.0) ∷ c.jobs;
@@ -125,7 +125,7 @@ module _ (shards slots id w block pick : ℕ) (inside : block < 64 * shards) (s 
     gone = λ j from inner is. absurd (omega (arith, end, from, inner));
     carried = refl;
     valid = tt;
-    lawful = noting shards slots id w s h k mine xs (ready_at block);
+    lawful = noting shards slots id w s h k mine xs (ready_at block) (λ d e. omega (arith, e));
   }
   all (suc more) i end = let c = all more (suc i) (omega (arith, end)) in let low : i < 64 = omega (arith, end) in dite (ℕ_discrete (bit_at (bit_and (get_or s.words (ready_at block) 0) pick) i) 1)
       (λ there. one_more i more low there c)

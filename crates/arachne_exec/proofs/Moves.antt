@@ -1,5 +1,5 @@
 -- What a seat may do: each kind of step is allowed, and tells what it says.
-use Rattle.std.proofs.Common.{◌≡◌, ◌≢◌, inl, inr, ℕ, ◌+◌, ◌-◌, ◌*◌, ◌/◌, ◌%◌, ◌^◌, ◌<◌, ◌≤◌, min, List, ◌∷◌, length, get_or, set, sym, refl, ap, ◌∙◌, subst, arith, eqb, get_or-set_other}
+use Rattle.std.proofs.Common.{◌≡◌, ◌≢◌, inl, inr, ℕ, ◌+◌, ◌-◌, ◌*◌, ◌/◌, ◌%◌, ◌^◌, ◌<◌, ◌≤◌, min, List, [], ◌∷◌, length, get_or, set, sym, refl, ap, ◌∙◌, subst, arith, eqb, get_or-set_other}
 use Rattle.std.specs.Int.{bit_at}
 use Rattle.std.specs.Int.RustNames.{bit_and, bit_or}
 use Rattle.std.proofs.lemmas.List.{set-get_or}
@@ -17,7 +17,7 @@ use Rattle.arachne_weights.specs.declared.token.Token.{Token}
 use Rattle.arachne_weights.specs.Tokens.{held}
 use Rattle.arachne_exec.specs.declared.view.Notes.{Notes}
 use Rattle.arachne_exec.specs.Layout.{idle_at, numbers_at, summary_at, ready_at, free_at, mark_at, last_generation, retired, others, in_word}
-use Rattle.arachne_exec.specs.Board.{is_blocked, Board, HasOneKeeper, IsBalanced, IsShown, FoundLast, CountsEnds, ends_at, places_in, in_hands, is_free, HasJobOrIsFree, WakesSleepers, HasChanged, IsTold, HasCome, IsLawful}
+use Rattle.arachne_exec.specs.Board.{is_blocked, Board, HasOneKeeper, IsBalanced, IsShown, FoundLast, CountsEnds, ends_at, places_in, in_hands, is_free, HasJobOrIsFree, WakesSleepers, HasChanged, IsTold, HasCome, IsLawful, IsLast, MayNote}
 use Rattle.arachne_exec.specs.Changes.{older, newest_job, newest_place, gained, unblocking, claiming, laying_down, freeing, blocking, spawning, beginning, ending, marking, hearing, noted, unshowing}
 use Rattle.arachne_exec.specs.Steps.{Mine, with, knowing, Looks, Takes, Claims, Frees, Readies, Spawns, Begins, Blocks, Renews, Retires, Hears, Wakes, Marks}
 use Rattle.arachne_exec.proofs.Bits.{one-same, same_others, clear_le, unset, not_one, cleared, raised}
@@ -26,7 +26,7 @@ use Rattle.arachne_exec.proofs.Balancing.{balanced-same, balanced-taken, balance
 use Rattle.arachne_exec.proofs.Hearing.{KeepsMarks, MarksMore, hears-on, as-marked, hears-mark}
 use Rattle.arachne_exec.proofs.Naming.{Knows, found-word, found-on, knows-less, names-on, found-new, mark-else, names-ended}
 use Rattle.arachne_exec.proofs.KeepsShown.{shows-on, shows-owing}
-use Rattle.arachne_exec.proofs.Coming.{adds-heard, clears-none, sets-one, changes-elsewhere, told-found, told-nothing, comes, comes-still}
+use Rattle.arachne_exec.proofs.Coming.{adds-heard, clears-none, sets-one, changes-elsewhere, told-found, told-nothing, told-rested, comes, comes-still}
 use Rattle.arachne_exec.proofs.Sleeping.{Unmoved, sleeps-on}
 use Rattle.arachne_exec.proofs.Spawning.{KeepsTurns, turns-on, turns-claimed, turns-spawned, turns-freed}
 
@@ -84,15 +84,15 @@ module _ (shards slots id w : ℕ) where
       sleep = sleeps-on s h.sleep id (held w k) (held w l) mine s.words s.homes refl refl (λ c r. r) refl refl refl refl;
     }
 
-    pub noting : (xs : List (ℕ × ℕ)) (i : ℕ) → IsLawful shards (stepped s i (get_or s.words i 0) id xs (held w (noted i (get_or s.words i 0) k)) keeps)
-    noting xs i = let l : Notes = noted i (get_or s.words i 0) k in unchanged l xs i s (telling l.looks (comes-still shards id w s h k mine i l (told-found refl (refl, refl, refl, refl, refl, refl, refl, refl, refl, refl))) (λ p inside has. found-word s.words p i k.looks))
+    pub noting : (xs : List (ℕ × ℕ)) (i : ℕ) → MayNote i k → IsLawful shards (stepped s i (get_or s.words i 0) id xs (held w (noted i (get_or s.words i 0) k)) keeps)
+    noting xs i may = let l : Notes = noted i (get_or s.words i 0) k in unchanged l xs i s (telling l.looks (comes-still shards id w s h k mine i l (told-found refl may (refl, refl, refl, refl, refl, refl, refl, refl, refl, refl) ([], refl, refl))) (λ p inside has. found-word s.words p i k.looks))
 
     -- what it has found last
     pub knowing-still : Knows (64 * shards) s.words k
     knowing-still p inside has = h.names.found id (held w k) mine p inside has
 
     pub stays : (xs : List (ℕ × ℕ)) (i : ℕ) → IsLawful shards (stepped s i (get_or s.words i 0) id xs (held w k) keeps)
-    stays xs i = unchanged k xs i s (telling k.looks (comes-still shards id w s h k mine i k (told-nothing refl (clears-none i (get_or s.words i 0)) (refl, refl, refl, refl, refl, refl, refl, refl, refl, refl))) knowing-still)
+    stays xs i = unchanged k xs i s (telling k.looks (comes-still shards id w s h k mine i k (told-nothing refl (clears-none i (get_or s.words i 0)) (refl, refl, refl, refl, refl, refl, refl, refl, refl, refl) ([], refl, refl))) knowing-still)
 
     -- ---- what a word that is written leaves as it was
 
@@ -200,8 +200,8 @@ module _ (shards slots id w : ℕ) where
 
   -- ---- looks, and bits that are cleared
 
-  pub looks : (k : Notes) (xs : List (ℕ × ℕ)) (i : ℕ) → Allows (IsLawful shards) slots id (held w k, xs) i (λ n. n) (Looks (step slots i 0 0 none) (held w k, xs))
-  looks k xs i s h _ mine _ = (held w (noted i (get_or s.words i 0) k), keeps, tt, noting s h k mine xs i, refl)
+  pub looks : (k : Notes) (xs : List (ℕ × ℕ)) (i : ℕ) → k.unshown ≡ 0 → Allows (IsLawful shards) slots id (held w k, xs) i (λ n. n) (Looks (step slots i 0 0 none) (held w k, xs))
+  looks k xs i free s h _ mine _ = (held w (noted i (get_or s.words i 0) k), keeps, tt, noting s h k mine xs i (λ d e. free), refl)
 
   -- a ready place that comes to the seat with its job
   module _ (s : Board) (h : IsLawful shards s) (k : Notes) (mine : get_elem? s.views id ≡ some (held w k)) (q : ℕ) (within : q < 64 * (64 * shards)) (there : bit_at (get_or s.words (ready_at (q / 64)) 0) (q % 64) ≡ 1) where
@@ -232,7 +232,7 @@ module _ (shards slots id w : ℕ) where
         held w (gained q job.0 (noted i n k)),
         takes q job.0,
         job.1,
-        let l : Notes = gained q job.0 (noted i n k) in taken-law s h k mine q within there l.looks (comes shards id w s h k mine i l now (set s.homes q none) (told-found refl (refl, refl, refl, refl, refl, refl, refl, refl, refl, refl))) (λ p. found-word s.words p i k.looks),
+        let l : Notes = gained q job.0 (noted i n k) in taken-law s h k mine q within there l.looks (comes shards id w s h k mine i l now (set s.homes q none) (told-found refl (λ d e. omega (arith, e)) (refl, refl, refl, refl, refl, refl, refl, refl, refl, refl) ((q, job.0) ∷ [], refl, refl))) (λ p. found-word s.words p i k.looks),
         λ p at first. let same = same_bits p q (ready_apart (q / 64) (p / 64) at) first in (
           λ _. (job.0, ap (λ x. with m (gained x job.0 (noted i n k)) ((x, job.0) ∷ xs)) (sym same)),
           λ none_there. absurd (clash n (q % 64) there (subst (λ x. bit_at n (x % 64) ≡ 0) same none_there)),
@@ -242,7 +242,7 @@ module _ (shards slots id w : ℕ) where
         held w (noted i n k),
         keeps,
         tt,
-        subst (λ x. IsLawful shards (stepped s i x id xs (held w (noted i n k)) keeps)) (sym (unset n (q % 64) (omega arith) small clear)) (noting s h k mine xs i),
+        subst (λ x. IsLawful shards (stepped s i x id xs (held w (noted i n k)) keeps)) (sym (unset n (q % 64) (omega arith) small clear)) (noting s h k mine xs i (λ d e. omega (arith, e))),
         λ p at first. let same = same_bits p q (ready_apart (q / 64) (p / 64) at) first in (
           λ there. absurd (clash n (q % 64) (subst (λ x. bit_at n (x % 64) ≡ 1) same there) clear),
           λ _. refl,
@@ -258,7 +258,7 @@ module _ (shards slots id w : ℕ) where
         takes q 0,
         empty,
         record {
-          came = comes shards id w s h k mine i l now (set s.homes q none) (record { looks = inl refl; spawned = inl refl; owed_job = inr (inl spawned); ended = inl refl; woken = inl refl; heard = inl refl; blocked = inl refl; unblocked = inl refl; freed = inl refl; sleeps = inl refl; splits = refl });
+          came = comes shards id w s h k mine i l now (set s.homes q none) (record { looks = inl (refl, λ d e. omega (arith, e)); spawned = inl refl; owed_job = inr (inl spawned); ended = inl refl; woken = inl refl; heard = inl refl; blocked = inl refl; unblocked = inl refl; freed = inl refl; hand = inl ((q, 0) ∷ [], refl, refl); sleeps = inl refl; splits = refl });
           keeper = keeps-claim (64 * shards) s h.keeper id (held w k) mine q within (held w l) 0 there refl;
           balance = balanced-taken s h.balance id (held w k) (held w l) mine _ q 0 empty refl refl refl;
           turns = turns-claimed (64 * shards) s h.turns id (held w k) (held w l) mine (set s.words i now) (set s.homes q none) q
@@ -277,7 +277,7 @@ module _ (shards slots id w : ℕ) where
         held w (noted i n k),
         keeps,
         tt,
-        subst (λ x. IsLawful shards (stepped s i x id xs (held w (noted i n k)) keeps)) (sym (unset n (q % 64) (omega arith) small clear)) (noting s h k mine xs i),
+        subst (λ x. IsLawful shards (stepped s i x id xs (held w (noted i n k)) keeps)) (sym (unset n (q % 64) (omega arith) small clear)) (noting s h k mine xs i (λ d e. omega (arith, e))),
         λ p at first. let same = same_bits p q (free_apart (q / 64) (p / 64) at) first in (
           λ there. absurd (clash n (q % 64) (subst (λ x. bit_at n (x % 64) ≡ 1) same there) clear),
           λ _. refl,
@@ -314,7 +314,7 @@ module _ (shards slots id w : ℕ) where
           gives,
           tt,
           record {
-            came = comes shards id w s h k mine i l now (set s.homes q (some 0)) (record { looks = inr (inr (refl, free-silent (q / 64) n now)); spawned = inl refl; owed_job = inl refl; ended = inl refl; woken = inl refl; heard = inl refl; blocked = inl refl; unblocked = inl refl; freed = inr (newest_place k.hand, refl); sleeps = inl refl; splits = refl });
+            came = comes shards id w s h k mine i l now (set s.homes q (some 0)) (record { looks = inr (inr (refl, free-silent (q / 64) n now)); spawned = inl refl; owed_job = inl refl; ended = inl refl; woken = inl refl; heard = inl refl; blocked = inl refl; unblocked = inl refl; freed = inr (newest_place k.hand, refl); hand = inr (inr (inr (inr (inr (newest_place k.hand, refl))))); sleeps = inl refl; splits = refl });
             keeper = keeps-free (64 * shards) s h.keeper id (held w k) mine q within (held w l) x 0 refl hand;
             balance = balanced-put s h.balance id (held w k) (held w l) mine _ q 0 (out s h mine) refl refl (hand ∙ ap (λ j. (q, j) ∷ older k.hand) nothing);
             turns = turns-freed (64 * shards) s h.turns id (held w k) (held w l) mine (set s.words i now) (set s.homes q (some 0)) q
@@ -334,7 +334,7 @@ module _ (shards slots id w : ℕ) where
           held w l,
           gives,
           tt,
-          ready-law s h k mine q x x within l now refl (told-nothing refl (sets-one d n (q % 64)) (refl, refl, refl, refl, refl, refl, refl, refl, refl, refl)) hand (balanced-put s h.balance id (held w k) (held w l) mine _ q x (out s h mine) refl refl hand) (ready-turns s h k mine q x x within l now (refl, refl, refl)) (refl, refl, refl, refl)
+          ready-law s h k mine q x x within l now refl (told-rested refl (sets-one d n (q % 64)) (refl, refl, refl, refl, refl, refl, refl, refl, refl, refl) refl) hand (balanced-put s h.balance id (held w k) (held w l) mine _ q x (out s h mine) refl refl hand) (ready-turns s h k mine q x x within l now (refl, refl, refl)) (refl, refl, refl, refl)
               (ready-first s h k mine q x x within l now shown refl) refl refl refl refl refl (knows-less (64 * shards) s h.names id (held w k) (held w l) mine refl older-less),
           λ p at. let same : d ≡ p / 64 = ready_apart d (p / 64) at in (
             λ _. ap (λ c. with m (unshowing (c + 1) (laying_down k)) xs) same,
@@ -345,7 +345,7 @@ module _ (shards slots id w : ℕ) where
           held w l,
           gives,
           tt,
-          ready-law s h k mine q x x within l now refl (told-nothing refl (sets-one d n (q % 64)) (refl, refl, refl, refl, refl, refl, refl, refl, refl, refl)) hand (balanced-put s h.balance id (held w k) (held w l) mine _ q x (out s h mine) refl refl hand) (ready-turns s h k mine q x x within l now (refl, refl, refl)) (refl, refl, refl, refl)
+          ready-law s h k mine q x x within l now refl (told-rested refl (sets-one d n (q % 64)) (refl, refl, refl, refl, refl, refl, refl, refl, refl, refl) refl) hand (balanced-put s h.balance id (held w k) (held w l) mine _ q x (out s h mine) refl refl hand) (ready-turns s h k mine q x x within l now (refl, refl, refl)) (refl, refl, refl, refl)
               (ready-more s h k mine q x x within l now full refl) refl refl refl refl refl (knows-less (64 * shards) s h.names id (held w k) (held w l) mine refl older-less),
           λ p at. ((λ empty. absurd (full empty)), λ _. refl),
         ))
@@ -360,7 +360,7 @@ module _ (shards slots id w : ℕ) where
           gives,
           tt,
           record {
-            came = comes shards id w s h k mine i l new (set s.homes q (some x)) (record { looks = inr (inr (refl, mark-silent q n new)); spawned = inl refl; owed_job = inl refl; ended = inl refl; woken = inl refl; heard = inl refl; blocked = inr (newest_place k.hand, refl); unblocked = inl refl; freed = inl refl; sleeps = inl refl; splits = refl });
+            came = comes shards id w s h k mine i l new (set s.homes q (some x)) (record { looks = inr (inr (refl, mark-silent q n new)); spawned = inl refl; owed_job = inl refl; ended = inl refl; woken = inl refl; heard = inl refl; blocked = inr (newest_place k.hand, refl); unblocked = inl refl; freed = inl refl; hand = inr (inr (inr (inr (inl (newest_place k.hand, refl))))); sleeps = inl refl; splits = refl });
             keeper = keeps-block (64 * shards) s h.keeper id (held w k) mine q within (held w l) x x new hand (omega (arith, unwoken, is));
             balance = balanced-put s h.balance id (held w k) (held w l) mine _ q x (out s h mine) refl refl hand;
             turns = mark-turns s h k mine q new l (set s.homes q (some x)) (refl, refl, refl);
@@ -373,7 +373,7 @@ module _ (shards slots id w : ℕ) where
           },
           ((λ _. refl), λ miss. absurd (miss hit)),
         ))
-        (λ miss. (held w (noted i n k), keeps, tt, noting s h k mine m.1 i, ((λ hit. absurd (miss hit)), λ _. refl)))
+        (λ miss. (held w (noted i n k), keeps, tt, noting s h k mine m.1 i (λ d e. omega (arith, e)), ((λ hit. absurd (miss hit)), λ _. refl)))
 
     -- a new mark, by who has the place
     module _ (new : ℕ) (clear : new % 2 ≡ 0) (s : Board) (h : IsLawful shards s) (mine : get_elem? s.views id ≡ some (held w k)) (l : Notes) where
@@ -413,7 +413,7 @@ module _ (shards slots id w : ℕ) where
             held w l,
             keeps,
             tt,
-            renewed new (omega (arith, is)) s h mine l (omega (arith, is)) (record { looks = inr (inl (q, refl, refl)); spawned = inl refl; owed_job = inl refl; ended = inr ((q, newest_job k.hand), refl); woken = inl refl; heard = adds-heard (n % 2) q k.heard; blocked = inl refl; unblocked = inl refl; freed = inl refl; sleeps = inl refl; splits = refl }) (hands-renumbered (64 * shards) s h.keeper id (held w k) mine (held w l) q x 0 (older k.hand) hand refl)
+            renewed new (omega (arith, is)) s h mine l (omega (arith, is)) (record { looks = inr (inl (q, refl, refl)); spawned = inl refl; owed_job = inl refl; ended = inr ((q, newest_job k.hand), refl); woken = inl refl; heard = adds-heard (n % 2) q k.heard; blocked = inl refl; unblocked = inl refl; freed = inl refl; hand = inr (inr (inr (inl ((q, newest_job k.hand), refl)))); sleeps = inl refl; splits = refl }) (hands-renumbered (64 * shards) s h.keeper id (held w k) mine (held w l) q x 0 (older k.hand) hand refl)
                 (balanced-ended s h.balance id (held w k) (held w l) mine _ q x (older k.hand) refl one-ended hand refl)
                 (record { woken = refl; heard = refl; blocked = refl; unblocked = refl }) (refl, refl, refl) refl refl refl refl refl
                 (ended-once m before found s h mine new l s.homes one-ended (omega (arith, is, named)) (λ p inside has. found-new (64 * shards) s h.names id (held w k) (held w l) mine s.homes q (mark-room s h mine) new p k.looks)),
@@ -427,7 +427,7 @@ module _ (shards slots id w : ℕ) where
             gives,
             tt,
             record {
-              came = comes shards id w s h k mine (mark_at q) l new (set s.homes q (some 0)) (record { looks = inr (inr (refl, mark-silent q n new)); spawned = inl refl; owed_job = inl refl; ended = inr ((q, newest_job k.hand), refl); woken = inl refl; heard = adds-heard (n % 2) q k.heard; blocked = inr (q, refl); unblocked = inl refl; freed = inl refl; sleeps = inl refl; splits = refl });
+              came = comes shards id w s h k mine (mark_at q) l new (set s.homes q (some 0)) (record { looks = inr (inr (refl, mark-silent q n new)); spawned = inl refl; owed_job = inl refl; ended = inr ((q, newest_job k.hand), refl); woken = inl refl; heard = adds-heard (n % 2) q k.heard; blocked = inr (q, refl); unblocked = inl refl; freed = inl refl; hand = inr (inr (inr (inl ((q, newest_job k.hand), refl)))); sleeps = inl refl; splits = refl });
               keeper = keeps-block (64 * shards) s h.keeper id (held w k) mine q within (held w l) x 0 new hand (omega (arith, is));
               balance = balanced-retired s h.balance id (held w k) (held w l) mine _ q x (out s h mine) refl one-ended hand;
               turns = mark-turns s h k mine q new l (set s.homes q (some 0)) (refl, refl, refl);
@@ -453,7 +453,7 @@ module _ (shards slots id w : ℕ) where
           held w l,
           keeps,
           tt,
-          renewed now (omega (arith, is)) s h mine l (omega (arith, is)) (record { looks = inr (inl (q, refl, ap (λ z. (mark_at q, z) ∷ k.looks) put)); spawned = inl refl; owed_job = inl refl; ended = inl refl; woken = inl refl; heard = adds-heard (n % 2) q k.heard; blocked = inl refl; unblocked = inl refl; freed = inl refl; sleeps = inl refl; splits = refl }) (hands-same (64 * shards) s h.keeper id (held w k) mine (held w l) refl) (balanced-same s h.balance id (held w k) (held w l) mine _ refl refl refl)
+          renewed now (omega (arith, is)) s h mine l (omega (arith, is)) (record { looks = inr (inl (q, refl, ap (λ z. (mark_at q, z) ∷ k.looks) put)); spawned = inl refl; owed_job = inl refl; ended = inl refl; woken = inl refl; heard = adds-heard (n % 2) q k.heard; blocked = inl refl; unblocked = inl refl; freed = inl refl; hand = inl ([], refl, refl); sleeps = inl refl; splits = refl }) (hands-same (64 * shards) s h.keeper id (held w k) mine (held w l) refl) (balanced-same s h.balance id (held w k) (held w l) mine _ refl refl refl)
               (record { woken = refl; heard = refl; blocked = refl; unblocked = refl }) (refl, refl, refl) refl refl refl refl refl
               (names-on (64 * shards) s h.names id (held w k) (held w l) mine s.homes _ (λ p inside. as-marked (64 * shards) s h.hears id (held w k) (held w l) mine s.homes q (mark-room s h mine) now (λ z. z / 4) (omega (arith, is)) p) refl
               (λ p inside has e. low ∙ ap (λ z. get_or s.words z 0 / 4) e)),
@@ -461,16 +461,16 @@ module _ (shards slots id w : ℕ) where
         )
 
   -- a job that was laid into the slot of a place which had none
-  pub spawns : (k : Notes) (q y : ℕ) (xs : List (ℕ × ℕ)) → k.hand ≡ (q, 0) ∷ older k.hand → q < 64 * (64 * shards) → k.unspawned ≡ q + 1 → k.unshown ≡ 0
+  pub spawns : (k : Notes) (q y : ℕ) (xs : List (ℕ × ℕ)) → k.hand ≡ (q, 0) ∷ older k.hand → q < 64 * (64 * shards) → k.unspawned ≡ q + 1 → IsLast (mark_at q) k.looks → k.unshown ≡ 0
       → Allows (IsLawful shards) slots id (held w k, (q, y) ∷ xs) (ready_at (q / 64)) (λ n. bit_or n (2 ^ (q % 64))) (Spawns (step slots (ready_at (q / 64)) (2 ^ (q % 64)) 0 none) (held w k, (q, y) ∷ xs))
-  spawns k q y xs hand within claimed shown s h _ mine small =
+  spawns k q y xs hand within claimed named shown s h _ mine small =
       let d : ℕ = q / 64 in let n : ℕ = get_or s.words (ready_at d) 0 in let now : ℕ = bit_or n (2 ^ (q % 64)) in let m : Mine = (held w k, (q, y) ∷ xs) in
       let away = out k q 0 xs hand within s h mine in dite (ℕ_discrete n 0)
       (λ empty. let l : Notes = unshowing (d + 1) (spawning y k) in (
         held w l,
         gives,
         tt,
-        ready-law s h k mine q 0 y within l now refl (record { looks = inr (inr (refl, sets-one d n (q % 64))); spawned = inr ((newest_place k.hand, y), refl); owed_job = inr (inr ((newest_place k.hand, y), refl)); ended = inl refl; woken = inl refl; heard = inl refl; blocked = inl refl; unblocked = inl refl; freed = inl refl; sleeps = inl refl; splits = refl }) hand (balanced-spawned s h.balance id (held w k) (held w l) mine _ q y away (one-spawned k q 0 y hand) refl hand) (ready-spawned s h k mine q 0 y within l now claimed refl (one-spawned k q 0 y hand) refl) (refl, refl, refl, refl)
+        ready-law s h k mine q 0 y within l now refl (record { looks = inr (inr (refl, sets-one d n (q % 64))); spawned = inr (q, y, claimed, one-spawned k q 0 y hand, named); owed_job = inr (inr ((newest_place k.hand, y), refl)); ended = inl refl; woken = inl refl; heard = inl refl; blocked = inl refl; unblocked = inl refl; freed = inl refl; hand = inr (inr (inl ((newest_place k.hand, y), refl))); sleeps = inl refl; splits = refl }) hand (balanced-spawned s h.balance id (held w k) (held w l) mine _ q y away (one-spawned k q 0 y hand) refl hand) (ready-spawned s h k mine q 0 y within l now claimed refl (one-spawned k q 0 y hand) refl) (refl, refl, refl, refl)
             (ready-first s h k mine q 0 y within l now shown refl) refl refl refl refl refl (knows-less (64 * shards) s h.names id (held w k) (held w l) mine refl (older-less k q 0 xs hand within)),
         λ p at. let same : d ≡ p / 64 = ready_apart d (p / 64) at in (
           λ _. ap (λ c. with m (unshowing (c + 1) (spawning y k)) xs) same,
@@ -481,22 +481,22 @@ module _ (shards slots id w : ℕ) where
         held w l,
         gives,
         tt,
-        ready-law s h k mine q 0 y within l now refl (record { looks = inr (inr (refl, sets-one d n (q % 64))); spawned = inr ((newest_place k.hand, y), refl); owed_job = inr (inr ((newest_place k.hand, y), refl)); ended = inl refl; woken = inl refl; heard = inl refl; blocked = inl refl; unblocked = inl refl; freed = inl refl; sleeps = inl refl; splits = refl }) hand (balanced-spawned s h.balance id (held w k) (held w l) mine _ q y away (one-spawned k q 0 y hand) refl hand) (ready-spawned s h k mine q 0 y within l now claimed refl (one-spawned k q 0 y hand) refl) (refl, refl, refl, refl)
+        ready-law s h k mine q 0 y within l now refl (record { looks = inr (inr (refl, sets-one d n (q % 64))); spawned = inr (q, y, claimed, one-spawned k q 0 y hand, named); owed_job = inr (inr ((newest_place k.hand, y), refl)); ended = inl refl; woken = inl refl; heard = inl refl; blocked = inl refl; unblocked = inl refl; freed = inl refl; hand = inr (inr (inl ((newest_place k.hand, y), refl))); sleeps = inl refl; splits = refl }) hand (balanced-spawned s h.balance id (held w k) (held w l) mine _ q y away (one-spawned k q 0 y hand) refl hand) (ready-spawned s h k mine q 0 y within l now claimed refl (one-spawned k q 0 y hand) refl) (refl, refl, refl, refl)
             (ready-more s h k mine q 0 y within l now full refl) refl refl refl refl refl (knows-less (64 * shards) s h.names id (held w k) (held w l) mine refl (older-less k q 0 xs hand within)),
         λ p at. ((λ empty. absurd (full empty)), λ _. refl),
       ))
 
   -- the same, where the place stays in hand
-  pub begins : (k : Notes) (q y : ℕ) (xs : List (ℕ × ℕ)) (i : ℕ) → k.hand ≡ (q, 0) ∷ older k.hand → k.unspawned ≡ q + 1
+  pub begins : (k : Notes) (q y : ℕ) (xs : List (ℕ × ℕ)) (i : ℕ) → k.hand ≡ (q, 0) ∷ older k.hand → k.unspawned ≡ q + 1 → i ≡ mark_at q
       → Allows (IsLawful shards) slots id (held w k, (q, y) ∷ xs) i (λ n. n) (Begins (step slots i 0 0 none) (held w k, (q, y) ∷ xs))
-  begins k q y xs i hand claimed s h _ mine small =
+  begins k q y xs i hand claimed at_mark s h _ mine small =
       let n : ℕ = get_or s.words i 0 in let l : Notes = beginning y (noted i n k) in
       let now : l.hand ≡ (q, y) ∷ older k.hand = ap (λ (zs : List (ℕ × ℕ)). (newest_place zs, y) ∷ older k.hand) hand in (
         held w l,
         keeps,
         tt,
         unchanged l ((q, y) ∷ xs) i s (record {
-          came = comes-still shards id w s h k mine i l (record { looks = inl refl; spawned = inr ((newest_place k.hand, y), refl); owed_job = inr (inr ((newest_place k.hand, y), refl)); ended = inl refl; woken = inl refl; heard = inl refl; blocked = inl refl; unblocked = inl refl; freed = inl refl; sleeps = inl refl; splits = refl });
+          came = comes-still shards id w s h k mine i l (record { looks = inl (refl, λ d e. omega (arith, e, at_mark)); spawned = inr (q, y, claimed, one-spawned k q 0 y hand, (n, k.looks, λ z. (at_mark z, n) ∷ k.looks)); owed_job = inr (inr ((newest_place k.hand, y), refl)); ended = inl refl; woken = inl refl; heard = inl refl; blocked = inl refl; unblocked = inl refl; freed = inl refl; hand = inr (inr (inl ((newest_place k.hand, y), refl))); sleeps = inl refl; splits = refl });
           keeper = keeps-places (64 * shards) s h.keeper id (held w k) mine (held w l) (hands-renumbered (64 * shards) s h.keeper id (held w k) mine (held w l) q 0 y (older k.hand) hand now);
           balance = balanced-begun s h.balance id (held w k) (held w l) mine s.words q y (older k.hand) (one-spawned k q 0 y hand) refl hand now;
           turns = turns-spawned (64 * shards) s h.turns id (held w k) (held w l) mine s.words s.homes q y (λ p. refl) claimed refl (one-spawned k q 0 y hand) refl;
@@ -521,7 +521,7 @@ module _ (shards slots id w : ℕ) where
           takes q job.0,
           job.1,
           record {
-            came = comes shards id w s h k mine i l new (set s.homes q none) (record { looks = inl refl; spawned = inl refl; owed_job = inl refl; ended = inl refl; woken = inl refl; heard = inl refl; blocked = inl refl; unblocked = inr (q, refl); freed = inl refl; sleeps = inl refl; splits = refl });
+            came = comes shards id w s h k mine i l new (set s.homes q none) (record { looks = inl (refl, λ d e. omega (arith, e)); spawned = inl refl; owed_job = inl refl; ended = inl refl; woken = inl refl; heard = inl refl; blocked = inl refl; unblocked = inr (q, refl); freed = inl refl; hand = inl ((q, job.0) ∷ [], refl, refl); sleeps = inl refl; splits = refl });
             keeper = keeps-wake (64 * shards) s h.keeper id (held w k) mine q within (held w l) job.0 new is_there (omega (arith, was, now)) refl;
             balance = balanced-taken s h.balance id (held w k) (held w l) mine _ q job.0 job.1 refl refl refl;
             turns = mark-turns s h k mine q new l (set s.homes q none) (refl, refl, refl);
@@ -534,7 +534,7 @@ module _ (shards slots id w : ℕ) where
           },
           λ p at. ((λ _. (job.0, ap (λ z. with m (unblocking z job.0 (noted i n k)) ((z, job.0) ∷ xs)) (mark_apart q p at))), λ miss. absurd (miss hit)),
         ))
-        (λ miss. (held w (noted i n k), keeps, tt, noting s h k mine xs i, λ p at. ((λ hit. absurd (miss hit)), λ _. refl)))
+        (λ miss. (held w (noted i n k), keeps, tt, noting s h k mine xs i (λ d e. omega (arith, e)), λ p at. ((λ hit. absurd (miss hit)), λ _. refl)))
 
     -- the mark of a job that isn't blocked says of a wake
     pub marks : old % 4 ≡ 0 → new ≡ old + 1 → Allows (IsLawful shards) slots id (held w k, xs) (mark_at q) (λ n. either (eqb n old) new n) (Marks (step slots (mark_at q) old new none) (held w k, xs))
@@ -546,7 +546,7 @@ module _ (shards slots id w : ℕ) where
           keeps,
           tt,
           record {
-            came = comes shards id w s h k mine i l new s.homes (record { looks = inl refl; spawned = inl refl; owed_job = inl refl; ended = inl refl; woken = inr (q, refl); heard = inl refl; blocked = inl refl; unblocked = inl refl; freed = inl refl; sleeps = inl refl; splits = refl });
+            came = comes shards id w s h k mine i l new s.homes (record { looks = inl (refl, λ d e. omega (arith, e)); spawned = inl refl; owed_job = inl refl; ended = inl refl; woken = inr (q, refl); heard = inl refl; blocked = inl refl; unblocked = inl refl; freed = inl refl; hand = inl ([], refl, refl); sleeps = inl refl; splits = refl });
             keeper = keeps-mark (64 * shards) s h.keeper id (held w k) mine q within (held w l) new (omega (arith, was, now) ∙ ap (λ z. z / 2 % 2) (sym hit)) (hands-same (64 * shards) s h.keeper id (held w k) mine (held w l) refl);
             balance = balanced-same s h.balance id (held w k) (held w l) mine _ refl refl refl;
             turns = mark-turns s h k mine q new l s.homes (refl, refl, refl);
@@ -560,4 +560,4 @@ module _ (shards slots id w : ℕ) where
           },
           λ p at. ((λ _. ap (λ z. knowing m (marking z (noted i n k))) (mark_apart q p at)), λ miss. absurd (miss hit)),
         ))
-        (λ miss. (held w (noted i n k), keeps, tt, noting s h k mine xs i, λ p at. ((λ hit. absurd (miss hit)), λ _. refl)))
+        (λ miss. (held w (noted i n k), keeps, tt, noting s h k mine xs i (λ d e. omega (arith, e)), λ p at. ((λ hit. absurd (miss hit)), λ _. refl)))

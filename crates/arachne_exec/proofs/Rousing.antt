@@ -1,14 +1,13 @@
 -- A worker that looks for a job, and clears no idle bit but its own.
-use Rattle.std.proofs.Common.{◌≡◌, inr, ⊎_elim, ℕ, zero, suc, Bool, true, false, List, [], ◌∷◌, ◌++◌, append_assoc, refl, sym, ap, ◌∙◌, subst}
+use Rattle.std.proofs.Common.{◌≡◌, inl, inr, ⊎_elim, ℕ, zero, suc, ◌+◌, ◌*◌, Bool, true, false, List, [], ◌∷◌, ◌++◌, append_assoc, refl, sym, ap, ◌∙◌, subst}
 use Rattle.arachne_exec.specs.declared.view.Notes.{Notes}
 use Rattle.arachne_exec.specs.declared.view.SleepDeed.{SleepDeed}
 use Rattle.arachne_exec.specs.declared.view.SleepDeed.TheVariants.{Roused}
 use Rattle.arachne_exec.specs.declared.answers.HeldJob.{HeldJob}
-use Rattle.arachne_exec.specs.declared.answers.Next.{Next}
 use Rattle.arachne_exec.specs.declared.answers.Next.TheVariants as next
-use Rattle.arachne_exec.specs.Layout.{ready_at, worker_of}
+use Rattle.arachne_exec.specs.Layout.{summary_at, ready_at, worker_of}
 use Rattle.arachne_exec.specs.Changes.{noted, rousing, often}
-use Rattle.arachne_exec.specs.Calls.{HasMissed, HasTakenNone, AreForJobs, HasLooked, HasTakenInShard, HasAnswered}
+use Rattle.arachne_exec.specs.Calls.{HasMissed, HasTakenNone, AreForJobs, HasLooked, IsAmong, HasLost, HasNoJob, IsSearched, HasTakenInShard, HasAnswered}
 
 often-more : (n more worker : ℕ) (xs : List SleepDeed) → (all : ℕ) × (often n worker (often more worker xs) ≡ often all worker xs)
 often-more zero more worker xs = (more, refl)
@@ -18,40 +17,79 @@ for-jobs : (xs ys : List (ℕ × ℕ)) → AreForJobs xs → AreForJobs ys → A
 for-jobs [] ys a b = b
 for-jobs (x ∷ xs) ys a b = (a.0, for-jobs xs ys a.1 b)
 
+-- ---- what was found stays among the looks
+
+module _ (word number : ℕ) where
+  pub among-more : (more looks : List (ℕ × ℕ)) → IsAmong word number looks → IsAmong word number (more ++ looks)
+  among-more [] looks is = is
+  among-more (x ∷ more) looks is = inr (among-more more looks is)
+
+  among-left : (looks more : List (ℕ × ℕ)) → IsAmong word number looks → IsAmong word number (looks ++ more)
+  among-left [] more is = elim is [ ]
+  among-left (x ∷ looks) more is = ⊎_elim (λ e. inl e) (λ later. inr (among-left looks more later)) is
+
+lost-left : (word : ℕ) (look : ℕ × ℕ) (looks more : List (ℕ × ℕ)) → HasLost word look looks → HasLost word look (looks ++ more)
+lost-left word look [] more is = elim is [ ]
+lost-left word look (x ∷ looks) more is = is
+
+module _ (block : ℕ) where
+  pub none-more : (more looks : List (ℕ × ℕ)) → HasNoJob block looks → HasNoJob block (more ++ looks)
+  none-more [] looks is = is
+  none-more (x ∷ more) looks is = inr (inr (none-more more looks is))
+
+  none-left : (looks more : List (ℕ × ℕ)) → HasNoJob block looks → HasNoJob block (looks ++ more)
+  none-left [] more is = elim is [ ]
+  none-left (x ∷ looks) more is = ⊎_elim (λ e. inl e) (λ older. inr (⊎_elim (λ lost. inl (lost-left (ready_at block) x looks more lost)) (λ later. inr (none-left looks more later)) older)) is
+
+module _ (shard : ℕ) (looks more : List (ℕ × ℕ)) where
+  pub searched-more : IsSearched shard looks → IsSearched shard (more ++ looks)
+  searched-more is = (is.0, among-more (summary_at shard) is.0 more looks is.1, λ index low set. none-more (64 * shard + index) more looks (is.2 index low set))
+
+  pub searched-left : IsSearched shard looks → IsSearched shard (looks ++ more)
+  searched-left is = (is.0, among-left (summary_at shard) is.0 looks more is.1, λ index low set. none-left (64 * shard + index) looks more (is.2 index low set))
+
+-- ---- what it has looked at
+
 pub looked-none : (worker : ℕ) (k : Notes) → HasLooked worker k k
 looked-none worker k = (0, [], tt, refl)
 
-module _ (worker : ℕ) (k : Notes) where
-  looked-noted : (l : Notes) → HasLooked worker k l → (block number : ℕ) → HasLooked worker k (noted (ready_at block) number l)
-  looked-noted l looked block number =
-      (looked.0, (ready_at block, number) ∷ looked.1, (inr (block, refl), looked.2), ap (λ (z : Notes). record z { looks = (ready_at block, number) ∷ z.looks }) looked.3)
+module _ (worker : ℕ) (k l : Notes) (looked : HasLooked worker k l) where
+  pub looked-missed : (block : ℕ) (m : Notes) → HasTakenNone block l m → (now : HasLooked worker k m) × HasNoJob block now.1 × (more : List (ℕ × ℕ)) × (now.1 ≡ more ++ looked.1)
+  looked-missed block m = ⊎_elim
+      (λ (e : m ≡ noted (ready_at block) 0 l). (
+        (looked.0, (ready_at block, 0) ∷ looked.1, (inr (block, refl), looked.2), e ∙ ap (λ (z : Notes). noted (ready_at block) 0 z) looked.3),
+        inl refl,
+        (ready_at block, 0) ∷ [],
+        refl,
+      ))
+      (λ (missed : HasMissed (ready_at block) l m). (
+        (
+          looked.0,
+          (ready_at block, missed.then) ∷ (ready_at block, missed.first) ∷ looked.1,
+          (inr (block, refl), (inr (block, refl), looked.2)),
+          missed.known ∙ ap (λ (z : Notes). noted (ready_at block) missed.then (noted (ready_at block) missed.first z)) looked.3,
+        ),
+        inr (inl (refl, refl, missed.index, missed.was, missed.gone)),
+        (ready_at block, missed.then) ∷ (ready_at block, missed.first) ∷ [],
+        refl,
+      ))
 
-  module _ (l : Notes) (looked : HasLooked worker k l) where
-    pub looked-missed : (block : ℕ) (m : Notes) → HasTakenNone block l m → HasLooked worker k m
-    looked-missed block m = ⊎_elim
-        (λ (e : m ≡ noted (ready_at block) 0 l). subst (λ (z : Notes). HasLooked worker k z) (sym e) (looked-noted l looked block 0))
-        (λ (missed : HasMissed (ready_at block) l m). subst (λ (z : Notes). HasLooked worker k z) (sym missed.known)
-        (looked-noted (noted (ready_at block) missed.first l) (looked-noted l looked block missed.first) block missed.then))
+  pub looked-told : (told : Bool) → (now : HasLooked worker k (rousing told worker l)) × (now.1 ≡ looked.1)
+  looked-told false = (looked, refl)
+  looked-told true = ((suc looked.0, looked.1, looked.2, ap (λ (z : Notes). record z { sleeps = Roused worker ∷ z.sleeps }) looked.3), refl)
 
-    pub looked-told : (told : Bool) → HasLooked worker k (rousing told worker l)
-    looked-told false = looked
-    looked-told true = (suc looked.0, looked.1, looked.2, ap (λ (z : Notes). record z { sleeps = Roused worker ∷ z.sleeps }) looked.3)
-
-    pub looked-on : (m : Notes) → HasLooked worker l m → HasLooked worker k m
-    looked-on m more = let all = often-more more.0 looked.0 worker k.sleeps in (
+  pub looked-on : (m : Notes) (more : HasLooked worker l m) → (now : HasLooked worker k m) × (now.1 ≡ more.1 ++ looked.1)
+  looked-on m more = let all = often-more more.0 looked.0 worker k.sleeps in (
+    (
       all.0,
       more.1 ++ looked.1,
       for-jobs more.1 looked.1 more.2 looked.2,
       more.3 ∙ ap (λ (z : Notes). record z { looks = more.1 ++ z.looks; sleeps = often more.0 worker z.sleeps }) looked.3
           ∙ (λ i. record k { looks = sym (append_assoc more.1 looked.1 k.looks) i; sleeps = all.1 i }),
-    )
+    ),
+    refl,
+  )
 
-    -- what it does then
-    pub answered-on : (shards : ℕ) (after : Notes) (answer : Next) → HasAnswered answer shards worker l after → HasAnswered answer shards worker k after
-    answered-on shards after (next.Run job) then = (then.0, then.1, then.2, then.3, looked-on then.1 then.4, then.5)
-    answered-on shards after next.Park then = (then.0, looked-on then.0 then.1, then.2)
-    answered-on shards after next.Again then = (then.0, looked-on then.0 then.1, then.2)
-
-    pub took-on : (shards shard : ℕ) (after : Notes) (job : HeldJob) → worker_of shard ≡ worker → HasTakenInShard job shards shard l after → HasAnswered (next.Run job) shards worker k after
-    took-on shards shard after job is took =
-        (took.0, took.1, took.2, ap worker_of took.3 ∙ is, looked-on took.1 (subst (λ (w : ℕ). HasLooked w l took.1) is took.4), took.5)
+  pub took-on : (shards shard : ℕ) (after : Notes) (job : HeldJob) → worker_of shard ≡ worker → HasTakenInShard job shards shard l after → HasAnswered (next.Run job) shards worker k after
+  took-on shards shard after job is took =
+      (took.0, took.1, took.2, ap worker_of took.3 ∙ is, (looked-on took.1 (subst (λ (w : ℕ). HasLooked w l took.1) is took.4)).0, took.5)

@@ -1,6 +1,6 @@
 -- What a seat may do with summary words, the idle word and worker numbers: each kind of step is allowed, and tells what
 -- it says.
-use Rattle.std.proofs.Common.{◌≡◌, inl, inr, ℕ, ◌+◌, ◌*◌, ◌/◌, ◌%◌, ◌^◌, ◌<◌, true, List, length, get_or, set, sym, refl, ap, ◌∙◌, subst, arith, get_or-set_same, get_or-set_other}
+use Rattle.std.proofs.Common.{◌≡◌, inl, inr, ℕ, ◌+◌, ◌*◌, ◌/◌, ◌%◌, ◌^◌, ◌<◌, true, List, [], length, get_or, set, sym, refl, ap, ◌∙◌, subst, arith, get_or-set_same, get_or-set_other}
 use Rattle.std.specs.Int.{bit_at}
 use Rattle.std.specs.Int.RustNames.{bit_and, bit_or}
 use mathlib.Core.Logic.{dite}
@@ -86,7 +86,7 @@ module _ (shards slots id w : ℕ) where
     -- the seat has paid for the block, and no word changes
     paid-law : (s : Board) → IsLawful shards s → get_elem? s.views id ≡ some (held w k) → k.unshown ≡ block + 1 → ℕ → (0 < get_or s.words (ready_at block) 0 → in_word summary_at s.words block ≡ 1)
         → IsLawful shards (record { words = s.words; homes = s.homes; views = set s.views id (held w (unshowing 0 k)) })
-    paid-law s h mine debt i shown = view-law s h k (unshowing 0 k) mine refl refl refl (refl, refl, refl, refl) (refl, refl, refl) (knowing-still shards slots id w s h k mine) i (told-nothing refl (clears-none i (get_or s.words i 0)) (refl, refl, refl, refl, refl, refl, refl, refl, refl, refl))
+    paid-law s h mine debt i shown = view-law s h k (unshowing 0 k) mine refl refl refl (refl, refl, refl, refl) (refl, refl, refl) (knowing-still shards slots id w s h k mine) i (told-nothing refl (clears-none i (get_or s.words i 0)) (refl, refl, refl, refl, refl, refl, refl, refl, refl, refl) ([], refl, refl))
         (shows-paid (64 * shards) s h.shows id (held w k) (held w (unshowing 0 k)) mine s.words s.homes block debt refl shown (λ c ne r. r) (λ c ne. refl))
         (sleeps-on s h.sleep id (held w k) (held w (unshowing 0 k)) mine s.words s.homes refl refl (λ c r. r) refl refl refl refl)
 
@@ -142,7 +142,7 @@ module _ (shards slots id w : ℕ) where
           held w l,
           keeps,
           tt,
-          summary-law s h k l mine refl refl refl (refl, refl, refl, refl) (refl, refl, refl) (knowing-still shards slots id w s h k mine) d now (told-nothing refl (summary-silent d n now) (refl, refl, refl, refl, refl, refl, refl, refl, refl, refl)) (shown-now s h mine debt l refl)
+          summary-law s h k l mine refl refl refl (refl, refl, refl, refl) (refl, refl, refl) (knowing-still shards slots id w s h k mine) d now (told-nothing refl (summary-silent d n now) (refl, refl, refl, refl, refl, refl, refl, refl, refl, refl) ([], refl, refl)) (shown-now s h mine debt l refl)
               (keeps-sleep s h.sleep id (held w k) (held w l) mine (set s.words i now) s.homes
               (λ j low. (λ z. bit_at (numbers z) j + seats-same s h.sleep id (held w k) (held w l) mine refl j z) ∙ h.sleep.single j low)
               (h.sleep.near id (held w k) mine)
@@ -158,7 +158,7 @@ module _ (shards slots id w : ℕ) where
           held w l,
           keeps,
           tt,
-          summary-law s h k l mine refl refl refl (refl, refl, refl, refl) (refl, refl, refl) (knowing-still shards slots id w s h k mine) d now (told-nothing refl (summary-silent d n now) (refl, refl, refl, refl, refl, refl, refl, refl, refl, refl)) (shown-now s h mine debt l refl)
+          summary-law s h k l mine refl refl refl (refl, refl, refl, refl) (refl, refl, refl) (knowing-still shards slots id w s h k mine) d now (told-nothing refl (summary-silent d n now) (refl, refl, refl, refl, refl, refl, refl, refl, refl, refl) ([], refl, refl)) (shown-now s h mine debt l refl)
               (sleeps-on s h.sleep id (held w k) (held w l) mine (set s.words i now) s.homes numbers idles
               (λ c some_shown. dite (ℕ_discrete (summary_at c) i)
               (λ e. subst (λ x. 0 < get_or s.words x 0) (sym e) (some_number n full))
@@ -174,7 +174,7 @@ module _ (shards slots id w : ℕ) where
           held w l,
           keeps,
           tt,
-          summary-law s h k l mine refl refl refl (refl, refl, refl, refl) (refl, refl, refl) (knowing-still shards slots id w s h k mine) d now (told-nothing refl (summary-silent d n now) (refl, refl, refl, refl, refl, refl, refl, refl, refl, refl))
+          summary-law s h k l mine refl refl refl (refl, refl, refl, refl) (refl, refl, refl) (knowing-still shards slots id w s h k mine) d now (told-nothing refl (summary-silent d n now) (refl, refl, refl, refl, refl, refl, refl, refl, refl, refl) ([], refl, refl))
               (shows-owing (64 * shards) s h.shows id (held w k) (held w l) mine (set s.words i now) s.homes block free refl
               (λ c ne. same_ready shards slots id w s h k mine i now (λ e f. omega (arith, f)) c)
               (λ c ne. elsewhere summary_at summary_apart s.words block room now (λ j low apart. clear_other n (block % 64) (omega arith) j low apart) c ne))
@@ -218,7 +218,7 @@ module _ (shards slots id w : ℕ) where
           held w l,
           keeps,
           tt,
-          unchanged shards slots id w l xs idle_at s (view-law s h k l mine refl refl refl (refl, refl, refl, refl) (refl, refl, refl) (knowing-still shards slots id w s h k mine) idle_at (told-nothing refl (clears-none idle_at (get_or s.words idle_at 0)) (refl, refl, refl, refl, refl, refl, refl, refl, refl, refl)) (view-shows s h k l mine refl)
+          unchanged shards slots id w l xs idle_at s (view-law s h k l mine refl refl refl (refl, refl, refl, refl) (refl, refl, refl) (knowing-still shards slots id w s h k mine) idle_at (told-nothing refl (clears-none idle_at (get_or s.words idle_at 0)) (refl, refl, refl, refl, refl, refl, refl, refl, refl, refl) ([], refl, refl)) (view-shows s h k l mine refl)
               (keeps-sleep s h.sleep id (held w k) (held w l) mine s.words s.homes
               (λ j low. ap (λ x. bit_at (get_or s.words numbers_at 0) j + x) (seats-same s h.sleep id (held w k) (held w l) mine refl j) ∙ h.sleep.single j low)
               (h.sleep.near id (held w k) mine)
@@ -262,7 +262,7 @@ module _ (shards slots id w : ℕ) where
           keeps,
           tt,
           unpark-law s h mine (rousing true (worker_of d) (owing 0 k)) refl refl refl (refl, refl, refl, refl) (refl, refl, refl) (knowing-still shards slots id w s h k mine) refl refl refl refl _ refl
-              (record { looks = inr (inr (refl, idle-silent n now)); spawned = inl refl; owed_job = inl refl; ended = inl refl; woken = inl refl; heard = inl refl; blocked = inl refl; unblocked = inl refl; freed = inl refl; sleeps = inr (Roused (worker_of d), refl); splits = refl })
+              (record { looks = inr (inr (refl, idle-silent n now)); spawned = inl refl; owed_job = inl refl; ended = inl refl; woken = inl refl; heard = inl refl; blocked = inl refl; unblocked = inl refl; freed = inl refl; hand = inl ([], refl, refl); sleeps = inr (Roused (worker_of d), refl, (refl, there, clear_same n (worker_of d) (omega arith))); splits = refl })
               (λ j low. let was = fewer j low in let one_ : bit_at n (worker_of d) * one (worker_of d) j ≡ one (worker_of d) j = ap (λ x. x * one (worker_of d) j) there ∙ omega arith in
               let more = roused-counts j (worker_of d) k.sleeps in omega (arith, was, one_, more.0, more.1, more.2)),
           λ c e. let is : d ≡ c = omega (arith, debt, e) in (
@@ -277,7 +277,7 @@ module _ (shards slots id w : ℕ) where
           keeps,
           tt,
           unpark-law s h mine (owing 0 k) refl refl refl (refl, refl, refl, refl) (refl, refl, refl) (knowing-still shards slots id w s h k mine) refl refl refl refl _ refl
-              (told-nothing refl (idle-silent n now) (refl, refl, refl, refl, refl, refl, refl, refl, refl, refl))
+              (told-nothing refl (idle-silent n now) (refl, refl, refl, refl, refl, refl, refl, refl, refl, refl) ([], refl, refl))
               (λ j low. let was = fewer j low in let none_ : bit_at n (worker_of d) * one (worker_of d) j ≡ 0 = ap (λ x. x * one (worker_of d) j) clear ∙ omega arith in omega (arith, was, none_)),
           λ c e. let is : d ≡ c = omega (arith, debt, e) in (
             refl,
@@ -297,7 +297,7 @@ module _ (shards slots id w : ℕ) where
           keeps,
           tt,
           aside-law s h k l mine refl refl refl (refl, refl, refl, refl) (refl, refl, refl) (λ p inside has. found-word s.words p idle_at k.looks) idle_at now (omega arith)
-              (record { looks = inl refl; spawned = inl refl; owed_job = inl refl; ended = inl refl; woken = inl refl; heard = inl refl; blocked = inl refl; unblocked = inl refl; freed = inl refl; sleeps = adds-risen (bit_at n j) j k.sleeps; splits = refl })
+              (record { looks = inl (refl, λ d e. omega (arith, e)); spawned = inl refl; owed_job = inl refl; ended = inl refl; woken = inl refl; heard = inl refl; blocked = inl refl; unblocked = inl refl; freed = inl refl; hand = inl ([], refl, refl); sleeps = adds-risen n now j k.sleeps (bit_at n j) refl (bit_at-lt n j) (let near = h.sleep.near id (held w k) mine in clear_same n j (omega (arith, near, is_worker))); splits = refl })
               (idle-shows s h k l mine refl now)
               (keeps-sleep s h.sleep id (held w k) (held w l) mine (set s.words idle_at now) s.homes
               (λ i low. (λ z. bit_at (get_or-set_other s.words idle_at numbers_at now 0 (λ e. omega (arith, e)) z) i + seats-same s h.sleep id (held w k) (held w l) mine refl i z) ∙ h.sleep.single i low)
@@ -321,7 +321,7 @@ module _ (shards slots id w : ℕ) where
           keeps,
           tt,
           aside-law s h k l mine refl refl refl (refl, refl, refl, refl) (refl, refl, refl) (λ p inside has. found-word s.words p idle_at k.looks) idle_at now (omega arith)
-              (record { looks = inl refl; spawned = inl refl; owed_job = inl refl; ended = inl refl; woken = inl refl; heard = inl refl; blocked = inl refl; unblocked = inl refl; freed = inl refl; sleeps = adds-lain (bit_at n j) j k.sleeps; splits = refl })
+              (record { looks = inl (refl, λ d e. omega (arith, e)); spawned = inl refl; owed_job = inl refl; ended = inl refl; woken = inl refl; heard = inl refl; blocked = inl refl; unblocked = inl refl; freed = inl refl; hand = inl ([], refl, refl); sleeps = adds-lain n now j k.sleeps (bit_at n j) refl (bit_at-lt n j) (set_same n j); splits = refl })
               (idle-shows s h k l mine refl now)
               (keeps-sleep s h.sleep id (held w k) (held w l) mine (set s.words idle_at now) s.homes
               (λ i low. (λ z. bit_at (get_or-set_other s.words idle_at numbers_at now 0 (λ e. omega (arith, e)) z) i + seats-same s h.sleep id (held w k) (held w l) mine refl i z) ∙ h.sleep.single i low)
@@ -338,14 +338,14 @@ module _ (shards slots id w : ℕ) where
         )
 
     -- the next one of the worker's summary words is looked at
-    pub looks_next : k.worker ≡ j + 1 → Allows (IsLawful shards) slots id (held w k, xs) (summary_at (j + 64 * k.seen)) (λ n. n) (LooksNext (step slots (summary_at (j + 64 * k.seen)) 0 0 none) (held w k, xs))
-    looks_next is_worker s h _ mine small =
+    pub looks_next : k.worker ≡ j + 1 → k.unshown ≡ 0 → Allows (IsLawful shards) slots id (held w k, xs) (summary_at (j + 64 * k.seen)) (λ n. n) (LooksNext (step slots (summary_at (j + 64 * k.seen)) 0 0 none) (held w k, xs))
+    looks_next is_worker free s h _ mine small =
         let i : ℕ = summary_at (j + 64 * k.seen) in let n : ℕ = get_or s.words i 0 in let l : Notes = having_seen (k.seen + 1) k in dite (ℕ_discrete n 0)
         (λ empty. (
           held w l,
           keeps,
           tt,
-          unchanged shards slots id w l xs i s (view-law s h k l mine refl refl refl (refl, refl, refl, refl) (refl, refl, refl) (knowing-still shards slots id w s h k mine) i (told-nothing refl (clears-none i (get_or s.words i 0)) (refl, refl, refl, refl, refl, refl, refl, refl, refl, refl)) (view-shows s h k l mine refl)
+          unchanged shards slots id w l xs i s (view-law s h k l mine refl refl refl (refl, refl, refl, refl) (refl, refl, refl) (knowing-still shards slots id w s h k mine) i (told-nothing refl (clears-none i (get_or s.words i 0)) (refl, refl, refl, refl, refl, refl, refl, refl, refl, refl) ([], refl, refl)) (view-shows s h k l mine refl)
               (keeps-sleep s h.sleep id (held w k) (held w l) mine s.words s.homes
               (λ c low. ap (λ x. bit_at (get_or s.words numbers_at 0) c + x) (seats-same s h.sleep id (held w k) (held w l) mine refl c) ∙ h.sleep.single c low)
               (h.sleep.near id (held w k) mine)
@@ -357,7 +357,7 @@ module _ (shards slots id w : ℕ) where
               (ends-same k l s.words s.words refl refl))),
           ((λ _. refl), λ full. absurd (full empty)),
         ))
-        (λ full. (held w (noted i n k), keeps, tt, noting shards slots id w s h k mine xs i, ((λ empty. absurd (full empty)), λ _. refl)))
+        (λ full. (held w (noted i n k), keeps, tt, noting shards slots id w s h k mine xs i (λ d e. free), ((λ empty. absurd (full empty)), λ _. refl)))
 
     -- ---- worker numbers
 
@@ -370,7 +370,7 @@ module _ (shards slots id w : ℕ) where
           held w l,
           keeps,
           tt,
-          aside-law s h k l mine refl refl refl (refl, refl, refl, refl) (refl, refl, refl) (λ p inside has. found-word s.words p i k.looks) i now (omega arith) (told-found refl (refl, refl, refl, refl, refl, refl, refl, refl, refl, refl)) (number-shows s h k l mine refl now)
+          aside-law s h k l mine refl refl refl (refl, refl, refl, refl) (refl, refl, refl) (λ p inside has. found-word s.words p i k.looks) i now (omega arith) (told-found refl (λ d e. omega (arith, e)) (refl, refl, refl, refl, refl, refl, refl, refl, refl, refl) ([], refl, refl)) (number-shows s h k l mine refl now)
               (keeps-sleep s h.sleep id (held w k) (held w l) mine (set s.words i now) s.homes
               (λ c below. let more = with-more (λ z. z.worker) s.views id (held w k) (held w l) mine j no_worker refl c in let single = h.sleep.single c below in
               let at : bit_at (get_or (set s.words i now) i 0) c ≡ bit_at now c = ap (λ x. bit_at x c) there_now in dite (ℕ_discrete j c)
@@ -394,7 +394,7 @@ module _ (shards slots id w : ℕ) where
           held w (noted i n k),
           keeps,
           tt,
-          subst (λ x. IsLawful shards (stepped s i x id xs (held w (noted i n k)) keeps)) (sym (unset n j low small clear)) (noting shards slots id w s h k mine xs i),
+          subst (λ x. IsLawful shards (stepped s i x id xs (held w (noted i n k)) keeps)) (sym (unset n j low small clear)) (noting shards slots id w s h k mine xs i (λ d e. omega (arith, e))),
           λ c first below. let same : j ≡ c = same_others j c low below first in (
             λ there. absurd (clash n j (subst (λ x. bit_at n x ≡ 1) (sym same) there) clear),
             λ _. refl,
@@ -409,7 +409,7 @@ module _ (shards slots id w : ℕ) where
           held w l,
           keeps,
           tt,
-          aside-law s h k l mine refl refl refl (refl, refl, refl, refl) (refl, refl, refl) (λ p inside has. found-word s.words p i k.looks) i now (omega arith) (told-found refl (refl, refl, refl, refl, refl, refl, refl, refl, refl, refl)) (number-shows s h k l mine refl now)
+          aside-law s h k l mine refl refl refl (refl, refl, refl, refl) (refl, refl, refl) (λ p inside has. found-word s.words p i k.looks) i now (omega arith) (told-found refl (λ d e. omega (arith, e)) (refl, refl, refl, refl, refl, refl, refl, refl, refl, refl) ([], refl, refl)) (number-shows s h k l mine refl now)
               (keeps-sleep s h.sleep id (held w k) (held w l) mine (set s.words i now) s.homes
               (λ c below. let less = with-less (λ z. z.worker) s.views id (held w k) (held w l) mine j is_worker refl c in let single = h.sleep.single c below in
               let at : bit_at (get_or (set s.words i now) i 0) c ≡ bit_at now c = ap (λ x. bit_at x c) there_now in dite (ℕ_discrete j c)

@@ -10,7 +10,7 @@ use Rattle.arachne_weights.specs.declared.token.Token.{Token}
 use Rattle.arachne_weights.proofs.Totals.{total-set, two-le-total}
 use Rattle.arachne_exec.specs.declared.view.Notes.{Notes}
 use Rattle.arachne_exec.specs.declared.view.SleepDeed.{SleepDeed}
-use Rattle.arachne_exec.specs.declared.view.SleepDeed.TheVariants.{LayDown, Rose, Roused}
+use Rattle.arachne_exec.specs.declared.view.SleepDeed.TheVariants.{LayDown, LayOn, Rose, Roused}
 use Rattle.arachne_exec.specs.Layout.{idle_at, numbers_at, summary_at}
 use Rattle.arachne_exec.specs.Board.{one, lies_by, rises_by, rouses_by, lies_in, rises_in, rouses_in, owed, seats_of, is_idle, Board, WakesSleepers}
 use Rattle.arachne_exec.specs.Changes.{lain_more, risen_more}
@@ -36,7 +36,7 @@ risen-counts w (suc (suc n)) j xs low = absurd (omega (arith, low))
 
 pub lain-counts : (w n j : ℕ) (xs : List SleepDeed) → n < 2 → Counts w ((1 - n) * one j w) 0 0 xs (lain_more n j xs)
 lain-counts w zero j xs low = let more = deed-counts w (LayDown j) xs in (more.0 ∙ omega arith, more.1, more.2)
-lain-counts w (suc zero) j xs low = (omega arith, omega arith, omega arith)
+lain-counts w (suc zero) j xs low = let more = deed-counts w (LayOn j) xs in (more.0 ∙ omega arith, more.1, more.2)
 lain-counts w (suc (suc n)) j xs low = absurd (omega (arith, low))
 
 -- it has neither lain down nor risen, and woken nobody

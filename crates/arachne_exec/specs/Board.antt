@@ -10,7 +10,7 @@ use Rattle.arachne_weights.specs.declared.token.Token.{Token}
 use Rattle.arachne_weights.specs.Tokens.{held, spent}
 use Rattle.arachne_exec.specs.declared.view.Notes.{Notes}
 use Rattle.arachne_exec.specs.declared.view.SleepDeed.{SleepDeed}
-use Rattle.arachne_exec.specs.declared.view.SleepDeed.TheVariants.{LayDown, Rose, Roused}
+use Rattle.arachne_exec.specs.declared.view.SleepDeed.TheVariants.{LayDown, LayOn, Rose, Roused}
 use Rattle.arachne_exec.specs.First.{AreFirstWords}
 use Rattle.arachne_exec.specs.Changes.{blank, first_view, first_of, second_of, both_of}
 use Rattle.arachne_exec.specs.Layout.{idle_at, numbers_at, summary_at, ready_at, free_at, mark_at, words_of, in_word, last_generation}
@@ -47,16 +47,19 @@ is_number job (some other) = one other job
 -- of a change of a sleep: 1 if that worker lay down, rose, or was roused
 abbrev pub lies_by : ℕ → SleepDeed → ℕ
 lies_by worker (LayDown other) = one other worker
+lies_by worker (LayOn other) = 0
 lies_by worker (Rose other) = 0
 lies_by worker (Roused other) = 0
 
 abbrev pub rises_by : ℕ → SleepDeed → ℕ
 rises_by worker (LayDown other) = 0
+rises_by worker (LayOn other) = 0
 rises_by worker (Rose other) = one other worker
 rises_by worker (Roused other) = 0
 
 abbrev pub rouses_by : ℕ → SleepDeed → ℕ
 rouses_by worker (LayDown other) = 0
+rouses_by worker (LayOn other) = 0
 rouses_by worker (Rose other) = 0
 rouses_by worker (Roused other) = one other worker
 
@@ -211,9 +214,45 @@ pub record WakesSleepers (b : Board) : Type 0 where
 abbrev pub IsKept : ℕ → Board → Type 0
 IsKept shards b = HasOneKeeper (64 * shards) b × IsBalanced b × HasJobOrIsFree (64 * shards) b × HearsWakes (64 * shards) b × CountsEnds (64 * shards) b × IsShown (64 * shards) b × WakesSleepers b
 
+-- one is noted
+abbrev pub HasMore : {A : Type 0} → List A → List A → Type 0
+HasMore before after = (x : _) × (after ≡ x ∷ before)
+
 -- one is noted, or none
 abbrev pub Adds : {A : Type 0} → List A → List A → Type 0
-Adds before after = (after ≡ before) ⊎ ((x : _) × (after ≡ x ∷ before))
+Adds before after = (after ≡ before) ⊎ HasMore before after
+
+-- the hand keeps what it has, unless it is noted that a job was made ready or spawned, has ended, or was blocked, or that
+-- a place was freed
+abbrev pub KeepsJobs : Notes → Notes → Type 0
+KeepsJobs k l = ((jobs : List (ℕ × ℕ)) × (l.hand ≡ jobs ++ k.hand) × (l.rested ≡ k.rested)) ⊎ (l.rested ≡ k.rested + 1)
+    ⊎ HasMore k.spawned l.spawned ⊎ HasMore k.ended l.ended ⊎ HasMore k.blocked l.blocked ⊎ HasMore k.freed l.freed
+
+-- the last that a seat has noted of words is of that one
+abbrev pub IsLast : ℕ → List (ℕ × ℕ) → Type 0
+IsLast word looks = (number : ℕ) × (older : List (ℕ × ℕ)) × (looks ≡ (word, number) ∷ older)
+
+-- a job was spawned, at the place that was claimed, after a look at its mark; or none was
+abbrev pub AddsJob : Notes → Notes → Type 0
+AddsJob k l = (l.spawned ≡ k.spawned) ⊎ ((place job : ℕ) × (k.unspawned ≡ place + 1) × (l.spawned ≡ (place, job) ∷ k.spawned) × IsLast (mark_at place) l.looks)
+
+-- that bit was found so in the idle word, and put so
+abbrev pub IsTurned : (was now worker word found put : ℕ) → Type 0
+IsTurned was now worker word found put = (word ≡ idle_at) × (bit_at found worker ≡ was) × (bit_at put worker ≡ now)
+
+abbrev pub HasDone : SleepDeed → (word found put : ℕ) → Type 0
+HasDone (LayDown worker) word found put = IsTurned 0 1 worker word found put
+HasDone (LayOn worker) word found put = IsTurned 1 1 worker word found put
+HasDone (Rose worker) word found put = IsTurned 1 0 worker word found put
+HasDone (Roused worker) word found put = IsTurned 1 0 worker word found put
+
+-- a deed is noted that the step has done, or none
+abbrev pub AddsDeed : (word found put : ℕ) → List SleepDeed → List SleepDeed → Type 0
+AddsDeed word found put before after = (after ≡ before) ⊎ ((deed : SleepDeed) × (after ≡ deed ∷ before) × HasDone deed word found put)
+
+-- what is found in a summary word is noted only by a seat that owes no bit
+abbrev pub MayNote : ℕ → Notes → Type 0
+MayNote word k = (shard : ℕ) → word ≡ summary_at shard → k.unshown ≡ 0
 
 -- the worker numbers have changed, or a bit of a block's ready word was cleared
 abbrev pub HasChanged : (word found put : ℕ) → Type 0
@@ -223,8 +262,8 @@ HasChanged word found put = ((word ≡ numbers_at) × (found ≢ put)) ⊎ ((blo
 -- found, or of a mark what it put, or nothing unless the worker numbers have changed or a ready bit was cleared. What it
 -- had noted stays. If it owed a job at a place, it owes it still, unless it has spawned one.
 pub record IsTold (word found put : ℕ) (k l : Notes) : Type 0 where
-  pub looks : (l.looks ≡ (word, found) ∷ k.looks) ⊎ ((place : ℕ) × (word ≡ mark_at place) × (l.looks ≡ (word, put) ∷ k.looks)) ⊎ ((l.looks ≡ k.looks) × ¬ HasChanged word found put)
-  pub spawned : Adds k.spawned l.spawned
+  pub looks : ((l.looks ≡ (word, found) ∷ k.looks) × MayNote word k) ⊎ ((place : ℕ) × (word ≡ mark_at place) × (l.looks ≡ (word, put) ∷ k.looks)) ⊎ ((l.looks ≡ k.looks) × ¬ HasChanged word found put)
+  pub spawned : AddsJob k l
   pub owed_job : (l.unspawned ≡ k.unspawned) ⊎ (k.unspawned ≡ 0) ⊎ ((x : ℕ × ℕ) × (l.spawned ≡ x ∷ k.spawned))
   pub ended : Adds k.ended l.ended
   pub woken : Adds k.woken l.woken
@@ -232,7 +271,8 @@ pub record IsTold (word found put : ℕ) (k l : Notes) : Type 0 where
   pub blocked : Adds k.blocked l.blocked
   pub unblocked : Adds k.unblocked l.unblocked
   pub freed : Adds k.freed l.freed
-  pub sleeps : Adds k.sleeps l.sleeps
+  pub hand : KeepsJobs k l
+  pub sleeps : AddsDeed word found put k.sleeps l.sleeps
   pub splits : l.splits ≡ k.splits
 
 -- the board after that step

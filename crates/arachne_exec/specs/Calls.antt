@@ -96,11 +96,15 @@ pub record HasTaken (job : HeldJob) (block : ℕ) (k after : Notes) : Type 0 whe
     looks = (mark_at job.place, mark) ∷ (ready_at block, found) ∷ (ready_at block, ready) ∷ k.looks;
   })
 
--- within a call: of the ready places of the block it was the first from that index on; with it whether there was another behind
+-- the same: of the ready places of the block it was the first from that index on
+pub record HasTakenInTurn (from : ℕ) (job : HeldJob) (block : ℕ) (k after : Notes) : Type 0 where
+  pub took : HasTaken job block k after
+  pub first : IsFirstFrom took.ready from (job.place % 64)
+
+-- within a call: with it whether there was another behind
 pub record HasTakenFrom (from : ℕ) (taken : TakenJob) (block : ℕ) (k after : Notes) : Type 0 where
-  pub took : HasTaken taken.job block k after
-  pub first : IsFirstFrom took.ready from (taken.job.place % 64)
-  pub more : IsTrue taken.more ↔ (2 * 2 ^ (taken.job.place % 64) ≤ took.ready)
+  pub turn : HasTakenInTurn from taken.job block k after
+  pub more : IsTrue taken.more ↔ (2 * 2 ^ (taken.job.place % 64) ≤ turn.took.ready)
 
 -- The ready word was found empty; or its lowest places were picked, so many or all, and those whose bits were then found
 -- set are in hand, with their jobs, the lowest as the newest.
@@ -212,6 +216,29 @@ AreForJobs (look ∷ looks) = (((shard : ℕ) × (look.0 ≡ summary_at shard)) 
 abbrev pub HasLooked : ℕ → Notes → Notes → Type 0
 HasLooked worker k after = (n : ℕ) × (looks : List (ℕ × ℕ)) × AreForJobs looks × (after ≡ record k { looks = looks ++ k.looks; sleeps = often n worker k.sleeps })
 
+-- that number is noted of the word
+abbrev pub IsAmong : (word number : ℕ) → List (ℕ × ℕ) → Type 0
+IsAmong word number [] = ⊥
+IsAmong word number (look ∷ looks) = (look ≡ (word, number)) ⊎ IsAmong word number looks
+
+-- a look found the word without a bit that the look before it found there
+abbrev pub HasLost : ℕ → ℕ × ℕ → List (ℕ × ℕ) → Type 0
+HasLost word look [] = ⊥
+HasLost word look (before ∷ looks) = (look.0 ≡ word) × (before.0 ≡ word) × (index : ℕ) × (bit_at before.1 index ≡ 1) × (bit_at look.1 index ≡ 0)
+
+-- the block's ready word was found empty, or it has lost a bit from one look to the next
+abbrev pub HasNoJob : ℕ → List (ℕ × ℕ) → Type 0
+HasNoJob block [] = ⊥
+HasNoJob block (look ∷ looks) = (look ≡ (ready_at block, 0)) ⊎ HasLost (ready_at block) look looks ⊎ HasNoJob block looks
+
+-- the shard's summary word was found, and no job at any block whose bit is set there
+abbrev pub IsSearched : ℕ → List (ℕ × ℕ) → Type 0
+IsSearched shard looks = (shown : ℕ) × IsAmong (summary_at shard) shown looks × ((index : ℕ) → index < 64 → bit_at shown index ≡ 1 → HasNoJob (64 * shard + index) looks)
+
+-- it has searched that shard and found no job
+abbrev pub HasSearched : ℕ → Notes → Notes → Type 0
+HasSearched shard k after = (looked : HasLooked (worker_of shard) k after) × IsSearched shard looked.1
+
 -- it has looked, and then taken a job of a block of that shard, one of so many
 abbrev pub HasTakenInShard : HeldJob → (shards shard : ℕ) → Notes → Notes → Type 0
 HasTakenInShard job shards shard k after = (block : ℕ) × (looked : Notes) × (block < 64 * shards) × (block / 64 ≡ shard) × HasLooked (worker_of shard) k looked × HasTaken job block looked after
@@ -230,11 +257,13 @@ HasFoundSome shards worker k after = (found shard shown then : ℕ) × (shard < 
     × (after ≡ rising worker then (noted (summary_at shard) shown (lying worker found k)))
 
 -- Before each answer it may have cleared the worker's own idle bit to wake it, and no other. Run: a job of a block of
--- the worker's. Park: it has set its idle bit, and then found all of its summary words empty. Again: one wasn't
+-- the worker's. Park: it has set its idle bit, and then found all of its summary words empty. Again: it has searched
+-- each of the worker's shards and found no job, and then one of its summary words wasn't empty
 abbrev pub HasAnswered : Next → ℕ → ℕ → Notes → Notes → Type 0
 HasAnswered (next.Run job) shards worker k after = (block : ℕ) × (looked : Notes) × (block < 64 * shards) × (worker_of (block / 64) ≡ worker) × HasLooked worker k looked × HasTaken job block looked after
 HasAnswered next.Park shards worker k after = (looked : Notes) × HasLooked worker k looked × HasFoundNone shards worker looked after
-HasAnswered next.Again shards worker k after = (looked : Notes) × HasLooked worker k looked × HasFoundSome shards worker looked after
+HasAnswered next.Again shards worker k after = (then : Notes) × (looked : HasLooked worker k then) × ((shard : ℕ) → shard < shards → worker_of shard ≡ worker → IsSearched shard looked.1)
+    × HasFoundSome shards worker then after
 
 -- what a wake has found, within a call
 abbrev pub IsFound : RouseResult → ℕ → ℕ → ℕ → CallView → CallView → Type 0

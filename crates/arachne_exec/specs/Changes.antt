@@ -6,12 +6,12 @@ use Rattle.arachne_weights.specs.Tokens.{held}
 use Rattle.arachne_weights.specs.Weight.{whole, first_part, second_part, joined}
 use Rattle.arachne_exec.specs.declared.view.Notes.{Notes}
 use Rattle.arachne_exec.specs.declared.view.SleepDeed.{SleepDeed}
-use Rattle.arachne_exec.specs.declared.view.SleepDeed.TheVariants.{LayDown, Rose, Roused}
+use Rattle.arachne_exec.specs.declared.view.SleepDeed.TheVariants.{LayDown, LayOn, Rose, Roused}
 use Rattle.arachne_exec.specs.Layout.{idle_at, mark_at}
 
 -- a seat that has done nothing
 abbrev pub blank : Notes
-blank = record { hand = []; spawned = []; ended = []; woken = []; heard = []; blocked = []; unblocked = []; freed = []; sleeps = []; looks = []; unspawned = 0; unshown = 0; owes = 0; worker = 0; seen = 0; splits = 0 }
+blank = record { hand = []; spawned = []; ended = []; woken = []; heard = []; blocked = []; unblocked = []; freed = []; rested = 0; sleeps = []; looks = []; unspawned = 0; unshown = 0; owes = 0; worker = 0; seen = 0; splits = 0 }
 
 -- the first seat has the whole weight
 abbrev pub first_view : Token Notes
@@ -45,7 +45,7 @@ claiming place k = record k { hand = (place, 0) ∷ k.hand; unspawned = place + 
 
 -- the newest place is ready, or it is free, or it is blocked, and out of hand
 abbrev pub laying_down : Notes → Notes
-laying_down k = record k { hand = older k.hand }
+laying_down k = record k { hand = older k.hand; rested = k.rested + 1 }
 
 abbrev pub freeing : Notes → Notes
 freeing k = record k { hand = older k.hand; freed = newest_place k.hand ∷ k.freed }
@@ -107,10 +107,10 @@ abbrev pub often : ℕ → ℕ → List SleepDeed → List SleepDeed
 often zero worker sleeps = sleeps
 often (suc n) worker sleeps = Roused worker ∷ often n worker sleeps
 
--- a worker has found its idle bit so (0: clear, 1: set), and set it: it lies down where it was clear
+-- a worker has found its idle bit so (0: clear, 1: set), and set it: it lies down where it was clear, else on
 abbrev pub lain_more : ℕ → ℕ → List SleepDeed → List SleepDeed
 lain_more zero worker sleeps = LayDown worker ∷ sleeps
-lain_more (suc n) worker sleeps = sleeps
+lain_more (suc n) worker sleeps = LayOn worker ∷ sleeps
 
 -- the idle word was found to be that number, and the worker has set its bit there, and seen none of its summary words
 -- since
@@ -163,6 +163,7 @@ together k l = record k {
   blocked = k.blocked ++ l.blocked;
   unblocked = k.unblocked ++ l.unblocked;
   freed = k.freed ++ l.freed;
+  rested = k.rested + l.rested;
   sleeps = k.sleeps ++ l.sleeps;
   looks = k.looks ++ l.looks;
   splits = k.splits + l.splits;

@@ -17,11 +17,12 @@ pub record IsLaidOut (table : TableId) (key shards : ℕ) : Type 0 where
   pub slots : table.slots ≡ 4096 * shards
   pub few : shards ≤ 256
 
--- a seat: which table it is of, its part of the whole weight, and what it knows
+-- a seat: which table it is of, its part of the whole weight, what it knows, and the index at which its next take begins
 pub record SeatView : Type 0 where
   pub table : TableId
   pub weight : ℕ
   pub known : Notes
+  pub turn : ℕ
 
 -- the same within a call, where slots are out with it, the one taken last first
 pub record CallView : Type 0 where

@@ -1,6 +1,6 @@
 //! The results of an executor's calls.
 
-/// A job in hand: its place, its name, and its number.
+/// A job that a seat has in hand: its place, its name, and its number.
 #[derive(Clone, Copy, Debug, PartialEq, Eq)]
 pub struct HeldJob {
     pub place: usize,
@@ -22,17 +22,17 @@ pub enum JobSpawned {
     Placed(PlacedJob),
     /// No place of the block was free.
     Full,
-    /// Another thread claimed the place first: ask again.
+    /// Another thread claimed the place first: the caller may try again.
     Lost,
 }
 
-/// The result of `spawn_here`, which spawns a job into the hand.
+/// The result of `spawn_here`, which spawns a job into the seat's hand.
 #[derive(Clone, Copy, Debug, PartialEq, Eq)]
 pub enum SpawnedHere {
     Held(HeldJob),
     /// No place of the block was free.
     Full,
-    /// Another thread claimed the place first: ask again.
+    /// Another thread claimed the place first: the caller may try again.
     Lost,
 }
 
@@ -40,7 +40,7 @@ pub enum SpawnedHere {
 #[derive(Clone, Copy, Debug, PartialEq, Eq)]
 pub enum JobRested {
     Blocked,
-    /// A wake had come that no take or `start` has used up: the job is ready.
+    /// The job is ready, since a wake had come that no take or `start` has used up.
     Ready { unpark: bool },
 }
 
@@ -48,32 +48,33 @@ pub enum JobRested {
 #[derive(Clone, Copy, Debug, PartialEq, Eq)]
 pub enum Next {
     Run(HeldJob),
-    /// It must park: it has set its idle bit, and then found each of its summary words empty.
+    /// The worker must park: it has set its idle bit, and then found each of its summary words (which show blocks with
+    /// ready jobs) empty.
     Park,
-    /// It must ask again.
+    /// The worker must call `next` again.
     Again,
 }
 
 /// The result of `wake`.
 #[derive(Clone, Copy, Debug, PartialEq, Eq)]
 pub enum JobWoken {
-    /// The job was blocked, and is ready.
+    /// The job was blocked, and is ready now.
     Ready { unpark: bool },
-    /// The job isn't blocked: its mark records the wake until a take or `start` uses it up, or the job ends. A wake by
-    /// the name that the next job at a free place will have is recorded in the same way.
+    /// The job isn't blocked: its mark records the wake until a take or `start` uses it up, or the job ends. A wake for
+    /// the next job of a free place, by the name that this job will have, is recorded in the same way.
     Marked,
-    /// It was marked before.
+    /// The job was marked as woken before.
     Already,
-    /// No job has that name any more.
+    /// No job has that name now.
     Gone,
-    /// Another thread changed the mark: ask again.
+    /// Another thread changed the job's mark: the caller may try again.
     Lost,
 }
 
-/// The result of `wake_here`, which takes the job into the hand.
+/// The result of `wake_here`, which takes the job into the seat's hand.
 #[derive(Clone, Copy, Debug, PartialEq, Eq)]
 pub enum WokenHere {
-    /// The job was blocked, and is in hand.
+    /// The job was blocked, and is in the caller's hand now.
     Held(HeldJob),
     Marked,
     Already,

@@ -13,7 +13,7 @@ use atomic_table::Table;
 use std::alloc::{AllocError, Global};
 use std::marker::Model;
 
-/// The executor of a host: words and slots of one table, which say where each job is.
+/// An executor: the atomic words and slots of one table, which say at which place each job is.
 ///
 /// Contracts see which table it is, and the number of its shards.
 // In its methods a line `let _ = self.shards;` opens the table for the prover, which learns its sizes there.
@@ -38,7 +38,7 @@ impl Executor {
     pub fn new(alloc: Global, shards: usize) -> Result<(Executor, ExecSeat), AllocError>
         requires { shards ≤ 256 }
         ensures shards { IfOk result (λ made. made.0.shards ≡ shards) }
-        ensures seat { IfOk result (λ made. made.1 ≡ record { table = made.0.table; weight = whole; known = blank }) }
+        ensures seat { IfOk result (λ made. made.1 ≡ record { table = made.0.table; weight = whole; known = blank; turn = 0 }) }
     {
         let words = first_words(alloc, 64 * shards)?;
         let slots = empty_slots(alloc, 64 * shards)?;
@@ -69,7 +69,7 @@ impl Executor {
         4096 * self.shards
     }
 
-    /// Does nothing. Its contract says that there are at most 256 shards.
+    /// Does nothing. The contract is the law that there are at most 256 shards.
     pub(crate) fn few(&self)
         ensures { self.now.shards ≤ 256 }
     {
@@ -96,12 +96,12 @@ impl Executor {
         self.table.shared.join_seat::<Halve>(&mut seat.seat, spent);
     }
 
-    /// Returns a seat for another thread, with half the weight and nothing else. At weight 1 or 0, neither seat keeps
-    /// any.
+    /// Returns a seat for another thread, with half of this seat's weight and nothing else. If the weight is 1 or 0,
+    /// both seats then have weight 0.
     pub fn split(&self, seat: &mut ExecSeat) -> ExecSeat
         requires own { seat.old.table ≡ self.now.table }
         ensures first { seat.new ≡ record seat.old { weight = first_part seat.old.weight; known = splitting seat.old.known } }
-        ensures second { result ≡ record { table = seat.old.table; weight = second_part seat.old.weight; known = blank } }
+        ensures second { result ≡ record { table = seat.old.table; weight = second_part seat.old.weight; known = blank; turn = 0 } }
     {
         let (first, second) = seat.weight.split();
         let other = self.cut(&mut seat.at);
@@ -114,8 +114,8 @@ impl Executor {
         }
     }
 
-    /// Takes in another seat, which has an empty hand and no worker number: adds up the weights, to at most the whole,
-    /// and what both know.
+    /// Joins `other` into `seat`, which gets its weight (at most the whole) and what it knows. `other` must have an
+    /// empty hand and no worker number.
     pub fn join_seats(&self, seat: &mut ExecSeat, other: ExecSeat)
         requires own { (seat.old.table ≡ self.now.table) × (other.table ≡ self.now.table) }
         requires nothing_in_hand { other.known.hand ≡ [] }

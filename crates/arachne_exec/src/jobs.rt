@@ -1,9 +1,9 @@
 //! The steps of a job: spawn, take, rest, finish.
-ghost use Rattle.std.specs.Prelude.{◌≡◌, ℕ, ◌*◌, ◌<◌, IsTrue, IsFalse, IfSome, IfNone};
+ghost use Rattle.std.specs.Prelude.{◌≡◌, ℕ, ◌+◌, ◌*◌, ◌%◌, ◌<◌, IsTrue, IsFalse, IfSome, IfNone};
 ghost use Rattle.arachne_exec.specs.Layout.{mark_at, name_of};
 ghost use Rattle.arachne_exec.specs.Changes.{laying_down, noted, rousing, using_up};
 ghost use Rattle.arachne_exec.specs.Seats.{HasNewest, IsNewest};
-ghost use Rattle.arachne_exec.specs.Calls.{worker_at, HasSpawned, HasSpawnedHere, HandsSpawned, HasTaken, HasTakenFrom, HasTakenNone, HasBlocked, HasSeenWake, HasRested, HasFinished, KeepsHand, HandsOver, LaysDown};
+ghost use Rattle.arachne_exec.specs.Calls.{worker_at, HasSpawned, HasSpawnedHere, HandsSpawned, HasTakenInTurn, HasTakenFrom, HasTakenNone, HasBlocked, HasSeenWake, HasRested, HasFinished, KeepsHand, HandsOver, LaysDown};
 
 use crate::answers::{HeldJob, JobRested, JobSpawned, PlacedJob, SpawnedHere};
 use crate::executor::Executor;
@@ -25,11 +25,13 @@ pub(crate) fn job_at(place: usize, mark: u64, job: u64) -> HeldJob
 }
 
 impl Executor {
-    /// Clears the record of a wake in the mark of the newest place. Returns the mark that was found.
+    /// Clears a recorded wake from the mark (an atomic word) of the seat's newest place. Returns the mark that was
+    /// found.
     pub(crate) fn refresh(&self, seat: &mut SeatInCall, place: usize) -> u64
         requires own { seat.old.table ≡ self.now.table }
         requires place { place < 4096 * self.now.shards }
         requires newest { (job : ℕ) × (inside : ℕ) × HasNewest place job inside seat.old }
+        requires calm { seat.old.known.unshown ≡ 0 }
         ensures { (found : ℕ) × (seat.new ≡ record seat.old { known = using_up result place found (noted (mark_at place) result seat.old.known) }) }
     {
         self.few();
@@ -41,7 +43,7 @@ impl Executor {
         mark
     }
 
-    /// Tries once to put a job at a free place of a block. The job is ready there.
+    /// Tries once to put a job at a free place of a block. The job is then ready at that place.
     pub fn spawn(&self, seat: &mut ExecSeat, block: usize, job: u64) -> JobSpawned
         requires own { seat.old.table ≡ self.now.table }
         requires block { block < 64 * self.now.shards }
@@ -90,8 +92,8 @@ impl Executor {
         SpawnedHere::Held(job_at(place, mark, job))
     }
 
-    /// Tries once to take a job that is ready at a block: at the first ready place from the index `from` on, round the
-    /// block. Returns with it whether the block had another ready place behind that one.
+    /// Tries once to take a ready job of a block: the one at the first ready place from the index `from` on, going
+    /// round the block. Also returns whether the block had another ready place behind that one.
     pub(crate) fn take_from(
         &self,
         seat: &mut ExecSeat,
@@ -124,14 +126,15 @@ impl Executor {
         Some(TakenJob::new(job_at(place, mark, job), has_more(ready, index)))
     }
 
-    /// Tries once to take a job that is ready at a block of any worker: at the first ready place behind the index of
-    /// the job that this call last took for the seat, round the block.
+    /// Tries once to take a ready job of any worker's block. The search goes round the block, and begins behind the
+    /// index of the job that this call last took for the seat.
     pub fn take(&self, seat: &mut ExecSeat, block: usize) -> Option<HeldJob>
         requires own { seat.old.table ≡ self.now.table }
         requires block { block < 64 * self.now.shards }
-        ensures seat { seat.new ≡ record seat.old { known = seat.new.known } }
-        ensures took { IfSome result (λ job. HasTaken job block seat.old.known seat.new.known) }
-        ensures none { IfNone result (HasTakenNone block seat.old.known seat.new.known) }
+        ensures seat { seat.new ≡ record seat.old { known = seat.new.known; turn = seat.new.turn } }
+        ensures took { IfSome result (λ job. HasTakenInTurn seat.old.turn job block seat.old.known seat.new.known) }
+        ensures turn { IfSome result (λ job. seat.new.turn ≡ job.place % 64 + 1) }
+        ensures none { IfNone result (HasTakenNone block seat.old.known seat.new.known × (seat.new.turn ≡ seat.old.turn)) }
         ensures hand { IfSome result (λ job. HandsOver (4096 * self.now.shards) job seat.old.known seat.new.known) }
         ensures same { IfNone result (KeepsHand seat.old.known seat.new.known) }
     {
@@ -150,11 +153,12 @@ impl Executor {
         self.publish(&mut seat.at, place)
     }
 
-    /// Blocks the newest place, unless its mark records a wake. Returns true if it is blocked.
+    /// Blocks the job at the seat's newest place, unless its mark records a wake. Returns true if the job is blocked.
     fn try_block(&self, seat: &mut SeatInCall, place: usize) -> bool
         requires own { seat.old.table ≡ self.now.table }
         requires place { place < 4096 * self.now.shards }
         requires newest { (job : ℕ) × HasNewest place job job seat.old }
+        requires calm { seat.old.known.unshown ≡ 0 }
         ensures put { IsTrue result → HasBlocked place seat.old seat.new }
         ensures missed { IsFalse result → HasSeenWake place seat.old seat.new }
     {
@@ -182,7 +186,7 @@ impl Executor {
         JobRested::Ready { unpark }
     }
 
-    /// Ends the newest job in hand. Its place is free, for a job of the next generation.
+    /// Ends the newest job in hand. The job's place is then free, for a job of the next generation.
     pub fn finish(&self, seat: &mut ExecSeat, place: usize)
         requires own { seat.old.table ≡ self.now.table }
         requires place { place < 4096 * self.now.shards }

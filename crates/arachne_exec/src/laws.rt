@@ -1,5 +1,8 @@
 //! The laws that hold for an executor between any two steps. The functions do nothing: a law is their contract.
-ghost use Rattle.std.specs.Prelude.{◌≡◌, ◌≢◌, Bool, ℕ, ◌+◌, ◌*◌, ◌/◌, ◌<◌, ◌≤◌, min};
+ghost use Rattle.std.specs.Prelude.{◌≡◌, ◌≢◌, Bool, ℕ, ◌+◌, ◌*◌, ◌/◌, ◌<◌, ◌≤◌, min, List, ◌∷◌};
+ghost use mathlib.Core.Option.{some};
+ghost use lib.ListN.{get_elem?};
+ghost use Rattle.arachne_weights.specs.declared.token.Token.{Token};
 ghost use Rattle.arachne_exec.specs.declared.view.Notes.{Notes};
 ghost use Rattle.arachne_exec.specs.declared.answers.JobRested.{JobRested};
 ghost use Rattle.arachne_exec.specs.declared.answers.JobSpawned.{JobSpawned};
@@ -8,30 +11,33 @@ ghost use Rattle.arachne_exec.specs.declared.answers.Next.{Next};
 ghost use Rattle.arachne_exec.specs.declared.answers.HeldJob.{HeldJob};
 ghost use Rattle.arachne_exec.specs.declared.answers.SpawnedHere.{SpawnedHere};
 ghost use Rattle.arachne_exec.specs.declared.answers.WokenHere.{WokenHere};
-ghost use Rattle.arachne_exec.specs.Layout.{last_generation, worker_of};
+ghost use Rattle.arachne_exec.specs.Layout.{mark_at, last_generation, worker_of};
 ghost use Rattle.arachne_exec.specs.Changes.{laying_down, rousing};
 ghost use Rattle.arachne_exec.specs.Calls.{worker_at, HasSpawned, HasSpawnedHere, HasTaken, HasTakenNone, HasTakenMany, HasStarted, HasRested, HasFinished, HasWoken, HasWokenHere, HasAnswered};
 ghost use Rattle.arachne_exec.specs.Sleeps.{spawn_unparks, rest_unparks, wake_unparks, Rouses, RousesNobody, Sleeps};
-ghost use Rattle.arachne_exec.specs.Board.{Board, HasCome, IsLawful, at_home, is_ready, is_free, is_blocked, is_idle, unspawned_by, seats_of, ends_at, lies, rises, rouses};
+ghost use Rattle.arachne_exec.specs.Board.{Board, HasCome, IsLawful, places_in, at_home, is_ready, is_free, is_blocked, is_idle, unspawned_by, seats_of, ends_at, lies, rises, rouses};
 ghost use Rattle.arachne_exec.specs.Promises.{IsReadyJob, IsEmptyPlace, keepers_of, HasReady, IsShownOrOwed, IsParked, AreOwedTo};
 ghost use Rattle.arachne_exec.specs.Promises.{spawns, ends, times_in_hand, spawned_at, ended_at, lives_at, spawns_at, frees_at, blocks, unblocks, wakes, wakes_heard, is_marked, is_unused, generation_at};
 
 use crate::executor::Executor;
 use crate::seat::ExecSeat;
 
-/// The words and what seats know of them (a board) change by one step after another. Each step found what stood in its
-/// word, and kept the rest of the rule.
+/// The words and what seats know of them (a *board*) change by one step after another. Each step found what stood in
+/// its word, and kept the rule, the invariant of the table.
 ///
-/// A seat notes of a word only the number that its step found there, or of a mark the one that it put there, and keeps
-/// what it has noted. Each change of the worker numbers is noted, and each ready bit that is cleared. So a number that was
-/// noted was there, whatever the kind of the step says. A seat that has claimed a place owes it a job until it has spawned
-/// one.
+/// A seat notes only the number that its step found in a word, or that its step put into a mark, and keeps what it has
+/// noted. While a seat owes a bit (its call must still set one), it notes nothing of a summary word. A seat notes each
+/// change of the worker numbers, each ready bit that it clears, and why a job leaves its hand. So a number that was
+/// noted did stand in its word, whatever kind of step noted it. What is noted of a worker's sleep is what the step did
+/// to the worker's idle bit. A seat that has claimed a place must spawn a job there before its call ends, after a look
+/// at the place's mark.
 pub fn boards_come_by_steps()
     ensures { (shards : ℕ) (b : Board) → IsLawful shards b → HasCome shards b }
 {}
 
-/// Each place has one keeper. So a job that is neither blocked nor in a seat's hand has its bit set in its block's
-/// ready word, and whoever finds the word empty knows that each job of the block is blocked or in the hand of a seat.
+/// Each place has exactly one keeper: the free bit, the ready bit, the mark of a blocked job, or a seat's hand. So a
+/// job that is neither blocked nor in a seat's hand has its bit set in its block's ready word. Whoever finds that word
+/// empty knows that each job of the block is blocked or in a seat's hand.
 pub fn ready_jobs_are_shown()
     ensures shown { (shards : ℕ) (b : Board) → IsLawful shards b → (place : ℕ) → place < 4096 * shards → IsReadyJob place b → is_ready b.words place ≡ 1 }
     ensures one_keeper { (shards : ℕ) (b : Board) → IsLawful shards b → (place : ℕ) → place < 4096 * shards
@@ -43,37 +49,37 @@ pub fn free_places_are_empty()
     ensures { (shards : ℕ) (b : Board) → IsLawful shards b → (place : ℕ) → place < 4096 * shards → is_free b.words place ≡ 1 → IsEmptyPlace place b }
 {}
 
-/// Each time that a job was spawned at a place, the place was freed, or isn't free. A place that isn't free has one job
-/// more that was spawned there, or a seat in the midst of a call owes it one. So each ready job was spawned, and a call
-/// that spawns none takes no free place, not even for a time.
+/// For each job that was spawned at a place, the place was freed since, or isn't free. If a place isn't free, a job was
+/// spawned there since it was freed last, or a seat in the midst of a call must still spawn one. So each ready job was
+/// spawned, and a call that spawns none takes no free place, not even for a time.
 pub fn jobs_are_spawned()
     ensures { (shards : ℕ) (b : Board) → IsLawful shards b → (place : ℕ) → place < 4096 * shards
         → spawns_at place b + unspawned_by place b.views + is_free b.words place ≡ frees_at place b + 1 }
 {}
 
 /// A block whose ready word isn't empty has its bit in the summary word of its shard, or a seat in the midst of a call
-/// owes it.
+/// must still set that bit.
 pub fn ready_blocks_are_shown()
     ensures { (shards : ℕ) (b : Board) → IsLawful shards b → (block : ℕ) → block < 64 * shards → HasReady block b → IsShownOrOwed block b }
 {}
 
-/// If a worker is parked and a ready word of its blocks isn't empty, then a seat in the midst of a call owes the bit of
-/// the block or the look that wakes the worker.
+/// If a worker is parked and a ready word of its blocks isn't empty, then a seat in the midst of a call must still set
+/// the bit of that block, or make the look that wakes the worker.
 pub fn sleepers_are_woken()
     ensures { (shards : ℕ) (b : Board) → IsLawful shards b → (worker : ℕ) → IsParked shards worker b → AreOwedTo shards worker b }
 {}
 
-/// For each time that a worker lay down, it has risen by itself, or a seat has found its idle bit set and cleared it to
-/// wake it, once; or the bit is still set. So a worker whose bit is clear has risen or was roused as often as it lay
-/// down.
+/// Each time that a worker set its idle bit (lay down), the bit was cleared once since, by the worker itself (it rose)
+/// or by a seat that wakes it (it was roused); or the bit is still set. So a worker whose bit is clear has risen or was
+/// roused as often as it lay down.
 pub fn sleepers_are_told()
     ensures { (shards : ℕ) (b : Board) → IsLawful shards b → (worker : ℕ) → worker < 64
         → lies worker b.views ≡ rises worker b.views + rouses worker b.views + is_idle b.words worker }
 {}
 
-/// The answers of calls in the words of the law above, by the clauses of the calls. A worker is roused, once, exactly
-/// if an answer says to unpark it, except by its own `next`, which says so to nobody. Only its own `next` and
-/// `may_park` let it lie down.
+/// The results of calls say which workers were roused (their idle bits were cleared to wake them). A worker is roused,
+/// once, exactly if a result says to unpark it; but a worker's own `next` may rouse it without a result that says so.
+/// Only a worker's own `next` and `may_park` let it lie down (set its idle bit).
 pub fn calls_say_whom_they_rouse()
     ensures spawn { (answer : JobSpawned) (block job : ℕ) (k after : Notes) → HasSpawned answer block job k after → Rouses (spawn_unparks answer) (worker_of (block / 64)) k after }
     ensures rest_ready { (unpark : Bool) (place : ℕ) (k : Notes) → Rouses unpark (worker_at place) k (rousing unpark (worker_at place) (laying_down k)) }
@@ -89,8 +95,8 @@ pub fn calls_say_whom_they_rouse()
     ensures finish { (place : ℕ) (k after : Notes) → HasFinished place k after → RousesNobody k after }
 {}
 
-/// Each job number but 0 was spawned as often as it has ended, is in a hand, and lies in a slot: over all places, and at
-/// each place.
+/// Each job number but 0 was spawned as often as it has ended, is in a seat's hand, or lies at a place. The counts
+/// agree over all places together, and at each place.
 pub fn jobs_are_conserved()
     ensures all { (shards : ℕ) (b : Board) → IsLawful shards b → (job : ℕ) → 0 < job
         → spawns job b ≡ ends job b + times_in_hand job b + at_home job b.homes }
@@ -105,25 +111,29 @@ pub fn blocks_are_counted()
         → blocks place b ≡ unblocks place b + is_blocked b.words place }
 {}
 
-/// Each mark that a wake has set at a place was used up by a seat that had the place in hand, or is still there. If the
-/// job is blocked, no mark is there. So a job that blocks has heard each wake that it was marked with.
+/// Each mark that a wake has set at a place was used up by a seat that had the place in hand, or is still there. A
+/// blocked job's place has no such mark. So a job blocks only after each wake with which it was marked was used up.
 pub fn wakes_are_heard()
     ensures blocked { (shards : ℕ) (b : Board) → IsLawful shards b → (place : ℕ) → place < 4096 * shards → is_blocked b.words place ≡ 1 → is_marked b.words place ≡ 0 }
     ensures heard { (shards : ℕ) (b : Board) → IsLawful shards b → (place : ℕ) → place < 4096 * shards
         → wakes place b ≡ wakes_heard place b + is_marked b.words place }
 {}
 
-/// A mark's generation is how many jobs have ended at its place, up to the first that no name has, and one job at most is
-/// at the place. A name has the generation that its place's mark had when its job came. So it is of that job for good:
-/// once the job has ended no mark has that generation again, and a wake by the name does nothing.
+/// The generation in a place's mark is the number of jobs that have ended there, up to the largest that a name can
+/// have, and at most one job is at the place. As long as a seat has the place in hand, the mark keeps the generation
+/// that the seat has last found in it. So a name, which has that generation, belongs to one job for good: once the job
+/// has ended no mark has that generation again, and a wake by the name does nothing.
 pub fn names_are_of_one_job()
     ensures generation { (shards : ℕ) (b : Board) → IsLawful shards b → (place : ℕ) → place < 4096 * shards
         → generation_at place b ≡ min last_generation (ends_at place b.views) }
+    ensures found { (shards : ℕ) (b : Board) → IsLawful shards b → (seat : ℕ) (view : Token Notes) → get_elem? b.views seat ≡ some view → (place : ℕ) → place < 4096 * shards
+        → 0 < places_in place view.known.hand → (mark : ℕ) (older : List (ℕ × ℕ)) → view.known.looks ≡ (mark_at place, mark) ∷ older → mark / 4 ≡ generation_at place b }
     ensures one { (shards : ℕ) (b : Board) → IsLawful shards b → (place : ℕ) → place < 4096 * shards → (job other : ℕ) → job ≢ other
         → lives_at place job b + lives_at place other b ≤ 1 }
 {}
 
-/// No two seats are one worker, and a number whose bit isn't set has a seat.
+/// No two seats are the same worker. If the bit of a worker number isn't set in the word of unused numbers, a seat has
+/// that number.
 pub fn workers_are_one()
     ensures one { (shards : ℕ) (b : Board) → IsLawful shards b → (worker : ℕ) → worker < 64 → seats_of worker b.views ≤ 1 }
     ensures taken { (shards : ℕ) (b : Board) → IsLawful shards b → (worker : ℕ) → worker < 64 → is_unused b.words worker ≡ 0 → seats_of worker b.views ≡ 1 }
@@ -131,7 +141,8 @@ pub fn workers_are_one()
 
 fn may_be_shared<T: Send + Sync>() {}
 
-/// Kernel threads may share an executor, a seat may be sent to another, and several may look at one.
+/// Kernel threads may share an executor, a seat may be sent to another thread, and several threads may look at one
+/// seat.
 pub fn executors_cross_threads() {
     may_be_shared::<Executor>();
     may_be_shared::<ExecSeat>();

@@ -23,7 +23,7 @@ pub(crate) const NUMBERS: usize = 8;
 /// The generation in the mark of a retired place: the last job that can have a name has ended there.
 pub(crate) const LAST_GENERATION: u64 = (1 << 44) - 1;
 
-/// Returns the place in a name.
+/// Returns the place that a job's name contains.
 pub fn place_of(name: u64) -> usize
     ensures { result ≡ name % 2 ^ 20 }
 {

@@ -1,4 +1,8 @@
-//! The core of an executor, on atomic words: where each job is, who has it in hand, and whom to wake.
+//! The core of an executor, on atomic words: where each job is, which thread has it in hand, and which worker to wake.
+//!
+//! A job stands at a *place*. A *block* has 64 places, and a *ready word* with a bit for each place whose job is ready.
+//! A *shard* has 64 blocks, and a *summary word* with a bit for each block that may have ready jobs. A seat *owes* a
+//! bit or a look while its call must still set the bit or take the look.
 #![tactic(auto)]
 
 mod answers;

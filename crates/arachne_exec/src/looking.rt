@@ -8,8 +8,8 @@ use crate::layout::{ready_word, summary_word};
 use crate::seat::ExecSeat;
 
 impl Executor {
-    /// Returns the blocks of a shard that may have ready jobs, a bit for each, by one load. A block that isn't among
-    /// them has none, or somebody is about to show it.
+    /// Returns the blocks of a shard that may have ready jobs, a bit for each, by one load. A block whose bit is clear
+    /// has no ready job, or a thread is about to set the bit.
     pub fn shown(&self, seat: &mut ExecSeat, shard: usize) -> u64
         requires own { seat.old.table ≡ self.now.table }
         requires shard { shard < self.now.shards }

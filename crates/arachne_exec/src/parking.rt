@@ -1,14 +1,14 @@
 //! The next action of a worker, and the condition under which it may park.
 ghost use Rattle.std.specs.Prelude.{◌≡◌, ℕ, ◌+◌, ◌*◌, ◌<◌, IsTrue, IsFalse, IfSome, IfNone};
 ghost use Rattle.std.specs.Int.{bit_at};
-ghost use Rattle.arachne_exec.specs.Layout.{numbers_at, worker_of};
+ghost use Rattle.arachne_exec.specs.Layout.{numbers_at};
 ghost use Rattle.arachne_exec.specs.Changes.{noted, rising, working};
-ghost use Rattle.arachne_exec.specs.Calls.{HasAnswered, HasFoundNone, HasFoundSome, HasLooked, HasTakenInShard, HandsNext, HandsOver, KeepsHand};
+ghost use Rattle.arachne_exec.specs.Calls.{HasAnswered, HasFoundNone, HasFoundSome, HasSearched, HasTakenInShard, HandsNext, HandsOver, KeepsHand};
 
 use crate::answers::{HeldJob, Next};
 use crate::executor::Executor;
 use crate::layout::summary_word;
-use crate::rounds::{InTurn, Round};
+use crate::rounds::Round;
 use crate::seat::{ExecSeat, SeatInCall};
 
 /// Returns the number of shards that a worker looks after, of `shards` shards.
@@ -54,10 +54,12 @@ impl Executor {
         self.clear_idle(&mut seat.at, worker);
     }
 
-    /// Returns true if the worker is idle, and false if one of its summary words wasn't empty: then it has risen.
+    /// Sets the worker's idle bit. Returns true if the worker's summary words are then all empty. If one isn't empty,
+    /// clears the idle bit again, and returns false.
     fn lie_down(&self, seat: &mut SeatInCall, worker: usize) -> bool
         requires own { seat.old.table ≡ self.now.table }
         requires worker { (seat.old.known.worker ≡ worker + 1) × (worker < 64) }
+        requires calm { seat.old.known.unshown ≡ 0 }
         ensures seat { seat.new ≡ record seat.old { known = seat.new.known } }
         ensures parks { IsTrue result → HasFoundNone self.now.shards worker seat.old.known seat.new.known }
         ensures stays { IsFalse result → HasFoundSome self.now.shards worker seat.old.known seat.new.known }
@@ -73,8 +75,8 @@ impl Executor {
         true
     }
 
-    /// Returns true if the worker may park: it has set its idle bit, and then found each of its summary words empty.
-    /// Else one wasn't, and it has cleared the bit.
+    /// Returns true if the worker may park: it has set its idle bit, and then found each of its summary words empty. If
+    /// the result is false, one of the summary words wasn't empty, and the worker has cleared its idle bit.
     pub fn may_park(&self, seat: &mut ExecSeat, worker: usize) -> bool
         requires own { seat.old.table ≡ self.now.table }
         requires worker { (seat.old.known.worker ≡ worker + 1) × (worker < 64) }
@@ -85,19 +87,18 @@ impl Executor {
         self.lie_down(&mut seat.at, worker)
     }
 
-    /// Takes the first job that is ready at a shard, from the seat's turn on. Clears in the shard's summary word the
-    /// bits of blocks that have none.
-    fn take_in_shard(&self, seat: &mut ExecSeat, shard: InTurn) -> Option<HeldJob>
+    /// Takes the first ready job of a shard, from the place on at which the seat's search begins. Clears in the shard's
+    /// summary word the bits of blocks that have no ready job.
+    fn take_in_shard(&self, seat: &mut ExecSeat, shard: usize) -> Option<HeldJob>
         requires own { seat.old.table ≡ self.now.table }
-        requires shard { shard.shard < self.now.shards }
+        requires shard { shard < self.now.shards }
         ensures seat { seat.new ≡ record seat.old { known = seat.new.known } }
-        ensures took { IfSome result (λ job. HasTakenInShard job self.now.shards shard.shard seat.old.known seat.new.known) }
-        ensures none { IfNone result (HasLooked (worker_of shard.shard) seat.old.known seat.new.known) }
+        ensures took { IfSome result (λ job. HasTakenInShard job self.now.shards shard seat.old.known seat.new.known) }
+        ensures none { IfNone result (HasSearched shard seat.old.known seat.new.known) }
         ensures hand { IfSome result (λ job. HandsOver (4096 * self.now.shards) job seat.old.known seat.new.known) }
         ensures same { IfNone result (KeepsHand seat.old.known seat.new.known) }
     {
         self.few();
-        let shard = shard.begun();
         let shown = self.look(&mut seat.at, summary_word(shard));
         let mut left = seat.turn.unsearched(shard, shown);
         while let Some(index) = left.next() {
@@ -127,21 +128,6 @@ impl Executor {
                 return Next::Run(job);
             }
         }
-        self.end_round(seat, worker, round)
-    }
-
-    /// Returns the worker's next action after all of its shards were searched and no job was found.
-    #[inline(always)]
-    fn end_round(&self, seat: &mut ExecSeat, worker: usize, round: Round) -> Next
-        requires own { seat.old.table ≡ self.now.table }
-        requires worker { (seat.old.known.worker ≡ worker + 1) × (worker < 64) }
-        requires round { (round.worker ≡ worker) × (round.index ≡ round.count) }
-        requires all { (j : ℕ) → worker + 64 * j < self.now.shards → j < round.count }
-        ensures seat { seat.new ≡ record seat.old { known = seat.new.known } }
-        ensures answer { HasAnswered result self.now.shards worker seat.old.known seat.new.known }
-        ensures hand { HandsNext result (4096 * self.now.shards) seat.old.known seat.new.known }
-    {
-        let _ = round;
         if self.may_park(seat, worker) {
             Next::Park
         } else {

@@ -3,24 +3,8 @@ ghost use Rattle.std.specs.Prelude.{◌≡◌, ℕ, ◌+◌, ◌*◌, ◌/◌, �
 
 use crate::turns::{SearchTurn, shard_in_turn};
 
-/// A shard whose turn it is. Only [`Round::next`] gives one, and no shard is searched without it.
-pub(crate) struct InTurn {
-    shard: usize,
-}
-
-impl InTurn {
-    /// Returns the number of the shard, which is searched now.
-    #[inline(always)]
-    pub(crate) fn begun(self) -> usize
-        ensures { result ≡ self.shard }
-    {
-        let InTurn { shard } = self;
-        shard
-    }
-}
-
-/// The shards of a worker that a search has not looked at yet: from the one of its turn on, and then round to the one
-/// before.
+/// The shards of a worker that a search has not looked at yet, in their order: from the shard at which the search
+/// begins, round to the shard before that.
 #[derive(Drop)]
 pub(crate) struct Round {
     worker: usize,
@@ -52,12 +36,12 @@ impl Round {
 
     /// Returns the next shard.
     #[inline(always)]
-    pub(crate) fn next(&mut self) -> Option<InTurn>
+    pub(crate) fn next(&mut self) -> Option<usize>
         ensures same { (self.new.worker ≡ self.old.worker) × (self.new.count ≡ self.old.count) × (self.new.first ≡ self.old.first) }
         ensures one { IfSome result (λ it. self.new.index ≡ self.old.index + 1) }
-        ensures inside { IfSome result (λ it. (self.old.index < self.old.count) × (k : ℕ) × (k < self.old.count) × (it.shard ≡ self.old.worker + 64 * k)) }
-        ensures ahead { IfSome result (λ it. self.old.first + self.old.index < self.old.count → it.shard ≡ self.old.worker + 64 * (self.old.first + self.old.index)) }
-        ensures round { IfSome result (λ it. self.old.count ≤ self.old.first + self.old.index → it.shard + 64 * self.old.count ≡ self.old.worker + 64 * (self.old.first + self.old.index)) }
+        ensures inside { IfSome result (λ it. (self.old.index < self.old.count) × (k : ℕ) × (k < self.old.count) × (it ≡ self.old.worker + 64 * k)) }
+        ensures ahead { IfSome result (λ it. self.old.first + self.old.index < self.old.count → it ≡ self.old.worker + 64 * (self.old.first + self.old.index)) }
+        ensures round { IfSome result (λ it. self.old.count ≤ self.old.first + self.old.index → it + 64 * self.old.count ≡ self.old.worker + 64 * (self.old.first + self.old.index)) }
         ensures none { IfNone result ((self.new.index ≡ self.old.index) × (self.old.index ≡ self.old.count)) }
     {
         if self.index >= self.count {
@@ -65,8 +49,6 @@ impl Round {
         }
         let turn = shard_in_turn(self.first, self.index, self.count);
         self.index += 1;
-        Some(InTurn {
-            shard: self.worker + 64 * turn,
-        })
+        Some(self.worker + 64 * turn)
     }
 }

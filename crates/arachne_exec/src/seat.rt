@@ -1,11 +1,12 @@
-//! A thread's right to call.
+//! A seat: the right of one thread to call the executor.
 use crate::turns::{SearchTurn, TakeTurn};
 use crate::view::View;
 use arachne_weights::Weight;
 use atomic_table::Seat;
 use std::marker::Model;
 
-/// A seat within a call. Contracts see its table, its weight, what it knows, and the slots that are out with it.
+/// A seat while a call runs. Contracts see the seat's table, its weight, what the seat knows, and the slots that the
+/// seat has in hand.
 #[derive(Drop)]
 pub(crate) struct SeatInCall {
     pub(crate) seat: Seat<u64, View>,
@@ -24,16 +25,17 @@ impl Model for SeatInCall {
 
 /// A thread's right to call an executor, with the jobs that it has in hand.
 ///
-/// It is used by one thread at a time, and joined with the executor that it came from. A seat that is dropped takes its
-/// weight with it, so that no seat is whole any more, and what it has in hand is lost. Contracts see which executor it
-/// is of, its part of the whole weight, and what it has and knows.
+/// A seat is used by one thread at a time, and only with the executor that it came from. If a seat is dropped, its
+/// weight is lost, so that no seat can have the whole weight any more, and the jobs in its hand are lost too. Contracts
+/// see the seat's executor, its part of the whole weight, what it has and knows, and the place at which its next `take`
+/// begins.
 #[derive(Drop)]
 pub struct ExecSeat {
     pub(crate) at: SeatInCall,
     pub(crate) weight: Weight,
-    /// The place at which the next search of its worker's blocks begins.
+    /// The place at which the next search of the worker's blocks begins.
     pub(crate) turn: SearchTurn,
-    /// The index in a block at which its next `take` begins.
+    /// The index in a block at which the seat's next `take` begins.
     pub(crate) take_turn: TakeTurn,
 }
 
@@ -43,7 +45,7 @@ impl Model for ExecSeat {
 
     ghost Value = { SeatView };
 
-    ghost view = { λ s. record { table = s.at.table; weight = s.weight; known = s.at.known } };
+    ghost view = { λ s. record { table = s.at.table; weight = s.weight; known = s.at.known; turn = s.take_turn.index } };
 
     ghost invariant = { λ s. (s.at.weight ≡ s.weight) × IsCalm s.at.known s.at.slots };
 }

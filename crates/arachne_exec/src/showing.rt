@@ -1,7 +1,9 @@
-//! Shows a ready job: by its bit in the ready word, the bit of its block, and the look that wakes a sleeper.
+//! Shows that a job is ready: sets its bit in the block's ready word, and the block's bit in the summary word, and
+//! looks whether a sleeping worker must be woken.
 ghost use Rattle.std.specs.Prelude.{◌≡◌, ◌≢◌, ℕ, ◌+◌, ◌*◌, ◌/◌, ◌<◌};
 ghost use Rattle.atomic_table.specs.Table.{rest};
-ghost use Rattle.arachne_exec.specs.Layout.{worker_of};
+ghost use Rattle.arachne_exec.specs.Board.{IsLast};
+ghost use Rattle.arachne_exec.specs.Layout.{mark_at, worker_of};
 ghost use Rattle.arachne_exec.specs.Changes.{laying_down, spawning, rousing, settled, owing};
 ghost use Rattle.arachne_exec.specs.Seats.{HasNewest};
 
@@ -10,8 +12,9 @@ use crate::seat::SeatInCall;
 use crate::sleepers::Hidden;
 
 impl Executor {
-    /// Makes the look that is owed at the idle word, and clears the idle bit of the shard's worker if it is set.
-    /// Returns true if this call cleared it: then the caller must unpark the worker.
+    /// Looks at the idle word, as the call must after it has set the first bit of a summary word, and clears the idle
+    /// bit of the shard's worker if it is set. Returns true if this call cleared the idle bit: then the caller must
+    /// unpark the worker.
     pub(crate) fn pay(&self, seat: &mut SeatInCall, shard: usize) -> bool
         requires own { seat.old.table ≡ self.now.table }
         requires owed { seat.old.known.owes ≡ shard + 1 }
@@ -23,7 +26,8 @@ impl Executor {
         self.unpark(seat, shard)
     }
 
-    /// Shows a block whose bit is owed. Returns true if the caller must unpark its worker.
+    /// Sets the bit of a block in its summary word, as the call must after it has set the first bit of the block's
+    /// ready word. Returns true if the caller must unpark the block's worker.
     pub(crate) fn show(&self, seat: &mut SeatInCall, block: usize) -> bool
         requires own { seat.old.table ≡ self.now.table }
         requires block { block < 64 * self.now.shards }
@@ -39,7 +43,7 @@ impl Executor {
         self.pay(seat, block / 64)
     }
 
-    /// Makes the newest place ready. Returns true if the caller must unpark its worker.
+    /// Makes the job at the seat's newest place ready. Returns true if the caller must unpark the worker of that place.
     pub(crate) fn publish(&self, seat: &mut SeatInCall, place: usize) -> bool
         requires own { seat.old.table ≡ self.now.table }
         requires place { place < 4096 * self.now.shards }
@@ -53,12 +57,13 @@ impl Executor {
         self.show(seat, place / 64)
     }
 
-    /// Like `publish`, for a place that a new job was laid into.
+    /// Like `publish`, for the newest place after a new job was put there.
     pub(crate) fn publish_new(&self, seat: &mut SeatInCall, place: usize, job: u64) -> bool
         requires own { seat.old.table ≡ self.now.table }
         requires place { place < 4096 * self.now.shards }
         requires newest { HasNewest place 0 job seat.old }
         requires claimed { seat.old.known.unspawned ≡ place + 1 }
+        requires named { IsLast (mark_at place) seat.old.known.looks }
         requires calm { (seat.old.known.unshown ≡ 0) × (seat.old.known.owes ≡ 0) }
         ensures { seat.new ≡ record seat.old { known = rousing result (worker_of (place / 4096)) (spawning job seat.old.known); slots = rest seat.old.slots } }
     {
@@ -68,7 +73,7 @@ impl Executor {
         self.show(seat, place / 64)
     }
 
-    /// Clears the bit of a block in its summary word, unless the block has a ready job. Returns with the block whether
+    /// Clears the bit of a block in its summary word, unless the block has a ready job. Returns the block, and whether
     /// the caller must unpark its worker.
     pub(crate) fn tidy(&self, seat: &mut SeatInCall, block: usize) -> (Hidden, bool)
         requires own { seat.old.table ≡ self.now.table }

@@ -12,7 +12,7 @@ use crate::steps::{
     Unregister,
 };
 
-/// A block whose bit was cleared in its summary word. Only [`Executor::hide`] gives one.
+/// A block whose bit was cleared in its summary word. Only [`Executor::hide`] makes a value of this type.
 #[derive(Drop)]
 pub(crate) struct Hidden {
     block: usize,
@@ -29,7 +29,7 @@ impl Hidden {
 }
 
 impl Executor {
-    /// Returns true if the bit of the block is set in the summary word: then it is no longer owed.
+    /// Returns true if the bit of the block is set in the summary word. If true, the call needn't set that bit.
     pub(crate) fn finds_shown(&self, seat: &mut SeatInCall, block: usize) -> bool
         requires own { seat.old.table ≡ self.now.table }
         requires block { block < 64 * self.now.shards }
@@ -43,7 +43,8 @@ impl Executor {
         found >> (block % 64) as u32 & 1 == 1
     }
 
-    /// Sets the bit of the block in the summary word. Returns true if the look at the idle word is owed.
+    /// Sets the bit of the block in the summary word. Returns true if the bit is the word's first: then the call must
+    /// look at the idle word.
     pub(crate) fn put_shown(&self, seat: &mut SeatInCall, block: usize) -> bool
         requires own { seat.old.table ≡ self.now.table }
         requires block { block < 64 * self.now.shards }
@@ -74,7 +75,7 @@ impl Executor {
         Hidden { block }
     }
 
-    /// Returns true if the block has no ready job: then its bit in the summary word is no longer owed.
+    /// Returns true if the block has no ready job. If true, the call needn't set the block's bit in the summary word.
     pub(crate) fn has_none(&self, seat: &mut SeatInCall, block: usize) -> bool
         requires own { seat.old.table ≡ self.now.table }
         requires block { block < 64 * self.now.shards }
@@ -87,7 +88,7 @@ impl Executor {
         shared.load::<LookAgain>(&mut seat.seat, ready_word(block)) == 0
     }
 
-    /// Returns true if the shard's worker is idle. If it isn't, nothing is owed any more.
+    /// Returns true if the shard's worker is idle. If the worker isn't idle, the call need do nothing more to wake it.
     pub(crate) fn finds_idle(&self, seat: &mut SeatInCall, shard: usize) -> bool
         requires own { seat.old.table ≡ self.now.table }
         requires owed { seat.old.known.owes ≡ shard + 1 }
@@ -99,7 +100,8 @@ impl Executor {
         found >> (shard % 64) as u32 & 1 == 1
     }
 
-    /// Clears the idle bit of the shard's worker. Returns true if it was set: then the caller must unpark the worker.
+    /// Clears the idle bit of the shard's worker. Returns true if the bit was set: then the caller must unpark the
+    /// worker.
     pub(crate) fn unpark(&self, seat: &mut SeatInCall, shard: usize) -> bool
         requires own { seat.old.table ≡ self.now.table }
         requires owed { seat.old.known.owes ≡ shard + 1 }
@@ -133,11 +135,12 @@ impl Executor {
         shared.fetch_and::<Rise>(&mut seat.seat, IDLE, all_but(worker));
     }
 
-    /// Looks at the worker's next summary word. Returns true if it is empty.
+    /// Looks at the worker's next summary word. Returns true if the word is empty.
     pub(crate) fn sees_none(&self, seat: &mut SeatInCall, worker: usize, next: usize) -> bool
         requires own { seat.old.table ≡ self.now.table }
         requires worker { (seat.old.known.worker ≡ worker + 1) × (worker + 64 * next < self.now.shards) }
         requires next { seat.old.known.seen ≡ next }
+        requires calm { seat.old.known.unshown ≡ 0 }
         ensures empty { IsTrue result → seat.new ≡ record seat.old { known = having_seen (next + 1) seat.old.known } }
         ensures full { IsFalse result → (n : ℕ) × (n ≢ 0) × (seat.new ≡ record seat.old { known = noted (summary_at (worker + 64 * next)) n seat.old.known }) }
     {
@@ -146,7 +149,8 @@ impl Executor {
         shared.load::<LookNext>(&mut seat.seat, summary_word(worker + 64 * next)) == 0
     }
 
-    /// Makes the seat the worker of this number, unless another seat is. Returns true if it did.
+    /// Makes the seat the worker of this number, unless another seat is that worker. Returns true if the seat got the
+    /// number.
     pub(crate) fn take_number(&self, seat: &mut SeatInCall, worker: usize) -> bool
         requires own { seat.old.table ≡ self.now.table }
         requires worker { (seat.old.known.worker ≡ 0) × (worker < 64) }

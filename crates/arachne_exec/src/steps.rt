@@ -1,8 +1,9 @@
-//! The rule of the table, and the kinds of step on it. These types are only for proofs.
+//! The rule of the executor's table (its invariant), and the kinds of step on it. These types are only for proofs.
 use crate::view::View;
 use atomic_table::{Join, Play, Split, TableRule};
 
-/// The rule: each place has one keeper, and a sleeper is woken. The table's key is the number of shards.
+/// The rule: each place has one keeper, and a sleeping worker is woken. The table's key, which never changes, is the
+/// number of shards.
 pub struct Lawful;
 
 impl TableRule<u64, View, usize> for Lawful {
@@ -214,7 +215,7 @@ impl Play<u64, View> for Unregister {
     ghost then = { Leaves };
 }
 
-/// A new seat gets half the weight, and begins with nothing.
+/// The split of a seat: the new seat gets half the weight, and begins with nothing.
 pub(crate) struct Halve;
 
 impl Split<View> for Halve {

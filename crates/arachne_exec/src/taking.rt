@@ -12,7 +12,7 @@ use crate::layout::{all_but, bit, ready_word};
 use crate::seat::ExecSeat;
 use crate::turns::lowest_index;
 
-/// Returns the lowest `most` bits that are set in a word, at least one; all, if fewer are set.
+/// Returns the lowest `most` of the bits that are set in a word (one if `most` is 0), or all if fewer are set.
 fn lowest(word: u64, most: u32) -> u64
     requires { 0 < word }
     ensures some { 0 < result }
@@ -34,8 +34,8 @@ fn lowest(word: u64, most: u32) -> u64
 }
 
 impl Executor {
-    /// Tries once to take up to `most` ready jobs of a block, at least one, into the hand, in one step. Returns the
-    /// places that came, a bit for each: the lowest is the newest.
+    /// Tries once to take up to `most` (at least one) ready jobs of a block into the seat's hand, in one step. Returns
+    /// the places of the jobs that were taken, a bit for each; the lowest place is the newest in the hand.
     pub fn take_many(&self, seat: &mut ExecSeat, block: usize, most: u32) -> u64
         requires own { seat.old.table ≡ self.now.table }
         requires block { block < 64 * self.now.shards }
@@ -52,8 +52,8 @@ impl Executor {
         self.take_bits(&mut seat.at, block, pick)
     }
 
-    /// Prepares the newest job in hand to run: uses up a wake that has come since it was ready. Returns its name and
-    /// number.
+    /// Prepares the newest job in hand to run: uses up a wake that has come since the job became ready. Returns the
+    /// job's name and number.
     pub fn start(&self, seat: &mut ExecSeat, place: usize) -> HeldJob
         requires own { seat.old.table ≡ self.now.table }
         requires place { place < 4096 * self.now.shards }

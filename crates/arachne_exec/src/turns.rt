@@ -1,4 +1,4 @@
-//! The place at which a search begins, so that jobs which are ready again and again don't keep others waiting.
+//! Decides where a search begins, so that jobs which become ready again and again don't keep others waiting.
 ghost use Rattle.std.specs.Prelude.{◌≡◌, ◌≢◌, ◌⊎◌, ◌↔◌, ℕ, ◌+◌, ◌-◌, ◌*◌, ◌/◌, ◌%◌, ◌^◌, ◌<◌, ◌≤◌, false, true, IsTrue, IfSome, IfNone};
 ghost use Rattle.std.specs.Int.{bit_at};
 ghost use Rattle.std.specs.Int.RustNames.{bit_and};
@@ -20,7 +20,7 @@ pub(crate) fn lowest_index(word: u64) -> usize
     word.trailing_zeros() as usize
 }
 
-/// Returns the first index from `from` on, round the word, whose bit is set.
+/// Returns the first index whose bit is set, from `from` on to the end of the word and then from its beginning.
 pub(crate) fn first_from(word: u64, from: usize) -> usize
     requires { 0 < word }
     ensures { IsFirstFrom word from result }
@@ -34,7 +34,7 @@ pub(crate) fn first_from(word: u64, from: usize) -> usize
     }
 }
 
-/// Returns true if a bit behind the index is set.
+/// Returns true if the word has a bit set at a higher index than `index`.
 pub(crate) fn has_more(word: u64, index: usize) -> bool
     requires { index < 64 }
     ensures { IsTrue result ↔ (2 * 2 ^ index ≤ word) }
@@ -42,8 +42,8 @@ pub(crate) fn has_more(word: u64, index: usize) -> bool
     word >> index as u32 > 1
 }
 
-/// Returns the shard at an index of the order of turns: of `count` shards, from `first` on, and then round to the one
-/// before it.
+/// Returns the shard that a search comes to at `index`, if it goes from shard `first` to the last of `count` and then
+/// round to the one before `first`.
 pub(crate) fn shard_in_turn(first: usize, index: usize, count: usize) -> usize
     requires first { first < count }
     requires index { index < count }
@@ -57,7 +57,7 @@ pub(crate) fn shard_in_turn(first: usize, index: usize, count: usize) -> usize
     }
 }
 
-/// The blocks of a shard that a search has not looked at yet, a bit for each, and the index at which it began.
+/// The blocks of a shard that a search has not looked at yet, a bit for each, and the index at which the search began.
 #[derive(Drop)]
 pub(crate) struct Unsearched {
     blocks: u64,
@@ -76,14 +76,14 @@ impl Unsearched {
         Some(first_from(self.blocks, self.from))
     }
 
-    /// Lets the search go on behind a block that had no job and whose bit was cleared.
+    /// Lets the search go on behind a block that had no ready job, so that its bit was cleared.
     pub(crate) fn pass(&mut self, hidden: Hidden)
         ensures { self.new ≡ record self.old { blocks = bit_and self.old.blocks (others (hidden.block % 64)) } }
     {
         self.blocks &= all_but(hidden.block() % 64);
     }
 
-    /// Returns true if there is another block behind the index, before the search comes round.
+    /// Returns true if there is another block behind the index, before the search is back at its beginning.
     fn has_more(&self, index: usize) -> bool
         requires { index < 64 }
         ensures { IsTrue result ↔ HasMoreBehind self.now index }
@@ -92,8 +92,8 @@ impl Unsearched {
     }
 }
 
-/// A job that was taken, and whether its block had another ready place behind it. The only way to get the job is to
-/// note the place at which the next search begins, and this value can't be dropped.
+/// A job that was taken, and whether its block had another ready place behind it. The value can't be dropped, and gives
+/// the job only to a call that notes where the next search begins.
 pub(crate) struct TakenJob {
     job: HeldJob,
     more: bool,
@@ -132,15 +132,15 @@ impl TakenJob {
     }
 }
 
-/// The index at which a search of a block begins. Only the two turns give one, and no block is searched without its
-/// own.
+/// The index at which a search of a block begins. Only `TakeTurn` and `SearchTurn` make a value of this type, and no
+/// block is searched without one.
 pub(crate) struct First {
     index: usize,
     block: Snapshot<usize>,
 }
 
 impl First {
-    /// Returns the index, at which the search begins now.
+    /// Returns the index. The caller must begin its search there now.
     #[inline(always)]
     pub(crate) fn begun(self) -> usize
         ensures { result ≡ self.index }
@@ -163,7 +163,7 @@ impl TakeTurn {
         TakeTurn { index: 0 }
     }
 
-    /// Which place of a block comes first.
+    /// Returns the index at which a take of this block begins.
     #[inline(always)]
     pub(crate) fn first_place(&self, block: usize) -> First
         ensures index { result.index ≡ self.now.index }
@@ -189,8 +189,8 @@ impl SearchTurn {
         SearchTurn { place: 0 }
     }
 
-    /// Returns the turn behind a place that was taken. `in_block` and `in_shard` are true if its block, and its shard,
-    /// had another ready place behind it.
+    /// Returns the turn after a job was taken at `place`. `in_block` and `in_shard` are true if the block, and the
+    /// shard, had another ready place behind it.
     pub(crate) fn behind(place: usize, in_block: bool, in_shard: bool) -> SearchTurn
         requires { place < 1048576 }
         ensures in_block { in_block ≡ true → result.place ≡ place + 1 }
@@ -207,7 +207,7 @@ impl SearchTurn {
         SearchTurn { place }
     }
 
-    /// Returns which of a worker's `count` shards comes first.
+    /// Returns the index of the shard, of a worker's `count` shards, at which the search begins.
     pub(crate) fn first_shard(&self, count: usize) -> usize
         ensures within { (result ≡ 0) ⊎ (result < count) }
         ensures turn { self.now.place / 262144 < count → result ≡ self.now.place / 262144 }
@@ -217,7 +217,7 @@ impl SearchTurn {
         if first < count { first } else { 0 }
     }
 
-    /// Returns the blocks that a shard shows, for a search in turn.
+    /// Returns a search of the blocks that the shard shows, which begins at the block whose turn it is.
     pub(crate) fn unsearched(&self, shard: usize, shown: u64) -> Unsearched
         ensures blocks { result.blocks ≡ shown }
         ensures turn { self.now.place / 4096 ≡ shard → result.from ≡ self.now.place / 64 % 64 }
@@ -229,7 +229,7 @@ impl SearchTurn {
         }
     }
 
-    /// Returns the block of a shard that comes first.
+    /// Returns the block at which the search of this shard begins.
     fn first_block(&self, shard: usize) -> usize
         ensures within { result < 64 }
         ensures turn { self.now.place / 4096 ≡ shard → result ≡ self.now.place / 64 % 64 }
@@ -242,7 +242,7 @@ impl SearchTurn {
         }
     }
 
-    /// Which place of a block comes first.
+    /// Returns the index at which the search of this block begins.
     pub(crate) fn first_place(&self, block: usize) -> First
         ensures turn { self.now.place / 64 ≡ block → result.index ≡ self.now.place % 64 }
         ensures other { self.now.place / 64 ≢ block → result.index ≡ 0 }

@@ -8,7 +8,7 @@ use crate::executor::Executor;
 use crate::layout::{LAST_GENERATION, mark_word, place_of};
 use crate::seat::{ExecSeat, SeatInCall};
 
-/// The result of `rouse`. After `Held` the seat has the place in hand.
+/// The result of `rouse`. If the result is `Held`, the seat has the job's place in hand.
 enum RouseResult {
     Held(usize),
     Marked,
@@ -18,9 +18,10 @@ enum RouseResult {
 }
 
 impl Executor {
-    /// Wakes the job of a generation at a place. If it is blocked, it comes into the hand.
+    /// Wakes the job of a generation at a place. If the job is blocked, the seat gets it into its hand.
     fn rouse(&self, seat: &mut SeatInCall, place: usize, generation: u64) -> RouseResult
         requires own { seat.old.table ≡ self.now.table }
+        requires calm { seat.old.known.unshown ≡ 0 }
         ensures answer { IsFound result (4096 * self.now.shards) place generation seat.old seat.new }
     {
         self.few();

@@ -1,8 +1,9 @@
-//! One function for each kind of step on a place's words. The contract of each says what the seat has and knows after
-//! it.
+//! One function for each kind of step on a place's words. The contract of each function says what the seat has and
+//! knows after the step.
 ghost use Rattle.std.specs.Prelude.{◌≡◌, ◌≢◌, ℕ, ◌+◌, ◌-◌, ◌*◌, ◌/◌, ◌%◌, ◌^◌, ◌<◌, ◌≤◌, ◌∷◌, IsTrue, IsFalse};
 ghost use Rattle.std.specs.Int.{bit_at};
 ghost use Rattle.atomic_table.specs.Table.{rest};
+ghost use Rattle.arachne_exec.specs.Board.{IsLast};
 ghost use Rattle.arachne_exec.specs.Layout.{ready_at, free_at, mark_at, words_of, last_generation};
 ghost use Rattle.arachne_exec.specs.Changes.{gained, unblocking, claiming, laying_down, freeing, blocking, spawning, beginning, ending, marking, hearing, noted, unshowing};
 ghost use Rattle.arachne_exec.specs.Seats.{HasNewest, HasFoundMark};
@@ -17,17 +18,19 @@ use crate::steps::{
 };
 
 impl Executor {
-    /// Looks at a word.
+    /// Loads a word, and notes the number that was found.
     pub(crate) fn look(&self, seat: &mut SeatInCall, word: usize) -> u64
         requires own { seat.old.table ≡ self.now.table }
         requires inside { word < words_of (64 * self.now.shards) }
+        requires calm { seat.old.known.unshown ≡ 0 }
         ensures seat { seat.new ≡ record seat.old { known = noted word result seat.old.known } }
     {
         let _ = self.shards;
         self.table.shared.load::<LookAtWord>(&mut seat.seat, word)
     }
 
-    /// Reads and writes the slot of the newest place.
+    /// Exchanges the number in the slot of the seat's newest place for `new`. Returns the number that was in the slot
+    /// before.
     pub(crate) fn lay(&self, seat: &mut SeatInCall, place: usize, new: u64) -> u64
         requires own { seat.old.table ≡ self.now.table }
         requires out { (old : ℕ) × (seat.old.slots ≡ (place, old) ∷ rest seat.old.slots) }
@@ -38,7 +41,7 @@ impl Executor {
         self.table.shared.exchange(&mut seat.seat, place, new)
     }
 
-    /// Clears the ready bit of a place. Returns true if it was set: then the place is in the seat's hand.
+    /// Clears the ready bit of a place. Returns true if the bit was set: then the place is in the seat's hand.
     pub(crate) fn take_bit(&self, seat: &mut SeatInCall, place: usize) -> bool
         requires own { seat.old.table ≡ self.now.table }
         requires place { place < 4096 * self.now.shards }
@@ -56,8 +59,8 @@ impl Executor {
         found >> index as u32 & 1 == 1
     }
 
-    /// Clears the ready bits of several places of a block. Returns those that were set: they are in the seat's hand,
-    /// the lowest as the newest.
+    /// Clears the ready bits of several places of a block. Returns the bits that were set: their places are in the
+    /// seat's hand, the lowest as the newest.
     pub(crate) fn take_bits(&self, seat: &mut SeatInCall, block: usize, pick: u64) -> u64
         requires own { seat.old.table ≡ self.now.table }
         requires block { block < 64 * self.now.shards }
@@ -73,8 +76,8 @@ impl Executor {
         found & pick
     }
 
-    /// Clears the free bit of a place. Returns true if it was set: then the place is in the seat's hand, and a job is to
-    /// be spawned there.
+    /// Clears the free bit of a place. Returns true if the bit was set: then the place is in the seat's hand, and the
+    /// call must spawn a job there.
     pub(crate) fn claim_bit(&self, seat: &mut SeatInCall, place: usize) -> bool
         requires own { seat.old.table ≡ self.now.table }
         requires place { place < 4096 * self.now.shards }
@@ -93,7 +96,7 @@ impl Executor {
         found >> index as u32 & 1 == 1
     }
 
-    /// Frees the newest place, whose job has ended.
+    /// Frees the seat's newest place, whose job has ended.
     pub(crate) fn put_free(&self, seat: &mut SeatInCall, place: usize)
         requires own { seat.old.table ≡ self.now.table }
         requires place { place < 4096 * self.now.shards }
@@ -105,7 +108,7 @@ impl Executor {
         shared.fetch_or::<PutFree>(&mut seat.seat, free_word(place / 64), bit(place % 64));
     }
 
-    /// Makes the newest place ready. Returns true if its block must be shown.
+    /// Makes the job at the seat's newest place ready. Returns true if the block's bit in the summary word must be set.
     pub(crate) fn put_ready(&self, seat: &mut SeatInCall, place: usize) -> bool
         requires own { seat.old.table ≡ self.now.table }
         requires place { place < 4096 * self.now.shards }
@@ -119,12 +122,14 @@ impl Executor {
         shared.fetch_or::<PutReady>(&mut seat.seat, ready_word(place / 64), bit(place % 64)) == 0
     }
 
-    /// Makes the newest place ready, which a new job was laid into. Returns true if its block must be shown.
+    /// Makes the new job at the seat's newest place ready. Returns true if the block's bit in the summary word must be
+    /// set.
     pub(crate) fn put_spawned(&self, seat: &mut SeatInCall, place: usize, job: u64) -> bool
         requires own { seat.old.table ≡ self.now.table }
         requires place { place < 4096 * self.now.shards }
         requires newest { HasNewest place 0 job seat.old }
         requires claimed { seat.old.known.unspawned ≡ place + 1 }
+        requires named { IsLast (mark_at place) seat.old.known.looks }
         requires shown { seat.old.known.unshown ≡ 0 }
         ensures first { IsTrue result → seat.new ≡ record seat.old { known = unshowing (place / 64 + 1) (spawning job seat.old.known); slots = rest seat.old.slots } }
         ensures more { IsFalse result → seat.new ≡ record seat.old { known = spawning job seat.old.known; slots = rest seat.old.slots } }
@@ -134,7 +139,7 @@ impl Executor {
         shared.fetch_or::<PutSpawned>(&mut seat.seat, ready_word(place / 64), bit(place % 64)) == 0
     }
 
-    /// Begins the job that was laid into the newest place, which stays in hand. Returns the mark of the place.
+    /// Begins the new job at the seat's newest place, which stays in hand. Returns the mark of the place.
     pub(crate) fn begin(&self, seat: &mut SeatInCall, place: usize, job: u64) -> u64
         requires own { seat.old.table ≡ self.now.table }
         requires place { place < 4096 * self.now.shards }
@@ -148,7 +153,8 @@ impl Executor {
             .load::<Begin>(&mut seat.seat, mark_word(place))
     }
 
-    /// Blocks the newest place if its mark is `old`, which must record no wake. Returns true if it was.
+    /// Blocks the job at the seat's newest place if the place's mark is `old`, which must record no wake. Returns true
+    /// if the mark was `old`.
     pub(crate) fn put_blocked(&self, seat: &mut SeatInCall, place: usize, old: u64) -> bool
         requires own { seat.old.table ≡ self.now.table }
         requires place { place < 4096 * self.now.shards }
@@ -168,7 +174,7 @@ impl Executor {
         found == old
     }
 
-    /// Clears the mark of a wake at the newest place.
+    /// Clears the record of a wake in the mark of the seat's newest place.
     pub(crate) fn hear(&self, seat: &mut SeatInCall, place: usize)
         requires own { seat.old.table ≡ self.now.table }
         requires place { place < 4096 * self.now.shards }
@@ -180,7 +186,7 @@ impl Executor {
         shared.fetch_and::<Hear>(&mut seat.seat, mark_word(place), u64::MAX - 3);
     }
 
-    /// Ends the job of the newest place. Its mark gets this generation, and records no wake.
+    /// Ends the job at the seat's newest place. The place's mark gets this generation, and records no wake.
     pub(crate) fn renew(&self, seat: &mut SeatInCall, place: usize, generation: u64)
         requires own { seat.old.table ≡ self.now.table }
         requires place { place < 4096 * self.now.shards }
@@ -193,7 +199,7 @@ impl Executor {
         shared.swap::<Renew>(&mut seat.seat, mark_word(place), 4 * generation);
     }
 
-    /// Blocks the newest place for ever: its job has ended, and no other comes.
+    /// Blocks the seat's newest place for ever: its job has ended, and no other job comes there.
     pub(crate) fn retire(&self, seat: &mut SeatInCall, place: usize)
         requires own { seat.old.table ≡ self.now.table }
         requires place { place < 4096 * self.now.shards }
@@ -207,7 +213,7 @@ impl Executor {
     }
 
     /// Takes a blocked job's place into the seat's hand if its mark is `old`, which must be that of a blocked job.
-    /// Returns true if it was.
+    /// Returns true if the mark was `old`.
     pub(crate) fn wake_mark(&self, seat: &mut SeatInCall, place: usize, old: u64) -> bool
         requires own { seat.old.table ≡ self.now.table }
         requires place { place < 4096 * self.now.shards }
@@ -222,7 +228,7 @@ impl Executor {
     }
 
     /// Records a wake in a place's mark if the mark is `old`, which must be that of a job that isn't blocked. Returns
-    /// true if it was.
+    /// true if the mark was `old`.
     pub(crate) fn mark(&self, seat: &mut SeatInCall, place: usize, old: u64) -> bool
         requires own { seat.old.table ≡ self.now.table }
         requires place { place < 4096 * self.now.shards }

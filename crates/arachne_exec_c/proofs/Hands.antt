@@ -135,6 +135,17 @@ module _ (executor : Places) (old new : SeatView) (hand : Option ℕ) (more work
     pub kept-laid-by : (place : ℕ) → now ≡ (lowest_place (place / 64) more, without_lowest more) → hand ≡ Some place → LaysDown old.known new.known → IsKept (exec_of executor new now.0 now.1 worker)
     kept-laid-by place is some has = subst (λ (z : Option ℕ × ℕ). IsKept (exec_of executor new z.0 z.1 worker)) (sym is) (kept-laid place some has)
 
+-- the same of a take, by which also the turn changes
+module _ (executor : Places) (old new : SeatView) (hand : Option ℕ) (more worker : ℕ) (kept : IsKept (exec_of executor old hand more worker)) (stays : new ≡ record old { known = new.known; turn = new.turn }) where
+  taken-own : new.table ≡ executor.table
+  taken-own = ap (λ (s : SeatView). s.table) stays ∙ kept.own
+
+  pub taken-same : KeepsHand old.known new.known → IsKept (exec_of executor new hand more worker)
+  taken-same has = let is = kept-same executor old (record old { known = new.known }) hand more worker kept refl has in record { own = taken-own; held = is.held; number = is.number; few = is.few }
+
+  pub taken-job : (job : HeldJob) → hand ≡ None → HandsOver (4096 * executor.shards) job old.known new.known → IsKept (exec_of executor new (Some job.place) more worker)
+  taken-job job none has = let is = kept-job executor old (record old { known = new.known }) hand more worker kept refl job none has in record { own = taken-own; held = is.held; number = is.number; few = is.few }
+
 -- the job in hand is the newest, and stands at a place of the executor
 pub newest : (executor : Places) (seat : SeatView) (hand : Option ℕ) (more worker place : ℕ) → IsKept (exec_of executor seat hand more worker) → hand ≡ Some place
     → IsNewest place seat.known × (place < 4096 * executor.shards)

@@ -17,11 +17,11 @@ use Rattle.arachne_exec.specs.declared.answers.JobWoken.{JobWoken}
 use Rattle.arachne_exec.specs.declared.answers.JobWoken.TheVariants as woken
 use Rattle.arachne_exec.specs.declared.answers.WokenHere.{WokenHere}
 use Rattle.arachne_exec.specs.declared.answers.WokenHere.TheVariants as here
-use Rattle.arachne_exec.specs.Calls.{worker_at, HasSpawned, HasSpawnedHere, HasTaken, HasTakenNone, HasTakenMany, HasStarted, HasRested, HasFinished, HasWoken, HasWokenHere, HasAnswered, HasFoundNone, HasFoundSome}
+use Rattle.arachne_exec.specs.Calls.{worker_at, HasSpawned, HasSpawnedHere, HasTakenInTurn, HasTakenNone, HasTakenMany, HasStarted, HasRested, HasFinished, HasWoken, HasWokenHere, HasAnswered, HasFoundNone, HasFoundSome}
 use Rattle.arachne_exec.specs.Layout.{numbers_at}
 use Rattle.arachne_exec.specs.Changes.{laying_down, noted, rousing, rising, working}
 use Rattle.arachne_exec_c.specs.Codes as code
-use Rattle.arachne_exec_c.specs.Executing.{Exec, now, holding, HasBlock, IsEmptyHanded, IsWorker, IsNoWorker}
+use Rattle.arachne_exec_c.specs.Executing.{Exec, now, turned, holding, HasBlock, IsEmptyHanded, IsWorker, IsNoWorker}
 use Rattle.arachne_exec_c.specs.declared.exec_told.ArachneExecTold.{ArachneExecTold}
 
 -- the worker of a place, if it must be unparked
@@ -112,8 +112,9 @@ abbrev pub LooksAt : ℕ → Exec → Exec → ℕ → Type 0
 LooksAt word old new answer = new ≡ now old (noted word answer old.seat.known) old.hand
 
 pub record Takes (block : ℕ) (old new : Exec) (answer : Option HeldJob) : Type 0 where
-  pub stays : new ≡ now old new.seat.known (place_of_job answer)
-  pub did : MatchOption answer (HasTakenNone block old.seat.known new.seat.known) (λ job. HasTaken job block old.seat.known new.seat.known)
+  pub stays : new ≡ turned new.seat.turn (now old new.seat.known (place_of_job answer))
+  pub did : MatchOption answer (HasTakenNone block old.seat.known new.seat.known) (λ job. HasTakenInTurn old.seat.turn job block old.seat.known new.seat.known)
+  pub turn : MatchOption answer (new.seat.turn ≡ old.seat.turn) (λ job. new.seat.turn ≡ job.place % 64 + 1)
 
 pub record TakesMany (block most : ℕ) (old new : Exec) (bits : ℕ) : Type 0 where
   pub stays : new ≡ holding old new.seat.known block bits

@@ -39,6 +39,10 @@ pub record IsKept (exec : Exec) : Type 0 where
 abbrev pub now : Exec → Notes → Option ℕ → Exec
 now exec known hand = record { executor = exec.executor; seat = record exec.seat { known = known }; hand = hand; more = exec.more; worker = exec.worker }
 
+-- its next take begins at that index
+abbrev pub turned : ℕ → Exec → Exec
+turned turn exec = record exec { seat = record exec.seat { turn = turn } }
+
 -- the place of the lowest bit of a block's word, and the word without that bit
 abbrev pub lowest_place : ℕ → ℕ → Option ℕ
 lowest_place block word = if word == 0 then None else Some (64 * block + trailing_zeros w64 word)
@@ -78,7 +82,7 @@ IsIdle exec = IsEmptyHanded exec × IsNoWorker exec
 -- an executor of `shards` shards, its whole seat, and nothing in hand
 pub record IsNew (shards : ℕ) (exec : Exec) : Type 0 where
   pub sized : exec.executor.shards ≡ shards
-  pub seated : exec.seat ≡ record { table = exec.executor.table; weight = whole; known = blank }
+  pub seated : exec.seat ≡ record { table = exec.executor.table; weight = whole; known = blank; turn = 0 }
   pub idle : IsIdle exec
 
 -- the parts of a seat that is split: the first keeps its jobs and counts the split, and the second begins with nothing
@@ -88,7 +92,7 @@ first_of exec = record exec { seat = record exec.seat { weight = first_part exec
 abbrev pub second_of : Exec → Exec
 second_of exec = record {
   executor = exec.executor;
-  seat = record { table = exec.seat.table; weight = second_part exec.seat.weight; known = blank };
+  seat = record { table = exec.seat.table; weight = second_part exec.seat.weight; known = blank; turn = 0 };
   hand = None;
   more = 0;
   worker = 0;

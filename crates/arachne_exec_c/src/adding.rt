@@ -1,4 +1,4 @@
-//! A share of a set of ledgers, with the ledgers.
+//! A share of a set of ledgers (sums that many threads add to), with the ledgers.
 ghost use Rattle.std.specs.Prelude.{◌≡◌, ◌↔◌, IfOk, IfErr, IfSome, IfNone, IsSome, MatchBool, IsTrue};
 ghost use Rattle.std.specs.Option.{ForSome};
 ghost use Rattle.std.specs.declared.option.Option.TheVariants.{None, Some};
@@ -29,7 +29,7 @@ impl Model for Adding {
 }
 
 impl Adding {
-    /// Makes `count` ledgers, with their whole share.
+    /// Makes `count` ledgers, with the share that has the whole weight.
     pub(crate) fn new(alloc: Global, count: usize) -> Result<Adding, AllocError>
         ensures { IfOk result (IsNew count) }
     {
@@ -102,9 +102,9 @@ impl Adding {
     }
 }
 
-/// Splits the share that the first holds, and gives the second part to the other.
+/// Splits the share in `mine`, and puts the second part into `theirs`.
 ///
-/// Returns false if the ledgers can have no further owner, or if the first holds nothing; nothing has changed then.
+/// Returns false, with nothing changed, if the ledgers can have no further owner, or if `mine` is empty.
 pub(crate) fn cut(mine: &mut Option<Adding>, theirs: &mut Option<Adding>) -> bool
     requires { theirs.old ≡ None }
     ensures cut { ForSome mine.old (λ old. MatchBool result
@@ -128,7 +128,7 @@ pub(crate) fn cut(mine: &mut Option<Adding>, theirs: &mut Option<Adding>) -> boo
     }
 }
 
-/// Joins the second share into the first, if both are there.
+/// Joins the share in `theirs` into that in `mine`, if both are there.
 pub(crate) fn join_held(mine: &mut Option<Adding>, theirs: &mut Option<Adding>) -> bool
     requires { (a b : Adder) → mine.old ≡ Some a → theirs.old ≡ Some b → b.ledgers.table ≡ a.ledgers.table }
     ensures { IsJoined mine.old theirs.old mine.new theirs.new result }

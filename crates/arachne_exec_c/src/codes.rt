@@ -13,7 +13,7 @@ pub(crate) const NO_MEMORY: u32 = 2;
 /// Another thread was at the lock. Nothing has changed: try again.
 pub(crate) const CONTENDED: u32 = 3;
 
-/// Another thread was first. Nothing has changed: try again, for a worker's number with another number.
+/// Another thread was first. Nothing has changed: try again; for a worker's number, with another number.
 pub(crate) const LOST: u32 = 4;
 
 /// `who` holds the lock.
@@ -31,7 +31,7 @@ pub(crate) const FREED: u32 = 8;
 /// The lock was handed on to the one that had waited longest: wake it.
 pub(crate) const HANDED_ON: u32 = 9;
 
-/// `who` doesn't hold the lock. To a withdrawal: `who` neither holds it nor waits for it.
+/// `who` doesn't hold the lock. As the answer to a withdrawal: `who` neither holds the lock nor waits for it.
 pub(crate) const NOT_HOLDER: u32 = 10;
 
 /// `who` waited for the lock, and waits no longer: the lock is not handed on to it any more.
@@ -43,10 +43,10 @@ pub(crate) const FULL: u32 = 12;
 /// The job is in the handle's hand: run it.
 pub(crate) const RUN: u32 = 13;
 
-/// The worker has set its idle bit, and then found none of its blocks shown: sleep until you are unparked.
+/// The worker has set its idle bit, and then found no block that may have ready jobs: sleep until you are unparked.
 pub(crate) const PARK: u32 = 14;
 
-/// No job was taken, or a block is shown that may have one: try again.
+/// No job was taken, or a block may have one: try again.
 pub(crate) const AGAIN: u32 = 15;
 
 /// The job is ready.
@@ -55,11 +55,12 @@ pub(crate) const READY: u32 = 16;
 /// The job waits for a wake.
 pub(crate) const BLOCKED: u32 = 17;
 
-/// The job is ready, or runs. A take or a start uses the wake up; if none does, the job is ready again when it would
-/// block next. The name that the next job at a free place will have is marked in the same way.
+/// The job is ready or runs, and the wake is recorded. A take or a start uses up that record. If neither comes, the job
+/// is ready again when it would block next. A wake for the next job of a free place, by the name that this job will
+/// have, is recorded in the same way.
 pub(crate) const MARKED: u32 = 18;
 
-/// The job was marked already.
+/// A wake of the job was recorded already.
 pub(crate) const ALREADY_MARKED: u32 = 19;
 
 /// No job has this name now.
@@ -74,5 +75,5 @@ pub(crate) const ADD: u32 = 22;
 /// Give a core back.
 pub(crate) const REMOVE: u32 = 23;
 
-/// The `unpark` of an answer that has no worker to unpark.
+/// The value of `unpark` in an answer if no worker must be unparked.
 pub(crate) const NOBODY: u32 = 64;

@@ -20,7 +20,7 @@ use crate::executing::Executing;
 use arachne_exec::MOST_SHARDS;
 use std::alloc::Global;
 
-/// Makes an executor of `shards` shards, and puts its whole seat into a handle that holds nothing.
+/// Makes an executor of `shards` shards, and puts its seat, with the whole weight, into a handle that holds nothing.
 ///
 /// Shard s has the blocks 64 s to 64 s + 63, each of 64 places; worker s % 64 looks after it. Returns DONE; REFUSED if
 /// the handle holds something, or if `shards` is greater than 256; NO_MEMORY.
@@ -75,9 +75,9 @@ pub extern "C" fn arachne_exec_split(
 
 /// Joins the seat of `other` into that of `exec`, so that `other` holds nothing.
 ///
-/// Returns DONE, or REFUSED if one of them holds nothing, or if `other` has a job in hand or is a worker. Both must be
-/// of one executor, which is not checked: otherwise the executor of `other` can't be ended any more, and the end of
-/// that of `exec` may return too few jobs.
+/// Returns DONE, or REFUSED if one of the handles holds nothing, or if `other` has a job in hand or is a worker. Both
+/// handles must be of one executor, which is not checked. If they are of two executors, the executor of `other` can't
+/// be ended any more, and the end of the executor of `exec` may return too few jobs.
 #[unsafe(no_mangle)]
 pub extern "C" fn arachne_exec_join(
     alloc: Global,
@@ -104,10 +104,11 @@ pub extern "C" fn arachne_exec_join(
 
 /// Ends the executor, writes the jobs that are left to the beginning of `left`, and empties the handle.
 ///
-/// These are the jobs that were spawned and have not ended, each as often as it is left, without jobs of number 0.
-/// Returns DONE with their number; REFUSED if the handle holds nothing or has a job in hand, if not all other handles
-/// were joined into it, or if `left` has no room for a job of each of the 4,096 places of each shard; NO_MEMORY. Unless
-/// it returns DONE, the count is 0, and the executor and `left` are unchanged.
+/// The jobs that are left were spawned and have not ended; jobs of number 0 are not written. A number that several jobs
+/// have is written once for each of these jobs. Returns DONE with the count of jobs written; REFUSED if the handle
+/// holds nothing or has a job in hand, or if not all other handles were joined into it; NO_MEMORY. Returns REFUSED also
+/// if `left` has less room than 4,096 jobs for each shard. Unless the code is DONE, the count is 0, and the executor
+/// and `left` are unchanged.
 #[unsafe(no_mangle)]
 pub extern "C" fn arachne_exec_end(
     alloc: Global,
@@ -165,8 +166,8 @@ pub extern "C" fn arachne_exec_leave(alloc: Global, exec: &mut ArachneExec) -> u
 
 /// Puts a job at a free place of a block, where it is ready: one try.
 ///
-/// Returns READY with its name, and the worker to unpark; FULL; LOST; REFUSED if the handle holds nothing or there is
-/// no such block. A job with the number 0 is not returned by the end.
+/// Returns READY with the job's name, and the worker to unpark; FULL; LOST; REFUSED if the handle holds nothing or
+/// there is no such block. A job with the number 0 is not returned by `arachne_exec_end`.
 #[unsafe(no_mangle)]
 pub extern "C" fn arachne_exec_spawn(
     alloc: Global,
@@ -186,8 +187,8 @@ pub extern "C" fn arachne_exec_spawn(
 
 /// Puts a job at a free place of a block and into the hand, so that nobody else can take it: one try.
 ///
-/// Returns RUN with its name and number; FULL; LOST; REFUSED if the handle holds nothing or has a job in hand, or if
-/// there is no such block.
+/// Returns RUN with the job's name and number; FULL; LOST; REFUSED if the handle holds nothing or has a job in hand, or
+/// if there is no such block.
 #[unsafe(no_mangle)]
 pub extern "C" fn arachne_exec_spawn_here(
     alloc: Global,
@@ -207,8 +208,8 @@ pub extern "C" fn arachne_exec_spawn_here(
 
 /// Returns the blocks of a shard that may have ready jobs, a bit for each of its 64 blocks, by one load.
 ///
-/// A block whose bit is clear has none, or somebody is about to set the bit. Returns 0 also if the handle holds nothing
-/// or there is no such shard.
+/// A block whose bit is clear has no ready job, or another call is about to set the bit. Returns 0 also if the handle
+/// holds nothing or there is no such shard.
 #[unsafe(no_mangle)]
 pub extern "C" fn arachne_exec_shown(alloc: Global, exec: &mut ArachneExec, shard: usize) -> u64
     ensures { IsTold (HasShard shard) (LooksAt (summary_at shard)) 0 (held exec.old) (held exec.new) result }
@@ -238,8 +239,8 @@ pub extern "C" fn arachne_exec_ready(alloc: Global, exec: &mut ArachneExec, bloc
 
 /// Takes a ready job of a block into the hand, whichever worker looks after the block: one try.
 ///
-/// Returns RUN with its name and number; AGAIN; REFUSED if the handle holds nothing or has a job in hand, or if there
-/// is no such block.
+/// Returns RUN with the job's name and number; AGAIN; REFUSED if the handle holds nothing or has a job in hand, or if
+/// there is no such block.
 #[unsafe(no_mangle)]
 pub extern "C" fn arachne_exec_take(
     alloc: Global,
@@ -258,9 +259,10 @@ pub extern "C" fn arachne_exec_take(
 
 /// Takes up to `most` ready jobs of a block into the hand, by one step; a `most` of 0 counts as 1.
 ///
-/// Returns their places, a bit for each of the block's 64. The lowest is the newest: calls on the job in hand concern
-/// it, and the next one once it rests or has ended. `arachne_exec_start` returns its name and number. Returns 0 if it
-/// took none, if the handle holds nothing or has a job in hand, or if there is no such block.
+/// Returns the places of the jobs that were taken, a bit for each of the block's 64 places. The job at the lowest place
+/// is the newest: calls on the job in hand concern this job, and then the job at the next place, once the newest rests
+/// or has ended. `arachne_exec_start` returns the newest job's name and number. Returns 0 if no job was taken, if the
+/// handle holds nothing or has a job in hand, or if there is no such block.
 #[unsafe(no_mangle)]
 pub extern "C" fn arachne_exec_take_many(
     alloc: Global,
@@ -280,7 +282,7 @@ pub extern "C" fn arachne_exec_take_many(
 
 /// Begins to run the newest job in hand, of several that were taken at once: uses up a wake that has come by now.
 ///
-/// Returns RUN with its name and number, or REFUSED if the handle has no job in hand.
+/// Returns RUN with the job's name and number, or REFUSED if the handle has no job in hand.
 #[unsafe(no_mangle)]
 pub extern "C" fn arachne_exec_start(alloc: Global, exec: &mut ArachneExec) -> ArachneExecTold
     ensures { IsToldOf (λ place. Tells (Starts place) told_job) (code_alone refused) (held exec.old) (held exec.new) result }
@@ -295,8 +297,8 @@ pub extern "C" fn arachne_exec_start(alloc: Global, exec: &mut ArachneExec) -> A
 
 /// Takes the next job of the worker's blocks into the hand.
 ///
-/// Returns RUN with its name and number; PARK; AGAIN; REFUSED if the handle holds nothing, if its seat is no worker, or
-/// if a job is in hand.
+/// Returns RUN with the job's name and number; PARK; AGAIN; REFUSED if the handle holds nothing, if its seat is no
+/// worker, or if a job is in hand.
 #[unsafe(no_mangle)]
 pub extern "C" fn arachne_exec_next(alloc: Global, exec: &mut ArachneExec) -> ArachneExecTold
     ensures { IsTold MayGoOn (Tells GoesOn told_next) (code_alone refused) (held exec.old) (held exec.new) result }
@@ -309,7 +311,8 @@ pub extern "C" fn arachne_exec_next(alloc: Global, exec: &mut ArachneExec) -> Ar
     told
 }
 
-/// Sets the worker's idle bit, and looks if its blocks are shown: the last part of `arachne_exec_next`.
+/// Sets the worker's idle bit, and then looks if one of its blocks may have ready jobs: the last part of
+/// `arachne_exec_next`.
 ///
 /// Returns PARK; AGAIN, with the bit cleared again; REFUSED if the handle holds nothing or its seat is no worker.
 #[unsafe(no_mangle)]
@@ -408,8 +411,8 @@ pub extern "C" fn arachne_exec_wake(
 
 /// Wakes the job of a name, and takes it into the hand if it was blocked: one try.
 ///
-/// Returns RUN with its name and number; MARKED; ALREADY_MARKED; GONE; LOST; REFUSED if the handle holds nothing or has
-/// a job in hand.
+/// Returns RUN with the job's name and number; MARKED; ALREADY_MARKED; GONE; LOST; REFUSED if the handle holds nothing
+/// or has a job in hand.
 #[unsafe(no_mangle)]
 pub extern "C" fn arachne_exec_wake_here(
     alloc: Global,

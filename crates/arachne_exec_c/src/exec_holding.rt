@@ -207,9 +207,9 @@ pub(crate) fn leave_held(held: &mut Option<Executing>) -> u32
     }
 }
 
-/// Splits the seat that the first holds, and gives the second part to the other.
+/// Splits the seat in `mine`, and puts the second part into `theirs`.
 ///
-/// Returns false if the executor can have no further owner, or if the first holds nothing; nothing has changed then.
+/// Returns false, with nothing changed, if the executor can have no further owner, or if `mine` is empty.
 pub(crate) fn cut_held(mine: &mut Option<Executing>, theirs: &mut Option<Executing>) -> bool
     requires { theirs.old ≡ None }
     ensures cut { ForSome mine.old (λ old. MatchBool result
@@ -264,7 +264,8 @@ fn is_idle_held(held: &Option<Executing>) -> bool
     }
 }
 
-/// Joins the second seat into the first, if both are there, and the second has no job in hand and is no worker.
+/// Joins the seat in `theirs` into that in `mine`, if both are there, and the second has no job in hand and is no
+/// worker.
 #[tactic(auto, using(crate::proofs::ExecCut::not_joined))]
 pub(crate) fn join_held(mine: &mut Option<Executing>, theirs: &mut Option<Executing>) -> u32
     requires { (a b : Exec) → mine.old ≡ Some a → theirs.old ≡ Some b → b.executor ≡ a.executor }

@@ -14,7 +14,7 @@ use arachne_exec::{
 #[repr(C)]
 #[derive(Clone, Copy)]
 pub struct ArachneExecTold {
-    /// The name of the job that was spawned or is in hand: 20 bits of its place, and 44 of the place's generation.
+    /// The name of the job that was spawned or is in hand: 20 bits for its place, and 44 for the place's generation.
     pub name: u64,
     /// The number of the job in hand, as it was spawned.
     pub job: u64,

@@ -22,7 +22,7 @@ use std::sync::Arc;
 
 /// The value behind a handle on an executor.
 ///
-/// Each call writes to it, so 64 bytes behind its fields keep those of the next handle in memory on other cache lines.
+/// Each call writes to this value, so 64 unused bytes at its end keep the value of another handle off its cache lines.
 #[derive(Drop)]
 #[repr(C)]
 pub struct Executing {
@@ -30,9 +30,9 @@ pub struct Executing {
     seat: ExecSeat,
     /// The place of the newest job in hand.
     hand: Option<usize>,
-    /// A bit for each other place of its block that is in hand.
+    /// The other places of the same block that are in hand, a bit for each.
     more: u64,
-    /// The number of the worker that the seat is, and one; or 0.
+    /// One more than the number of the worker that the seat is; 0 if it is none.
     worker: usize,
     apart: [u64; 8],
 }
@@ -64,7 +64,7 @@ fn in_hand(block: usize, word: u64) -> (Option<usize>, u64)
 }
 
 impl Executing {
-    /// Makes an executor of `shards` shards, with its whole seat.
+    /// Makes an executor of `shards` shards, with the seat that has the whole weight.
     pub(crate) fn new(alloc: Global, shards: usize) -> Result<Executing, AllocError>
         requires { shards ≤ 256 }
         ensures { IfOk result (IsNew shards) }
@@ -157,7 +157,8 @@ impl Executing {
         taken
     }
 
-    /// Takes up to `most` jobs of a block by one step. Returns their places, a bit for each; the lowest is the newest.
+    /// Takes up to `most` jobs of a block by one step. Returns the jobs' places, a bit for each; the job at the lowest
+    /// place is the newest.
     pub(crate) fn take_many(&mut self, block: usize, most: u32) -> u64
         requires { MayTake block self.old }
         ensures { TakesMany block most self.old self.new result }
@@ -285,14 +286,15 @@ impl Executing {
         })
     }
 
-    /// Returns true if this is the whole seat of the executor, with no job in hand.
+    /// Returns true if this seat has the whole weight of the executor, and no job in hand.
     fn may_end(&self) -> bool
         ensures { IsTrue result → IsEmptyHanded self.now × (self.now.seat.weight ≡ whole) }
     {
         self.hand.is_none() && self.executor.is_whole(&self.seat)
     }
 
-    /// Ends the executor, if this is its whole seat with no job in hand, and `room` suffices for a job of each place.
+    /// Ends the executor, if this seat has the whole weight and no job in hand, and `room` suffices for a job of each
+    /// place.
     ///
     /// Returns the jobs that are left; or the unchanged value, with the code for C.
     pub(crate) fn end(self, alloc: Global, room: usize) -> Result<Vec<u64>, (Executing, u32)>

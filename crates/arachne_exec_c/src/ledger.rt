@@ -59,7 +59,8 @@ pub extern "C" fn arachne_ledger_add(
 
 /// Reads the total of a ledger, modulo 2^64, once all other handles were joined into this one.
 ///
-/// Returns false, with nothing changed, if one was not, if the handle holds nothing, or if there is no such ledger.
+/// Returns false, with nothing changed, if another handle was not joined into this one, if the handle holds nothing, or
+/// if there is no such ledger.
 #[unsafe(no_mangle)]
 pub extern "C" fn arachne_ledger_total(
     alloc: Global,
@@ -123,9 +124,9 @@ pub extern "C" fn arachne_ledger_split(
 
 /// Joins the share of `other` into that of `adder`, so that `other` holds nothing.
 ///
-/// Returns false, with nothing changed, if one of them holds nothing. Both must be of one set of ledgers, which is not
-/// checked: otherwise totals of the ledgers of `adder` may be read before all of their handles were joined, and those
-/// of `other` can't be read any more.
+/// Returns false, with nothing changed, if one of the handles holds nothing. Both handles must be of one set of
+/// ledgers, which is not checked. If they are of two sets, totals of the ledgers of `adder` may be read before all of
+/// their handles were joined, and totals of the ledgers of `other` can't be read any more.
 #[unsafe(no_mangle)]
 pub extern "C" fn arachne_ledger_join(
     alloc: Global,

@@ -66,8 +66,8 @@ pub extern "C" fn arachne_locks_split(
 
 /// Joins the seat of `other` into that of `locks`, so that `other` holds nothing.
 ///
-/// Returns DONE, or REFUSED if one of them holds nothing. Both must be of one set of locks, which is not checked:
-/// otherwise the seat of `other` is only freed, as by `arachne_locks_close`.
+/// Returns DONE, or REFUSED if one of the handles holds nothing. Both handles must be of one set of locks, which is not
+/// checked. If they are of two sets, the seat of `other` is only freed, as by `arachne_locks_close`.
 #[unsafe(no_mangle)]
 pub extern "C" fn arachne_locks_join(
     alloc: Global,
@@ -144,7 +144,7 @@ pub extern "C" fn arachne_lock_free(
 
 /// Takes `who` out of the queue of a lock, such as when its future is dropped: one try.
 ///
-/// Returns LEFT; GRANTED if it holds the lock by now, and must free it; NOT_HOLDER; CONTENDED; REFUSED if the handle
+/// Returns LEFT; GRANTED if `who` holds the lock by now, and must free it; NOT_HOLDER; CONTENDED; REFUSED if the handle
 /// holds nothing or there is no such lock.
 #[unsafe(no_mangle)]
 pub extern "C" fn arachne_lock_withdraw(

@@ -1,4 +1,4 @@
-//! The handle that C holds.
+//! The handle by which C holds a seat at a set of locks.
 ghost use Rattle.std.specs.Prelude.{◌≡◌, ◌↔◌, IfNone, IfSome, IsSome, IsTrue};
 ghost use Rattle.std.specs.Option.{option_flatten};
 ghost use Rattle.std.specs.declared.option.Option.{Option};
@@ -47,7 +47,7 @@ impl ArachneLocks {
         }
     }
 
-    /// Takes the box out of the handle, if it has one.
+    /// Takes the box out of the handle, if the handle has one.
     pub(crate) fn take(&mut self, alloc: Global) -> Option<Box<Option<Seated>>>
         ensures none { IfNone result (self.old.value ≡ None) }
         ensures some { IfSome result (λ taken. self.old.value ≡ Some taken.value) }
@@ -57,7 +57,7 @@ impl ArachneLocks {
         mem::replace(self, empty).into_handle().into_box()
     }
 
-    /// Puts a box into the handle. Any other that it had is freed.
+    /// Puts a box into the handle. A box that the handle had before is freed.
     pub(crate) fn put(&mut self, value: Box<Option<Seated>>)
         ensures { self.new.value ≡ Some value.value }
     {

@@ -1,6 +1,6 @@
 //! The exports for the core policy.
 //!
-//! An estimator lies in the caller's memory, and no call allocates. Each call is defined for any bytes there.
+//! An estimator lies in the caller's memory, and no call allocates. Each call is defined whatever bytes are there.
 ghost use Rattle.std.specs.Prelude.{◌≡◌, ◌≢◌, ◌≤◌, ◌↔◌, List, [], IsTrue, MatchBool};
 ghost use Rattle.arachne_policy.specs.declared.samples.Sample.{Sample as Past};
 ghost use Rattle.arachne_policy.specs.State.{most_cores, StandsFor};

@@ -1,4 +1,4 @@
-//! A seat at a set of locks, with the locks.
+//! A seat at a set of locks (the right of one thread to use them), with the locks.
 ghost use Rattle.std.specs.Prelude.{◌≡◌, ◌↔◌, IsTrue, IfOk, IfErr, MatchBool};
 ghost use Rattle.std.specs.Option.{ForSome};
 ghost use Rattle.std.specs.declared.option.Option.TheVariants.{None, Some};
@@ -108,9 +108,9 @@ impl Seated {
     }
 }
 
-/// Splits the seat that the first holds, and gives the second part to the other.
+/// Splits the seat in `mine`, and puts the new seat into `theirs`.
 ///
-/// Returns false if the locks can have no further owner, or if the first holds nothing; nothing has changed then.
+/// Returns false, with nothing changed, if the locks can have no further owner, or if `mine` is empty.
 pub(crate) fn split_held(mine: &mut Option<Seated>, theirs: &mut Option<Seated>) -> bool
     requires { theirs.old ≡ None }
     ensures split { ForSome mine.old (λ old. MatchBool result
@@ -128,7 +128,7 @@ pub(crate) fn split_held(mine: &mut Option<Seated>, theirs: &mut Option<Seated>)
     true
 }
 
-/// Joins the second seat into the first, if both are there.
+/// Joins the seat in `theirs` into that in `mine`, if both are there.
 pub(crate) fn join_held(mine: &mut Option<Seated>, theirs: &mut Option<Seated>) -> u32
     requires { (a b : Seating) → mine.old ≡ Some a → theirs.old ≡ Some b → b.locks ≡ a.locks }
     ensures { IsJoined mine.old theirs.old mine.new theirs.new result }
@@ -147,7 +147,7 @@ pub(crate) fn join_held(mine: &mut Option<Seated>, theirs: &mut Option<Seated>) 
     }
 }
 
-/// Asks for a lock by the seat that a handle holds.
+/// Asks for a lock for `who`, through the seat that a handle holds.
 pub(crate) fn ask_held(held: &mut Option<Seated>, lock: usize, who: u64) -> ArachneLockTold
     ensures { IsAskTold lock who held.old held.new result }
 {
@@ -157,7 +157,7 @@ pub(crate) fn ask_held(held: &mut Option<Seated>, lock: usize, who: u64) -> Arac
     }
 }
 
-/// Frees a lock by the seat that a handle holds.
+/// Frees a lock that `who` holds, through the seat that a handle holds.
 pub(crate) fn free_held(held: &mut Option<Seated>, lock: usize, who: u64) -> ArachneLockTold
     ensures { IsFreeTold lock who held.old held.new result }
 {
@@ -167,7 +167,7 @@ pub(crate) fn free_held(held: &mut Option<Seated>, lock: usize, who: u64) -> Ara
     }
 }
 
-/// Leaves the queue of a lock by the seat that a handle holds.
+/// Takes `who` out of the queue of a lock, through the seat that a handle holds.
 pub(crate) fn withdraw_held(held: &mut Option<Seated>, lock: usize, who: u64) -> ArachneLockTold
     ensures { IsWithdrawTold lock who held.old held.new result }
 {
@@ -177,7 +177,7 @@ pub(crate) fn withdraw_held(held: &mut Option<Seated>, lock: usize, who: u64) ->
     }
 }
 
-/// Looks who holds a lock by the seat that a handle holds.
+/// Looks whether `who` holds a lock, through the seat that a handle holds.
 pub(crate) fn check_held(held: &mut Option<Seated>, lock: usize, who: u64) -> ArachneLockTold
     ensures { IsCheckTold lock who held.old held.new result }
 {

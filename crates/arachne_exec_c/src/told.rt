@@ -14,7 +14,7 @@ use arachne_lock::{Admitted, AskRefusal, Attempt, NotOwner, Released, Withdrawn}
 pub struct ArachneLockTold {
     /// The number of the event: of the grant, the ask, the free or the leave.
     pub at: u64,
-    /// The one that holds the lock now, if a free handed it on; the number of that grant is `at` + 1.
+    /// The waiter that holds the lock now, if a free handed it on. The number of that grant is `at` + 1.
     pub next: u64,
     pub code: u32,
 }

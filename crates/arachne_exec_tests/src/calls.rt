@@ -1,4 +1,4 @@
-//! Each call once, on one thread.
+//! Makes each call of an executor once, on one thread.
 use arachne_exec::{
     Executor, HeldJob, JobRested, JobSpawned, JobWoken, Next, PlacedJob, SpawnedHere, WokenHere,
     place_of, worker_of_place,

@@ -1,4 +1,4 @@
-//! Executors of several sizes, to the largest.
+//! Executors of several sizes, up to the largest.
 ghost use Rattle.std.specs.Prelude.{◌<◌, ◌≤◌};
 
 use arachne_exec::{Executor, JobSpawned};
@@ -16,7 +16,7 @@ fn last_place(alloc: Global, shards: usize) -> Option<(usize, Vec<u64>)>
     Some((placed.place, left))
 }
 
-/// Returns whether the job was put at the place `wanted`, and was all that was left.
+/// Returns whether the job was put at the place `wanted`, and was the only job that was left.
 fn is_alone_at(spawned: Option<(usize, Vec<u64>)>, wanted: usize) -> bool {
     match spawned {
         Some((place, left)) => place == wanted && left.len() == 1 && left[0] == 7,

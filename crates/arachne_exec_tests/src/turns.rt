@@ -1,10 +1,10 @@
-//! Jobs that are ready again at once don't keep others waiting.
+//! Tests that jobs which become ready again at once don't keep others waiting.
 ghost use Rattle.std.specs.Prelude.{◌≡◌, ◌*◌, ◌<◌};
 
 use arachne_exec::{ExecSeat, Executor, Next};
 use std::test::Fail;
 
-/// Takes a job of a block, which is ready again at once. The bit of its place in the block.
+/// Takes a job of a block, and makes it ready again at once. Returns the bit of the job's place in the block.
 fn take_again(executor: &Executor, seat: &mut ExecSeat, block: usize) -> u64
     requires own { seat.old.table ≡ executor.now.table }
     requires block { block < 64 * executor.now.shards }
@@ -17,7 +17,7 @@ fn take_again(executor: &Executor, seat: &mut ExecSeat, block: usize) -> u64
     1 << (job.place % 64) as u32
 }
 
-/// Runs a job of worker 0, which is ready again at once. Its number.
+/// Runs a job of worker 0, and makes it ready again at once. Returns the job's number.
 fn run_again(executor: &Executor, seat: &mut ExecSeat) -> u64
     requires own { seat.old.table ≡ executor.now.table }
     requires worker { seat.old.known.worker ≡ 1 }
@@ -73,7 +73,8 @@ fn end_one(executor: &Executor, seat: &mut ExecSeat, block: usize)
     }
 }
 
-/// Spawns a job at a block, takes it and ends it, so that the block has its bit in the summary word and no job.
+/// Spawns a job at a block, takes it and ends it, so that the block has its bit in the summary word although it has no
+/// job.
 fn pass_by(executor: &Executor, seat: &mut ExecSeat, block: usize)
     requires own { seat.old.table ≡ executor.now.table }
     requires block { block < 64 * executor.now.shards }

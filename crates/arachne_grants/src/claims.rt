@@ -5,30 +5,30 @@ ghost use Rattle.arachne_grants.specs.Claims.{before_alike, claim_of, gets_befor
 /// A client of the machine: its priority, and the cores that it reserves, asks for and holds.
 #[derive(Clone, Copy, Debug, PartialEq, Eq)]
 pub struct Client {
-    /// 0 goes first.
+    /// The client's priority, of which 0 goes first.
     pub priority: u8,
-    /// Cores that it gets before others get more than theirs of this kind.
+    /// The number of cores that the client gets before any client gets more than its reserve.
     pub reserved: u32,
-    /// Cores that it asks for.
+    /// The number of cores that the client asks for.
     pub asks: u32,
-    /// Cores that it holds.
+    /// The number of cores that the client holds.
     pub held: u32,
 }
 
 /// A client's claim to the next core, by which it goes before others or behind them.
 #[derive(Clone, Copy, Debug, PartialEq, Eq)]
 pub(crate) struct Claim {
-    /// True if it has its reserve.
+    /// True if the client gets its reserve already.
     pub beyond: bool,
     pub priority: u8,
-    /// Cores that it gets already.
+    /// The number of cores that the client gets already.
     pub gets: u32,
-    /// True if the next core would be one that it doesn't hold.
+    /// True if the client holds no more than `gets` cores, so that the next core would be taken from elsewhere.
     pub moves: bool,
 }
 
 impl Client {
-    /// No client.
+    /// A client that asks for nothing, for a place that no client has.
     pub(crate) const NONE: Client = Client {
         priority: 0,
         reserved: 0,
@@ -36,14 +36,15 @@ impl Client {
         held: 0,
     };
 
-    /// Returns the cores that it gets before others get more than theirs of this kind: no more than it asks for.
+    /// Returns the client's reserve, but at most what it asks for: the cores that it gets before any client gets more
+    /// than its reserve.
     fn reserve(&self) -> u32
         ensures { result ≡ reserve_of self.now }
     {
         self.reserved.min(self.asks)
     }
 
-    /// Returns its claim to one core more, if it gets `gets` cores.
+    /// Returns the client's claim to one core more, if it gets `gets` cores.
     pub(crate) fn claim(&self, gets: u32) -> Claim
         ensures { result ≡ claim_of self.now gets }
     {
@@ -55,7 +56,7 @@ impl Client {
         }
     }
 
-    /// Returns the number of cores that it gets by its claims that go before this one.
+    /// Returns the number of cores that this client gets by those of its claims that go before `claim`.
     pub(crate) fn gets_before(&self, claim: &Claim) -> u32
         ensures { result ≡ gets_before claim.now self.now }
     {
@@ -66,9 +67,9 @@ impl Client {
         }
     }
 
-    /// Returns the number of its first `most` cores that go before a claim.
+    /// Returns how many of this client's first `most` cores go before `claim`.
     ///
-    /// The number is right if all of these cores, or none, are below its reserve.
+    /// The number is right if all of these cores, or none, are below the client's reserve.
     fn before_alike(&self, claim: &Claim, most: u32) -> u32
         ensures { result ≡ before_alike claim.now self.now most }
     {
@@ -81,7 +82,8 @@ impl Client {
         }
     }
 
-    /// Returns the number of cores up to which its claims go before another of its priority.
+    /// Returns the number of cores up to which this client's claims go before `claim`, of a client of the same
+    /// priority.
     fn level_before(&self, claim: &Claim) -> u32
         ensures { result ≡ level_before claim.now self.now }
     {
@@ -102,8 +104,8 @@ impl Claim {
         moves: false,
     };
 
-    /// Returns true if this claim goes before the other: first who has less than its reserve, then the higher priority,
-    /// then who gets fewer, then who holds the core already.
+    /// Returns true if this claim goes before the other. First goes who has less than its reserve, then the higher
+    /// priority, then who gets fewer cores, then who holds the core already.
     pub(crate) fn goes_before(&self, other: &Claim) -> bool
         ensures { result ≡ goes_before self.now other.now }
     {

@@ -7,8 +7,8 @@ use crate::claims::{Claim, Client};
 /// Returns the number of cores that each client gets, at its place in `targets`.
 ///
 /// One core at a time goes to the client that asks for more and has the first claim; of equal claims, to the client
-/// that came first. The cores of all claims before one are given in one step, so the time grows only by the logarithm
-/// of the cores.
+/// that came first. The cores of many claims are given in one step, so the time grows only with the logarithm of the
+/// number of cores.
 pub fn targets(clients: &[Client], cores: u32, targets: &mut [u32])
     requires { length targets.old ≡ length clients.now }
     ensures order { IsInOrder clients.now targets.new }
@@ -29,13 +29,14 @@ pub fn targets(clients: &[Client], cores: u32, targets: &mut [u32])
     }
 }
 
-/// The law that the promises decide the answer: any two that are bounded, used, in order and in turn give each client
-/// the same number of cores.
+/// The law that the promises of `targets` decide its result: any two results that are bounded, used, in order and in
+/// turn give each client the same number of cores.
 pub fn targets_are_decided(clients: &[Client], cores: u32)
     ensures { IsDecided clients.now cores }
 {}
 
-/// Gives the cores of all claims before one, the last for which there are enough, and returns their number.
+/// Finds the last claim such that there are enough cores for all claims before it, and gives each client the cores of
+/// its claims before that one. Returns the number of cores given.
 fn fill_levels(clients: &[Client], cores: u32, targets: &mut [u32]) -> u32
     requires { length targets.old ≡ length clients.now }
     ensures few { result ≤ cores }
@@ -52,8 +53,8 @@ fn fill_levels(clients: &[Client], cores: u32, targets: &mut [u32]) -> u32
     given
 }
 
-/// Returns the last claim, by whether reserves are met, priority, number of cores, and whether these are held, before
-/// which no more claims go than there are cores.
+/// Returns the last claim such that there are enough cores for all claims before it. Claims go by whether the reserve
+/// is met, then by priority, number of cores, and whether the client holds these.
 fn last_filled(clients: &[Client], cores: u32) -> Claim
     ensures { AreEnough clients.now cores result }
 {
@@ -85,7 +86,8 @@ fn last_filled(clients: &[Client], cores: u32) -> Claim
     )
 }
 
-/// Returns the claim at the most cores, of fewer than there are, before which no more claims go than there are cores.
+/// Returns the claim like `claim` for the most cores (fewer than `cores`) such that there are enough for all claims
+/// before it.
 fn last_level(clients: &[Client], cores: u32, claim: Claim) -> Claim
     requires { AreEnough clients.now cores claim }
     ensures { AreEnough clients.now cores result }
@@ -107,7 +109,7 @@ fn last_level(clients: &[Client], cores: u32, claim: Claim) -> Claim
     claim
 }
 
-/// Returns the next claim if there are cores for all that go before it, else the claim.
+/// Returns `next` if there are enough cores for all claims that go before it, and otherwise `claim`.
 fn later(clients: &[Client], cores: u32, claim: Claim, next: Claim) -> Claim
     requires { AreEnough clients.now cores claim }
     ensures { AreEnough clients.now cores result }
@@ -134,7 +136,7 @@ fn are_enough(clients: &[Client], cores: u32, claim: &Claim) -> bool
     true
 }
 
-/// Returns who gets the next core, or None if nobody asks for more.
+/// Returns the client that gets the next core, or `None` if nobody asks for more.
 fn next_client(clients: &[Client], targets: &[u32]) -> Option<usize>
     requires { length targets.now ≡ length clients.now }
     ensures { IsNext clients.now targets.now (length clients.now) result }
@@ -146,7 +148,8 @@ fn next_client(clients: &[Client], targets: &[u32]) -> Option<usize>
     next
 }
 
-/// Returns who gets the next core: the client at a place, or who would get it among those before that.
+/// Returns the client that gets the next core: the client at `place` if its claim goes first, and otherwise `next`, the
+/// best client before it.
 fn first_of(clients: &[Client], targets: &[u32], next: Option<usize>, place: usize) -> Option<usize>
     requires sized { length targets.now ≡ length clients.now }
     requires within { place < length clients.now }

@@ -1,4 +1,5 @@
-//! The decision of an arbiter: the number of cores that each client of a machine gets, and which change hands for that.
+//! The decision of an arbiter, a daemon that grants cores to programs: how many cores each client gets, and which cores
+//! change hands for that.
 //!
 //! Every call is a pure function over numbers: none takes memory, none waits, and none knows a process or a thread.
 #![tactic(auto)]

@@ -29,14 +29,14 @@ pub enum ClientMessage {
         reserved: u16,
         most: u16,
     },
-    /// A kernel thread of a client joins it, at a place.
+    /// A kernel thread joins its client, at one of the client's places.
     Join {
         client: u32,
         thread: u32,
         place: u8,
         floats: bool,
     },
-    /// The thread gives its core back, if it has one, and waits for another.
+    /// The thread gives its core back, if it has one, and waits for another core.
     Wait,
     /// The client asks for this number of cores.
     Ask {
@@ -44,7 +44,7 @@ pub enum ClientMessage {
     },
 }
 
-/// The reason why bytes begin with no message: the first number that no message has there.
+/// The reason why bytes begin with no message: the first of their four numbers that is not valid.
 #[derive(Clone, Copy, Debug, PartialEq, Eq)]
 pub enum MessageFault {
     /// There are fewer than `MESSAGE_BYTES` bytes.
@@ -86,7 +86,7 @@ pub fn read_message(bytes: &[u8]) -> Result<ClientMessage, MessageFault>
     })
 }
 
-/// The law that bytes begin with one message at most, and then have no fault.
+/// The law that bytes begin with at most one message, and that bytes which begin with one have no fault.
 pub fn messages_are_unambiguous(bytes: &[u8])
     ensures { IsUnambiguous bytes.now }
 {}

@@ -5,7 +5,7 @@ ghost use Rattle.arachne_grants.specs.Owners.{is_of, held_by, owned, owner_at, A
 
 use crate::claims::Client;
 
-/// The most clients that a machine may have: one for each number that an owner may be.
+/// The most clients that a machine may have: an owner is a number from 0 to 255.
 pub const MAX_OWNERS: usize = 256;
 
 /// Moves cores so that each client has its target. A client that has no more than its target keeps its cores.
@@ -22,7 +22,7 @@ pub fn moves(owners: &mut [Option<u8>], clients: &[Client], targets: &[u32])
     give_free(owners, clients, targets);
 }
 
-/// Takes from each client the cores that it has beyond its target: the last ones.
+/// Takes from each client the cores that it has beyond its target, the last ones first.
 pub fn take_back(owners: &mut [Option<u8>], targets: &[u32])
     ensures only { TakesOnly owners.old owners.new }
     ensures keeps { KeepsTargets owners.old owners.new targets.now }
@@ -33,7 +33,7 @@ pub fn take_back(owners: &mut [Option<u8>], targets: &[u32])
     }
 }
 
-/// Gives cores that nobody has to clients that have less than their targets: the higher priority first.
+/// Gives cores that nobody has to clients that have less than their targets, those of higher priority first.
 pub fn give_free(owners: &mut [Option<u8>], clients: &[Client], targets: &[u32])
     requires cores { length owners.old < 2 ^ 32 }
     requires clients { length clients.now ≤ 256 }
@@ -51,7 +51,7 @@ pub fn give_free(owners: &mut [Option<u8>], clients: &[Client], targets: &[u32])
     }
 }
 
-/// Counts the cores that each client holds, which `targets` goes by.
+/// Counts the cores that each client holds, a number by which `targets` decides.
 pub fn count_held(clients: &mut [Client], owners: &[Option<u8>])
     requires cores { length owners.now < 2 ^ 32 }
     requires clients { length clients.old ≤ 256 }
@@ -64,14 +64,14 @@ pub fn count_held(clients: &mut [Client], owners: &[Option<u8>])
     }
 }
 
-/// Returns a client's target, which is 0 if there is no such client.
+/// Returns a client's target, or 0 if there is no such client.
 fn target_of(targets: &[u32], client: usize) -> u32
     ensures { result ≡ target_at targets.now client }
 {
     targets.get(client).copied().unwrap_or(0)
 }
 
-/// Counts each core for its owner.
+/// Adds each core to the count of its owner.
 fn count_all(owners: &[Option<u8>], held: &mut [u32])
     requires sized { length held.old ≡ 256 }
     requires cores { length owners.now < 2 ^ 32 }
@@ -84,7 +84,7 @@ fn count_all(owners: &[Option<u8>], held: &mut [u32])
     }
 }
 
-/// Counts a core for its owner.
+/// Adds a core to the count of its owner.
 fn count(owner: Option<u8>, held: &mut [u32])
     requires sized { length held.old ≡ 256 }
     requires fits { sum held.old + 1 < 2 ^ 32 }
@@ -97,7 +97,8 @@ fn count(owner: Option<u8>, held: &mut [u32])
     }
 }
 
-/// Returns who keeps a core: its owner, if that has fewer than its target by the counts so far, and counts it for that.
+/// Returns the owner of a core if the owner keeps the core, and counts the core for the owner. The owner keeps the core
+/// if it has fewer than its target by the counts so far.
 fn keep(owner: Option<u8>, targets: &[u32], held: &mut [u32]) -> Option<u8>
     requires { length held.old ≡ 256 }
     ensures only { (result ≡ owner) ⊎ (result ≡ None) }
@@ -116,8 +117,8 @@ fn keep(owner: Option<u8>, targets: &[u32], held: &mut [u32]) -> Option<u8>
     owner
 }
 
-/// Returns who has a core: its owner, or else a client that has less than its target by the counts so far, and counts
-/// it for that.
+/// Returns the owner of a core after free cores are given: the owner that it has, or else a client that has less than
+/// its target by the counts so far. Counts the core for that client.
 fn give(owner: Option<u8>, clients: &[Client], targets: &[u32], held: &mut [u32]) -> Option<u8>
     requires sized { length held.old ≡ 256 }
     requires targets { length targets.now ≡ length clients.now }
@@ -140,8 +141,8 @@ fn give(owner: Option<u8>, clients: &[Client], targets: &[u32], held: &mut [u32]
     Some(client)
 }
 
-/// Returns who gets a free core, by the counts so far: of the clients that have less than their targets, the first of
-/// the highest priority. None if there is no such client.
+/// Returns the client that gets a free core: of those that have less than their targets by the counts so far, the first
+/// of the highest priority. Returns `None` if there is no such client.
 pub(crate) fn next_short(clients: &[Client], targets: &[u32], held: &[u32]) -> Option<u8>
     requires sized { length clients.now ≤ length held.now }
     requires targets { length targets.now ≡ length clients.now }
@@ -155,7 +156,8 @@ pub(crate) fn next_short(clients: &[Client], targets: &[u32], held: &[u32]) -> O
     next
 }
 
-/// Returns who gets a free core: the client at a place, or who would get it among those before that.
+/// Returns the client that gets a free core: the client at `place` if it goes first, and otherwise `next`, the best
+/// client before it.
 fn next_short_of(
     clients: &[Client],
     targets: &[u32],

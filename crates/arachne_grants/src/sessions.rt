@@ -7,21 +7,21 @@ use crate::claims::Client;
 /// The most threads that a client may have.
 pub const MAX_THREADS: usize = 64;
 
-/// The state of the thread at a place of a client. One that floats never waits: it is moved to a core and back as it
-/// runs.
+/// The state of the thread at one of a client's places. A thread that floats never waits: the daemon moves it to a core
+/// and away again while it runs.
 #[derive(Clone, Copy, Debug, PartialEq, Eq)]
 pub enum ClientThread {
     /// There is no thread at this place.
     Absent,
-    /// Runs without a core of its own.
+    /// The thread runs without a core of its own.
     Runs,
-    /// Waits until it is granted a core.
+    /// The thread waits until it is granted a core.
     Waits,
-    /// Runs on this core.
+    /// The thread runs on this core.
     On(u16),
-    /// Floats, without a core of its own.
+    /// The thread floats, without a core of its own.
     Floats,
-    /// Floats, on this core.
+    /// The thread floats, and is on this core now.
     FloatsOn(u16),
 }
 
@@ -30,20 +30,20 @@ pub enum ClientThread {
 pub(crate) struct Session {
     /// True if a client has this place.
     pub taken: bool,
-    /// 0 goes first.
+    /// The client's priority, of which 0 goes first.
     pub priority: u8,
-    /// Cores that it gets before others get more than theirs of this kind.
+    /// The number of cores that the client gets before any client gets more than its reserve.
     pub reserved: u32,
-    /// The most cores that it may ask for.
+    /// The most cores that the client may ask for.
     pub most: u32,
-    /// Cores that it asks for.
+    /// The number of cores that the client asks for.
     pub asks: u32,
     /// The state of the thread at each of the client's places.
     pub threads: [ClientThread; MAX_THREADS],
 }
 
 impl ClientThread {
-    /// Returns the core that it has.
+    /// Returns the core that the thread has.
     pub fn core(self) -> Option<u16>
         ensures { result ≡ core_of self }
     {
@@ -53,49 +53,50 @@ impl ClientThread {
         }
     }
 
-    /// Returns true if it has a core.
+    /// Returns true if the thread has a core.
     pub(crate) fn has_core(self) -> bool
         ensures { result ≡ has_core self }
     {
         self.core().is_some()
     }
 
-    /// Returns true if it has no core and can take one.
+    /// Returns true if the thread has no core and can take one.
     pub(crate) fn is_ready(self) -> bool
         ensures { result ≡ is_ready self }
     {
         matches!(self, ClientThread::Waits | ClientThread::Floats)
     }
 
-    /// Returns true if it waits for a core.
+    /// Returns true if the thread waits for a core.
     pub(crate) fn is_waiting(self) -> bool
         ensures { result ≡ is_waiting self }
     {
         matches!(self, ClientThread::Waits)
     }
 
-    /// Returns true if it is one that may wait, and doesn't.
+    /// Returns true if the thread is of the kind that may wait (it doesn't float), and doesn't wait now.
     pub(crate) fn can_wait(self) -> bool
         ensures { result ≡ can_wait self }
     {
         matches!(self, ClientThread::Runs | ClientThread::On(_))
     }
 
-    /// Returns true if it has a core or can take one.
+    /// Returns true if the thread has a core or can take one.
     pub(crate) fn is_usable(self) -> bool
         ensures { result ≡ is_usable self }
     {
         self.has_core() || self.is_ready()
     }
 
-    /// Returns true if its core may be taken from it: immediately if it floats, and otherwise if its client is late.
+    /// Returns true if the thread's core may be taken from it: immediately if the thread floats, and otherwise only if
+    /// the client is late.
     pub(crate) fn gives_way(self, late: bool) -> bool
         ensures { result ≡ gives_way self late }
     {
         late || matches!(self, ClientThread::FloatsOn(_))
     }
 
-    /// Returns its state once it has this core.
+    /// Returns the thread's state once it has this core.
     pub(crate) fn placed(self, core: u16) -> ClientThread
         ensures { result ≡ placed self core }
     {
@@ -105,7 +106,7 @@ impl ClientThread {
         }
     }
 
-    /// Returns its state once its core is taken from it.
+    /// Returns the thread's state once its core is taken from it.
     pub(crate) fn unplaced(self) -> ClientThread
         ensures { result ≡ unplaced self }
     {
@@ -118,7 +119,7 @@ impl ClientThread {
 }
 
 impl Session {
-    /// The place of no client.
+    /// The session at a place that no client has.
     pub(crate) const NONE: Session = Session {
         taken: false,
         priority: 0,
@@ -128,7 +129,7 @@ impl Session {
         threads: [ClientThread::Absent; MAX_THREADS],
     };
 
-    /// Returns the number of its threads that have a core.
+    /// Returns the number of the client's threads that have a core.
     pub(crate) fn held(&self) -> u32
         ensures { result ≡ count_by has_core self.now.threads }
     {
@@ -138,7 +139,7 @@ impl Session {
             .count() as u32
     }
 
-    /// Returns the number of its threads that have a core or can take one.
+    /// Returns the number of the client's threads that have a core or can take one.
     fn usable(&self) -> u32
         ensures { result ≡ count_by is_usable self.now.threads }
     {
@@ -148,7 +149,8 @@ impl Session {
             .count() as u32
     }
 
-    /// Returns it as `targets` sees it: it asks for at most the cores that it may have, and has threads for.
+    /// Returns the client as `targets` sees it. The client asks for at most the cores that it may have, and for no more
+    /// than it has threads for.
     pub(crate) fn wants(&self) -> Client
         ensures { result ≡ wants_of self.now }
     {
@@ -160,7 +162,7 @@ impl Session {
         }
     }
 
-    /// Returns the place of its first thread that can take a core.
+    /// Returns the place of the client's first thread that can take a core.
     pub(crate) fn first_ready(&self) -> Option<usize>
         ensures first { result ≡ position is_ready self.now.threads }
         ensures within { IfSome result (λ place. place < 64) }
@@ -168,7 +170,7 @@ impl Session {
         self.threads.iter().position(|thread| thread.is_ready())
     }
 
-    /// Returns the place of its last thread that has a core.
+    /// Returns the place of the client's last thread that has a core.
     pub(crate) fn last_placed(&self) -> Option<usize>
         ensures last { IsLastPlaced self.now.threads 64 result }
         ensures none { result ≡ None → count_by has_core self.now.threads ≡ 0 }
@@ -180,7 +182,7 @@ impl Session {
         last
     }
 
-    /// Returns the last place with a core: this one, or the last of those before it.
+    /// Returns `place` if its thread has a core, and otherwise `last`, the last such place before it.
     fn last_of(&self, last: Option<usize>, place: usize) -> Option<usize>
         requires within { place < 64 }
         requires last { IsLastPlaced self.now.threads place last }
@@ -193,7 +195,7 @@ impl Session {
         }
     }
 
-    /// Marks the cores that its threads have.
+    /// Marks the cores that the client's threads have.
     pub(crate) fn mark(&self, marks: &mut [bool])
         ensures { AreMarked marks.old marks.new self.now.threads (length self.now.threads) }
     {

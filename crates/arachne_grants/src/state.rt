@@ -13,7 +13,7 @@ pub const MAX_CLIENTS: usize = 64;
 /// The most cores that a daemon may grant.
 pub const MAX_CORES: usize = 1024;
 
-/// An event that is out of place. It changed nothing.
+/// The error of a call that is not allowed now, and has changed nothing.
 #[derive(Clone, Copy, Debug, PartialEq, Eq)]
 pub struct Refused;
 
@@ -23,7 +23,7 @@ pub struct Grant {
     pub client: usize,
     pub place: usize,
     pub core: u16,
-    /// True if the thread waited for it, and must be notified.
+    /// True if the thread waited for the core, and must be notified.
     pub waited: bool,
 }
 
@@ -66,7 +66,7 @@ impl CoreArbiter {
         }
     }
 
-    /// Gives a client a place that no other has.
+    /// Registers a client at a place that no other client has.
     pub fn hello(
         &mut self,
         client: usize,
@@ -138,7 +138,7 @@ impl CoreArbiter {
         }
     }
 
-    /// Adds a thread at a place of its client that has none.
+    /// Adds a thread at a place at which its client has no thread.
     pub fn join(&mut self, client: usize, place: usize, floats: bool) -> Result<(), Refused>
         ensures joins { MatchResult result
             (λ _. self.new.sessions ≡ with_thread self.old.sessions client place (if floats then Floats else Runs))
@@ -171,7 +171,7 @@ impl CoreArbiter {
         Ok(())
     }
 
-    /// Takes its core from a thread, if it has one, and lets the thread wait until it is granted one.
+    /// Takes the core from a thread, if it has one, and lets the thread wait until it is granted a core.
     pub fn wait(&mut self, client: usize, place: usize) -> Result<(), Refused>
         ensures waits { MatchResult result
             (λ _. self.new.sessions ≡ with_thread self.old.sessions client place Waits)
@@ -216,8 +216,8 @@ impl CoreArbiter {
         targets(&clients, u32::from(self.cores), &mut self.allowed);
     }
 
-    /// Gives a free core to a thread that can take one, of a client that has less than it is allowed: the higher
-    /// priority first.
+    /// Gives a free core to a thread that can take one, of a client that has fewer than it is allowed. The higher
+    /// priority goes first.
     pub fn give(&mut self) -> Option<Grant>
         ensures gives { MatchOption result (self.new.sessions ≡ self.old.sessions)
             (λ grant. IsGrant self.old.sessions self.new.sessions self.old.allowed self.old.cores grant) }
@@ -240,8 +240,8 @@ impl CoreArbiter {
         })
     }
 
-    /// Takes its core from the last thread of a client that has one, if the client has more than it is allowed: at once
-    /// if that thread floats, else only if the client is late.
+    /// Takes a core back from a client that has more than it is allowed: from the last of its threads that has one. If
+    /// that thread floats, the core is taken at once, otherwise only if the client is late.
     pub fn take_back(&mut self, client: usize, late: bool) -> Option<TakenCore>
         ensures takes { MatchOption result (self.new.sessions ≡ self.old.sessions)
             (λ taken. IsTake self.old.sessions self.new.sessions self.old.allowed client late taken) }
@@ -302,7 +302,7 @@ impl CoreArbiter {
             .unwrap_or(ClientThread::Absent)
     }
 
-    /// Puts a client in the place of another.
+    /// Replaces the state of a client.
     fn set(&mut self, client: usize, session: Session)
         requires within { client < 64 }
         requires sound { (place core : ℕ) → core_of (slice_thread session.threads place) ≡ Some core
@@ -324,7 +324,7 @@ impl CoreArbiter {
         self.sessions[client].threads[place] = thread;
     }
 
-    /// Returns each client as `targets` sees it.
+    /// Returns all clients as `targets` sees them.
     fn clients(&self) -> [Client; MAX_CLIENTS]
         ensures { result ≡ map wants_of self.now.sessions }
     {
@@ -346,8 +346,8 @@ impl CoreArbiter {
         held
     }
 
-    /// Returns who gets a free core: of the clients that have less than they are allowed, the first of the highest
-    /// priority.
+    /// Returns the client that gets a free core: of those that have fewer than they are allowed, the first of the
+    /// highest priority.
     fn next_short(&self) -> Option<u8>
         ensures { IsNextShort (map wants_of self.now.sessions) self.now.allowed (map held_in self.now.sessions) 64 result }
     {

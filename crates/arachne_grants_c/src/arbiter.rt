@@ -43,8 +43,8 @@ pub extern "C" fn arachne_arbiter_close(alloc: Global, arbiter: &mut ArachneArbi
 
 /// Adds a client with its priority, of which 0 goes first, and the cores that it reserves and may ask for at most.
 ///
-/// Its number is from 0 to 63, and no other client's. Returns DONE or REFUSED. The caller must check that the client is
-/// entitled to these.
+/// The client's number is from 0 to 63, and no other client's. Returns DONE or REFUSED. The caller must check that the
+/// client is entitled to this priority and these cores.
 #[unsafe(no_mangle)]
 pub extern "C" fn arachne_arbiter_hello(
     alloc: Global,
@@ -82,7 +82,7 @@ pub extern "C" fn arachne_arbiter_ask(
     told
 }
 
-/// Removes a client, with all of its threads. Returns DONE, or REFUSED if its number is greater than 63.
+/// Removes a client, with all of its threads. Returns DONE, or REFUSED if the client's number is greater than 63.
 #[unsafe(no_mangle)]
 pub extern "C" fn arachne_arbiter_leave(
     alloc: Global,
@@ -138,7 +138,7 @@ pub extern "C" fn arachne_arbiter_wait(
     told
 }
 
-/// Removes a thread. Returns DONE, or REFUSED if its client's number or its place is greater than 63.
+/// Removes a thread. Returns DONE, or REFUSED if the client's number or the thread's place is greater than 63.
 #[unsafe(no_mangle)]
 pub extern "C" fn arachne_arbiter_end(
     alloc: Global,
@@ -191,7 +191,7 @@ pub extern "C" fn arachne_arbiter_take_back(
 
 /// Gives a free core to a thread that can take one, of a client that has fewer than it may have.
 ///
-/// The higher priority goes first. Returns GRANTED if the thread waited, PLACED if it floats, or NOTHING.
+/// A client of higher priority goes first. Returns GRANTED if the thread waited, PLACED if it floats, or NOTHING.
 #[unsafe(no_mangle)]
 pub extern "C" fn arachne_arbiter_give(alloc: Global, arbiter: &mut ArachneArbiter) -> ArachneAction
     ensures { IsTold Gives (action_alone refused) (held arbiter.old) (held arbiter.new) result }

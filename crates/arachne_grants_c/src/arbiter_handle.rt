@@ -1,4 +1,4 @@
-//! The handle that C holds.
+//! The handle by which C holds an arbiter.
 ghost use Rattle.std.specs.Prelude.{◌≡◌, ◌↔◌, IfNone, IfSome, IsSome, IsTrue};
 ghost use Rattle.std.specs.declared.option.Option.{Option};
 ghost use Rattle.std.specs.declared.option.Option.TheVariants.{None, Some};
@@ -56,7 +56,7 @@ impl ArachneArbiter {
         mem::replace(self, empty).into_handle().into_box()
     }
 
-    /// Puts an arbiter into the handle. Any other that it held is freed.
+    /// Puts an arbiter into the handle. An arbiter that the handle held before is freed.
     pub(crate) fn put(&mut self, value: Box<CoreArbiter>)
         ensures { self.new.value ≡ Some value.value }
     {

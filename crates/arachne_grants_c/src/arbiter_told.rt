@@ -5,11 +5,11 @@ ghost use Rattle.arachne_grants_c.specs.ArbiterTold.{action_alone, told_given, t
 use crate::codes::{GRANTED, PLACED, TAKEN};
 use arachne_grants::{Grant, TakenCore};
 
-/// The action that the caller must take on a thread. Fields that it does not use are 0.
+/// The action that the caller must take on a thread. Fields that the action does not use are 0.
 #[repr(C)]
 #[derive(Clone, Copy)]
 pub struct ArachneAction {
-    /// TAKEN, PLACED, GRANTED or NOTHING; REFUSED if the handle holds nothing.
+    /// TAKEN, PLACED, GRANTED or NOTHING, or REFUSED if the handle holds nothing.
     pub code: u32,
     pub core: u32,
     pub client: usize,
@@ -20,9 +20,9 @@ pub struct ArachneAction {
 #[repr(C)]
 #[derive(Clone, Copy)]
 pub struct ArachneShare {
-    /// The number of cores that it may have.
+    /// The number of cores that the client may have.
     pub allowed: u32,
-    /// The number of cores that its threads have.
+    /// The number of cores that the client's threads have.
     pub held: u32,
 }
 

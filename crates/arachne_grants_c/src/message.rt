@@ -5,11 +5,12 @@ ghost use Rattle.arachne_grants_c.specs.MessageTold.{code_of, message_alone, tol
 use crate::codes::{ASK, HELLO, JOIN, KIND, PLACE, PRIORITY, SHORT, UNUSED, VERSION, WAIT};
 use arachne_grants::{ClientMessage, MessageFault, read_message};
 
-/// A message of a client. Fields that it does not use are 0.
+/// A message of a client. Fields that the message does not use are 0.
 #[repr(C)]
 #[derive(Clone, Copy)]
 pub struct ArachneMessage {
-    /// HELLO, JOIN, WAIT or ASK; otherwise the reason that the bytes do not begin with a message.
+    /// HELLO, JOIN, WAIT or ASK if the bytes begin with such a message. If the bytes begin with no message, the reason
+    /// for that.
     pub code: u32,
     pub priority: u32,
     pub reserved: u32,

@@ -1,4 +1,4 @@
-//! The decision, and the cores that change hands for it.
+//! Decides how many cores each client may have, and moves single cores accordingly.
 ghost use Rattle.std.specs.Prelude.{◌≡◌};
 ghost use Rattle.arachne_grants_c.specs.ArbiterTold.{share_of, Decides, Gives, Takes};
 

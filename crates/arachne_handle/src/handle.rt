@@ -10,7 +10,7 @@ use std::alloc::Global;
 use std::marker::Model;
 use std::ptr::null_mut;
 
-/// The pointer of a box, or null, which holds nothing. A clause reads the box's value as `value`.
+/// The pointer of a box, or null, which holds nothing. Contracts see the value in the box as `value`.
 ///
 /// A handle can't be dropped: `into_box` ends it.
 pub struct Handle<T> {

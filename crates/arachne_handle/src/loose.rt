@@ -1,11 +1,11 @@
-//! A box as its pointer, and back.
+//! A box turned into its pointer, and back.
 ghost use Rattle.std.specs.Prelude.{◌≡◌};
 ghost use Rattle.std_alloc.specs.Box.Ownership.{box_owns};
 
 use std::alloc::Allocator;
 use std::marker::Model;
 
-/// A box taken apart.
+/// A box that was turned into a pointer and the right to free it.
 pub(crate) struct Loose<T, A: Allocator> {
     pub(crate) at: *mut T,
     pub(crate) alloc: A,

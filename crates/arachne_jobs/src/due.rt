@@ -9,7 +9,7 @@ use arachne_machine::Tallying;
 #[derive(Clone, Copy, Debug)]
 pub struct Due {
     pub ledger: u64,
-    /// The amount modulo 2^64, as a ledger's sum is. If it is 0, nothing is due.
+    /// The amount modulo 2^64, as a ledger's sum is. If the amount is 0, nothing is due.
     pub amount: u64,
 }
 

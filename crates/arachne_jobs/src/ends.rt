@@ -15,7 +15,7 @@ pub enum End {
     Waits,
 }
 
-/// The cell in which a child waits or has waited. The parent has no sending end. The child has one once it was taken
+/// The cell in which a child waits or has waited. The parent has no sending end; the child gets one when it is taken
 /// out of the cell.
 #[derive(Drop)]
 pub struct WaitEnd<'p> {

@@ -1,16 +1,16 @@
-//! Why a job can't go on.
+//! The reasons why a job can't go on.
 use arachne_machine::{DetachedOutcome, NotJoined, NotPlaced};
 use std::alloc::AllocError;
 use thiserror::Error;
 
-/// Why a job can't go on.
+/// The reason why a job can't go on.
 #[derive(Clone, Copy, Debug, PartialEq, Eq, Error)]
 pub enum JobFault {
-    /// A growth was refused.
+    /// Memory was refused.
     #[error("out of memory")]
     Memory,
-    /// It got another outcome than that of the child that it awaits, or one that its program can't have, or a call that
-    /// its pause doesn't allow.
+    /// The job got an outcome that isn't the awaited child's or isn't one of its program, or a call that its pause
+    /// doesn't allow.
     #[error("the outcome of another thread")]
     Foreign,
 }

@@ -1,8 +1,8 @@
 //! The value of a context in a run: a thread of the program.
 ghost use Rattle.std.specs.Prelude.{◌≡◌, ◌≤◌, ◌<◌, ℕ, List, [], false, true, vec_capacity, vec_len, IfErr, IfNone, IfOk, IfSome, IsSome, OnErr, OnOk, None, Some};
-ghost use Rattle.arachne_lang.specs.declared.program.Program.{Program};
-ghost use Rattle.arachne_lang.specs.Program.{source_of};
-ghost use Rattle.arachne_lang.specs.Checked.{IsChecked};
+ghost use Rattle.arachne_program.specs.declared.program.Program.{Program};
+ghost use Rattle.arachne_program.specs.Program.{source_of};
+ghost use Rattle.arachne_program.specs.Checked.{IsChecked};
 ghost use Rattle.arachne_machine.specs.Advance.{IsSpentAt, Moves};
 ghost use Rattle.arachne_machine.specs.Nested.{IsPlacing, MayBePlaced, begun_in, with_tag};
 ghost use Rattle.arachne_machine.specs.Suspended.{awaited};
@@ -26,23 +26,24 @@ use crate::waiting::{Ticket, WaitCell};
 use crate::wanted::{OutcomeReceiver, Wanted};
 use arachne_contexts::Tagged;
 use arachne_core::{Rest, ThreadId};
-use arachne_lang::{Name, Program};
 use arachne_machine::{Contents, Pause, Pending, Thread};
+use arachne_program::{Name, Program};
 use std::alloc::{AllocError, Global};
 use std::marker::Model;
 
-/// A thread of the program, with its ends of join cells: in the first it leaves its own outcome; from the others it
-/// gets those of the children that it has forked and not joined, the newest last.
+/// A thread of the program, with its ends of join cells. In the first cell the thread leaves its own outcome. In each
+/// other cell it gets the outcome of a child that it has forked and not joined, the newest child's last.
 ///
 /// Contracts see the thread, and the id under which its parent runs.
 #[derive(Drop)]
 pub struct Job<'p> {
     thread: Thread<'p>,
-    /// Its ties to other jobs, without a lifetime.
+    /// The job's ties to other jobs, without a lifetime.
     ties: Box<Ties>,
-    /// The box into which its outcome is written.
+    /// The box into which the job's outcome is written.
     contents: Box<Contents>,
-    /// The cells in which threads wait or have waited, one for each of its ends of that kind, in their order.
+    /// The cells in which children wait or have waited, one for each end of the kind `Waits`, in the order of these
+    /// ends.
     waits: Vec<WaitEnd<'p>>,
 }
 
@@ -54,7 +55,7 @@ impl<'p> Model for Job<'p> {
     ghost Value = { Posted };
 
     ghost use Rattle.std.specs.Coded.{codes};
-    ghost use Rattle.arachne_lang.specs.contracts.program.Expr as expr;
+    ghost use Rattle.arachne_program.specs.contracts.program.Expr as expr;
 
     ghost coded = { Prim.hlevel (codes, expr.the_row.coded) };
 
@@ -296,7 +297,7 @@ impl<'p> JobOf<'p> for Job<'p> {
 }
 
 impl<'p> Job<'p> {
-    /// Returns the job of this thread, and the end at which its outcome is got.
+    /// Returns the job of this thread, and the end of the cell from which its outcome is fetched.
     fn of(
         alloc: Global,
         thread: Thread<'p>,
@@ -320,7 +321,7 @@ impl<'p> Job<'p> {
         Ok((job, receiver))
     }
 
-    /// Runs it for at most `left` steps, over tallies whose amounts are due then.
+    /// Runs the job for at most `left` steps. A tally whose amount can be noted as due doesn't stop the job.
     #[inline(always)]
     fn advance_over(
         &mut self,
@@ -349,7 +350,7 @@ impl<'p> Job<'p> {
         Ok(paused?)
     }
 
-    /// Runs it for at most `left` steps.
+    /// Runs the job for at most `left` steps.
     fn advance(
         &mut self,
         left: &mut u32,
@@ -382,7 +383,7 @@ impl<'p> Job<'p> {
         }
     }
 
-    /// Has the child run in this thread's place once it is awaited, or at once if it is.
+    /// Lets the child run in this thread's place: at once if the thread awaits the child, otherwise once it does.
     fn place(&mut self, child: Thread<'p>) -> Result<(), JobFault>
         requires pending { IsPlacing (pause_of self.old.thread) }
         requires child { MayBePlaced self.old.thread child }
@@ -396,7 +397,7 @@ impl<'p> Job<'p> {
         Ok(())
     }
 
-    /// Awaits the outcome of one more child, at this end.
+    /// Adds the end at which the job gets the outcome of one more child.
     fn expect(&mut self, receiver: OutcomeReceiver) -> Result<(), JobFault>
         requires { IsOf (program_of self.old.thread) receiver.opening.key }
         ensures { self.new ≡ self.old }
@@ -406,8 +407,8 @@ impl<'p> Job<'p> {
         Ok(())
     }
 
-    /// Joins the child that it awaits if that has ended, or runs it in place if it still waits. Returns whether it did
-    /// either: if not, the job can't go on.
+    /// Joins the awaited child if the child has ended, or runs the child in this job's place if it still waits. Returns
+    /// false if the child neither has ended nor still waits: the job can't go on.
     fn join(&mut self, spares: &mut JobSpares<'p>) -> Result<bool, JobFault>
         requires { IsAwaiting self.old.thread }
         ensures tag { tag_of self.new.thread ≡ tag_of self.old.thread }
@@ -429,7 +430,8 @@ impl<'p> Job<'p> {
         }
     }
 
-    /// Takes what is in the cell of the child that it awaits, and uses it up. If nothing is there, the cell stays.
+    /// Takes the content of the awaited child's cell, after which the cell is used up. A cell that has no content
+    /// stays.
     fn find(&mut self, spares: &mut JobSpares<'p>) -> Result<Found<'p>, JobFault>
         ensures same { self.new ≡ self.old }
         ensures found { IfOk result (IsFoundOf (program_of self.old.thread)) }
@@ -464,7 +466,7 @@ impl<'p> Job<'p> {
     }
 }
 
-/// Makes room for one more in each of two lists.
+/// Makes room for one more item in each of two lists.
 fn reserve_both<A: Drop, B: Drop>(one: &mut Vec<A>, other: &mut Vec<B>) -> Result<(), AllocError>
     ensures one { one.new.items ≡ one.old.items }
     ensures other { other.new.items ≡ other.old.items }

@@ -11,12 +11,12 @@ pub struct Waiting<'p> {
     pub(crate) parent: ThreadId,
 }
 
-/// The content of a cell.
+/// The content of the cell in which a child waits or has waited.
 #[derive(Drop)]
 pub enum LeftInCell<'p> {
     /// The child, which has not begun.
     Child(Waiting<'p>),
-    /// Its outcome.
+    /// The child's outcome.
     Outcome(DetachedOutcome),
 }
 

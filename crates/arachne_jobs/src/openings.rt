@@ -1,29 +1,30 @@
-//! A worker's means for the slices of its threads: the answers at their forks, and the amount that they tallied.
+//! The data that a worker needs for the slices of its threads: the answers at their forks, and the amount that they
+//! tallied.
 ghost use Rattle.std.specs.Prelude.{◌≡◌, ◌↔◌, ◌≤◌, ◌+◌, ◌%◌, ◌^◌, false, true, if◌then◌else◌, IsTrue};
 ghost use Rattle.arachne_jobs.specs.declared.openings.TheConstants.{LARGE};
 
 use crate::due::Due;
 use crate::room::Room;
 use crate::tags::Tags;
-use arachne_lang::Class;
 use arachne_machine::Placing;
+use arachne_program::Class;
 
-/// A worker's means for the slices of its threads: its tags, the number of forks without a pause for which the
-/// chooser's word must still be drawn, and the amount that is due to a ledger.
+/// The data that a worker needs for the slices of its threads: its tags, the number of forks without a pause for which
+/// the chooser's word must still be drawn, and the amount that is due to a ledger.
 #[derive(Drop)]
 pub struct Openings {
     pub tags: Tags,
     pub draws: u64,
-    /// Set if the child that was forked last has much to do.
+    /// True if the child that was forked last has much to do.
     pub is_large: bool,
     pub due: Due,
 }
 
-/// The least number of turns of a sweep for which a child is worth room in the queue.
+/// The least number of iterations of a sweep for which a child is worth room in the queue.
 const LARGE: u64 = 1024;
 
 impl Openings {
-    /// Returns means without a tag, with no word owed and nothing due.
+    /// Returns openings without a tag, with no word left to draw and no amount due.
     pub fn new() -> Openings
         ensures { (result.tags.left ≡ 0) × (result.draws ≡ 0) × (result.is_large ≡ false) × (result.due.amount ≡ 0) }
     {
@@ -35,8 +36,8 @@ impl Openings {
         }
     }
 
-    /// Records that a word of the chooser must still be drawn, unless the child `may` have a place: without one the
-    /// fork is no pause, so nothing draws it now.
+    /// Records that a word of the chooser (the core's random generator) must still be drawn, unless the child `may`
+    /// have a place. If the child gets no place, the fork is no pause, so that no word is drawn now.
     #[inline(always)]
     fn owe_unless(&mut self, may: bool)
         ensures { self.new ≡ record self.old { draws = if may then self.old.draws else (self.old.draws + 1) % 2 ^ 64 } }
@@ -46,7 +47,7 @@ impl Openings {
         }
     }
 
-    /// Notes how many turns the child that is forked has to make.
+    /// Notes how many iterations of a sweep the child that is forked has to make.
     #[inline(always)]
     fn note_turns(&mut self, turns: u64)
         ensures others { self.new ≡ record self.old { is_large = self.new.is_large } }
@@ -56,7 +57,8 @@ impl Openings {
     }
 }
 
-/// The answers to a thread at its forks: whether its child may get a place or wait for one, and otherwise a tag for it.
+/// The answers to a thread at its forks: whether the forked child may get a place or wait for one, and otherwise a tag
+/// for the child.
 #[derive(Drop)]
 pub(crate) struct ForkPlacing<'a> {
     pub(crate) room: &'a Room,

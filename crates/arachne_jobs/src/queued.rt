@@ -8,7 +8,7 @@ use arachne_contexts::Tagged;
 use arachne_spill::{CAPACITY, SpillPass, SpillQueue};
 use std::sync::Wait;
 
-/// Puts a ticket into the queue and counts it. Returns it if the queue is full.
+/// Puts a ticket into the queue and counts it. Returns the ticket if the queue is full.
 #[inline(always)]
 pub fn put_ticket<R: Wait, K: Tagged + Drop>(
     rt: &R,
@@ -28,7 +28,7 @@ pub fn put_ticket<R: Wait, K: Tagged + Drop>(
     Ok(())
 }
 
-/// Takes the oldest ticket out of the queue and counts that.
+/// Takes the oldest ticket out of the queue, and counts that it was taken.
 #[inline(always)]
 pub fn next_ticket<R: Wait, K: Tagged + Drop>(
     rt: &R,
@@ -46,10 +46,10 @@ pub fn next_ticket<R: Wait, K: Tagged + Drop>(
     Some(ticket)
 }
 
-/// The most tickets of children that still wait that go to the end of the queue while room is made in it.
+/// The maximum number of tickets of children that still wait that are moved to the end of the queue while room is made.
 const MOST_LIVE: u32 = 8;
 
-/// Makes room for a ticket, if it is wanted and the queue is full.
+/// Makes room for a ticket, if room is wanted and the queue is full.
 ///
 /// Drops the tickets of children that no longer wait, the oldest first. A ticket of a child that still waits goes to the
 /// end of the queue.

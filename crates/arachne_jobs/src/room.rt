@@ -8,8 +8,9 @@ use std::sync::atomic::{AtomicU64, Ordering};
 
 /// The numbers of free places, of children that wait for one, and of blocks of tags that are drawn.
 ///
-/// The first two may be a little off, and only say whether a fork is worth a look: the table decides who gets a place,
-/// and a child's cell who runs the child. Each number has a cache line of its own.
+/// The numbers of free places and of children that wait may be a little off. The numbers only say whether it is worth
+/// looking for a place at a fork: the table decides who gets a place, and a child's cell decides who runs the child.
+/// Each number has a cache line of its own.
 #[derive(Drop)]
 pub struct Room {
     free: CachePadded<AtomicU64>,
@@ -63,7 +64,7 @@ impl Room {
         self.is_room_beside(seen(&self.waiting))
     }
 
-    /// Returns whether one more child may wait beside these.
+    /// Returns whether one more child may wait, if `waiting` children wait already.
     #[inline(always)]
     fn is_room_beside(&self, waiting: u64) -> bool
         ensures { IsTrue result ↔ waiting < self.now.most }
@@ -83,8 +84,8 @@ impl Room {
         self.waiting.fetch_sub(1, Ordering::SeqCst);
     }
 
-    /// Draws a block and returns its first tag. No other thread of the run has a tag of it, if fewer than 2^58 are
-    /// drawn.
+    /// Draws a block and returns its first tag. No other thread of the run has a tag of that block, if fewer than 2^58
+    /// blocks are drawn.
     pub fn next_block(&self) -> u64
         ensures { result % BLOCK ≡ 1 }
     {
@@ -113,7 +114,7 @@ fn seen(number: &AtomicU64) -> u64 {
     or_zero(number.load(Ordering::SeqCst))
 }
 
-/// Returns the number, or 0 if it has wrapped below 0.
+/// Returns `number`, or 0 if it has wrapped below 0.
 #[inline(always)]
 fn or_zero(number: u64) -> u64
     ensures above { number < 2 ^ 63 → result ≡ number }

@@ -1,7 +1,7 @@
 //! The traits by which workers see jobs: a worker runs a part of a job's slice, and replies to its pause.
 ghost use Rattle.std.specs.Prelude.{◌≡◌, ◌≤◌, ℕ, List, [], Option, false, IfOk, IfSome, IsSome, None, OnOk, Some};
-ghost use Rattle.arachne_lang.specs.Program.{source_of};
-ghost use Rattle.arachne_lang.specs.Checked.{IsChecked};
+ghost use Rattle.arachne_program.specs.Program.{source_of};
+ghost use Rattle.arachne_program.specs.Checked.{IsChecked};
 ghost use Rattle.arachne_core.specs.declared.thread_id.ThreadId.{ThreadId};
 ghost use Rattle.arachne_machine.specs.declared.pause.Pending.{Pending};
 ghost use Rattle.arachne_machine.specs.declared.pause.Pending.TheVariants as pause;
@@ -13,45 +13,46 @@ use crate::room::Room;
 use crate::wanted::OutcomeReceiver;
 use arachne_contexts::Tagged;
 use arachne_core::{Rest, ThreadId};
-use arachne_lang::{Class, Name, Program};
+use arachne_program::{Class, Name, Program};
 use std::alloc::{AllocError, Global};
 
 /// The reason for which a job stops.
 #[derive(Drop)]
 pub enum Slice<Child> {
-    /// It goes on.
+    /// The job goes on.
     Goes,
-    /// It forks this child, and goes on once that is replied to.
+    /// The job forks this child, and goes on once the fork has a reply.
     Forks(Class, Child),
-    /// It awaits a child that has not ended.
+    /// The job awaits a child that has not ended.
     Blocks,
-    /// It asks for this lock, and goes on once that is replied to.
+    /// The job asks for this lock, and goes on once the request has a reply.
     Asks(u64),
-    /// It has asked for this lock before, and has no reply yet.
+    /// The job has asked for this lock before, and has no reply yet.
     Awaits(u64),
-    /// It frees this lock, and goes on once that is replied to.
+    /// The job frees this lock, and goes on once the request has a reply.
     Frees(u64),
-    /// It adds this amount to this ledger while one for another is due, and goes on once that is replied to.
+    /// The job adds this amount to this ledger while an amount for another ledger is due, and goes on once the request
+    /// has a reply.
     Tallies(u64, u64),
-    /// It has ended.
+    /// The job has ended.
     Ends,
 }
 
 /// A thread that runs, as its workers see it: its name, whose turn it is, how it rests, and the reply to its pause.
 pub trait RunThread: Tagged + Drop {
-    /// The numbers of the forks that lead to it from the root.
+    /// The numbers of the forks that lead to the thread from the root.
     ghost name_of: { Self → List ℕ };
 
     /// The tag of the thread that goes on next: the job's own, or that of one that runs in its place.
     ghost running_tag_of: { Self → ℕ };
 
-    /// The id under which its parent runs. The root has none.
+    /// The id under which the thread's parent runs. The root has no parent.
     ghost parent_of: { Self → Option ThreadId };
 
     /// The pause that has no reply yet.
     ghost pause_of: { Self → Option Pending };
 
-    /// Returns its name. A thread that runs in its place has another one.
+    /// Returns the thread's name. A thread that runs in its place has another name.
     fn name(&self) -> &Name
         ensures { result.now ≡ name_of self.now };
 
@@ -59,13 +60,14 @@ pub trait RunThread: Tagged + Drop {
     fn running_tag(&self) -> u64
         ensures { result ≡ running_tag_of self.now };
 
-    /// Returns how it rests: ready if its pause has a reply, blocked if it waits. Returns `None` if it can't rest.
+    /// Returns how the thread rests: ready if its pause has a reply, blocked if it waits. Returns `None` if the thread
+    /// can't rest.
     fn rest(&self) -> Option<Rest>
         ensures { IfSome result (λ rest. MayRest rest (pause_of self.now)) };
 
-    /// Replies that its request is done: it holds the lock, the lock is free, or the amount was added.
+    /// Replies that the thread's request is done: it holds the lock, the lock is free, or the amount was added.
     ///
-    /// The error is `Foreign` if it asks for nothing.
+    /// The error is `Foreign` if the thread asks for nothing.
     fn answer(&mut self) -> Result<(), JobFault>
         ensures tag { Self.tag_of self.new ≡ Self.tag_of self.old }
         ensures parent { parent_of self.new ≡ parent_of self.old }
@@ -75,13 +77,13 @@ pub trait RunThread: Tagged + Drop {
 
 /// A ticket, which stands for a child that waits for a place.
 pub trait RunTicket: Tagged + Drop {
-    /// Returns whether its child still waits. It takes nothing.
+    /// Returns whether the ticket's child still waits. The child is not taken.
     fn still_waits(&self) -> bool;
 }
 
 /// The memory of ended threads that a worker keeps for those that begin.
 pub trait RunSpares: Drop {
-    /// Returns an empty store. It takes no memory.
+    /// Returns an empty store. Takes no memory.
     fn none(alloc: Global) -> Self;
 }
 
@@ -99,10 +101,10 @@ pub trait RunJob: RunThread {
     /// The job forks this child, and has no reply yet.
     ghost forks: { Self → Self.Child → Type 0 };
 
-    /// Runs it for at most `left` steps, and subtracts those that it made.
+    /// Runs the job for at most `left` steps, and subtracts those that it made.
     ///
-    /// A thread that waits makes none. A child for which there is no place runs in this job's. The amounts that it
-    /// tallies are due then.
+    /// A thread that waits makes no step. A child for which there is no place runs in this job's place. The amounts
+    /// that the job tallies are due then: they must still be added to their ledgers.
     fn slice(
         &mut self,
         left: &mut u32,
@@ -134,8 +136,8 @@ pub trait RunJob: RunThread {
 
     /// Lets the child wait, with this tag, for a place or until this job (which runs under this id) awaits it.
     ///
-    /// Returns its ticket. Returns `None` if `waits` is false or memory is refused: then the child runs in this job's
-    /// place.
+    /// Returns the child's ticket. Returns `None` if `waits` is false or memory is refused: then the child runs in this
+    /// job's place.
     fn put_aside(
         &mut self,
         alloc: Global,
@@ -151,13 +153,14 @@ pub trait RunJob: RunThread {
         ensures ticket { IfOk result (λ made. IfSome made (λ ticket. Self.Ticket.tag_of ticket ≡ tag)) }
         ensures asked { waits ≡ false → IfOk result (λ made. made ≡ None) };
 
-    /// Returns the job of a ticket's child, if that still waits. Returns `None` also if memory is refused: then the
-    /// child waits on for its parent.
+    /// Returns the job of a ticket's child, if the child still waits. Returns `None` also if memory is refused: then
+    /// the child goes on waiting for its parent.
     fn of_ticket(alloc: Global, ticket: Self::Ticket, spares: &mut Self::Spares) -> Option<Self>
         ensures parent { IfSome result (λ job. IsSome (Self.parent_of job)) }
         ensures tag { IfSome result (λ job. Self.tag_of job ≡ Self.Ticket.tag_of ticket) };
 
-    /// Leaves the outcome for its parent, and returns the id of the parent, which must be woken. The root has none.
+    /// Leaves the outcome for the thread's parent, and returns the id of the parent, which must be woken. The root has
+    /// no parent.
     ///
     /// The error is `Foreign` if the thread has not ended.
     fn leave(self, spares: &mut Self::Spares) -> Result<Option<ThreadId>, JobFault>
@@ -167,7 +170,7 @@ pub trait RunJob: RunThread {
 
 /// The jobs of a program's threads.
 pub trait JobOf<'p>: RunJob {
-    /// Returns the root's job, which has the tag 0, and the end at which its outcome is got.
+    /// Returns the root's job, which has the tag 0, and the end of the cell from which its outcome is fetched.
     fn begin(
         alloc: Global,
         program: &'p Program,

@@ -8,7 +8,7 @@ use std::alloc::Global;
 
 /// The memory of threads that have ended, the ties of their jobs, and the join cells that nobody uses.
 ///
-/// Each worker has its own, so that most forks take memory only for a long name.
+/// Each worker has its own store, so that most forks take memory only for a long name.
 #[derive(Drop)]
 pub struct JobSpares<'p> {
     pub(crate) threads: SpareThreads<'p>,

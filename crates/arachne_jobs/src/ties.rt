@@ -1,4 +1,4 @@
-//! The ties of a job to others, in one box, and the ties of ended jobs.
+//! The ties of a job to other jobs (its ends of cells, and its parent's id), in one box, and the ties of ended jobs.
 ghost use Rattle.std.specs.Prelude.{◌≡◌, ◌≤◌, ◌+◌, [], IfOk, vec_len, vec_capacity};
 
 use crate::ends::End;
@@ -6,7 +6,7 @@ use arachne_core::ThreadId;
 use std::alloc::{AllocError, Global};
 use std::marker::Model;
 
-/// The ends of cells that a job has, the newest last, and the id under which its parent runs. No lifetime is in it.
+/// The ends of cells that a job has, the newest last, and the id under which its parent runs. The type has no lifetime.
 #[derive(Drop)]
 pub struct Ties {
     pub(crate) ends: Vec<End>,
@@ -33,14 +33,14 @@ impl Model for SpareTies {
 }
 
 impl SpareTies {
-    /// Returns an empty store. It takes no memory.
+    /// Returns an empty store. Takes no memory.
     pub(crate) fn new(alloc: Global) -> SpareTies {
         SpareTies {
             ties: Vec::new(alloc),
         }
     }
 
-    /// Returns ties to this parent and to no cell, with room for an end.
+    /// Returns ties to this parent and to no cell, with room for the end of one cell.
     #[inline(always)]
     pub(crate) fn take(
         &mut self,

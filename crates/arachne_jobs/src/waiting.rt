@@ -21,7 +21,7 @@ type Cell<'p> = JoinCell<LeftInCell<'p>, Wanted>;
 
 type CellEnd<'p> = SendingEnd<LeftInCell<'p>, Wanted>;
 
-/// A share of a cell. Contracts see the cell: what it is for, and its table.
+/// One owner's share of the cell in which a child waits. Contracts see the cell: what it is for, and its table.
 #[derive(Drop)]
 pub struct WaitCell<'p> {
     cell: Arc<Cell<'p>>,
@@ -35,7 +35,7 @@ impl<'p> Model for WaitCell<'p> {
     ghost Value = { Cell Wanted };
 
     ghost use Rattle.std.specs.Coded.{codes};
-    ghost use Rattle.arachne_lang.specs.contracts.program.Expr as expr;
+    ghost use Rattle.arachne_program.specs.contracts.program.Expr as expr;
 
     ghost coded = { Prim.hlevel (codes, expr.the_row.coded) };
 
@@ -58,7 +58,7 @@ impl<'p> Model for Ticket<'p> {
     ghost Value = { Cell Wanted };
 
     ghost use Rattle.std.specs.Coded.{codes};
-    ghost use Rattle.arachne_lang.specs.contracts.program.Expr as expr;
+    ghost use Rattle.arachne_program.specs.contracts.program.Expr as expr;
 
     ghost coded = { Prim.hlevel (codes, expr.the_row.coded) };
 
@@ -103,8 +103,8 @@ impl<'p> WaitCell<'p> {
         Ok((WaitCell { cell }, Ticket { cell: ticket, tag }))
     }
 
-    /// Takes the outcome or the child out of the cell, for the parent that awaits it. If there is neither, the cell was
-    /// seen in a state in which no child waited.
+    /// Takes the outcome or the child out of the cell, for the parent that awaits it. If the cell has neither, the
+    /// error shows a state of the cell in which no child waited.
     pub(crate) fn find(&self) -> Result<Found<'p>, Missed<Wanted>>
         ensures found { IfOk result (IsFoundFor self.now.key) }
         ensures missed { IfErr result (λ missed. (missed.state ≢ CellState.Waiting) × (missed.receipt ≡ shown self.now.table (Saw missed.state))) }
@@ -128,7 +128,8 @@ impl<'p> WaitCell<'p> {
         }
     }
 
-    /// Leaves the child's outcome, with the sending end of this cell. Returns the receipt.
+    /// Leaves the child's outcome in this cell, by the cell's sending end. Returns the receipt, which shows that the
+    /// outcome was left.
     pub(crate) fn leave(self, end: CellEnd<'p>, outcome: DetachedOutcome) -> Receipt<Wanted>
         requires end { end ≡ self.table }
         requires outcome { IsWanted self.key outcome }
@@ -154,7 +155,8 @@ impl<'p> RunTicket for Ticket<'p> {
 }
 
 impl<'p> Ticket<'p> {
-    /// Takes the child, if it still waits, with its cell and the end with which it leaves its outcome there.
+    /// Takes the child, if it still waits, with the child's cell and the end by which the child leaves its outcome
+    /// there.
     pub(crate) fn take(self) -> Option<(Waiting<'p>, WaitCell<'p>, CellEnd<'p>)>
         ensures child { IfSome result (λ taken. IsFor taken.0.thread taken.1.key × HasNotBegun taken.0.thread) }
         ensures told { IfSome result (λ taken. IsTold taken.0 self.entry.key) }

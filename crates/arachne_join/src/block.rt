@@ -16,7 +16,7 @@ use std::snapshot::Snapshot;
 /// The number of cells of a block.
 pub(crate) const CELLS: usize = 64;
 
-/// A seat at a block.
+/// A seat at a block of cells: the right to use some of them.
 pub(crate) type BlockSeat<T, K> = Seat<Content<T, K>, PartView<K>>;
 
 /// Cells that share one table.
@@ -117,7 +117,7 @@ impl<T: Fits<K>, K> CellBlock<T, K> {
 
     /// Returns the value that was left in the receiving end's cell, if it is there now.
     ///
-    /// If so, the seat then has the whole cell, unused.
+    /// If the value is there, the seat then has both ends of the cell, which is unused.
     pub(crate) fn fetch(&self, seat: &mut BlockSeat<T, K>, index: usize, full: u64) -> Option<T>
         requires own { seat.old.table_id ≡ self.now }
         requires inside { index < self.now.slots }

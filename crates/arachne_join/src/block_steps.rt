@@ -1,4 +1,4 @@
-//! The rule of a block's table, and what a seat knows after each step. These types are only for proofs.
+//! The rule of a block's table (its invariant), and what a seat knows after each step. These types are only for proofs.
 use crate::fits::Fits;
 use crate::part::{Content, PartView};
 use atomic_table::{Play, Split, TableRule};
@@ -13,7 +13,7 @@ impl<T: Fits<K>, K> TableRule<Content<T, K>, PartView<K>, ()> for BlockRule {
     ghost first = { λ _. all_cells };
 }
 
-/// The seat that has all cells gives the first of them to a new seat.
+/// The step by which the seat that has all cells gives the first of them to a new seat.
 pub(crate) struct GiveFirst;
 
 impl<K> Split<PartView<K>> for GiveFirst {
@@ -24,7 +24,7 @@ impl<K> Split<PartView<K>> for GiveFirst {
     ghost right = { the_first };
 }
 
-/// The seat takes the slot of a cell that was never used.
+/// The step by which a seat takes the slot of a cell that was never used.
 pub(crate) struct Start;
 
 impl<T, K> Play<Content<T, K>, PartView<K>> for Start {
@@ -41,7 +41,7 @@ impl<T, K> Play<Content<T, K>, PartView<K>> for Open {
     ghost then = { λ _ m n w. Opens m w };
 }
 
-/// The two ends of an opened cell are separated.
+/// The step that separates the two ends of an opened cell.
 pub(crate) struct PartEnds;
 
 impl<K> Split<PartView<K>> for PartEnds {

@@ -19,7 +19,7 @@ use std::marker::Model;
 
 /// A cell for a value that is fetched at most once. Whoever shares the cell, for example by an `Arc`, may fetch.
 ///
-/// Contracts see the identity of its table, and the key for which it was made.
+/// Contracts see the identity of the cell's table, and the key for which the cell was made.
 #[derive(Drop)]
 pub struct JoinCell<T: Fits<K>, K> {
     pub(crate) table: Table<Option<T>, View<K>, K, CellRule, Global>,
@@ -36,7 +36,7 @@ impl<T: Fits<K>, K> Model for JoinCell<T, K> {
     ghost invariant = { λ c. (c.table.shared.table_id.words ≡ 1) × (c.table.shared.table_id.slots ≡ 1) };
 }
 
-/// The error of a call that got no value: the state in which it saw the cell, and the receipt that shows it.
+/// The error of a call that got no value: the state in which the call saw the cell, and the receipt that shows it.
 #[derive(Drop)]
 pub struct Missed<K> {
     pub state: CellState,
@@ -94,7 +94,8 @@ impl<T: Fits<K>, K> JoinCell<T, K> {
         self.table.shared.exchange(seat, 0, None).unwrap()
     }
 
-    /// Returns the state of the cell at one moment of the call, and the receipt of that look. Takes nothing.
+    /// Returns the state of the cell at one moment of the call, and a receipt that shows it. A value in the cell stays
+    /// there.
     pub fn seen(&self) -> (CellState, Receipt<K>)
         ensures { result.1 ≡ shown self.now.table (Saw result.0) }
     {
@@ -141,8 +142,8 @@ impl<T: Fits<K>, K> JoinCell<T, K> {
         Ok((value, SendingEnd::of(seat)))
     }
 
-    /// Does nothing. Its contract says that at most one call has fetched from a cell: beside the receipt of a fetch,
-    /// any other receipt of that cell is not of a fetch.
+    /// Does nothing. The contract is a law: at most one call has fetched from a cell. So if one receipt of the cell is
+    /// that of a fetch, no other is.
     pub fn fetched_once(&self, fetched: Receipt<K>, other: Receipt<K>)
         requires fetched { fetched ≡ shown self.now.table Fetched }
         requires other { other.table ≡ self.now.table }

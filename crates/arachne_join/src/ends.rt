@@ -10,7 +10,7 @@ use std::marker::Model;
 use std::snapshot::Snapshot;
 use std::sync::Arc;
 
-/// A cell that nobody uses. It is opened for one value at a time, and is returned when that value is fetched.
+/// A cell that nobody uses. The cell is opened for one value at a time, and is returned when that value is fetched.
 ///
 /// Contracts see the identity of the cell, and how many values have passed through it.
 #[derive(Drop)]
@@ -33,9 +33,9 @@ impl<T: Fits<K>, K> Model for UnusedCell<T, K> {
     ghost invariant = { λ c. IsPlaced (arc_value c.block) c.seat.table_id c.index c.full c.seat.me.0.passed × IsUnusedAt c.index c.seat.me.0.passed c.seat.me };
 }
 
-/// The end of an opening that leaves the value. If it is dropped, its cell stays empty for ever.
+/// The end of an opened cell by which the value is left. If the sender is dropped, the cell stays empty for ever.
 ///
-/// Contracts see the opening: the cell, how many values had passed through it, and the key.
+/// Contracts see the opening: the cell, how many values had passed through the cell before, and the key.
 #[derive(Drop)]
 pub struct Sender<T: Fits<K>, K> {
     block: Arc<CellBlock<T, K>>,
@@ -57,9 +57,9 @@ impl<T: Fits<K>, K> Model for Sender<T, K> {
     ghost invariant = { λ s. IsPlaced (arc_value s.block) s.seat.table_id s.index s.full s.seat.me.0.passed × IsSendingAt s.index s.seat.me.0.passed s.key.value s.seat.me };
 }
 
-/// The end of an opening that fetches the value. If it is dropped, its cell is not used again.
+/// The end of an opened cell by which the value is fetched. If the receiver is dropped, the cell is not used again.
 ///
-/// Contracts see the opening, as those of `Sender` do, and how many times the receiver looked and found no value.
+/// Contracts see the opening, as for a `Sender`, and how many times the receiver looked and found no value.
 #[derive(Drop)]
 pub struct Receiver<T: Fits<K>, K> {
     block: Arc<CellBlock<T, K>>,
@@ -106,7 +106,7 @@ impl<T: Fits<K> + Drop, K> UnusedCell<T, K> {
 
     /// Opens the cell for one value that fits the key. Takes no memory.
     ///
-    /// Returns the cell as an error if its block can't have one more owner.
+    /// Returns the cell as an error if the reference count of its block can't grow.
     pub fn open(self, key: &K) -> Result<(Receiver<T, K>, Sender<T, K>), UnusedCell<T, K>>
         ensures receiver { IfOk result (λ ends. ends.0 ≡ awaited (opening self key.now)) }
         ensures sender { IfOk result (λ ends. ends.1 ≡ opening self key.now) }
@@ -159,7 +159,7 @@ impl<T: Fits<K> + Drop, K> Sender<T, K> {
 impl<T: Fits<K> + Drop, K> Receiver<T, K> {
     /// Returns the value, if it was left, and the cell, to be used again.
     ///
-    /// If it was not left, one load has found that, and the receiver is returned.
+    /// If one load shows that no value was left, returns the receiver as an error.
     pub fn fetch(self) -> Result<(T, UnusedCell<T, K>), Receiver<T, K>>
         ensures value { IfOk result (λ got. T.fits self.opening.key got.0) }
         ensures cell { IfOk result (λ got. got.1 ≡ used_once_more self.opening.cell) }

@@ -2,9 +2,10 @@
 
 /// A type whose values may fit a key. Both members are only for proofs.
 pub trait Fits<K> {
-    /// The value may be left in a cell with this key. A fetch returns only such values.
+    /// True if the value may be left in a cell with this key. A fetch returns only such values.
     ghost fits: { K → Self → Type 0 };
 
-    /// The value may be put back into a cell with this key until it is taken back. By default no value may be put back.
+    /// True if the value may be put back into a cell with this key, to wait there until it is taken back. By default no
+    /// value may be put back.
     ghost may_wait: { K → Self → Type 0 } = { λ _ _. ⊥ };
 }

@@ -5,7 +5,7 @@
 //! fits it. The cell is one word and one slot of an `atomic_table`: no call locks, waits, or compares the value with
 //! the key.
 //!
-//! A `JoinCell` has a table of its own. An `UnusedCell` shares one with the other cells of its block, and is used
+//! A `JoinCell` has a table of its own. An `UnusedCell` shares a table with the other cells of its block, and is used
 //! again.
 #![tactic(auto)]
 

@@ -33,6 +33,6 @@ pub enum Content<T, K> {
     Empty,
     /// The key of the next value, only for proofs.
     For(Snapshot<K>),
-    /// A value that was left.
+    /// A value that was left in the cell, to be fetched.
     Value(T),
 }

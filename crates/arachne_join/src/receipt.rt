@@ -8,7 +8,7 @@ use std::marker::Model;
 
 /// Shows what a call did or saw at a cell.
 ///
-/// It has no bytes, and may be dropped.
+/// A receipt has no bytes, and may be dropped.
 #[derive(Drop)]
 pub struct Receipt<K> {
     badge: Badge<View<K>>,

@@ -1,4 +1,4 @@
-//! The end that leaves the value.
+//! The end of a cell by which the value is left.
 ghost use Rattle.std.specs.Prelude.{◌≡◌};
 ghost use Rattle.arachne_join.specs.Steps.{Sends};
 ghost use Rattle.arachne_join.specs.Views.{shown};
@@ -13,9 +13,10 @@ use crate::view::View;
 use atomic_table::Seat;
 use std::marker::Model;
 
-/// The one sending end of a cell, with the cell's slot. Leaving a value consumes it.
+/// The one sending end of a cell, with the cell's slot. To leave a value in the cell uses up the sending end.
 ///
-/// It has no bytes. If it is dropped, the cell stays empty. Contracts see the identity of its cell's table.
+/// A sending end has no bytes. If the sending end is dropped, the cell stays empty. Contracts see the identity of its
+/// cell's table.
 #[derive(Drop)]
 pub struct SendingEnd<T, K> {
     seat: Seat<Option<T>, View<K>>,
@@ -54,9 +55,9 @@ impl<T: Fits<K>, K> SendingEnd<T, K> {
         Receipt::of(seat)
     }
 
-    /// Puts back a value that may only wait in the cell.
+    /// Puts back a value that may only wait in the cell, and is not fetched from it.
     ///
-    /// Whoever takes it back gets the sending end with it. Takes no memory and waits for nobody.
+    /// Whoever takes the value back gets the sending end with it. Takes no memory and waits for nobody.
     pub fn put_back(self, cell: &JoinCell<T, K>, waiting: T) -> Receipt<K>
         requires cell { self ≡ cell.now.table }
         requires value { T.may_wait cell.now.key waiting }

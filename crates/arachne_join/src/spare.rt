@@ -8,8 +8,8 @@ use crate::fits::Fits;
 use std::alloc::{AllocError, Global};
 use std::sync::Arc;
 
-/// The most unused cells that are kept. Others are dropped, so that a thread doesn't collect the cells that other
-/// threads create.
+/// The most unused cells that are kept. Further unused cells are dropped, so that a thread doesn't collect the cells
+/// that other threads create.
 const MOST: usize = 4 * CELLS;
 
 /// Unused cells of one thread, which creates a new block of them if none is left.

@@ -1,4 +1,4 @@
-//! The rule of a cell's table, and what a seat knows after each step. These types are only for proofs.
+//! The rule of a cell's table (its invariant), and what a seat knows after each step. These types are only for proofs.
 ghost use Rattle.std.specs.Prelude.{◌≡◌, ◌≢◌, Some, [], ◌∷◌};
 ghost use Rattle.arachne_join.specs.declared.view.Role.TheVariants.{Maker, Sender, Left, PutBack, Fetched, Never};
 ghost use Rattle.arachne_join.specs.Views.{view, blank};
@@ -17,7 +17,7 @@ impl<T: Fits<K>, K> TableRule<Option<T>, View<K>, K> for CellRule {
     ghost first = { λ key. view (Some key) Maker };
 }
 
-/// The first seat takes the slot, and becomes the sending end.
+/// The step by which the first seat takes the slot, and becomes the sending end.
 pub(crate) struct TakeSlot;
 
 impl<T, K> Play<Option<T>, View<K>> for TakeSlot {
@@ -36,7 +36,7 @@ impl<T, K> Play<Option<T>, View<K>> for PutBack {
     ghost then = { λ _ m n w. Becomes PutBack w };
 }
 
-/// A new seat reads the word.
+/// The step by which a new seat reads the cell's word.
 pub(crate) struct Look;
 
 impl<T, K> Play<Option<T>, View<K>> for Look {
@@ -55,14 +55,14 @@ impl<T: Fits<K>, K> Play<Option<T>, View<K>> for TakeBack {
     ghost then = { λ _ m n w. Takes T.may_wait 3 Sender m n w };
 }
 
-/// The seat that fetched puts the empty slot back into the cell.
+/// The step by which the seat that fetched puts the empty slot back into the cell.
 pub(crate) struct ReturnSlot;
 
 impl<T, K> Play<Option<T>, View<K>> for ReturnSlot {
     ghost then = { λ _ m n w. Becomes Fetched w };
 }
 
-/// Another seat is joined into the one that fetched.
+/// The step that joins another seat into the one that fetched.
 pub(crate) struct JoinFetched;
 
 impl<K> Join<View<K>> for JoinFetched {
@@ -71,7 +71,7 @@ impl<K> Join<View<K>> for JoinFetched {
     ghost spent = { blank };
 }
 
-/// The two seats that were joined had not both fetched.
+/// Of the two seats that were joined, at most one had fetched.
 pub(crate) struct FetchedAlone;
 
 impl<T, K> Play<Option<T>, View<K>> for FetchedAlone {

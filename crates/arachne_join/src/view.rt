@@ -3,19 +3,19 @@
 //! These types are only for proofs: no value of them is made.
 use crate::state::CellState;
 
-/// The last step of a seat at the cell, or the end that it is.
+/// The last step of a seat at the cell, or the end of the cell that the seat is.
 pub enum Role {
-    /// The first seat, before it took the slot.
+    /// The role of the first seat, before the seat took the slot.
     Maker,
-    /// The sending end, which has the slot.
+    /// The role of the sending end, which has the slot.
     Sender,
-    /// It left the value.
+    /// The seat left the value.
     Left,
-    /// It put a value back, which may only wait.
+    /// The seat put back a value, which may only wait in the cell.
     PutBack,
-    /// It fetched the value.
+    /// The seat fetched the value.
     Fetched,
-    /// It read the word, and this was the cell's state.
+    /// The seat read the word, which showed this state of the cell.
     Saw(CellState),
     /// No seat has this role.
     Never,

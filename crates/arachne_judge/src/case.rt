@@ -1,8 +1,9 @@
-//! Goes through a log once, and judges each rule at the entries that concern it.
+//! Goes through the log of a run once, and judges each rule at the entries that concern it.
 //!
 //! An entry is written just before or just after the event that it reports. So another core may show the effect of an
 //! event first: that a thread was moved, that a core was closed or granted, or that a thread was woken. Core 0 has to
-//! report its actions before its next slice, and each other core immediately. Until then the report is owed.
+//! report its actions before its next slice begins; each other core has to report an action at once. As long as such a
+//! report is missing, the log *owes* the report.
 ghost use Rattle.std.specs.Prelude.{◌≡◌, ◌≢◌, ◌<◌, ◌==◌, IsSome, not};
 ghost use Rattle.arachne_judge.specs.Rules.{broken_by_pull, broken_if, first_broken};
 ghost use Rattle.arachne_judge.specs.declared.rules.Rule.TheVariants.{CoreZero};
@@ -18,12 +19,11 @@ use arachne_policy::OrderKind;
 use arachne_workers::{SliceEnd, WorkerEvent};
 use std::alloc::{AllocError, Global};
 
-/// The number of moves that may stay unreported. If a thread left its place just before a worker moved it from there,
-/// the thread that came to the place after it is moved instead.
+/// The number of moves of threads between cores that may stay unreported. If a thread leaves its place just before a
+/// worker moves it from there, the worker moves the thread that came to the place next instead.
 ///
-/// That takes a delay between two steps of a worker, so it is rare. A delay may occur there again, so one more is
-/// allowed for each `TURNS_PER_UNTOLD` times that a thread continued. A program with an exclusive fork has no such
-/// moves.
+/// Such a move takes a delay between two steps of a worker, so it is rare. One more such move is allowed for each
+/// `TURNS_PER_UNTOLD` times that a thread continued. A program with an exclusive fork has no such moves.
 const UNTOLD: u64 = 2;
 
 const TURNS_PER_UNTOLD: u64 = 64;
@@ -38,21 +38,21 @@ struct Case<'r> {
     /// The last thread of each context.
     threads: Vec<Option<ThreadFacts>>,
     root: Option<ThreadId>,
-    /// The root has ended.
+    /// True if the root has ended.
     is_over: bool,
     /// The number of orders reported as applied.
     applied: usize,
     /// The number of slices reported as ended.
     ended: u64,
-    /// The number of other cores' slices that the run must have counted by core 0's last event.
+    /// The number of slices of other cores that the run must have counted before core 0's last event.
     counted: u64,
-    /// True while some core has still to report an event whose effect another core has shown.
+    /// True if some core must still report an event whose effect another core has shown.
     owes: bool,
-    /// The number of moves that were not reported.
+    /// The number of moves of threads that were not reported.
     untold: u64,
-    /// The threads that had a turn after a wait, and whose wake was not reported yet. There is a place for each other
-    /// core, which may have woken one just now. Such a thread may have ended since, and its context may have another
-    /// one.
+    /// The threads that continued after a wait, and whose wake was not reported yet. There is room for one thread for
+    /// each other core, which may have woken that thread just now. Such a thread may have ended since, and its context
+    /// may have another thread.
     unwoken: Vec<Option<ThreadId>>,
     scans: Scans,
     counts: Counts,
@@ -130,7 +130,7 @@ impl<'r> Case<'r> {
         }
     }
 
-    /// Returns the thread of an id, if it has had a turn.
+    /// Returns the thread of this id, if the thread has had a turn.
     fn thread(&self, id: ThreadId) -> Option<ThreadFacts> {
         let thread = (*self.threads.get(id.context as usize)?)?;
         if thread.id == id { Some(thread) } else { None }
@@ -150,7 +150,7 @@ impl<'r> Case<'r> {
         self.counts.add(rule, 1);
     }
 
-    /// Records that the rule is broken at this entry, unless one was broken before.
+    /// Records that the rule is broken at this entry, unless a rule was broken before.
     fn breaks(&mut self, rule: Rule)
         ensures { self.new ≡ record self.old { broken = first_broken self.old.broken (record { rule = rule; at = self.old.at }) } }
     {
@@ -234,7 +234,7 @@ impl<'r> Case<'r> {
         }
     }
 
-    /// Judges at the start of a slice of core 0 whether all orders that are due are applied.
+    /// Judges, when core 0 begins a slice, whether all orders that are due were applied.
     fn look_due(&mut self) {
         let Some(order) = self.run.orders.get(self.applied) else {
             return;
@@ -246,7 +246,7 @@ impl<'r> Case<'r> {
         );
     }
 
-    /// Records as broken each report that is still owed when core 0 continues, or at the end of the log.
+    /// Records as broken each rule whose report is still missing when core 0 continues, or at the end of the log.
     fn settle(&mut self) {
         if !self.owes {
             return;
@@ -311,7 +311,7 @@ impl<'r> Case<'r> {
         self.set_core(core, known);
     }
 
-    /// Judges a turn of a thread that has had one before: the thread must have been on this core, or moved to it.
+    /// Judges a turn of a thread that had a turn before: the thread must have been on this core, or moved to it.
     fn look_where(&mut self, known: &mut Core, core: u8, before: ThreadFacts) {
         if before.has_ended() || before.is_in_slice {
             self.breaks(Rule::InHand);
@@ -330,7 +330,8 @@ impl<'r> Case<'r> {
         }
     }
 
-    /// Judges whether a thread that has waited was woken before this turn. Returns the number of its other wakes.
+    /// Judges whether a thread that has waited was woken before this turn. Returns the number of wakes of the thread
+    /// that are left once this turn has used up one.
     ///
     /// Another core may have woken the thread just now, and has to report it immediately. A wake may also be reported
     /// just before the turn in which it occurs.
@@ -345,8 +346,8 @@ impl<'r> Case<'r> {
         before.woken.saturating_sub(1)
     }
 
-    /// Replaces `from` by `to` in one of the places for threads whose wake was not reported. Returns whether `from` was
-    /// in one.
+    /// Replaces `from` by `to` in the list of threads whose wake was not reported. Returns whether `from` was in the
+    /// list.
     fn replace_unwoken(&mut self, from: Option<ThreadId>, to: Option<ThreadId>) -> bool {
         for place in self.unwoken.iter_mut() {
             if *place == from {
@@ -357,7 +358,7 @@ impl<'r> Case<'r> {
         false
     }
 
-    /// Judges a turn by the scan to which it belongs.
+    /// Judges a turn of a thread by the scan (a pass over the core's indexes) to which the turn belongs.
     fn scan(&mut self, id: ThreadId, is_first: bool) {
         let last = self.scans.last();
         let goes_on = match last.and_then(|last| *self.threads.get(last as usize)?) {
@@ -376,7 +377,7 @@ impl<'r> Case<'r> {
         }
     }
 
-    /// Judges the end of a slice, after `steps` steps. If they are more than the quantum, a rule is broken.
+    /// Judges the end of a slice, after `steps` steps. If the steps are more than the quantum, a rule is broken.
     fn sliced(&mut self, core: u8, steps: u32, end: SliceEnd)
         ensures { self.old.run.quantum < steps → IsSome self.new.broken }
     {
@@ -418,8 +419,8 @@ impl<'r> Case<'r> {
         }
     }
 
-    /// Judges the move of a thread to `core` from the core `from`, by the worker of `core`. If its place is still
-    /// `home`, that worker only runs it next.
+    /// Judges the move of a thread from the core `from` to `core`, by the worker of `core`. If `home` is given, the
+    /// thread keeps its place on that core, and the worker only runs the thread next.
     fn pulled(&mut self, core: u8, id: ThreadId, from: u8, home: Option<u8>)
         ensures { self.new.broken ≡ broken_by_pull self.old.run.has_exclusive (from == core) self.old.broken self.old.at }
     {
@@ -434,8 +435,8 @@ impl<'r> Case<'r> {
         }
     }
 
-    /// Judges a park of `core`. At some time since its last entry the core has found itself closed and empty. Since
-    /// then it may have been granted, closed again and given threads.
+    /// Judges a park of `core`. The core has found itself closed and empty at some time since the core's last entry.
+    /// After that the core may have been granted, closed again and given threads.
     fn parks(&mut self, core: u8) {
         self.counts(Rule::Parks);
         let mut known = self.core(core);
@@ -462,7 +463,7 @@ impl<'r> Case<'r> {
         self.set_core(core, known);
     }
 
-    /// Core 0 has applied orders, `orders` of them in all. If the core is another one, a rule is broken.
+    /// Judges the report that core 0 has applied orders, `orders` in all. If `core` is not 0, a rule is broken.
     fn applied(&mut self, core: u8, orders: usize)
         ensures { core ≢ 0 → IsSome self.new.broken }
     {
@@ -489,7 +490,8 @@ impl<'r> Case<'r> {
         self.applied = orders;
     }
 
-    /// Core 0 has moved threads away to these cores. If the core is another one, a rule is broken.
+    /// Judges the report that core 0 has moved threads away to the cores `receivers`. If `core` is not 0, a rule is
+    /// broken.
     fn moved_away(&mut self, core: u8, receivers: u64)
         ensures { self.new.broken ≡ broken_if (not (core == 0)) self.old.broken (record { rule = CoreZero; at = self.old.at }) }
     {
@@ -506,7 +508,7 @@ impl<'r> Case<'r> {
     }
 }
 
-/// Returns whether `InHand` is broken by a slice of this thread on this core.
+/// Returns whether the rule `InHand` is broken by a slice of this thread on this core.
 fn is_out_of_hand(thread: &ThreadFacts, core: u8, is_second: bool) -> bool {
     breaks::is_not_in_hand(
         core,

@@ -1,4 +1,4 @@
-//! The events reported to a gate, in one order for all cores.
+//! The log of the events that were reported to a gate (the observer of a run), in one order for all cores.
 use arachne_core::ThreadId;
 use arachne_workers::{Cause, SliceEnd, WorkerEvent};
 use std::alloc::{AllocError, Global};
@@ -9,7 +9,7 @@ use std::sync::atomic::{AtomicU64, Ordering};
 pub enum What {
     /// The core's slice of this number is about to begin.
     Slice(u64),
-    /// The core took this thread in hand. The flag is true if the thread has the core to itself.
+    /// The core took this thread in hand. The second field is true if the thread has the core to itself.
     Turn(ThreadId, bool),
     Told(WorkerEvent),
 }
@@ -46,7 +46,7 @@ const MOVED_AWAY: u64 = 12;
 
 const HELPS: u64 = 13;
 
-/// An entry in three words. The head has the core, the kind of event and a small number.
+/// An entry in three words. The first, the head, has the core, the kind of event and a small number.
 #[derive(Drop)]
 struct EntryWords {
     head: AtomicU64,
@@ -56,7 +56,7 @@ struct EntryWords {
 
 /// A log of the events reported to a gate.
 ///
-/// The kernel threads of all cores write to it, each event immediately. Events for which there is no room are only
+/// The kernel threads of all cores write to the log, each event immediately. Events for which there is no room are only
 /// counted.
 #[derive(Drop)]
 pub struct Log {
@@ -81,7 +81,7 @@ impl Log {
         })
     }
 
-    /// Returns the number of entries, with those for which there was no room.
+    /// Returns the number of entries, including those for which there was no room.
     pub fn count(&self) -> u64 {
         self.count.load(Ordering::SeqCst)
     }

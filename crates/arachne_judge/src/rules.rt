@@ -1,4 +1,4 @@
-//! The rules of a run that its log shows, and the facts of the run that are known beforehand.
+//! The rules of a run, and the facts of the run that are known before its log is judged.
 ghost use Rattle.std.specs.Prelude.{◌≡◌, ◌<◌, ◌+◌, length, min, slice_index_or, slice_set};
 ghost use Rattle.arachne_judge.specs.Rules.{number_of, rules};
 ghost use Rattle.arachne_judge.specs.declared.rules.Rule.TheVariants.{OwnCore};
@@ -8,16 +8,16 @@ use arachne_policy::CoreOrder;
 /// A rule of a run.
 #[derive(Clone, Copy, Debug, PartialEq, Eq)]
 pub enum Rule {
-    /// A thread continues on the core on which it was, unless its move was reported, or that another core's worker runs
-    /// it at its place.
+    /// A thread continues on the core on which it was, unless a move was reported, or it was reported that another
+    /// core's worker runs the thread at its place.
     OwnCore,
-    /// A slice is of a thread that the core took before, which has not ended, and which no other core has in hand.
+    /// A slice is of a thread that the core took before, that has not ended, and that no other core has in hand.
     InHand,
     /// The slices of a core are numbered from 0, without gaps.
     Numbers,
     /// No slice has more steps than the quantum.
     Quantum,
-    /// Core 0 applies an order once it is due and not before, and does so before its next slice.
+    /// Core 0 applies an order once it is due, not before, and before core 0's next slice.
     Due,
     /// Only core 0 moves threads away from closed cores.
     CoreZero,
@@ -25,18 +25,19 @@ pub enum Rule {
     Parks,
     /// A parked core continues only if it was granted since, or if the run is at its end.
     Unparks,
-    /// A thread that has its core to itself is the only one there from its first turn to its end.
+    /// A thread that has its core to itself is the only thread there from its first turn to its end.
     Alone,
-    /// A scan takes indexes in ascending order. This rule is judged in runs on one core without locks.
+    /// A scan (a worker's pass over its core's indexes) goes in ascending order. This rule is judged in runs on one
+    /// core without locks.
     Upwards,
     /// No child waits for a place while one is free. This rule is judged in runs on one core that keep no places.
     Places,
     /// A thread that waits continues only after it was woken.
     Waits,
-    /// No worker moves a thread to its own core, or runs one of another core. This rule is judged in programs with an
-    /// exclusive fork.
+    /// No worker moves a thread to its own core, or runs a thread of another core. This rule is judged in programs with
+    /// an exclusive fork.
     Stays,
-    /// A thread that a worker moves to its core, or runs at its place, was on another core.
+    /// A thread that a worker moves to its core, or runs at the thread's place, was on another core.
     Pulls,
 }
 
@@ -75,7 +76,7 @@ pub struct Counts {
 }
 
 impl Counts {
-    /// Returns counts that are all 0.
+    /// Returns counts in which each number is 0.
     pub fn new() -> Counts {
         Counts { counts: [0; RULES] }
     }

@@ -1,26 +1,26 @@
 //! The scans and places that a log shows in runs on one core without locks.
 //!
-//! A context has the same index of that core all the time, so its number is that index.
+//! In such a run a context stays at one index of the core, and the index is also the context's number.
 ghost use Rattle.std.specs.Prelude.{◌≡◌, ◌≤◌, ◌<◌, ◌+◌, ◌↔◌, true, min, IfSome, IsSome, IsTrue};
 
 use crate::rules::Run;
 
-/// The known facts of the scans, and of the places that are taken.
+/// The facts that are known of the scans (a worker's passes over its core's indexes), and of the places that are taken.
 #[derive(Drop)]
 pub(crate) struct Scans {
-    /// True if scans are judged: there is one core, and no lock, whose next holder would run before others.
+    /// True if scans are judged: there is one core, and no lock whose next holder would run before others.
     is_judged: bool,
-    /// True if places are judged: scans are judged, and no place is kept.
+    /// True if the use of places is judged: scans are judged, and no worker keeps places for later children.
     are_places: bool,
     slots: u64,
     /// The index that had a turn last.
     last: Option<u32>,
-    /// An index at which a thread is ready, and which is higher than the one at which this scan has begun.
+    /// An index at which a thread is ready, higher than the index at which this scan began.
     due: Option<u32>,
     /// The number of threads known to be on the core.
     threads: u64,
-    /// The number of other threads that must be on the core, because a child waits for a place. Each of them has its
-    /// first turn before the next scan ends.
+    /// The number of further threads that must be on the core, because a child waits for a place. Each such thread has
+    /// its first turn before the next scan ends.
     unseen: u64,
     /// The number of scans that began since a child began to wait for a place.
     scans: u32,
@@ -29,11 +29,11 @@ pub(crate) struct Scans {
 /// The findings of a turn.
 #[derive(Clone, Copy)]
 pub(crate) struct TurnFindings {
-    /// A scan has begun.
+    /// True if a scan has begun.
     pub(crate) is_judged: bool,
-    /// The scan before it has left out a thread that was ready.
+    /// True if the scan before has left out a thread that was ready.
     pub(crate) is_downward: bool,
-    /// A child has waited while a place was free.
+    /// True if a child has waited although a place was free.
     pub(crate) was_free: bool,
 }
 
@@ -62,7 +62,7 @@ impl Scans {
         self.threads = self.threads.saturating_sub(1);
     }
 
-    /// Records that a child waits for a place. Returns whether places are judged.
+    /// Records that a child waits for a place. Returns whether the use of places is judged.
     pub(crate) fn spilled(&mut self) -> bool
         ensures { result ≡ self.old.are_places }
     {
@@ -78,7 +78,8 @@ impl Scans {
 
     /// Records a turn of the thread at an index. Returns the findings.
     ///
-    /// `goes_on`: the thread that had the turn before is ready. `is_first`: it is the thread's first turn.
+    /// `goes_on` is true if the thread that had the turn before is ready. `is_first` is true if this is the thread's
+    /// first turn.
     pub(crate) fn turn(&mut self, index: u32, goes_on: bool, is_first: bool) -> TurnFindings
         ensures downward { IsTrue result.is_downward ↔ (result.is_judged ≡ true) × IsSome self.old.due }
         ensures free { IsTrue result.was_free ↔ (result.is_judged ≡ true) × (0 < self.old.unseen) × (1 < min (self.old.scans + 1) u32.MAX) }

@@ -12,9 +12,10 @@ pub(crate) struct ThreadFacts {
     pub(crate) core: u8,
     /// The number of the entry of the thread's last turn.
     pub(crate) turned: usize,
-    /// A core whose worker has moved the thread there since, or runs it next at its place.
+    /// The core whose worker has moved the thread to that core since its last turn, or runs it next at the thread's
+    /// place.
     pub(crate) pulled: Option<u8>,
-    /// The core on which the thread has its place, if another one's worker runs it there.
+    /// The core on which the thread has its place, if the worker of another core runs it there.
     pub(crate) home: Option<u8>,
     pub(crate) is_in_slice: bool,
     /// The way in which the thread's last slice has ended.
@@ -22,7 +23,7 @@ pub(crate) struct ThreadFacts {
     /// The number of wakes after which the thread has not continued yet.
     pub(crate) woken: u64,
     /// If the thread's core has parked since the thread's last turn: 1 plus the number of the core's last entry before
-    /// that park. Otherwise 0. The thread was moved away between that entry and the park.
+    /// that park; otherwise 0. The thread was moved away between that entry and the park.
     pub(crate) left: usize,
 }
 

@@ -1,12 +1,11 @@
 //! Checks that a program may run: its nesting, the limits, and each node in the order of the text.
 ghost use Rattle.std.specs.Prelude.{◌≡◌, ◌+◌, ◌-◌, ◌*◌, ◌^◌, ◌<◌, ◌≤◌, ◌↔◌, ◌++◌, IsTrue, IfOk, SomeIff, length, sum_by, take};
-ghost use Rattle.arachne_lang.specs.Program.{tree_of, source_of};
-ghost use Rattle.arachne_lang.specs.Text.{nesting};
-ghost use Rattle.arachne_lang.specs.Checked.{node_faults, first_fault, node_count, verdict_of};
+ghost use Rattle.arachne_program.specs.Program.{tree_of, source_of};
+ghost use Rattle.arachne_program.specs.Nesting.{nesting};
+ghost use Rattle.arachne_program.specs.Checked.{node_faults, first_fault, node_count, verdict_of};
 ghost use Rattle.arachne_lang.specs.Judgement.{judged, KeepsLimits};
 
-use crate::check_fault::CheckFault;
-use crate::program::{Expr, Program};
+use arachne_program::{CheckFault, Expr, Program};
 
 /// The maximum number of levels of an expression. The root is at level 1.
 const MOST_LEVELS: u32 = 64;
@@ -25,7 +24,7 @@ const MOST_LOCKS: u8 = 16;
 /// Checks that a program may run.
 ///
 /// Checks first its nesting, then the limits, then its nodes in the order of the text, a node before its parts. Returns
-/// the first fault. Takes no memory, and no stack for what is nested deeper than is allowed.
+/// the first fault. Takes no memory. Parts that are nested deeper than is allowed take no stack.
 pub fn check(program: &Program) -> Result<(), CheckFault>
     ensures { result ≡ verdict_of (source_of program.now) }
 {
@@ -44,7 +43,7 @@ pub fn check(program: &Program) -> Result<(), CheckFault>
     Ok(())
 }
 
-/// Returns whether an expression has at most `levels` levels. Goes no deeper than that.
+/// Returns whether an expression has at most `levels` levels. Looks at no deeper level.
 #[tactic(auto, using(crate::proofs::NodesJudged::nesting_positive))]
 fn nests_within(expr: &Expr, levels: u32) -> bool
     ensures { IsTrue result ↔ (nesting (tree_of expr.now) ≤ levels) }
@@ -120,11 +119,11 @@ fn nodes_left(expr: &Expr, nodes: u64) -> Option<u64>
     }
 }
 
-/// The place of an expression in its program.
+/// The position of an expression in its program.
 #[derive(Clone, Copy)]
 struct Scope<'p> {
     program: &'p Program,
-    /// True within a hold.
+    /// True if the expression stands within a hold of a lock.
     within: bool,
     /// The number of bound variables.
     bound: u64,
@@ -172,7 +171,7 @@ impl<'p> Scope<'p> {
     }
 
     /// Checks the nodes of an expression, of which the first has the number `node`. Returns the number of the node that
-    /// follows them.
+    /// follows these nodes.
     #[cycle(judging)]
     #[tactic(auto, using(crate::proofs::NodesJudged::judged_parts, crate::proofs::NodesJudged::some_faults))]
     fn check(self, expr: &Expr, node: u64) -> Result<u64, CheckFault>
@@ -203,7 +202,8 @@ impl<'p> Scope<'p> {
         }
     }
 
-    /// Checks the nodes of two parts, `a` and then `b`, which stands in the scope `last`, like `check`.
+    /// Checks the nodes of two parts, like `check`: those of `a`, and then those of `b`, which stands in the scope
+    /// `last`.
     #[cycle(judging)]
     fn two(self, a: &Expr, last: Scope, b: &Expr, node: u64) -> Result<u64, CheckFault>
         requires nodes { node + node_count (tree_of a.now) + node_count (tree_of b.now) ≤ MOST_NODES }
@@ -218,7 +218,7 @@ impl<'p> Scope<'p> {
         last.check(b, second)
     }
 
-    /// Checks the nodes of three parts, of which `c` stands in the scope `last`, like `check`.
+    /// Checks the nodes of three parts, like `check`, of which `c` stands in the scope `last`.
     #[cycle(judging)]
     fn three(self, a: &Expr, b: &Expr, last: Scope, c: &Expr, node: u64) -> Result<u64, CheckFault>
         requires nodes { node + node_count (tree_of a.now) + node_count (tree_of b.now) + node_count (tree_of c.now) ≤ MOST_NODES }
@@ -236,7 +236,7 @@ impl<'p> Scope<'p> {
         last.check(c, second)
     }
 
-    /// Checks the nodes of four parts, of which `d` stands in the scope `last`, like `check`.
+    /// Checks the nodes of four parts, like `check`, of which `d` stands in the scope `last`.
     #[cycle(judging)]
     fn four(
         self,

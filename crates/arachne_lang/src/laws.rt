@@ -1,9 +1,9 @@
-//! Laws of the language's definitions. They are contracts of functions with empty bodies.
+//! Laws of the language's definitions. Each law is the contract of a function with an empty body.
 ghost use Rattle.std.specs.Prelude.{◌≡◌, ◌≢◌, ◌⊎◌, ℕ, List, map};
 ghost use Rattle.std.specs.List.{AllPairs};
 ghost use Rattle.arachne_lang.specs.declared.text_fault.TextFault.{TextFault};
-ghost use Rattle.arachne_lang.specs.Tree.{Source};
-ghost use Rattle.arachne_lang.specs.Meaning.{meaning_of};
+ghost use Rattle.arachne_program.specs.Tree.{Source};
+ghost use Rattle.arachne_program.specs.Meaning.{meaning_of};
 ghost use Rattle.arachne_lang.specs.Spelling.{text_of};
 ghost use Rattle.arachne_lang.specs.Text.{IsAccepted, HasFault, IsFirstFault};
 
@@ -12,7 +12,7 @@ pub fn names_differ()
     ensures { (program : Source) → AllPairs (λ a b. a ≢ b) (map (λ line. line.name) (meaning_of program).threads) }
 {}
 
-/// The law that two programs have different texts.
+/// The law that different programs have different texts.
 pub fn texts_differ()
     ensures { (some : Source) → (other : Source) → text_of some ≡ text_of other → some ≡ other }
 {}

@@ -2,8 +2,8 @@
 
 ghost use Rattle.std.specs.Prelude.{◌≡◌, ◌⊎◌, Err, IfOk, IfErr, IsErrAnd, MatchResult};
 ghost use Rattle.arachne_lang.specs.declared.text_fault.TextFault.{TextFault as Fault};
-ghost use Rattle.arachne_lang.specs.Tree.{Source};
-ghost use Rattle.arachne_lang.specs.Program.{source_of};
+ghost use Rattle.arachne_program.specs.Tree.{Source};
+ghost use Rattle.arachne_program.specs.Program.{source_of};
 ghost use Rattle.arachne_lang.specs.Spelling.{header, text_of};
 ghost use Rattle.arachne_lang.specs.Text.{IsAccepted, IsFirstFault, StartsWith};
 ghost use Rattle.arachne_lang.specs.Reading.{Gives, program_at};
@@ -15,8 +15,8 @@ mod numbers;
 mod stop;
 mod words;
 
-use crate::program::Program;
 use crate::text_fault::TextFault;
+use arachne_program::Program;
 use arrays::array_lines;
 use expressions::expression;
 use numbers::small_number;
@@ -53,7 +53,7 @@ pub fn parse(alloc: Global, text: &[u8]) -> Result<Program, TextFault>
     }
 }
 
-/// Returns the program whose text, without the header, this is.
+/// Returns the program that a text spells, if `text` is what follows the header.
 #[tactic(auto, unfolding(crate::specs::Reading::program_at, crate::specs::Reading::source_at, crate::specs::Reading::lines_at))]
 fn program(alloc: Global, text: &[u8]) -> Result<Program, Stop<'_>>
     ensures { Gives source_of result (program_at text.now) }

@@ -4,7 +4,7 @@ use thiserror::Error;
 /// The reason why a text was refused. Each fault of the text carries the index of the byte at which it stands, from 0.
 #[derive(Clone, Copy, Debug, PartialEq, Eq, Error)]
 pub enum TextFault {
-    /// Memory was refused. It says nothing about the text.
+    /// Memory was refused. The text may be right or wrong.
     #[error("out of memory")]
     Memory,
     /// The text does not begin with its header.

@@ -1,4 +1,5 @@
-//! The law that the words are the sums of the shares. It is the contract of a function with an empty body.
+//! The law that the word of each ledger is the sum of what all shares have added to it. The law is the contract of a
+//! function with an empty body.
 ghost use Rattle.std.specs.Prelude.{◌≡◌, ◌≢◌, ◌<◌, ℕ, List, [], length, slice_index};
 ghost use mathlib.Core.Option.{some};
 ghost use lib.ListN.{get_elem?};
@@ -7,9 +8,9 @@ ghost use Rattle.arachne_weights.specs.Tokens.{held};
 ghost use Rattle.arachne_ledger.specs.declared.share.Known.{Known};
 ghost use Rattle.arachne_ledger.specs.Balance.{Board, IsBalanced, word_of, opening_share, after_add, after_read, after_split, after_join};
 
-/// The law that each ledger's word is the sum of all shares for it, modulo 2^64.
+/// The law that each ledger's word is the sum of what all shares have added to it, modulo 2^64.
 ///
-/// It is so at the start, and after each step of a share.
+/// The law holds for new ledgers, and after each step that a share makes.
 pub fn words_stay_the_sums()
     ensures at_first { (count : ℕ) (words : List ℕ) → length words ≡ word_of count → ((i : ℕ) → slice_index words i ≡ 0)
         → IsBalanced count (opening words [] (opening_share count)) }

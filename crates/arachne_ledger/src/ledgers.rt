@@ -15,7 +15,7 @@ use std::marker::Model;
 // The words of two cache lines, since processors fetch lines in pairs.
 const SPACING: usize = 16;
 
-/// A number of ledgers, each of which begins at 0.
+/// Several ledgers (sums that many threads add to), each of which begins at 0.
 #[derive(Drop)]
 pub struct Ledgers {
     table: Table<(), View, usize, Balanced, Global>,
@@ -55,7 +55,7 @@ fn zeros(alloc: Global, count: usize) -> Result<Vec<u64>, AllocError>
 }
 
 impl Ledgers {
-    /// Creates `count` ledgers, which may be 0. Returns them and the whole share.
+    /// Creates `count` ledgers (`count` may be 0). Returns the ledgers, and the share with the whole weight.
     pub fn new(alloc: Global, count: usize) -> Result<(Ledgers, Share), AllocError>
         ensures ledgers { IfOk result (λ r. r.0.count ≡ count) }
         ensures share { IfOk result (λ r. r.1 ≡ record { table = r.0.table; weight = whole; sums = replicate count 0; last_read = None }) }
@@ -89,7 +89,7 @@ impl Ledgers {
 
     /// Reads the ledger's word, which at each moment is the sum of all shares at that moment, modulo 2^64.
     ///
-    /// If the share is the whole one, the result is its own sum, modulo 2^64.
+    /// If the share has the whole weight, the result is this share's own sum, modulo 2^64.
     pub fn read(&self, share: &mut Share, ledger: usize) -> u64
         requires own { IsShareOf self.now share.old }
         requires ledger { ledger < self.now.count }
@@ -100,7 +100,7 @@ impl Ledgers {
         shared.load::<Read>(&mut share.seat, ledger_word(ledger))
     }
 
-    /// Splits a share in two. The first gets half of the weight, rounded up, and the sums.
+    /// Splits a share in two. The first part gets half of the weight of `share`, rounded up, and its sums.
     ///
     /// If the weight is 1 or 0, neither share gets any weight.
     pub fn split(&self, share: Share) -> (Share, Share)
@@ -149,7 +149,8 @@ impl Ledgers {
         }
     }
 
-    /// Closes the ledgers, and returns the sum of each, modulo 2^64. The share must be the whole one.
+    /// Closes the ledgers, and returns the sum of each, modulo 2^64. The share must have the whole weight: no other
+    /// share is in use.
     ///
     /// If memory is refused, the ledgers and the share are returned.
     pub fn close(self, alloc: Global, share: Share) -> Result<Vec<u64>, (Ledgers, Share)>

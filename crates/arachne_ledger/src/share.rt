@@ -13,19 +13,19 @@ pub struct Reading {
     pub number: u64,
 }
 
-/// The knowledge of a share: its own sums, one for each ledger, which are not reduced, and its last reading.
+/// The knowledge of a share: its own sums, one for each ledger, not reduced modulo 2^64, and its last reading.
 pub struct Known {
     pub sums: LinkedList<u64>,
     pub last_read: Option<Reading>,
 }
 
-/// The table rule's view of a share. Only contracts use it: no value of it is made.
+/// A share as the invariant of the ledgers' table sees it. Only contracts use this type: no value of it is made.
 pub type View = Token<Known>;
 
 /// A part of the right to all ledgers of one table, with the sums of what was added through it.
 ///
-/// It must be used and joined with the ledgers that it came from. A share that is dropped takes its weight with it, so
-/// that no share is whole any more.
+/// A share must be used and joined with the ledgers that it came from. If a share is dropped, its weight is lost, and
+/// no share can have the whole weight any more.
 #[derive(Drop)]
 pub struct Share {
     pub(crate) seat: Seat<(), View>,

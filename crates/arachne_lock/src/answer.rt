@@ -2,19 +2,19 @@
 use std::alloc::AllocError;
 use thiserror::Error;
 
-/// The result of an ask that is not refused.
+/// The result of asking for a lock, if that is not refused.
 ///
-/// Numbers of events count from 0, modulo 2^64, for each lock by itself.
+/// The events of each lock are numbered from 0, modulo 2^64.
 #[derive(Clone, Copy, Debug, PartialEq, Eq)]
 pub enum Admitted {
-    /// Nobody owned the lock. The task holds it now.
+    /// Nobody owned the lock. The task holds the lock now.
     Granted {
-        /// The number of the grant. Later grants of this lock have greater ones.
+        /// The number of the grant. Later grants of the same lock have greater numbers.
         at: u64,
     },
     /// The task waits at the end of the queue.
     Queued {
-        /// The number of the ask.
+        /// The number of the event by which the task asked for the lock.
         at: u64,
     },
 }
@@ -22,7 +22,7 @@ pub enum Admitted {
 /// The result of one try at a lock.
 #[derive(Clone, Copy, Debug, PartialEq, Eq)]
 pub enum Attempt<A> {
-    /// The lock's result.
+    /// The result of the call, which was made on the lock's state.
     Answered(A),
     /// Another kernel thread was at the lock. Nothing has changed, and the call may be repeated.
     Contended,
@@ -54,7 +54,7 @@ pub struct Released {
     /// The number of the task that holds the lock now and must be woken: the one that had waited longest, if any
     /// waited.
     pub next: Option<u64>,
-    /// The number of the free. The grant to `next` has the next one.
+    /// The number of the free. The grant to `next` has the next number.
     pub at: u64,
 }
 
@@ -63,15 +63,15 @@ pub struct Released {
 #[error("it does not hold the lock")]
 pub struct NotOwner;
 
-/// The result of a withdrawal.
+/// The result of `withdraw`: a task leaves the queue of a lock.
 #[derive(Clone, Copy, Debug, PartialEq, Eq)]
 pub enum Withdrawn {
-    /// The task waited, and waits no longer. The lock is never granted to it by that ask.
+    /// The task waited, and waits no longer. The lock is never granted to the task by that ask.
     Left {
-        /// The number of the leave.
+        /// The number of the event by which the task leaves the queue.
         at: u64,
     },
-    /// The task holds the lock and still does: it must free it.
+    /// The task holds the lock, and still must free it.
     Holds {
         /// The number of the grant.
         at: u64,

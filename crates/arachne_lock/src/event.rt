@@ -2,11 +2,11 @@
 
 /// An event of a lock, with the number of its task.
 ///
-/// No value of it is made: histories are only for proofs.
+/// No value of this type is made: histories are only for proofs.
 pub enum QueueEvent {
     /// A task joins the end of the queue.
     Ask(u64),
-    /// The front of the queue becomes the owner.
+    /// The task at the front of the queue becomes the lock's owner.
     Grant(u64),
     /// The owner leaves the lock.
     Free(u64),
@@ -26,6 +26,6 @@ pub enum LockDeed {
     Freed(u64),
     /// The first task freed the lock, and it was granted to the second.
     Handed(u64, u64),
-    /// The task waited, and left.
+    /// The task waited, and left the queue.
     Left(u64),
 }

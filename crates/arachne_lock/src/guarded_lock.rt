@@ -12,7 +12,7 @@ use std::marker::Model;
 
 /// A lock's state, on cache lines of its own, and the effect of the last call.
 ///
-/// The effect, 24 bytes, is only for proofs: the step that gives the guard back finds it here.
+/// The effect, 24 bytes, is only for proofs: the step that gives the guard back reads it here.
 #[derive(Drop)]
 pub struct GuardedLock {
     state: CachePadded<LockEntry>,

@@ -8,8 +8,8 @@ ghost use Rattle.arachne_lock.specs.Rule.{Board, IsKept};
 
 /// The law that a lawful history has one holder at a time.
 ///
-/// Between any two grants the first task frees. Each free follows a grant to the same task, with neither a grant
-/// nor a free between them.
+/// Between any two grants the task of the first grant frees the lock. Each free follows a grant to the same task, with
+/// neither a grant nor a free between them.
 pub fn one_holder_at_a_time()
     ensures { (events : List QueueEvent) → IsLawful events → HasOneHolderAtATime events }
 {}
@@ -19,16 +19,17 @@ pub fn one_that_left_is_not_granted()
     ensures { (events : List QueueEvent) → IsLawful events → GrantsNoneThatLeft events }
 {}
 
-/// The law that each lock has had one holder at a time, between any two steps.
+/// The law that, between any two steps, each lock has had one holder at a time.
 ///
-/// It was also granted to no task that had left. Both are about the one history that all seats have made.
+/// The lock was also granted to no task that had left the queue. Both statements of this law are about the one history
+/// that all seats have made.
 pub fn locks_have_one_holder()
     ensures { (locks : ℕ) (board : Board) → (rule : IsKept locks board) → (lock : ℕ) → IsHeldWell (rule.histories lock) }
 {}
 
-/// The law that no step creates a seat, whatever is known after it.
+/// The law that no step on a lock's words creates a seat.
 ///
-/// Each seat but the first was split off another, which counts it.
+/// Each seat but the first was split off another, which counts its splits.
 pub fn seats_are_split_off()
     ensures enters { (locks word : ℕ) → ¬ Enters (IsKept locks) locks word (λ n view. Unit {0}) }
     ensures arrives { (locks word : ℕ) (f : ℕ → ℕ) → ¬ Arrives (IsKept locks) locks word f (λ n seat. Unit {0}) }

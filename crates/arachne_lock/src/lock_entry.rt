@@ -15,7 +15,7 @@ pub struct Holder {
 
 /// The state of one lock.
 ///
-/// Each call takes constant time, except a leave, which walks the queue, and growth of the memory.
+/// Each call takes constant time, except for growth of the memory, and for `withdraw`, which walks the queue.
 #[derive(Debug, Drop)]
 pub(crate) struct LockEntry {
     owner: Option<Holder>,
@@ -89,7 +89,7 @@ impl LockEntry {
         Ok(Released { next, at })
     }
 
-    /// Removes a task that waits from the queue.
+    /// Removes a waiting task from the queue.
     pub(crate) fn withdraw(&mut self, who: u64) -> Withdrawn
         ensures { IsWithdrawn self.old self.new who result }
     {
@@ -121,7 +121,7 @@ impl LockEntry {
         self.owner.is_some_and(|holder| holder.who == who)
     }
 
-    /// Returns the event number `more` after the next event's.
+    /// Returns the number of the event that comes `more` events after the next one.
     fn later(&self, more: u64) -> u64
         ensures { result ≡ later self.now.count more }
     {

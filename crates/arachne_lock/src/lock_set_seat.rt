@@ -4,9 +4,9 @@ use crate::view::KnownLocks;
 use atomic_table::Seat;
 use std::marker::Model;
 
-/// The right to use a set of locks, with what was done through it. It has no bytes.
+/// The right of one kernel thread to use a set of locks, with what was done through it. A seat has no bytes.
 ///
-/// It must be used, split and joined with the locks that it came from.
+/// A seat must be used, split and joined with the locks that it came from.
 #[derive(Drop)]
 pub struct LockSetSeat {
     pub(crate) seat: Seat<GuardedLock, KnownLocks>,

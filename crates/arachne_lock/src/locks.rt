@@ -1,4 +1,4 @@
-//! A set of locks that kernel threads share. None of them waits in its calls.
+//! A set of locks that kernel threads share. No call on a lock waits.
 ghost use Rattle.std.specs.Prelude.{◌≡◌, ◌<◌, ℕ, List, MatchBool, IsFalse, IfOk, Option, [], ◌∷◌, ◌^◌, vec_len, slice_index};
 ghost use Rattle.arachne_lock.specs.declared.event.QueueEvent.{QueueEvent};
 ghost use Rattle.arachne_lock.specs.State.{IsAsked, IsFreed, IsWithdrawn, IsChecked};
@@ -21,19 +21,19 @@ use std::marker::Model;
 /// The number of words of two cache lines, which processors fetch together.
 const SPACING: usize = 16;
 
-/// A guard word while the lock's state is at home.
+/// The value of a lock's guard word while the lock's state is in its slot.
 const HOME: u64 = 0;
 
-/// A guard word while the lock's state is with a seat.
+/// The value of a lock's guard word while a seat has the lock's state.
 const TAKEN: u64 = 1;
 
-/// A set of locks. Each has a word and a slot: the word is 0 while the lock's state is at home in the slot, and 1 while
-/// it is with a seat.
+/// A set of locks. Each lock has a guard word and a slot: the word is 0 while the lock's state is in the slot, and 1
+/// while a seat has the state.
 ///
-/// Each kernel thread uses all of them through one seat of its own. A task is identified by a number that the host
-/// chooses, such as its name or a number for each future. `ask`, `free`, `withdraw` and `check` try the lock's guard
-/// word once. If it is taken, they return `Contended`, and nothing has changed. Otherwise they return the result of the
-/// lock's state.
+/// Each kernel thread uses all of the locks through one seat of its own. A task is identified by a number that the host
+/// chooses, such as its name or a number for each future. `ask`, `free`, `withdraw` and `check` try once to set the
+/// lock's guard word. If the guard word is set already, a call returns `Contended`, and nothing has changed. If not,
+/// the call does its work on the lock's state, and returns the result.
 #[derive(Drop)]
 pub struct Locks {
     table: Table<GuardedLock, KnownLocks, usize, LockRule, Global>,
@@ -84,7 +84,7 @@ fn first_slots(alloc: Global, count: usize) -> Result<Vec<GuardedLock>, AllocErr
 }
 
 impl Locks {
-    /// Creates `count` locks, which may be 0, and the first seat. Nobody has asked for any of them yet.
+    /// Creates `count` locks, which may be 0, and the first seat. No task has asked for any of the locks yet.
     pub fn new(alloc: Global, count: usize) -> Result<(Locks, LockSetSeat), AllocError>
         ensures count { IfOk result (λ made. made.0.count ≡ count) }
         ensures seat { IfOk result (λ made. made.1 ≡ first_seat made.0) }
@@ -104,10 +104,10 @@ impl Locks {
         self.count
     }
 
-    /// Asks for a lock. The task holds it at once if nobody owns it, and waits otherwise.
+    /// Asks for a lock. The task holds the lock at once if nobody owns it, and waits otherwise.
     ///
-    /// Returns `AlreadyIn` if the task owns the lock or waits for it. Memory is taken only if it must wait; if memory
-    /// is refused, nothing changes.
+    /// Returns `AlreadyIn` if the task owns the lock or waits for it. Memory is taken only if the task must wait; if
+    /// memory is refused, nothing changes.
     pub fn ask(
         &self,
         seat: &mut LockSetSeat,
@@ -181,7 +181,9 @@ impl Locks {
         Attempt::Answered(answer)
     }
 
-    /// Splits off a seat for another kernel thread. It has seen what this one has, and has done nothing.
+    /// Splits off a seat for another kernel thread.
+    ///
+    /// The new seat begins with what this seat has seen, and with no tries or events of its own.
     pub fn split(&self, seat: &mut LockSetSeat) -> LockSetSeat
         requires { IsSeatOf self.now seat.old }
         ensures first { seat.new ≡ first_half seat.old }
@@ -191,7 +193,7 @@ impl Locks {
         LockSetSeat { seat: other }
     }
 
-    /// Joins another seat into this one, with all that it has done and seen.
+    /// Joins `other` into `seat`, which then has all that both have done and seen.
     pub fn join(&self, seat: &mut LockSetSeat, other: LockSetSeat)
         requires seat { IsSeatOf self.now seat.old }
         requires other { IsSeatOf self.now other }
@@ -201,7 +203,7 @@ impl Locks {
         self.table.shared.join_seat::<Divide>(&mut seat.seat, spent);
     }
 
-    /// Tries to take a guard once. Returns whether the seat has it, and the lock's state with it.
+    /// Tries once to take a lock's guard. Returns whether the seat has the guard, and with it the lock's state.
     fn take(&self, seat: &mut Seat<GuardedLock, KnownLocks>, lock: usize) -> bool
         requires at { IsLockAt self.now seat.old.table_id lock }
         requires idle { seat.old.me ≡ idle seat.old.me.0.log }
@@ -215,7 +217,7 @@ impl Locks {
         shared.compare_exchange::<TakeGuard>(seat, guard_word(lock), HOME, TAKEN) == HOME
     }
 
-    /// Gives a guard back, and the lock's state with it.
+    /// Gives a lock's guard back, and with it the lock's state.
     fn give_back(&self, seat: &mut Seat<GuardedLock, KnownLocks>, lock: usize)
         requires at { IsLockAt self.now seat.old.table_id lock }
         requires guarded { (history : List QueueEvent) × (guarded : Guarded) × IsReturnable lock history seat.old.me guarded }

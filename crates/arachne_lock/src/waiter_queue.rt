@@ -56,7 +56,7 @@ impl WaiterQueue {
         Ok(())
     }
 
-    /// Removes the front and returns it.
+    /// Removes the task at the front, and returns it.
     pub(crate) fn pop(&mut self) -> Option<u64>
         ensures front { result ≡ slice_get self.old 0 }
         ensures rest { self.new ≡ drop 1 self.old }

@@ -47,7 +47,7 @@ fn enter(
     None
 }
 
-/// Frees a lock. Returns `None` if it wasn't held.
+/// Frees a lock. Returns `None` if the lock wasn't held.
 fn leave(
     locks: &Locks,
     seat: &mut LockSetSeat,
@@ -100,7 +100,8 @@ fn work(locks: &Locks, mut seat: LockSetSeat, who: u64) -> (LockSetSeat, Option<
     (seat, held)
 }
 
-/// Has two threads contend for two locks. Returns the number of holds of each, and then the number of events of a lock.
+/// Has two threads contend for two locks. Returns the number of holds of each thread, and then the number of events of
+/// the second lock.
 fn contend<R: Threads + Sync>(
     rt: &R,
     alloc: Global,

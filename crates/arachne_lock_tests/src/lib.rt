@@ -1,6 +1,6 @@
-//! Tests of locks for hosts, only by public calls: behaviour that no clause states.
+//! Tests of locks for hosts, only by public calls: behaviour that no contract states.
 //!
-//! The locks are proved without them.
+//! The locks are proved without these tests.
 #![tactic(auto)]
 
 #[cfg(test)]

@@ -22,7 +22,7 @@ type Answer = (&'static str, u64, Option<u64>);
 /// A row: the call, the lock, the number of the task, and the expected result.
 type Row = (Call, usize, u64, Answer);
 
-/// 7 holds lock 0, 8 and 9 wait, and 8 leaves, so 9 is next. Lock 1 has its own count of events.
+/// Task 7 holds lock 0, tasks 8 and 9 wait, and task 8 leaves, so task 9 is next. Lock 1 has its own count of events.
 const ROWS: &[Row] = &[
     (Call::Ask, 0, 7, ("granted", 1, None)),
     (Call::Ask, 0, 8, ("queued", 2, None)),

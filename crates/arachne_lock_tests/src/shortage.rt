@@ -1,4 +1,5 @@
-//! Locks without memory: a free lock is held and freed, and a wanted one stays as it was for each ask that is refused.
+//! Locks without memory: a free lock can be held and freed, and each refused ask for a lock that is held leaves the
+//! lock as it was.
 ghost use Rattle.std.specs.Prelude.{◌≡◌, ◌<◌, IfOk};
 ghost use Rattle.arachne_lock.specs.Views.{IsSeatOf, IsLockAt};
 
@@ -6,10 +7,10 @@ use arachne_lock::{Admitted, AskRefusal, Attempt, LockSetSeat, Locks, Released, 
 use arachne_shortage::Hoard;
 use std::alloc::{AllocError, Global};
 
-/// The bytes that are given back if a growth was refused: so few that the next growth of the same call is refused too.
+/// The bytes that the test gives back after a refusal: so few that the next growth of the same call is refused too.
 const FEW: usize = 40;
 
-/// The most asks of the crowd.
+/// The maximum number of asks of the crowd, the tasks that wait for one lock.
 const TRIES: u64 = 100_000;
 
 /// The number of tasks that wait for the lock.
@@ -31,7 +32,7 @@ fn is_held_and_freed(locks: &Locks, seat: &mut LockSetSeat, lock: usize) -> bool
 
 /// Has each task of the crowd ask for `lock`, again and again until there is memory for it.
 ///
-/// Returns the number of refusals, if the lock was as before each time.
+/// Returns the number of refusals, if each left the lock as it was.
 fn all_ask(locks: &Locks, seat: &mut LockSetSeat, lock: usize, hoard: &mut Hoard) -> Option<u64>
     requires { IsLockAt locks.now seat.old.table lock }
     ensures { IsSeatOf locks.now seat.new }

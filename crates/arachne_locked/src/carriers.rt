@@ -1,9 +1,9 @@
-//! The carriers by which a table knows its seats.
+//! The carriers: the numbers by which a table knows its seats.
 ghost use Rattle.std.specs.Prelude.{◌≡◌, ◌≢◌, ◌+◌, ◌<◌};
 
 use std::marker::Model;
 
-/// The carriers that were given to seats. Contracts see the last one.
+/// Gives each seat its carrier, a number. Contracts see the last carrier that was given.
 #[derive(Debug, Drop)]
 pub struct Carriers {
     last: u32,
@@ -18,7 +18,7 @@ impl Model for Carriers {
 }
 
 impl Carriers {
-    /// Creates the carriers, of which the first one, 0, is already given.
+    /// Creates the carriers, of which the first one, 0, is given already.
     pub fn new() -> Self
         ensures { result ≡ 0 }
     {
@@ -27,8 +27,8 @@ impl Carriers {
 
     /// Returns a carrier for a seat that is split off the seat of carrier `other`.
     ///
-    /// It is greater than all before, until the numbers of 32 bits are used up. Then carriers begin at 0 again, and the
-    /// two seats still have different ones.
+    /// The carrier is greater than all before, until the numbers of 32 bits are used up. After that carriers begin at 0
+    /// again, and still two seats that are split from each other have different carriers.
     pub fn next(&mut self, other: u32) -> u32
         ensures last { self.new ≡ result }
         ensures apart { result ≢ other }

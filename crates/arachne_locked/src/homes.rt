@@ -1,4 +1,4 @@
-//! The World, and the values of the threads at rest.
+//! The state of a table (a World), and the values of the threads that no seat holds.
 ghost use Rattle.std.specs.Prelude.{◌≡◌, ◌<◌, ◌≤◌, ◌*◌, ℕ, IfOk, OnOk, OnErr, IfErr, IfSome, IfNone, None, Some, replicate, slice_set, Ok, Err, IsTrue, ◌↔◌};
 ghost use Rattle.arachne_core.specs.ContextTable.{world_of, Answers};
 ghost use Rattle.arachne_core.specs.World.{Allowed, HoldsIn, IsContext};
@@ -16,9 +16,10 @@ use arachne_core::{
 use std::alloc::{AllocError, Global};
 use std::marker::Model;
 
-/// A World, and by context the value of each thread at rest.
+/// The state of a table (a World), and for each context the value of its thread, if no seat holds that thread.
 ///
-/// Such a value is *at home*. The value of a held thread is with the seat that took it.
+/// The value of a thread is *at home* while the table has the value. A seat that has taken a thread has the thread's
+/// value.
 #[derive(Drop)]
 pub struct Homes<T: Tagged> {
     world: World,
@@ -58,7 +59,7 @@ impl<T: Tagged + Drop> Homes<T> {
         Ok(Homes { world, values })
     }
 
-    /// Returns the World.
+    /// Returns the World, the state of the table.
     pub fn world(&self) -> &World
         ensures world { result.now ≡ self.now.table }
         ensures owned_once { OwnedOnce (world_of self.now.table) }
@@ -90,7 +91,8 @@ impl<T: Tagged + Drop> Homes<T> {
         self.world.mark(context).generation()
     }
 
-    /// Reserves memory for `posts` more posts and `retires` more retires.
+    /// Reserves memory for `posts` more posts (threads put into the table) and `retires` more retires (ends of
+    /// threads).
     pub fn reserve(&mut self, posts: usize, retires: usize) -> Result<(), AllocError>
         ensures values { self.new.values ≡ self.old.values }
         ensures kept { self.new.table ≡ record self.old.table { posts = self.new.table.posts; retires = self.new.table.retires } }
@@ -124,9 +126,9 @@ impl<T: Tagged + Drop> Homes<T> {
         }
     }
 
-    /// Posts a thread in a context that the carrier has claimed.
+    /// Posts a thread: puts it, ready to run, into a context that the carrier (a seat) has claimed.
     ///
-    /// Returns the value with the error if it is not posted.
+    /// Returns the value with the error if the thread is not posted there.
     pub fn post(&mut self, carrier: u32, context: u32, value: T) -> Result<(), (NotApplied, T)>
         ensures made { OnOk result (Answers (event.Post carrier context (T.tag_of value)) self.old.table self.new.table (Ok tt)) }
         ensures home { OnOk result (self.new.values ≡ slice_set self.old.values context (Some value)) }
@@ -166,7 +168,7 @@ impl<T: Tagged + Drop> Homes<T> {
         }
     }
 
-    /// Returns whether the carrier holds the thread of this id and tag.
+    /// Returns whether the carrier (a seat) holds the thread of this id and tag.
     pub fn holds(&self, carrier: u32, id: ThreadId, tag: u64) -> bool
         ensures { IsTrue result ↔ HoldsThread (world_of self.now.table) carrier id tag }
     {
@@ -183,7 +185,7 @@ impl<T: Tagged + Drop> Homes<T> {
         }
     }
 
-    /// Puts back a thread that the carrier holds.
+    /// Puts back a thread that the carrier (a seat) holds.
     pub fn put_back(&mut self, carrier: u32, id: ThreadId, value: T, rest: Rest)
         requires { HoldsThread (world_of self.old.table) carrier id (T.tag_of value) }
         ensures made { Answers (event.Rest carrier id.context rest) self.old.table self.new.table (Ok tt) }
@@ -203,7 +205,7 @@ impl<T: Tagged + Drop> Homes<T> {
 }
 
 impl<T: Tagged + Drop> Homes<T> {
-    /// Returns the threads whose values are at home, in the order of the contexts.
+    /// Returns the threads that no seat holds, in the order of the contexts.
     ///
     /// If memory is refused, the table is returned unchanged.
     pub fn close(self, alloc: Global) -> Result<Vec<(ThreadId, T)>, Self>

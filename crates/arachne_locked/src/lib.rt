@@ -1,7 +1,8 @@
 //! A context table behind a lock.
 //!
-//! The lock protects a World and the values of the threads at rest. Each call applies its events there, one after
-//! another, so between any two calls the World is owned once. Tests compare the other form of table with this one.
+//! The lock protects the state of the table (a World) and the values of the threads that no seat holds. Each call
+//! applies its events to the state, one after another, so between any two calls no two threads share a context or a
+//! place. Tests compare the table on atomic words with this one.
 #![tactic(auto)]
 
 mod carriers;

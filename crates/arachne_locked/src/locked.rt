@@ -27,7 +27,7 @@ pub struct LockedContexts<T: Tagged> {
     slots: Slots,
 }
 
-/// Returns the word of a core, or the word of a full core if the table doesn't have it.
+/// Returns the occupancy word of a core, or that of a full core if the table has no such core.
 fn word_of(occ: Option<OccWord>) -> u64
     ensures { IsOccupancyWord result }
 {
@@ -47,9 +47,10 @@ impl<T: Tagged + Drop> LockedContexts<T> {
     }
 }
 
-/// Returns the word if it shows a full core of `slots` places, and otherwise the word of a full core.
+/// Returns the occupancy word if it shows a full core of `slots` places, and otherwise the word of a full core.
 ///
-/// It must test the word, since proofs outside the lock don't know how many places the state behind the lock has.
+/// The function must test the word, since proofs outside the lock don't know how many places the state behind the lock
+/// has.
 fn full_word(word: u64, slots: Slots) -> u64
     ensures { ShowsFull slots result }
 {
@@ -61,7 +62,8 @@ fn full_word(word: u64, slots: Slots) -> u64
     full_core(slots)
 }
 
-/// Returns the word if it shows a core to which no thread may be moved, and otherwise the word of a full core.
+/// Returns the occupancy word if it shows a core to which no thread may be moved, and otherwise the word of a full
+/// core.
 fn no_room_word(word: u64, slots: Slots) -> u64
     ensures { ShowsNoRoom slots result }
 {

@@ -5,10 +5,11 @@ ghost use Rattle.arachne_locked.specs.Seats.{one_more, one_fewer};
 use arachne_weights::Weight;
 use std::marker::Model;
 
-/// A seat of a locked table. The state behind the lock knows it by its carrier.
+/// One thread's right to call a table whose state is behind a lock. The state behind the lock knows the seat by its
+/// carrier, a number.
 ///
-/// Contracts see its carrier, its weight, and how many claims and threads are out with it. A count of 2^32 - 1 no
-/// longer changes.
+/// Contracts see the seat's carrier (its number), its weight, and how many claims and threads it has not spent. A count
+/// that has reached 2^32 - 1 no longer changes.
 #[derive(Debug, Drop)]
 pub struct LockedSeat {
     pub(crate) carrier: u32,
@@ -25,7 +26,7 @@ impl Model for LockedSeat {
 }
 
 impl LockedSeat {
-    /// Counts one more claim or thread that is out.
+    /// Counts one more claim or thread that the seat must spend.
     pub(crate) fn gain(&mut self)
         ensures { self.new ≡ record self.old { out = one_more self.old.out } }
     {

@@ -6,7 +6,7 @@ use std::marker::Model;
 
 /// The number of places of each core, known outside the lock.
 ///
-/// Contracts see it as a number.
+/// Contracts see a `Slots` as a number.
 #[derive(Clone, Copy, Debug)]
 pub struct Slots {
     count: u8,

@@ -21,7 +21,8 @@ use arachne_core::{
 use std::alloc::{AllocError, Global};
 use std::marker::Model;
 
-/// A World and its values at home, with memory reserved for each post and each end of a thread that may come.
+/// The state of a table (a World) and the values of the threads that no seat holds, with memory reserved for each post
+/// and each end of a thread that may come.
 #[derive(Drop)]
 pub struct TableState<T: Tagged> {
     homes: Homes<T>,
@@ -71,8 +72,8 @@ impl<T: Tagged + Drop> TableState<T> {
         Ok(TableState { homes })
     }
 
-    /// Does nothing. Its contract says that the World is owned once, and that a value is at home exactly if its context
-    /// is at rest.
+    /// Does nothing. The contract is a law: no two threads share a context or a place, and the table has a thread's
+    /// value exactly if no seat holds the thread.
     pub fn is_owned_once(&self)
         ensures owned_once { OwnedOnce (world_of self.now.table) }
         ensures home { IsHome T.tag_of (world_of self.now.table) self.now.values }
@@ -109,7 +110,7 @@ impl<T: Tagged + Drop> TableState<T> {
         Some(self.homes.world().occ(core))
     }
 
-    /// Returns the mark word of a context, if the table has it.
+    /// Returns the mark word (the packed state) of a context, if the table has it.
     pub fn look_mark(&self, context: u32) -> Option<MarkWord>
         ensures some { IfSome result (λ mark. IsContext (world_of self.now.table) context × (mark ≡ marked (world_of self.now.table) context)) }
         ensures none { IfNone result (IsContext (world_of self.now.table) context → ⊥) }
@@ -132,7 +133,7 @@ impl<T: Tagged + Drop> TableState<T> {
 
     // ---- claims
 
-    /// Claims a context, after memory is reserved for the thread that may be posted there.
+    /// Claims a context, after memory is reserved for the thread that may be put there.
     fn claim_context(&mut self, claim: Event) -> Result<(), AllocError>
         requires claim { IsClaim claim }
         requires allowed { Allowed (world_of self.old.table) claim }
@@ -216,7 +217,7 @@ impl<T: Tagged + Drop> TableState<T> {
 
     // ---- threads
 
-    /// Posts a thread at a claimed place. Needs no memory.
+    /// Posts a thread: puts it at a claimed place, ready to run. Needs no memory.
     ///
     /// Returns the claim and the value as an error if the table doesn't know the claim.
     pub fn post(
@@ -314,7 +315,7 @@ impl<T: Tagged + Drop> TableState<T> {
         Ok(held.value)
     }
 
-    /// Ends the thread that the carrier holds in a context.
+    /// Ends the thread that the carrier (a seat) holds in a context.
     fn end(&mut self, carrier: u32, context: u32)
         requires { HoldsIn (world_of self.old.table) carrier context }
         ensures events { Takes (world_of self.old.table) (ends (world_of self.old.table) carrier context) (world_of self.new.table) }
@@ -355,7 +356,7 @@ impl<T: Tagged + Drop> TableState<T> {
 
     // ---- cores
 
-    /// Closes a core, if the table has it. Returns its occupancy from before.
+    /// Closes a core, if the table has it. Returns the core's occupancy from before.
     pub fn close_core(&mut self, core: u8) -> Option<OccWord>
         ensures some { IfSome result (λ occ. ShowsCore (world_of self.old.table) core occ × Takes (world_of self.old.table) (event.CloseCore core ∷ []) (world_of self.new.table)) }
         ensures none { IfNone result ((core < (world_of self.old.table).cores → ⊥) × (self.new ≡ self.old)) }
@@ -368,7 +369,7 @@ impl<T: Tagged + Drop> TableState<T> {
         }
     }
 
-    /// Opens a core, if the table has it. Returns its occupancy from before.
+    /// Opens a core, if the table has it. Returns the core's occupancy from before.
     pub fn open_core(&mut self, core: u8) -> Option<OccWord>
         ensures some { IfSome result (λ occ. ShowsCore (world_of self.old.table) core occ × Takes (world_of self.old.table) (event.OpenCore core ∷ []) (world_of self.new.table)) }
         ensures none { IfNone result ((core < (world_of self.old.table).cores → ⊥) × (self.new ≡ self.old)) }
@@ -405,7 +406,7 @@ impl<T: Tagged + Drop> TableState<T> {
         self.move_to(carrier, from, place, to)
     }
 
-    /// Moves a thread at rest, whose core is not exclusive.
+    /// Moves a thread that no seat holds, and whose core is not exclusive.
     fn move_to(&mut self, carrier: u32, from: u32, place: Place, to: u8) -> Moved
         requires within { IsContext (world_of self.old.table) from }
         requires at { (world_of self.old.table).at from ≡ place }
@@ -432,7 +433,7 @@ impl<T: Tagged + Drop> TableState<T> {
         Moved::Moved
     }
 
-    /// Claims the target, moves the thread there, and frees the place that it left.
+    /// Claims the target, moves the thread there, and frees the place that the thread left.
     fn swap(&mut self, carrier: u32, from: u32, target: u32)
         requires { CanMove (world_of self.old.table) from target }
         ensures events { Takes (world_of self.old.table) (event.Claim carrier target ∷ event.Move carrier from target ∷ event.Release carrier target ∷ []) (world_of self.new.table) }
@@ -455,7 +456,7 @@ impl<T: Tagged + Drop> TableState<T> {
 
     // ---- the end
 
-    /// Returns the threads whose values are at home, in the order of the contexts.
+    /// Returns the threads that no seat holds, in the order of the contexts.
     ///
     /// If memory is refused, the table is returned unchanged.
     pub fn close(self, alloc: Global) -> Result<Vec<(ThreadId, T)>, Self>
@@ -473,7 +474,7 @@ impl<T: Tagged + Drop> TableState<T> {
     }
 }
 
-/// Returns the result of putting back a thread that was held in this state.
+/// Returns the result of putting back a thread, if `state` is the state in which it was held.
 fn rested(rest: Rest, state: State) -> Rested
     ensures { result ≡ rests_as rest state }
 {
@@ -483,7 +484,7 @@ fn rested(rest: Rest, state: State) -> Rested
     }
 }
 
-/// Returns whether the context is spent.
+/// Returns whether the context has had its last thread.
 fn is_spent(state: State) -> bool
     ensures { IsTrue result ↔ (state ≡ State.Spent) }
 {

@@ -1,7 +1,7 @@
 //! Runs all threads of a program on one kernel thread, in turn.
 ghost use Rattle.std.specs.Prelude.{[], ◌≡◌, ◌+◌, ◌∷◌, ◌≤◌, ◌<◌, List, map, reverse, sum_by, None, Some, IfOk, OnOk};
-ghost use Rattle.arachne_lang.specs.Program.{source_of};
-ghost use Rattle.arachne_lang.specs.Meaning.{meaning_of};
+ghost use Rattle.arachne_program.specs.Program.{source_of};
+ghost use Rattle.arachne_program.specs.Meaning.{meaning_of};
 ghost use Rattle.arachne_machine.specs.Outcome.{meaning_in, named_holds, IsOfItsName};
 ghost use Rattle.arachne_machine.specs.Nested.{Nested, pending_in};
 ghost use Rattle.arachne_machine.specs.Alone.{OnEnd, Rests, RestsAfter, key, turns_after, turns_left};
@@ -13,14 +13,14 @@ use crate::pause::{NotJoined, Pause};
 use crate::placing::Everywhere;
 use crate::spares::Spares;
 use crate::thread::Thread;
-use arachne_lang::{Line, Meaning, Program, Sequence};
+use arachne_program::{Line, Meaning, Program, Sequence};
 use std::alloc::{AllocError, Global};
 
 /// Returns the meaning of a program, which runs on the calling kernel thread.
 ///
 /// All threads are in one list. The newest one runs for at most `budget` steps at a time; a budget of 0 counts as 1. A
-/// lock that it asks for is granted at once, and it runs on until it releases the lock, since no thread of a checked
-/// program forks while it holds one.
+/// lock that a thread asks for is granted at once, and the thread runs on until it frees the lock: no thread of a
+/// checked program forks while it holds a lock.
 pub fn run_alone(alloc: Global, program: &Program, budget: u32) -> Result<Meaning, AllocError>
     ensures { IfOk result (λ meaning. meaning ≡ meaning_of (source_of program.now)) }
 {
@@ -136,7 +136,7 @@ fn go_on<'p>(
     }
 }
 
-/// Returns the meaning that an outcome has.
+/// Returns the meaning of a program, of which `outcome` is the root's outcome.
 fn meaning(alloc: Global, outcome: DetachedOutcome) -> Result<Meaning, AllocError>
     ensures means { IfOk result (λ meaning. meaning ≡ meaning_in outcome) }
     ensures of_its_name { IsOfItsName outcome }

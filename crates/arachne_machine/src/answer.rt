@@ -1,13 +1,13 @@
-//! The answers to pauses that need no outcome of a child.
+//! The answers to the pauses (a thread stops with a request) that need no outcome of a child.
 use crate::frame::Control;
 use crate::state::State;
 use crate::tables::add_at;
 
-/// The answers to pauses that need no outcome of a child. They take no memory.
+/// The answers to pauses that need no outcome of a child. These steps take no memory.
 impl<'p> State<'p> {
     ghost use Rattle.std.specs.Prelude.{◌≡◌, ℕ, Some};
     ghost use Rattle.std.specs.Borrow.{Bor};
-    ghost use Rattle.arachne_lang.specs.declared.program.Expr.{Expr};
+    ghost use Rattle.arachne_program.specs.declared.program.Expr.{Expr};
     ghost use Rattle.arachne_machine.specs.declared.state.State.{State as TheState};
     ghost use Rattle.arachne_machine.specs.declared.pause.Pending.TheVariants as pause;
     ghost use Rattle.arachne_machine.specs.declared.frame.Control.TheVariants as control;
@@ -50,7 +50,7 @@ impl<'p> State<'p> {
         if self.parents.is_empty() {
             add_at(&mut self.own.holds, lock, 1);
         } else {
-            self.lines.count_hold(self.alloc, self.level.place, lock);
+            self.lines.count_hold(self.level.place, lock);
         }
     }
 

@@ -4,17 +4,17 @@ use crate::lookup::{length_in, variable_in};
 use crate::placing::Placing;
 use crate::spares::Spares;
 use crate::state::{Progress, State};
-use arachne_lang::{Expr, Operation};
+use arachne_program::{Expr, Operation};
 use std::alloc::AllocError;
 
 /// The steps that begin an expression.
 impl<'p> State<'p> {
     ghost use Rattle.std.specs.Prelude.{true, ◌≡◌, ◌≤◌, ◌∷◌, ◌++◌, [], length, slice_index, IfOk, IfSome, OnOk, OnErr};
     ghost use Rattle.std.specs.Borrow.{Bor};
-    ghost use Rattle.arachne_lang.specs.declared.program.Expr.{Expr as Expression};
-    ghost use Rattle.arachne_lang.specs.Tree.{Binary};
-    ghost use Rattle.arachne_lang.specs.Program.{source_of, tree_of};
-    ghost use Rattle.arachne_lang.specs.Value.{array_at, value_of};
+    ghost use Rattle.arachne_program.specs.declared.program.Expr.{Expr as Expression};
+    ghost use Rattle.arachne_program.specs.Tree.{Binary};
+    ghost use Rattle.arachne_program.specs.Program.{source_of, tree_of};
+    ghost use Rattle.arachne_program.specs.Value.{array_at, value_of};
     ghost use Rattle.arachne_machine.specs.declared.frame.Frame.TheVariants as frames;
     ghost use Rattle.arachne_machine.specs.declared.frame.Control.TheVariants as control;
     ghost use Rattle.arachne_machine.specs.declared.state.Progress.TheVariants as ways;
@@ -23,7 +23,7 @@ impl<'p> State<'p> {
     ghost use Rattle.arachne_machine.specs.Steps.{beginning, Changes, IsSame, LeavesOthers, OnStops, Pushes, Reaches, top};
     ghost use Rattle.arachne_machine.specs.Runs.{beginning_in, Comes};
 
-    /// Begins this expression. If its value is known at once, it is returned, and nothing else has changed.
+    /// Begins this expression. If the value of the expression is known at once, returns it and changes nothing else.
     #[inline(always)]
     pub fn begin<P: Placing>(
         &mut self,
@@ -66,8 +66,8 @@ impl<'p> State<'p> {
         }
     }
 
-    /// Begins an operation. If two steps are left, sides that are numbers or variables are evaluated with it, by a step
-    /// each.
+    /// Begins an operation. If at least two steps are left, operands that are numbers or variables are evaluated at
+    /// once, by a step each.
     #[inline(always)]
     fn operate(
         &mut self,

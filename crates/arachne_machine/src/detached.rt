@@ -4,16 +4,16 @@ ghost use Rattle.arachne_machine.specs.Outcome.{IsOfItsName};
 
 use crate::contents::Contents;
 use crate::outcome::OutcomeParts;
-use arachne_lang::{Program, Sequence};
+use arachne_program::{Program, Sequence};
 use std::marker::Model;
 use std::snapshot::Snapshot;
 
 /// An outcome in a box, without a reference to its program.
 ///
-/// Contracts still see the program, and see the same of it as of an `Outcome`.
+/// Contracts still see the program, as for an `Outcome`.
 #[derive(Drop)]
 pub struct DetachedOutcome {
-    /// Takes no bytes: only contracts see it.
+    /// The thread's program. The field takes no bytes, since only contracts see it.
     pub(crate) program: Snapshot<Program>,
     pub(crate) contents: Box<Contents>,
 }
@@ -24,7 +24,7 @@ impl Model for DetachedOutcome {
     ghost Value = { Finished };
 
     ghost use Rattle.std.specs.Coded.{codes};
-    ghost use Rattle.arachne_lang.specs.contracts.program.Expr as expr;
+    ghost use Rattle.arachne_program.specs.contracts.program.Expr as expr;
 
     ghost coded = { Prim.hlevel (codes, expr.the_row.coded) };
 
@@ -36,7 +36,7 @@ impl Model for DetachedOutcome {
 impl DetachedOutcome {
     /// Returns the value, the sums and the lines.
     ///
-    /// Takes memory for a list of the lists of lines. If that is refused, the outcome is the error.
+    /// Takes memory for a list of the lists of lines. If that memory is refused, the outcome is the error.
     pub fn into_parts(self) -> Result<OutcomeParts, DetachedOutcome>
         ensures value { IfOk result (λ parts. parts.value ≡ self.value) }
         ensures sums { IfOk result (λ parts. parts.sums ≡ self.sums) }

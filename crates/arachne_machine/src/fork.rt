@@ -3,23 +3,23 @@ use crate::frame::{Control, Frame, Stretch};
 use crate::placing::Placing;
 use crate::spares::Spares;
 use crate::state::{Progress, State};
-use arachne_lang::{Class, Expr};
+use arachne_program::{Class, Expr};
 use std::alloc::AllocError;
 
 /// The steps that fork a child, and those that begin a part of a sweep.
 impl<'p> State<'p> {
     ghost use Rattle.std.specs.Prelude.{true, ◌≡◌, ◌≤◌, ◌+◌, ◌<◌, ◌^◌, ◌∷◌, ◌++◌, [], IfOk, OnOk, OnErr};
-    ghost use Rattle.arachne_lang.specs.Effects.{tabulated};
+    ghost use Rattle.arachne_program.specs.Effects.{tabulated};
     ghost use Rattle.arachne_machine.specs.declared.line.Ran.TheVariants as ways;
     ghost use Rattle.arachne_machine.specs.declared.frame.Frame.TheVariants as frames;
     ghost use Rattle.arachne_machine.specs.declared.frame.Control.TheVariants as control;
     ghost use Rattle.arachne_machine.specs.declared.state.Progress.TheVariants as progress;
-    ghost use Rattle.arachne_lang.specs.declared.program.Class.TheVariants as classes;
+    ghost use Rattle.arachne_program.specs.declared.program.Class.TheVariants as classes;
     ghost use Rattle.arachne_machine.specs.Sound.{IsSoundState};
     ghost use Rattle.arachne_machine.specs.Runs.{Comes};
     ghost use Rattle.arachne_machine.specs.Steps.{CountsFork, HasLine, IsForkOf, IsSame, IsSpawned};
 
-    /// Forks a child of this class, whose number is that of the fork. The thread goes on with `during`.
+    /// Forks a child of this class. The child's number is the number of the fork. The thread goes on with `during`.
     pub fn fork(
         &mut self,
         class: Class,
@@ -44,7 +44,7 @@ impl<'p> State<'p> {
         )
     }
 
-    /// Makes a fork whose child will run in this place.
+    /// Makes a fork whose child will run in this thread's place.
     #[inline(always)]
     pub fn fork_here(
         &mut self,
@@ -68,7 +68,8 @@ impl<'p> State<'p> {
         Ok(Progress::Begin(during))
     }
 
-    /// Forks a child of this class that begins with `begins`. The thread gets the frame, and goes on with `next`.
+    /// Forks a child of this class that begins with `begins`. The thread keeps `frame` for after the join, and goes on
+    /// with `next`.
     fn spawn(
         &mut self,
         class: Class,
@@ -100,7 +101,7 @@ impl<'p> State<'p> {
         Ok(Progress::Forks(class, state))
     }
 
-    /// Begins a part of a sweep. If it is longer than the grain, its left half is forked.
+    /// Begins a part of a sweep. If the part is longer than the grain, its left half is forked.
     #[inline(always)]
     pub fn cover<P: Placing>(
         &mut self,
@@ -136,7 +137,8 @@ impl<'p> State<'p> {
         ))
     }
 
-    /// Forks a child for the numbers of a part of a sweep below `middle`. The thread goes on with the others.
+    /// Forks a child for the numbers of a part of a sweep below `middle`. The thread goes on with the numbers from
+    /// `middle` on.
     fn halve(
         &mut self,
         stretch: Stretch<'p>,
@@ -170,8 +172,8 @@ impl<'p> State<'p> {
         )
     }
 
-    /// Splits a part of a sweep, whose left half will run in this place, as a child. The thread goes on with the right
-    /// half.
+    /// Splits a part of a sweep, whose left half will run as a child in this thread's place. The thread goes on with
+    /// the right half.
     #[inline(always)]
     fn halve_here(&mut self, stretch: Stretch<'p>, middle: u64) -> Result<Progress<'p>, AllocError>
         requires number { self.old.level.forks + 1 < 2 ^ 64 }

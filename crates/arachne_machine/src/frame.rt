@@ -1,5 +1,5 @@
 //! The next action of a thread, and the frames that say what comes after it.
-use arachne_lang::{Expr, Operation, Reduction};
+use arachne_program::{Expr, Operation, Reduction};
 
 /// A part of a sweep: the numbers from `first` to below `end`.
 #[derive(Clone, Copy)]
@@ -14,46 +14,47 @@ pub struct Stretch<'p> {
 /// The next action of a thread.
 #[derive(Clone, Copy)]
 pub enum Control<'p> {
-    /// It begins an expression.
+    /// The thread begins an expression.
     Begin(&'p Expr),
-    /// It hands a value to the newest frame.
+    /// The thread hands a value to the newest frame.
     Give(u64),
-    /// It begins a part of a sweep.
+    /// The thread begins a part of a sweep.
     Cover(Stretch<'p>),
-    /// It has forked a child, and begins this expression once the child has been taken.
+    /// The thread has forked a child, and begins this expression once the child has been taken.
     Forked(&'p Expr),
-    /// It has forked the left half of a part of a sweep, and begins the right half once the child has been taken.
+    /// The thread has forked the left half of a part of a sweep, and begins the right half once the child has been
+    /// taken.
     Halved(Stretch<'p>),
-    /// It awaits the outcome of its child of this number, and goes on with the expression `after`. `during` is the
-    /// value of the expression that it has evaluated meanwhile.
+    /// The thread awaits the outcome of its child of this number, and goes on with the expression `after`. `during` is
+    /// the value of the expression that the thread has evaluated meanwhile.
     Awaits {
         number: u64,
         during: u64,
         after: &'p Expr,
     },
-    /// It awaits the value of the left half of a part of a sweep. `right` is the value of the right half.
+    /// The thread awaits the value of the left half of a part of a sweep. `right` is the value of the right half.
     AwaitsHalf {
         number: u64,
         right: u64,
         reduction: Reduction,
     },
-    /// It asks for a lock, and begins this expression once it holds it.
+    /// The thread asks for a lock, and begins this expression once it holds the lock.
     Asks {
         lock: u64,
         body: &'p Expr,
     },
-    /// It releases a lock, and then hands this value on.
+    /// The thread releases a lock, and then hands this value on.
     Frees {
         lock: u64,
         value: u64,
     },
-    /// It adds an amount to a ledger, and then begins this expression.
+    /// The thread adds an amount to a ledger, and then begins this expression.
     Tallies {
         ledger: u64,
         amount: u64,
         body: &'p Expr,
     },
-    /// It has ended with this value.
+    /// The thread has ended with this value.
     Ended(u64),
 }
 
@@ -84,7 +85,7 @@ pub enum Frame<'p> {
         number: u64,
         reduction: Reduction,
     },
-    /// The child of this number begins in its parent's place. Once it has ended, the expression `after` is next.
+    /// The child of this number begins in its parent's place. Once the child has ended, the expression `after` is next.
     JoinHere {
         number: u64,
         child: &'p Expr,
@@ -112,8 +113,8 @@ pub enum Frame<'p> {
     SweepTo(Reduction, u64, &'p Expr, &'p Expr),
     /// The value is the end of a sweep from this number on, with this body.
     SweepStart(Reduction, u64, u64, &'p Expr),
-    /// The value is that of a number of a sweep, and is reduced with the value so far. The newest variable is that
-    /// number.
+    /// The value is that of a sweep's body for one number, and is reduced with the value so far. The newest variable is
+    /// that number.
     SweepTurn {
         reduction: Reduction,
         next: u64,

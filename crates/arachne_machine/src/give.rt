@@ -3,14 +3,14 @@ use crate::frame::{Control, Frame, Stretch};
 use crate::lookup::item_in;
 use crate::placing::Placing;
 use crate::state::{Progress, State};
-use arachne_lang::Expr;
+use arachne_program::Expr;
 use std::alloc::AllocError;
 
 /// The steps that hand a value on.
 impl<'p> State<'p> {
     ghost use Rattle.std.specs.Prelude.{true, ◌≡◌, ◌+◌, ◌<◌, ◌≤◌, ◌++◌, ◌∷◌, [], length, slice_index, vec_len, vec_capacity, IfOk, IsErr, OnOk, OnErr};
-    ghost use Rattle.arachne_lang.specs.Program.{source_of};
-    ghost use Rattle.arachne_lang.specs.Value.{array_at, with_newest};
+    ghost use Rattle.arachne_program.specs.Program.{source_of};
+    ghost use Rattle.arachne_program.specs.Value.{array_at, with_newest};
     ghost use Rattle.arachne_machine.specs.declared.state.State.{State as Whole};
     ghost use Rattle.arachne_machine.specs.declared.frame.Frame.TheVariants as frames;
     ghost use Rattle.arachne_machine.specs.declared.frame.Control.TheVariants as control;
@@ -21,10 +21,10 @@ impl<'p> State<'p> {
     ghost use Rattle.arachne_machine.specs.Runs.{Comes, FoldsOn, HandsResult, IsOneStep, IsPoppedIn, RunsOn, SweepsOn, giving_in, seen_in};
     ghost use Rattle.arachne_machine.specs.declared.state.Progress.TheVariants as ways;
 
-    /// Hands a value on from frame to frame until one of them says what is next, or none is left.
+    /// Hands a value on from frame to frame, until a frame says what comes next or no frame is left.
     ///
-    /// A value of a child that ran in this place goes on to its parent. If memory is refused, the value still has
-    /// to be handed on.
+    /// The value of a child that ran in its parent's place goes on to the parent. If memory is refused, the value still
+    /// has to be handed on.
     #[inline(always)]
     pub fn give<P: Placing>(
         &mut self,
@@ -49,8 +49,8 @@ impl<'p> State<'p> {
         }
     }
 
-    /// Hands a value to the newest frame of the innermost thread. If it has no frame, the thread has ended, and its
-    /// parent goes on.
+    /// Hands a value to the newest frame of the innermost thread. If the innermost thread has no frame, it has ended,
+    /// and its parent goes on.
     #[inline(always)]
     fn hand_newest<P: Placing>(
         &mut self,
@@ -91,7 +91,7 @@ impl<'p> State<'p> {
         Err(AllocError)
     }
 
-    /// Reserves the room for the variables and the frame that a value begins.
+    /// Reserves room for the variables and the frame that may come with a value.
     pub fn reserve_turn(&mut self) -> Result<(), AllocError>
         ensures same { IsSame self.old self.new }
         ensures environment { OnOk result (vec_len self.new.environment + 2 ≤ vec_capacity self.new.environment) }
@@ -101,7 +101,7 @@ impl<'p> State<'p> {
         self.frames.try_reserve(1)
     }
 
-    /// Hands a value to this frame, which was the newest and was taken off. If memory is refused, it is the newest
+    /// Hands a value to this frame, which was the newest and was popped. If memory is refused, the frame is the newest
     /// again.
     #[inline(always)]
     fn hand<P: Placing>(
@@ -157,7 +157,7 @@ impl<'p> State<'p> {
         }
     }
 
-    /// Goes back to before the step in which this value was handed to this frame.
+    /// Undoes the step in which this value was handed to this frame.
     #[cold]
     #[inline(never)]
     fn stand_before(&mut self, frame: Frame<'p>, value: u64)
@@ -298,8 +298,8 @@ impl<'p> State<'p> {
         }
     }
 
-    /// Begins an expression after a frame was taken off. `frame` takes its room, and says what comes after the
-    /// expression.
+    /// Begins an expression after a frame was popped. `frame` takes the room of that frame, and says what comes after
+    /// the expression.
     #[inline(always)]
     pub fn go_on(&mut self, frame: Frame<'p>, part: &'p Expr) -> Progress<'p>
         requires { vec_len self.old.frames + 1 ≤ vec_capacity self.old.frames }
@@ -325,8 +325,8 @@ impl<'p> State<'p> {
         Progress::Begin(body)
     }
 
-    /// Hands on the result of a fold, of a part of a sweep or of two halves, which is a step of its own. It is made at
-    /// once if a step is left.
+    /// Hands on the result of a fold, of a part of a sweep or of two halves, which is a step of its own. That step is
+    /// made at once if a step is left.
     #[inline(always)]
     pub fn hand_result(&mut self, value: u64, left: &mut u32) -> Progress<'p>
         ensures same { Changes self.old (seen_in result self.new) self.old.environment.items self.old.frames.items (control.Give value) }

@@ -7,11 +7,11 @@ use crate::frame::Control;
 /// The part of a state that belongs to one of the threads that run in its place.
 #[derive(Clone, Copy)]
 pub struct Level {
-    /// The number of frames below its own.
+    /// The number of frames below the thread's own.
     pub start: usize,
-    /// The number of threads that it has forked.
+    /// The number of threads that the thread has forked.
     pub forks: u64,
-    /// The place of its line among those below the outermost thread, whose own line is apart.
+    /// The index of the thread's line among the lines below the outermost thread, whose own line is kept apart.
     pub place: usize,
 }
 
@@ -29,7 +29,8 @@ impl Level {
 
     /// Returns the level with `start` more frames before its own.
     ///
-    /// The line of the outermost thread, which was apart, is at `place` then, and those of the others are behind it.
+    /// The line of the outermost thread, which was kept apart, is then at `place`, and the lines of the others are
+    /// behind it.
     #[inline(always)]
     pub fn moved(self, outermost: bool, start: usize, place: usize) -> Level
         requires start { start + self.start < 2 ^ 64 }
@@ -54,13 +55,13 @@ impl Level {
 #[derive(Clone, Copy)]
 pub struct Parent<'p> {
     pub level: Level,
-    /// The child that it awaits, and its action after the join.
+    /// The child that the thread awaits, and the thread's action after the join.
     pub control: Control<'p>,
 }
 
-/// Adds the threads that wait in another state, the outermost first, behind these.
+/// Appends `others`, the threads that wait in another state, to `parents`, the outermost first.
 ///
-/// `start` frames come before theirs, and their lines are from `place` on. There must be room for them.
+/// `start` frames come before the frames of `others`, whose lines begin at `place`. There must be room for `others`.
 pub fn move_parents<'p>(
     parents: &mut Vec<Parent<'p>>,
     others: &[Parent<'p>],

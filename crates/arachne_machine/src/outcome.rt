@@ -4,11 +4,11 @@ ghost use Rattle.arachne_machine.specs.Outcome.{IsOfItsName};
 
 use crate::contents::Contents;
 use crate::thread_lines::ThreadLines;
-use arachne_lang::{Name, Program, Sequence};
+use arachne_program::{Name, Program, Sequence};
 use std::marker::Model;
 
-/// The outcome of a thread that has ended: its value, the ledger sums, and the lines of itself and of all threads below
-/// it. It is the one that the program's meaning has for the thread of that name.
+/// The outcome of a thread that has ended: its value, the ledger sums, and the lines of itself and of its descendants.
+/// This outcome is the one that the program's meaning gives for the thread of that name.
 #[derive(Debug, Drop)]
 pub struct Outcome<'p> {
     pub(crate) program: &'p Program,
@@ -21,7 +21,7 @@ impl<'p> Model for Outcome<'p> {
     ghost Value = { Finished };
 
     ghost use Rattle.std.specs.Coded.{codes};
-    ghost use Rattle.arachne_lang.specs.contracts.program.Expr as expr;
+    ghost use Rattle.arachne_program.specs.contracts.program.Expr as expr;
 
     ghost coded = { Prim.hlevel (codes, expr.the_row.coded) };
 
@@ -36,7 +36,7 @@ pub struct OutcomeParts {
     pub value: u64,
     /// For each ledger, its sum, modulo 2^64.
     pub sums: Sequence<u64>,
-    /// The thread's own line, then those of the threads below it.
+    /// The thread's own line, then those of its descendants.
     pub lines: ThreadLines,
 }
 
@@ -65,7 +65,7 @@ impl<'p> Outcome<'p> {
 
     /// Returns the value, the sums and the lines.
     ///
-    /// Takes memory for a list of the lists of lines. If that is refused, the outcome is the error.
+    /// Takes memory for a list of the lists of lines. If that memory is refused, the outcome is the error.
     pub fn into_parts(self) -> Result<OutcomeParts, Outcome<'p>>
         ensures value { IfOk result (λ parts. parts.value ≡ self.entry.value) }
         ensures sums { IfOk result (λ parts. parts.sums ≡ self.entry.sums) }

@@ -1,6 +1,6 @@
 //! The reasons why a thread pauses, and the pauses that are pending.
 use crate::thread::Thread;
-use arachne_lang::Class;
+use arachne_program::Class;
 use std::fmt;
 use thiserror::Error;
 
@@ -9,17 +9,17 @@ use thiserror::Error;
 pub enum Pause<'p> {
     /// The budget is used up. Advance the thread again.
     Budget,
-    /// It forks a child of this class. Give the child away and call `forked`, or hand it to `in_place`.
+    /// The thread forks a child of this class. Give the child away and call `forked`, or hand it to `in_place`.
     Forks(Class, Thread<'p>),
-    /// It awaits the outcome of a child. Hand that to `joined`, or hand the child to `in_place`.
+    /// The thread awaits the outcome of a child. Hand that outcome to `joined`, or hand the child to `in_place`.
     Joins,
-    /// It asks for this lock. Call `granted` once the thread has it.
+    /// The thread asks for this lock. Call `granted` once it has the lock.
     Asks(u64),
-    /// It releases this lock. Call `freed`.
+    /// The thread releases this lock. Call `freed`.
     Frees(u64),
-    /// It adds to the ledger of the first number the second number. Call `tallied`.
+    /// The thread adds the second number to the ledger whose number is the first. Call `tallied`.
     Tallies(u64, u64),
-    /// It has ended. Call `finish`.
+    /// The thread has ended. Call `finish`.
     Ended,
 }
 
@@ -28,19 +28,19 @@ pub enum Pause<'p> {
 pub enum Pending {
     Forks,
     Joins,
-    /// The lock's number.
+    /// The thread asks for the lock of this number.
     Asks(u64),
-    /// The lock's number.
+    /// The thread releases the lock of this number.
     Frees(u64),
-    /// The ledger's number, and the amount.
+    /// The thread adds an amount to a ledger: the ledger's number, and the amount.
     Tallies(u64, u64),
     Ended,
 }
 
-/// The reason why an outcome was not joined. The outcome is returned with it.
+/// The reason why an outcome was not joined. The outcome is returned with the reason.
 #[derive(Drop, Error)]
 pub enum NotJoined<O> {
-    /// It is not the outcome of the awaited child.
+    /// The outcome is not that of the awaited child.
     #[error("the outcome of another thread")]
     Foreign(O),
     /// Memory was refused.
@@ -58,10 +58,10 @@ impl<O> fmt::Debug for NotJoined<O> {
     }
 }
 
-/// The reason why a child was not placed. The child is returned with it.
+/// The reason why a child was not placed. The child is returned with the reason.
 #[derive(Drop, Error)]
 pub enum NotPlaced<'p> {
-    /// It is not the awaited child.
+    /// The child is not the awaited one.
     #[error("another thread")]
     Foreign(Thread<'p>),
     /// Memory was refused.

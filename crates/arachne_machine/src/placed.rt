@@ -4,19 +4,19 @@ use crate::line::Ran;
 use crate::placing::Placing;
 use crate::spares::Spares;
 use crate::state::State;
-use arachne_lang::Class;
+use arachne_program::Class;
 use std::alloc::AllocError;
 
 /// A child that was not placed, with the reason.
 #[derive(Drop)]
 pub enum Unplaced<'p> {
-    /// It is not the awaited child.
+    /// The child is not the awaited one.
     Foreign(Box<State<'p>>),
     /// Memory was refused.
     Memory(Box<State<'p>>),
 }
 
-/// The steps of a thread with the children that were handed back to it. The newest is the last.
+/// The steps of a thread with the children that were handed back to it. The newest child is the last.
 impl<'p> State<'p> {
     ghost use Rattle.std.specs.Prelude.{◌≡◌, ◌≤◌, None, Some, true, All, IfOk, OnOk, OnErr};
     ghost use Rattle.arachne_machine.specs.declared.pause.Pending.TheVariants as pause;
@@ -28,7 +28,7 @@ impl<'p> State<'p> {
 
     /// Advances by at most `left` steps, until the thread pauses, and subtracts the steps that were made from `left`.
     ///
-    /// If the innermost thread comes to await the newest of these children, that child goes on in its place. Returns
+    /// If the innermost thread begins to await the newest child of `placed`, that child goes on in its place. Returns
     /// the child if the thread pauses for a fork. If memory is refused, the thread stands before the step that was
     /// refused, which is not subtracted.
     pub fn advance_with<P: Placing>(
@@ -63,8 +63,8 @@ impl<'p> State<'p> {
         Ok(None)
     }
 
-    /// If the innermost thread awaits the newest of these children, lets that child go on in its place. Returns whether
-    /// it did.
+    /// If the innermost thread awaits the newest child of `placed`, lets that child go on in its place. Returns whether
+    /// the child goes on.
     #[inline(always)]
     fn take_up(
         &mut self,
@@ -83,8 +83,8 @@ impl<'p> State<'p> {
         }
     }
 
-    /// Lets the newest of these children go on in this place if the innermost thread, which awaits a child, awaits that
-    /// one. Returns whether it did.
+    /// Lets the newest child of `placed` go on in this place, if it is the one that the innermost thread awaits.
+    /// Returns whether the child goes on.
     ///
     /// If memory is refused, the thread stands before the step in which it began to await the child.
     #[cold]
@@ -119,9 +119,9 @@ impl<'p> State<'p> {
 
     /// Takes back a child to run it in this place.
     ///
-    /// A child that was just forked waits, and begins before the children `others` that were handed back to it. An
-    /// awaited child goes on here at once, and `others` are the newest of these children. After an error nothing has
-    /// changed but capacities.
+    /// A child that was just forked waits to run here, and will begin before `others`, the children that were handed
+    /// back to it. An awaited child goes on here at once, and `others` become the newest children of `placed`. After an
+    /// error nothing has changed but capacities.
     pub fn place(
         &mut self,
         placed: &mut Vec<Box<State<'p>>>,
@@ -142,8 +142,8 @@ impl<'p> State<'p> {
         }
     }
 
-    /// Takes back a child that was just forked. It waits to run here, and begins before the children that were handed
-    /// back to it.
+    /// Takes back a child that was just forked. The child waits to run here, and will begin before `grandchildren`, the
+    /// children that were handed back to it.
     fn wait_with(
         &mut self,
         placed: &mut Vec<Box<State<'p>>>,
@@ -165,7 +165,8 @@ impl<'p> State<'p> {
         Ok(())
     }
 
-    /// Lets the awaited child go on here. The children that were handed back to it are the newest of these.
+    /// Lets the awaited child go on here. `others`, the children that were handed back to it, become the newest of
+    /// `placed`.
     fn go_on_with(
         &mut self,
         placed: &mut Vec<Box<State<'p>>>,

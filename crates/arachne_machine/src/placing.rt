@@ -1,15 +1,16 @@
-//! The questions of a thread to its caller: at a fork for a place, at a tally for a taker of the amount.
+//! The questions that a thread asks its caller: at a fork, whether the child may get a place; at a tally, whether the
+//! caller takes the amount.
 ghost use Rattle.std.specs.Prelude.{◌≡◌, ℕ, Bool, true, false, IsTrue};
 ghost use Rattle.arachne_machine.specs.Tallying.{GainsAt};
 
-use arachne_lang::Class;
+use arachne_program::Class;
 
 /// The questions of a thread at its forks. Any answer is correct.
 pub trait Placing {
     /// True if `is_any` returns true for each child.
     ghost gives_all: { Bool };
 
-    /// Returns whether a child of this class may get a place of its own. If it may, the fork is a pause. If not, the
+    /// Returns whether a child of this class may get a place of its own. If true, the fork is a pause. If false, the
     /// child runs in its parent's place, and the fork is no pause.
     fn is_any(&mut self, class: Class) -> bool
         ensures { gives_all ≡ true → IsTrue result };
@@ -30,7 +31,7 @@ pub trait Tallying {
     /// The amount that is due to each ledger, modulo 2^64.
     ghost due_to: { Self → ℕ → ℕ };
 
-    /// Takes an amount for this ledger. Returns false, and changes nothing, if it doesn't take it.
+    /// Takes an amount for this ledger. Returns false, and changes nothing, if it doesn't take the amount.
     fn take(&mut self, ledger: u64, amount: u64) -> bool
         ensures taken { result ≡ true → GainsAt (due_to self.old) ledger amount (due_to self.new) }
         ensures full { result ≡ false → self.new ≡ self.old };

@@ -1,16 +1,17 @@
 //! The memory that ended threads leave for new ones.
 use crate::contents::Contents;
 use crate::state::State;
-use arachne_lang::Program;
+use arachne_program::Program;
 use std::alloc::{AllocError, Global};
 use std::marker::Model;
 
-/// The maximum number of states that are kept, and that of boxes.
+/// The maximum number of states of ended threads that are kept, and also of boxes of outcomes.
 const MOST: usize = 64;
 
 /// The memory that ended threads leave for new ones, for the threads of one core.
 ///
-/// It consists of their states, with the room of their environments and frames, and of the boxes of joined outcomes.
+/// The memory consists of the states of ended threads, with the room of their environments and frames, and of the boxes
+/// of joined outcomes.
 #[derive(Drop)]
 pub struct Spares<'p> {
     most: usize,

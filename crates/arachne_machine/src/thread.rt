@@ -1,6 +1,6 @@
 //! A thread with those that run in its place, with the calls that advance, answer and join it.
 ghost use Rattle.std.specs.Prelude.{◌≡◌, ◌≢◌, ◌↔◌, ◌≤◌, ◌+◌, ◌-◌, ℕ, ◌∷◌, [], ◌++◌, true, false, Err, None, Some, IfOk, IfSome, OnOk, IfErr, OnErr, IsTrue};
-ghost use Rattle.arachne_lang.specs.Effects.{tabulated};
+ghost use Rattle.arachne_program.specs.Effects.{tabulated};
 ghost use Rattle.arachne_machine.specs.Suspended.{IsAnswered, IsAsk, IsFree, IsFresh, IsNext, IsTally, Joined, SameThread, added, awaited, own_line_of, raised};
 ghost use Rattle.arachne_machine.specs.Advance.{AdvancedAlone, AwaitsAt, Moves, PlacesNone, RefusedAlone, IsForeign, IsCharged, IsNotAwaited, IsSpentAt, PausesAt, child_back, handed_back, pause_seen};
 ghost use Rattle.arachne_machine.specs.Nested.{AwaitsElsewhere, FallsBy, IsAlone, IsChildOf, IsNested, IsPlacing, IsRest, MayBePlaced, Nested, PlacesAtFork, SameWhole, alone, begun_in, pending_in, spilled_of, whole, with_tag, work_in};
@@ -10,8 +10,8 @@ ghost use Rattle.arachne_machine.specs.Kept.{IsSoundChild, nested};
 ghost use Rattle.arachne_machine.specs.Outcome.{IsOfItsName, finished};
 ghost use Rattle.arachne_machine.specs.Trace.{At, trace_of};
 ghost use Rattle.arachne_machine.specs.Work.{work_of};
-ghost use Rattle.arachne_lang.specs.Checked.{IsChecked};
-ghost use Rattle.arachne_lang.specs.Program.{source_of};
+ghost use Rattle.arachne_program.specs.Checked.{IsChecked};
+ghost use Rattle.arachne_program.specs.Program.{source_of};
 ghost use Rattle.arachne_machine.specs.declared.pause.Pending.TheVariants as pause;
 ghost use Rattle.arachne_machine.specs.declared.join.Unjoined.TheVariants as unjoined;
 
@@ -26,15 +26,15 @@ use crate::placed::Unplaced;
 use crate::placing::{Everywhere, Placing, Tallying};
 use crate::spares::Spares;
 use crate::state::State;
-use arachne_lang::{Class, Name, Program};
+use arachne_program::{Class, Name, Program};
 use std::alloc::{AllocError, Global};
 use std::marker::Model;
 use std::snapshot::Snapshot;
 
 /// A thread of a program between two steps, with the threads that run in its place.
 ///
-/// A child that was placed here runs once its parent awaits it, and its parent goes on once it has ended. A thread is
-/// not `Clone`: each thread runs once.
+/// A child that was placed here runs once its parent awaits it, and the parent goes on once the child has ended. A
+/// thread is not `Clone`: each thread runs once.
 #[derive(Drop)]
 pub struct Thread<'p> {
     /// The thread, and the threads that have begun in its place.
@@ -50,7 +50,7 @@ impl<'p> Model for Thread<'p> {
     ghost Value = { Nested };
 
     ghost use Rattle.std.specs.Coded.{codes};
-    ghost use Rattle.arachne_lang.specs.contracts.program.Expr as expr;
+    ghost use Rattle.arachne_program.specs.contracts.program.Expr as expr;
 
     ghost coded = { Prim.hlevel (codes, expr.the_row.coded) };
 
@@ -96,8 +96,8 @@ impl<'p> Thread<'p> {
         self.state.program
     }
 
-    /// Returns the tag of the innermost thread that runs in this one's place. It makes the next step, and a pending
-    /// pause is its pause.
+    /// Returns the tag of the innermost thread that runs in this thread's place. That thread makes the next step, and a
+    /// pending pause is its pause.
     pub fn running_tag(&self) -> u64
         ensures { result ≡ self.now.running.label.tag }
     {
@@ -123,7 +123,8 @@ impl<'p> Thread<'p> {
         self.state.own.label.ran = Ran::Spill;
     }
 
-    /// Returns the pending pause, if there is one. It is that of the innermost thread.
+    /// Returns the pending pause, if there is one. The pause is that of the innermost thread, which runs in this
+    /// thread's place.
     pub fn pending(&self) -> Option<Pending>
         ensures pending { result ≡ pending_in self.now }
         ensures next { IsNext self.now.running.pending self.now.running.trace }
@@ -133,7 +134,8 @@ impl<'p> Thread<'p> {
         self.state.pending()
     }
 
-    /// Advances by at most `budget` steps. Each beginning of a node is a step of its own, and each fork is a pause.
+    /// Advances by at most `budget` steps. To begin a node of an expression is a step of its own, and each fork is a
+    /// pause.
     ///
     /// If memory is refused, the thread stands before the step that was refused, and the same call goes on from there.
     pub fn advance(&mut self, budget: u32) -> Result<Pause<'p>, AllocError>
@@ -154,12 +156,12 @@ impl<'p> Thread<'p> {
         self.advance_within(&mut left, &mut spares, &mut Everywhere)
     }
 
-    /// Advances by at most `left` steps, and subtracts those that were made: all at `Budget`, at least one at another
-    /// pause.
+    /// Advances by at most `left` steps, and subtracts those that were made: all of them if the pause is `Budget`, at
+    /// least one at any other pause.
     ///
-    /// A fork for whose child there is no place is no pause: the child runs in this thread's place, once it is awaited.
-    /// Any other child begins with memory that ended threads have left. If memory is refused, the thread stands before
-    /// the step that was refused, as with `advance`.
+    /// If there is no place for the child of a fork, the fork is no pause: the child runs in this thread's place, once
+    /// it is awaited. Any other child begins with memory that ended threads have left. If memory is refused, the thread
+    /// stands before the step that was refused, as with `advance`.
     pub fn advance_within<P: Placing>(
         &mut self,
         left: &mut u32,
@@ -220,7 +222,8 @@ impl<'p> Thread<'p> {
         Ok(Pause::Budget)
     }
 
-    /// Makes the tally at which the thread has paused. Returns whether there is one and `due` has taken its amount.
+    /// Makes the tally at which the thread has paused. Returns whether the thread has paused at a tally and `due` has
+    /// taken its amount.
     #[inline(always)]
     fn tally<D: Tallying>(&mut self, due: &mut D) -> bool
         ensures made { result ≡ true → (ledger amount : ℕ) × IsTallied ledger amount self.old self.new × GainsAt (D.due_to due.old) ledger amount (D.due_to due.new) }
@@ -236,7 +239,7 @@ impl<'p> Thread<'p> {
         true
     }
 
-    /// Advances until the thread pauses. Returns the child if it pauses for a fork.
+    /// Advances until the thread pauses. Returns the child if the thread pauses for a fork.
     #[inline(always)]
     fn stop<P: Placing>(
         &mut self,
@@ -275,8 +278,8 @@ impl<'p> Thread<'p> {
 
     /// Runs a child in this thread's place.
     ///
-    /// At a fork the child must be the one that was forked, and runs once it is awaited. At a join it must be the
-    /// awaited one, and runs at once. After an error nothing has changed, and the child is returned.
+    /// At a fork the child must be the one that was forked, and runs once it is awaited. At a join the child must be
+    /// the awaited one, and runs at once. After an error nothing has changed, and the child is returned.
     pub fn in_place(&mut self, child: Thread<'p>) -> Result<(), NotPlaced<'p>>
         requires pending { IsPlacing (pending_in self.old) }
         requires child { MayBePlaced self.old child }

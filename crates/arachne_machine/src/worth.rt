@@ -1,15 +1,15 @@
 //! Evaluates expressions without effects by plain recursion, as far as steps are left.
 ghost use Rattle.std.specs.Prelude.{◌≡◌, ◌≤◌, ◌+◌, ◌-◌, vec_len, vec_capacity, IfSome, MatchOption};
-ghost use Rattle.arachne_lang.specs.Program.{source_of, tree_of};
-ghost use Rattle.arachne_lang.specs.Value.{with_newest};
+ghost use Rattle.arachne_program.specs.Program.{source_of, tree_of};
+ghost use Rattle.arachne_program.specs.Value.{with_newest};
 ghost use Rattle.arachne_machine.specs.Pure.{IsWorth};
 
 use crate::lookup::{item_in, length_in, variable_in};
-use arachne_lang::{Expr, Program};
+use arachne_program::{Expr, Program};
 
 /// Returns the value of the body of an iteration, if it has no effects and needs no more steps than are left.
 ///
-/// Each of its steps is subtracted from `left`.
+/// Each step of the body is subtracted from `left`.
 #[inline(always)]
 pub fn body_at_once(
     program: &Program,
@@ -32,10 +32,10 @@ pub fn body_at_once(
     Some(value)
 }
 
-/// Returns the value of an expression, if it needs no more steps than are left beside its own.
+/// Returns the value of an expression, if its parts need no more steps than are left.
 ///
-/// It may consist of numbers, variables, lengths, items, operations, choices and bindings; for others it returns
-/// `None`. The environment is unchanged.
+/// The expression may consist of numbers, variables, lengths, items, operations, choices and bindings. The result is
+/// `None` for any other expression. The environment is unchanged.
 #[cycle(recursion)]
 fn value_at_once(
     program: &Program,
@@ -115,7 +115,8 @@ fn side_at_once(
     }
 }
 
-/// Like `value_at_once`, with `newest` as the newest variable. Returns `None` too if there is no room for it.
+/// Like `value_at_once`, with `newest` as the newest variable. Returns `None` too if there is no room for that
+/// variable.
 #[cycle(recursion)]
 fn bound_at_once(
     program: &Program,

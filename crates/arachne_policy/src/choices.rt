@@ -11,9 +11,9 @@ pub struct CoreLoad {
 
 /// Returns the core for a new thread: of two entries that the word picks, the one with fewer threads.
 ///
-/// On a tie it is the first of the two. With n entries the low 32 bits of the word modulo n pick the first entry, and
-/// the high 32 bits modulo n the second. This is the power of two random choices (Mitzenmacher, 2001), as Arachne uses
-/// it for thread creation.
+/// On a tie the result is the core of the first entry. With n entries the low 32 bits of the word modulo n pick the
+/// first entry, and the high 32 bits modulo n the second. This is the power of two random choices (Mitzenmacher, 2001),
+/// as Arachne uses it for thread creation.
 pub fn two_choices(word: u64, loads: &[CoreLoad]) -> u8
     requires { 0 < length loads.now }
     ensures formula { result ≡ chosen_core word loads.now }

@@ -9,8 +9,8 @@ use crate::limits::MAX_CORES;
 use crate::samples::{Advice, BadSample, Sample};
 use std::marker::Model;
 
-/// An estimator of the number of cores, which judges samples one after another. It advises one core more by load, and
-/// one fewer by utilisation with hysteresis.
+/// An estimator of the number of cores, which judges samples one after another. The estimator advises one core more by
+/// load, and one fewer by utilisation with hysteresis.
 ///
 /// This is the form of Arachne's load estimator (Qin and others, OSDI 2018). A core is added if scans see too many
 /// runnable threads; the utilisation at which that happened becomes the threshold for the new number of cores. A core
@@ -38,8 +38,8 @@ impl Model for Estimator {
 impl Estimator {
     /// Creates an estimator that has seen no sample.
     ///
-    /// A load over `up` thousandths of a thread per scan asks for a core, up to `max` cores. A utilisation below the
-    /// threshold by more than `hysteresis` thousandths of a core gives one back.
+    /// A load over `up` thousandths of a thread per scan (look at one core) asks for a core, up to `max` cores. A
+    /// utilisation below the threshold by more than `hysteresis` thousandths of a core gives one back.
     pub fn new(up: u64, hysteresis: u64, max: u8) -> Self
         requires { max ≤ most_cores }
         ensures settings { result.settings ≡ record { up = up; hysteresis = hysteresis; max = max } }
@@ -74,15 +74,15 @@ impl Estimator {
         }
     }
 
-    /// Returns the thresholds, which are all that an estimator has learnt from its samples. That of n cores is at index
-    /// n - 1.
+    /// Returns the thresholds, which are all that an estimator has learnt from its samples. The threshold of n cores is
+    /// at index n - 1.
     pub fn thresholds(&self) -> &[u64; MAX_CORES]
         ensures { result.now ≡ self.now.thresholds }
     {
         &self.thresholds
     }
 
-    /// Returns the advice on a sample. If it is `Add`, the sample's utilisation is remembered.
+    /// Returns the advice on a sample. If the advice is `Add`, the sample's utilisation is remembered.
     ///
     /// A bad sample changes nothing.
     pub fn estimate(&mut self, sample: Sample) -> Result<Advice, BadSample>

@@ -1,4 +1,4 @@
-//! Laws of the definitions that the contracts cite. They are contracts of functions with empty bodies.
+//! Laws of the definitions that the contracts cite. Each law is the contract of a function with an empty body.
 
 ghost use Rattle.std.specs.Prelude.{◌≡◌, ℕ, ◌+◌, ◌*◌, ◌<◌, List, [], ◌∷◌, ◌++◌, length, reverse, take, slice_index_or};
 ghost use Rattle.arachne_policy.specs.declared.samples.Sample.{Sample};
@@ -12,7 +12,7 @@ ghost use Rattle.arachne_policy.specs.Advice.{Settings, threshold, advice, advic
 /// The law that a threshold is recorded by the last `Add`.
 ///
 /// The threshold of `cores + 1` cores is the utilisation of the last sample of `cores` cores whose advice was `Add`. If
-/// there was none, it is that of `cores` busy cores.
+/// there was none, the threshold is the utilisation of `cores` busy cores.
 pub fn threshold_is_of_last_add()
     ensures recorded { (settings : Settings) (past : List Sample) (added : Sample)
         → RecordStands settings past added
@@ -24,9 +24,9 @@ pub fn threshold_is_of_last_add()
 
 /// The law that samples are judged one after another.
 ///
-/// A list of samples gets one answer for each sample, the advice on it after those before it. If an estimator has
-/// judged a list, and then judges one more sample by the thresholds that it has, it has judged the list with that
-/// sample added.
+/// A list of samples gets one answer for each: the advice on that sample, after all samples before it. An estimator
+/// that has judged a list, and then one more sample by the thresholds that it has, has judged the list with that sample
+/// added.
 pub fn advices_are_in_turn()
     ensures each_once { (settings : Settings) (samples : List Sample)
         → length (advices settings samples) ≡ length samples }

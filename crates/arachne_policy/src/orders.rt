@@ -13,7 +13,7 @@ pub enum OrderKind {
     Release,
 }
 
-/// An arbiter's order about one core. It is due once `after` slices have ended on all cores together.
+/// An arbiter's order about one core. The order is due once `after` slices have ended on all cores together.
 #[derive(Clone, Copy, Debug, PartialEq, Eq)]
 pub struct CoreOrder {
     pub after: u64,
@@ -60,8 +60,9 @@ impl CoreOrder {
 
 /// Checks that the orders are in order on a machine of `cores` cores.
 ///
-/// Each must name one of its cores, none may release core 0, and none may be due before the one that precedes it.
-/// Returns the first order with a fault; if it has several, the first in the order of `OrderFaultKind`.
+/// Each order must name one of the machine's cores, none may release core 0, and none may be due before the order that
+/// precedes it. Returns the first order with a fault. If that order has several faults, returns the first in the order
+/// of `OrderFaultKind`.
 pub fn check_orders(orders: &[CoreOrder], cores: u64) -> Result<(), OrderFault>
     ensures accepts { IsOk result ↔ AreInOrder cores orders.now }
     ensures first { IfErr result (IsFirstFault cores orders.now) }

@@ -12,7 +12,7 @@ use thiserror::Error;
 pub struct Sample {
     /// The number of cores that the runtime had.
     pub cores: u64,
-    /// The number of runnable threads that each scan saw, summed over the scans.
+    /// The number of runnable threads that each scan (look at one core) saw, summed over the scans.
     pub runnable: u64,
     /// The number of times that a core was scanned for runnable threads.
     pub scans: u64,
@@ -56,7 +56,8 @@ impl Advice {
 
 /// The error of a sample that cannot have been measured.
 ///
-/// It has no core or too many, has no time, is busier than its cores could be, or has a count over `MAX_COUNT`.
+/// Such a sample has no core or too many, an empty period, more busy time than its cores could have, or a count over
+/// `MAX_COUNT`.
 #[derive(Clone, Copy, Debug, PartialEq, Eq, Error)]
 #[error("the sample cannot have been measured")]
 pub struct BadSample;
@@ -76,7 +77,7 @@ impl Sample {
             && self.busy <= self.cores * self.elapsed
     }
 
-    /// Returns the average number of runnable threads that a scan saw, in thousandths of a thread.
+    /// Returns the average number of runnable threads that a scan (look at one core) saw, in thousandths of a thread.
     pub(crate) fn load(&self) -> u64
         requires { self.now.runnable ≤ most_counted }
         ensures { result ≡ load_of self.now }

@@ -11,12 +11,12 @@ use std::marker::Model;
 use std::snapshot::Snapshot;
 use std::sync::Wait;
 
-/// The answer of a table to a wake. Only a call of the table makes one.
+/// The answer of a table to a wake. Only a call of the table makes a value of this type.
 ///
 /// Contracts see the id that the table was called with, and the answer.
 #[derive(Drop)]
 pub struct WakeAnswer {
-    /// It has no bytes.
+    /// The id that the table was called with. The field has no bytes.
     id: Snapshot<ThreadId>,
     woken: Woken,
 }

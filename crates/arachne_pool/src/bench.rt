@@ -1,4 +1,4 @@
-//! The possessions of a worker beside its seat.
+//! The data of a worker beside its seat: jobs that wait for a place, counts, and unused cells.
 ghost use Rattle.std.specs.Prelude.{◌≡◌, ◌+◌, ◌<◌, ◌≤◌, [], IfErr, IfOk, None, OnErr, if◌then◌else◌, false, true};
 ghost use Rattle.std.specs.VecDeque.{deque_capacity, deque_len};
 ghost use Rattle.arachne_pool.specs.Done.{nothing_done};
@@ -17,11 +17,11 @@ use std::collections::VecDeque;
 use std::mem::replace;
 use std::snapshot::Snapshot;
 
-/// The possessions of a worker beside its seat.
+/// The data of a worker beside its seat.
 #[derive(Drop)]
 pub(crate) struct Bench<J: PoolJob> {
     pub(crate) alloc: Global,
-    /// Jobs that wait for a place, the oldest first. They make no step before they have one.
+    /// Jobs that wait for a place, the oldest first. Such a job makes no step before it has a place.
     pub(crate) near: VecDeque<Spawned<J>>,
     pub(crate) cells: Cells<J>,
     pub(crate) chooser: Xoshiro256PlusPlus,
@@ -31,16 +31,16 @@ pub(crate) struct Bench<J: PoolJob> {
     /// Statistics that were not reported to the pool yet.
     pub(crate) done: Statistics,
     pub(crate) orders: PoolOrders,
-    /// Memory was refused, and no call has returned that yet.
+    /// True if memory was refused, and no call has returned that yet.
     pub(crate) is_short: bool,
-    /// A job has ended since this was last read.
+    /// True if a job has ended since this was last read.
     pub(crate) has_ended: bool,
 }
 
 impl<J: PoolJob> Bench<J> {
     ghost use Rattle.arachne_pool.specs.Jobs.{count_near};
 
-    /// Returns one with no job, whose choices go by this seed.
+    /// Returns the data of a worker without jobs, whose random choices go by this seed.
     pub(crate) fn new(alloc: Global, seed: u64) -> Bench<J>
         ensures tally { (result.tally.spawned ≡ 0) × (result.tally.ended ≡ 0) × (result.told ≡ result.tally) }
         ensures near { (result.near.items ≡ []) × (deque_len result.near ≡ 0) }
@@ -60,8 +60,8 @@ impl<J: PoolJob> Bench<J> {
         }
     }
 
-    /// Begins a job. Returns the receiver of its result, and the job, for which there is room among those that wait. If
-    /// memory is refused, the job is returned.
+    /// Begins a job, and makes room for it among the jobs that wait. Returns the receiver of the job's result, and the
+    /// job. If memory is refused, the job is returned as an error.
     pub(crate) fn begin(&mut self, job: J) -> Result<(ResultReceiver<J>, Spawned<J>), J>
         requires fresh { J.awaits job [] }
         ensures receiver { IfOk result (λ begun. begun.0.opening.key.job.value ≡ job) }
@@ -86,9 +86,9 @@ impl<J: PoolJob> Bench<J> {
         }
     }
 
-    /// Lets go the children that this job, or one in its place, has ended without joining. Those that have not begun
-    /// wait for places of their own, and none is lost. Returns false if memory was refused, which is noted; then one is
-    /// left that has not begun.
+    /// Releases the children that were not joined before their parent (this job or one in its place) ended. Children
+    /// that have not begun then wait for places of their own, and none is lost. Returns false if memory was refused,
+    /// which is noted; then a child is left that has not begun.
     #[tactic(auto, using(crate::proofs::Counts::count_near_push))]
     pub(crate) fn let_go(&mut self, job: &mut Spawned<J>) -> bool
         ensures same { self.new ≡ record self.old { near = self.new.near; is_short = if result then self.old.is_short else true } }
@@ -127,7 +127,7 @@ impl<J: PoolJob> Bench<J> {
         }
     }
 
-    /// Adds the counts of another worker. Both have reported theirs to the pool.
+    /// Adds the counts of another worker. Both workers have reported their counts to the pool.
     pub(crate) fn count_too(&mut self, other: Tally)
         ensures same { self.new ≡ record self.old { tally = self.new.tally; told = self.new.told } }
         ensures spawned { self.old.tally.spawned + other.spawned ≤ u64.MAX → self.new.tally.spawned ≡ self.old.tally.spawned + other.spawned }
@@ -153,7 +153,8 @@ impl<J: PoolJob> Bench<J> {
     }
 }
 
-/// Begins a job. Returns the receiver of its result, and the job; if memory is refused, the job.
+/// Begins a job. Returns the receiver of the job's result, and the job. If memory is refused, returns only the job, as
+/// an error.
 fn open<J: PoolJob>(
     alloc: Global,
     cells: &mut Cells<J>,

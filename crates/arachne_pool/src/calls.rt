@@ -29,8 +29,9 @@ impl<C: Seats> Pool<C> {
     /// Spawns a job and returns its handle. The job gets a place if a core has one, and waits with the worker
     /// otherwise.
     ///
-    /// The job is returned if memory is refused, if the worker has no seat, or if no core has a place and the worker
-    /// has worked for no core: such a worker keeps no job (`try_spawn`), since it may never come to a round.
+    /// The job is returned if memory is refused or the worker has no seat. The job is also returned if no core has a
+    /// place and the worker has worked for no core: such a worker keeps no job (`try_spawn`), since it may never make a
+    /// round.
     pub fn spawn<H: Wait, J: PoolJob>(
         &self,
         rt: &H,
@@ -83,9 +84,9 @@ impl<C: Seats> Pool<C> {
     /// Makes one round on a core: orders that are due are applied, each job that is ready there has a slice, and a job
     /// of the worker that waits for a place gets one. Returns whether there was anything to do.
     ///
-    /// If no job is ready, a job is moved here that is ready on another core, to which that core's worker, a kernel
-    /// thread that has called `work`, has not come. If the round only brought a job to the core, a second one follows,
-    /// in which that job has a slice.
+    /// If no job is ready, a job is moved here from another core, on which it is ready and was not reached yet by that
+    /// core's worker (a kernel thread that has called `work`). If the round only moved a job to the core, a second one
+    /// follows, in which that job has a slice.
     pub fn turn<'a, H: Wait + Clock, J: PoolJob>(
         &'a self,
         rt: &'a H,
@@ -112,8 +113,8 @@ impl<C: Seats> Pool<C> {
         found
     }
 
-    /// Works on a core until all jobs of the pool have ended and it is not kept open, or until the pool is stopped. A
-    /// fault stops the other workers too.
+    /// Works on a core until all jobs of the pool have ended and the pool is not kept open, or until the pool is
+    /// stopped. A fault stops the other workers too.
     pub fn work<'a, H: Wait + Clock, J: PoolJob>(
         &'a self,
         rt: &'a H,
@@ -190,7 +191,7 @@ impl<C: Seats> Pool<C> {
         }
     }
 
-    /// Begins a call of a worker on a core, with all that the worker has. Returns `None` if it has no seat.
+    /// Begins a call of a worker on a core, with all that the worker has. Returns `None` if the worker has no seat.
     fn enter<'a, H: Wait + Clock, J: PoolJob>(
         &'a self,
         rt: &'a H,
@@ -215,7 +216,8 @@ impl<C: Seats> Pool<C> {
         Some(self.open(rt, worker, seat, call))
     }
 
-    /// Returns what makes the rounds of a call, by a worker's seat, on its core. The worker has nothing meanwhile.
+    /// Returns the loop that makes the rounds of a call, with the worker's seat and data. As long as the loop has the
+    /// seat and the data, `worker` has none.
     fn open<'a, H: Wait + Clock, J: PoolJob>(
         &'a self,
         rt: &'a H,
@@ -263,8 +265,9 @@ impl<C: Seats> Pool<C> {
         }
     }
 
-    /// Ends a call: the worker has again what it began with. Returns whether it has a seat, which it has unless
-    /// something is out with that. `kernel` is lent, since the checker covers no call that takes it by value.
+    /// Ends a call: the worker gets back the seat and the data with which it began. Returns whether the worker has a
+    /// seat: it has none if its seat still has something in hand. `kernel` is lent, since the checker covers no call
+    /// that takes it by value.
     fn leave<'a, H: Wait + Clock, J: PoolJob>(
         &'a self,
         worker: &mut Worker<C::Seat, J>,

@@ -23,28 +23,28 @@ use std::sync::Wait;
 /// The jobs of a pool that have not ended, each with those that run or wait in its place.
 #[derive(Drop)]
 pub struct Left<J: PoolJob> {
-    /// Those that had a place, by context, with the id under which each ran.
+    /// The jobs that had a place, by context, with the id under which each ran.
     pub placed: Vec<(ThreadId, Spawned<J>)>,
-    /// Those that waited for one, the oldest first.
+    /// The jobs that waited for a place, the oldest first.
     pub near: VecDeque<Spawned<J>>,
 }
 
-/// Why a pool was not closed.
+/// The reason why a pool was not closed.
 #[derive(Drop)]
 pub enum NotClosed<C: Seats, J: PoolJob> {
     /// Another worker or a waker has a part of the seat, or this worker has none. Pool and worker are returned.
     NotWhole(Pool<C>, Worker<C::Seat, J>),
     /// Memory was refused. The table, its seat and the jobs that had no place are returned.
     Memory(C, C::Seat, VecDeque<Spawned<J>>),
-    /// The jobs that were spawned are not those that ended and those that are left.
+    /// The counts don't agree: the jobs that were spawned are not those that ended and those that are left.
     Lost(Left<J>),
 }
 
 impl<C: Seats + Drop> Pool<C> {
     ghost use Rattle.arachne_pool.specs.Workers.{HasNoCore, IsWorkerOf};
 
-    /// A pool with no job, and its one worker, which has worked for no core. The orders take cores back and grant them
-    /// again while it works.
+    /// Returns a pool without jobs, and its one worker, which has worked for no core. The orders take cores back and
+    /// grant them again while the pool works.
     pub fn new<J: PoolJob>(
         alloc: Global,
         cores: u8,
@@ -79,9 +79,9 @@ impl<C: Seats> Pool<C> {
     ghost use Rattle.arachne_pool.specs.NotClosed.{ComesBack};
     ghost use Rattle.arachne_pool.specs.Workers.{ComeLast};
 
-    /// Replaces the orders of the pool, as a policy of the caller's does between two rounds. Those that are left of the
-    /// old ones are forgotten. A core that they have closed stays closed until one of the new ones grants it. All
-    /// orders of a pool must be given to the same worker. If memory is refused, the worker keeps its orders.
+    /// Replaces the orders of the pool, as a policy of the caller's does between two rounds. Old orders that are left
+    /// are forgotten. A core that old orders have closed stays closed until a new order grants it. All orders of a pool
+    /// must be given to the same worker. If memory is refused, the worker keeps its orders.
     pub fn order<H: Wait, J: PoolJob>(
         &self,
         rt: &H,
@@ -108,7 +108,7 @@ impl<C: Seats> Pool<C> {
         Ok(())
     }
 
-    /// Returns whether a core seems to be closed. Only orders close one.
+    /// Returns whether a core seems to be closed. Only orders close a core.
     fn is_closed<H: Wait, J: PoolJob>(&self, rt: &H, core: u8) -> bool
     where
         C: Contexts<Spawned<J>>,
@@ -120,8 +120,9 @@ impl<C: Seats> Pool<C> {
         }
     }
 
-    /// Closes the pool. Returns the jobs that were spawned and have not ended; with those that ended, these are as many
-    /// as were spawned. The results of those that ended are there. The worker must be the only one that is left.
+    /// Closes the pool. Returns the jobs that were spawned and have not ended; with the jobs that ended, they are as
+    /// many as were spawned. The result of a job that has ended can be taken by the job's handle. `worker` must be the
+    /// only worker that is left.
     pub fn close<H: Wait, J: PoolJob>(
         self,
         rt: &H,
@@ -179,7 +180,7 @@ fn closes_at_once(core: u8) -> CoreOrder
 impl Tally {
     ghost use Rattle.arachne_pool.specs.Leftover.{count_of};
 
-    /// Returns whether those that ended and those that are left are as many as were spawned.
+    /// Returns whether the jobs that ended and those that are left are together as many as were spawned.
     fn is_over<J: PoolJob>(self, left: &Left<J>) -> bool
         ensures { IsTrue result ↔ (self.spawned ≡ self.ended + count_of left.now) }
     {
@@ -196,7 +197,7 @@ impl Tally {
     }
 }
 
-/// Subtracts the number of jobs with a place. Returns `None` if these are more.
+/// Subtracts the number of jobs with a place. Returns `None` if that number is more than `count`.
 #[tactic(auto, using(crate::proofs::Counts::placed_counts))]
 fn without_placed<J: PoolJob>(count: u64, placed: &[(ThreadId, Spawned<J>)]) -> Option<u64>
     ensures { MatchOption result (count < count_placed placed.now) (λ rest. rest + count_placed placed.now ≡ count) }
@@ -208,7 +209,7 @@ fn without_placed<J: PoolJob>(count: u64, placed: &[(ThreadId, Spawned<J>)]) -> 
     Some(rest)
 }
 
-/// Subtracts the number of jobs that waited for a place. Returns `None` if these are more.
+/// Subtracts the number of jobs that waited for a place. Returns `None` if that number is more than `count`.
 fn without_near<J: PoolJob>(count: u64, near: &VecDeque<Spawned<J>>) -> Option<u64>
     ensures { MatchOption result (count < count_near near.now.items) (λ rest. rest + count_near near.now.items ≡ count) }
 {

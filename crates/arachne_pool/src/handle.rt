@@ -5,7 +5,7 @@ use crate::job::PoolJob;
 use crate::outcome::ResultReceiver;
 use std::marker::Model;
 
-/// The handle of a job. It gives the result once, is used up by that, and can't be copied.
+/// The handle of a job. A handle gives the result once, is used up by that, and can't be copied.
 ///
 /// Contracts see the job, as it was spawned.
 #[derive(Drop)]
@@ -27,7 +27,7 @@ impl<J: PoolJob> Handle<J> {
         Handle { receiver }
     }
 
-    /// Returns the job's result if it has ended, and the handle otherwise. It takes no memory and never blocks.
+    /// Returns the job's result if it has ended, and the handle otherwise. The call takes no memory and never blocks.
     pub fn poll(self) -> Result<J::Output, Handle<J>>
         ensures output { IfOk result (J.is_result self) }
         ensures same { IfErr result (λ back. back ≡ self) }

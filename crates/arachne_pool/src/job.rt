@@ -8,29 +8,31 @@ use arachne_core::ThreadId;
 /// The request of a job after a step.
 #[derive(Drop)]
 pub enum Step<J, O> {
-    /// To go on.
+    /// The job goes on.
     Again,
-    /// To get the result of the newest child that it has forked and not joined. If there is none, it goes on at once.
+    /// The job wants the result of the newest child that it has forked and not joined. If there is no such child, the
+    /// job goes on at once.
     Waits,
-    /// To rest until it is woken (`Pool::wake`) by the id that `sleeps_as` gives it. It may go on earlier, so it must
-    /// look again whether what it sleeps for has come.
+    /// The job wants to rest until it is woken (`Pool::wake`) by the id that `sleeps_as` gave it. The job may go on
+    /// earlier, so it must look again whether what it sleeps for has come.
     Sleeps,
-    /// To have this job run beside it, as its newest child.
+    /// The job wants this job to run beside it, as its newest child.
     Forks(J),
-    /// It has ended, with this result.
+    /// The job has ended, with this result.
     Done(O),
 }
 
 /// A job: it goes on by steps, which any worker makes, one after the other.
 pub trait PoolJob: Tagged + Drop {
-    /// The type of its result.
+    /// The type of the job's result.
     type Output: Drop;
 
-    /// This is a result of the job. A handle gives no other.
+    /// True if this is a result of the job. A handle gives no other result.
     ghost is_result: { Self → Self.Output → Type 0 };
 
-    /// These are the children that the job has forked and not joined, the newest first: each as it was forked. If this
-    /// says nothing of them, all that a job knows of what it joins is that it is a result of some job.
+    /// True if these are the children that the job has forked and not joined, the newest first, each as it was forked.
+    /// If `awaits` is true of any list, a job knows of a value that it joins only that the value is a result of some
+    /// job.
     ghost awaits: { Self → List Self → Type 0 };
 
     /// Makes one step. A job that has ended makes none.
@@ -54,7 +56,7 @@ pub trait PoolJob: Tagged + Drop {
         1
     }
 
-    /// Reports to a job that is about to rest the id that it has until it ends. A wake that comes before it rests isn't
+    /// Gives a job that is about to rest the id that it has until it ends. A wake that comes before the job rests isn't
     /// lost. Jobs that run in one place one after the other have the same id.
     fn sleeps_as(&self, _id: ThreadId) {}
 

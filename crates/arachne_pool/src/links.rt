@@ -10,10 +10,10 @@ use std::collections::VecDeque;
 use std::marker::Model;
 use std::snapshot::Snapshot;
 
-/// The children of jobs in one place that were forked and not joined. Some have begun elsewhere, each with a cell to
-/// which its result comes; the others are kept here, and are all newer than those.
+/// The children of jobs in one place that were forked and not joined. Each child that has begun elsewhere has a cell to
+/// which its result comes. The children that have not begun are kept here, and are newer than those that have.
 ///
-/// Contracts see all of them, each as it was forked, the newest first, and how many have not begun.
+/// Contracts see all these children, each as it was forked, the newest first, and how many have not begun.
 #[derive(Drop)]
 pub(crate) struct Links<J: PoolJob> {
     begun: Vec<ResultReceiver<J>>,
@@ -43,7 +43,7 @@ impl<J: PoolJob> Links<J> {
         }
     }
 
-    /// Returns how many have not begun.
+    /// Returns the number of children that have not begun.
     pub(crate) fn aside(&self) -> usize
         ensures { result ≡ self.now.aside }
     {
@@ -71,8 +71,8 @@ impl<J: PoolJob> Links<J> {
         self.aside.pop_back()
     }
 
-    /// Takes the result of the newest child, if it has come. Then the child is joined, and its cell is kept for the
-    /// next one.
+    /// Takes the result of the newest child, if it has come. If the result has come, the child is joined, and the
+    /// child's cell is kept for the next child.
     pub(crate) fn fetch_newest(&mut self, cells: &mut Cells<J>) -> Option<J::Output>
         requires { self.old.aside ≡ 0 }
         ensures { MatchOption result (self.new ≡ self.old) (λ output. (child : J) × (self.old.all ≡ child ∷ self.new.all) × (self.new.aside ≡ 0) × J.is_result child output) }
@@ -90,7 +90,7 @@ impl<J: PoolJob> Links<J> {
         }
     }
 
-    /// Takes the oldest child that has not begun, which begins elsewhere, and the end at which it leaves its result.
+    /// Takes the oldest child that has not begun, to begin elsewhere, with the sending end of the cell for its result.
     /// Returns `None` if there is no such child or memory is refused.
     pub(crate) fn part_oldest(
         &mut self,
@@ -114,7 +114,7 @@ impl<J: PoolJob> Links<J> {
         Some((child, sender))
     }
 
-    /// Drops the newest child from those that are awaited. If it had not begun, it is returned.
+    /// Drops the newest child from those that are awaited. If the child had not begun, it is returned.
     pub(crate) fn forget_newest(&mut self) -> Option<J>
         ensures forgotten { MatchOption result (LosesBegun self.old self.new) (λ child. LosesAside child self.old self.new) }
         ensures fresh { IfSome result (λ child. J.awaits child []) }
@@ -126,7 +126,8 @@ impl<J: PoolJob> Links<J> {
         None
     }
 
-    /// Returns those that have not begun, the oldest first. The results of the others are dropped.
+    /// Returns the children that have not begun, the oldest first. The results of the children that have begun are
+    /// dropped.
     pub(crate) fn into_aside(self) -> VecDeque<J>
         ensures { (reverse result.items ≡ take self.aside self.all) × (deque_len result ≡ self.aside) }
     {

@@ -15,7 +15,7 @@ struct CoreCounts {
     wakes: AtomicU64,
     rests: AtomicU64,
     overslept: AtomicU64,
-    /// 1 once a kernel thread has come to `work` for the core.
+    /// 1 once a kernel thread has called `work` for the core.
     worked: AtomicU64,
 }
 
@@ -35,8 +35,8 @@ impl CoreCounts {
     }
 }
 
-/// The counts of all workers: for each core on a cache line of its own, and behind these those of workers that work for
-/// no core.
+/// The counts of all workers: for each core on a cache line of its own, and behind these the counts of workers that
+/// work for no core.
 #[derive(Drop)]
 pub(crate) struct Live {
     told: Vec<CachePadded<CoreCounts>>,
@@ -52,8 +52,8 @@ impl Live {
         Ok(Live { told })
     }
 
-    /// Adds jobs that were spawned and have ended, by a worker of this core, or of none if there is no such core. A job
-    /// must be added before another worker can run it.
+    /// Adds the jobs that a worker of this core has spawned and ended; if there is no such core, the worker works for
+    /// none. A job must be added before another worker can run it.
     pub(crate) fn add(&self, core: u8, news: Tally) {
         if let Some(told) = self.told.get(usize::from(core)).or(self.told.last()) {
             // Spawns first: `count` must not see the end of a job whose spawn it misses.
@@ -92,7 +92,7 @@ impl Live {
         told.rests.fetch_add(done.rests, Ordering::SeqCst);
     }
 
-    /// Counts a job of this core that was woken by a call of no worker.
+    /// Counts that a job of this core was woken by a kernel thread that is no worker.
     pub(crate) fn add_woken(&self, core: u8) {
         if let Some(told) = self.told.get(usize::from(core)) {
             told.wakes.fetch_add(1, Ordering::SeqCst);

@@ -1,4 +1,4 @@
-//! The orders by which the cores of a pool come and go. One of its workers has them.
+//! The orders by which the cores of a pool come and go. One of the pool's workers has these orders.
 ghost use Rattle.std.specs.Option.{option_or};
 ghost use Rattle.std.specs.Prelude.{◌≡◌, ℕ, ◌<◌, ◌≤◌, ◌↔◌, IfOk, IsTrue, None, Some};
 ghost use Rattle.arachne_contexts.specs.Out.{KeepsOut};
@@ -14,7 +14,7 @@ use std::alloc::{AllocError, Global};
 use std::marker::Model;
 use std::sync::Wait;
 
-/// The orders of a pool, if a worker has them. Contracts see how far they are applied.
+/// The orders of a pool, if a worker has them. Contracts see how far the orders are applied.
 #[derive(Drop)]
 pub(crate) struct PoolOrders {
     arbiter: Option<Arbiter>,
@@ -63,7 +63,7 @@ impl PoolOrders {
         })
     }
 
-    /// Returns these, or the other worker's if there are none.
+    /// Returns these orders, or `other` if these are none.
     pub(crate) fn or(self, other: PoolOrders) -> PoolOrders
         ensures kept { result ≡ option_or self other }
         ensures cores { (cores : ℕ) → IsArbiterFor cores self → IsArbiterFor cores other → IsArbiterFor cores result }
@@ -96,8 +96,8 @@ impl PoolOrders {
         }
     }
 
-    /// Applies the orders that are due, and moves jobs away from a closed core. Returns how many are applied in all, if
-    /// one was now, and the cores to which jobs were moved, a bit for each.
+    /// Applies the orders that are due, and moves jobs away from a closed core. Returns the number of orders applied in
+    /// all, if this call has applied one, and the cores to which jobs were moved, a bit for each.
     pub(crate) fn tend<H: Wait, T: Tagged, C: Contexts<T>>(
         &mut self,
         cores: &Cores<'_, H, T, C>,

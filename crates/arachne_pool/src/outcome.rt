@@ -1,4 +1,4 @@
-//! Join cells of jobs: what is left in one, and what it is for.
+//! Join cells of jobs: the content that is left in a cell, and the key that says what a cell is for.
 ghost use Rattle.std.specs.Prelude.{◌≡◌, IfSome};
 
 use crate::job::PoolJob;
@@ -12,7 +12,7 @@ pub struct JobOutcome<J: PoolJob> {
     pub output: J::Output,
 }
 
-/// The content that a cell is for: a result of this job, as it was spawned. It has no bytes.
+/// The content that a cell is for: a result of this job, as it was spawned. The key has no bytes.
 #[derive(Drop)]
 pub struct WantedResult<J> {
     pub job: Snapshot<J>,
@@ -25,18 +25,18 @@ impl<J: PoolJob> Fits<WantedResult<J>> for JobOutcome<J> {
 /// The end of a cell at which a job leaves its result.
 pub(crate) type ResultSender<J> = Sender<JobOutcome<J>, WantedResult<J>>;
 
-/// The end to which it comes.
+/// The end of a cell at which a job's result arrives.
 pub(crate) type ResultReceiver<J> = Receiver<JobOutcome<J>, WantedResult<J>>;
 
 /// Cells that a worker keeps for the next jobs.
 pub(crate) type Cells<J> = SpareCells<JobOutcome<J>, WantedResult<J>>;
 
-/// Shows that a result was left, or dropped if nobody wants it. Only `leave_at` makes one.
+/// Shows that a result was left, or dropped if nobody wants it. Only `leave_at` makes a value of this type.
 ///
 /// Contracts see the result.
 #[derive(Drop)]
 pub(crate) struct ResultLeft<J: PoolJob> {
-    /// It has no bytes.
+    /// The result. The field has no bytes.
     output: Snapshot<J::Output>,
 }
 
@@ -46,7 +46,7 @@ impl<J: PoolJob> Model for ResultLeft<J> {
     ghost view = { λ l. l.output.value };
 }
 
-/// Leaves a result at an end, if there is one.
+/// Leaves a result at the sending end of a join cell, if there is one.
 #[inline(always)]
 pub(crate) fn leave_at<J: PoolJob>(
     sender: Option<ResultSender<J>>,

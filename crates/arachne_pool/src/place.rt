@@ -1,6 +1,6 @@
-//! Jobs get their places and leave them.
+//! Gives jobs their places, and frees the places.
 //!
-//! It may touch the table through the seat that it is given.
+//! The functions here may call the table, through the seat that they are given.
 ghost use Rattle.std.specs.Prelude.{◌≡◌, ◌<◌, [], ◌∷◌, ◌++◌, IfErr, IfOk, MatchOption, OnErr, OnOk};
 ghost use Rattle.std.specs.VecDeque.{deque_capacity, deque_len};
 ghost use Rattle.arachne_contexts.specs.Out.{Claim, KeepsOut};
@@ -40,7 +40,7 @@ pub(crate) fn claim<H: Wait, J: PoolJob, C: Contexts<Spawned<J>>>(
     }
 }
 
-/// Claims a place that the job shares with others on its core. Notes if no core had one.
+/// Claims a place that the job shares with others on its core. If no core had a place, notes that in the pool.
 fn claim_normal<H: Wait, J: PoolJob, C: Contexts<Spawned<J>>>(
     rt: &H,
     pool: &Pool<C>,
@@ -59,7 +59,8 @@ fn claim_normal<H: Wait, J: PoolJob, C: Contexts<Spawned<J>>>(
     place.ok()?
 }
 
-/// Posts a job at a free place. If there is none, it waits with the others, among which there is room for it.
+/// Puts a job at a free place. If no place is free, the job is put among the jobs of the worker that wait for one;
+/// there is room for it.
 pub(crate) fn place<H: Wait, J: PoolJob, C: Contexts<Spawned<J>>>(
     rt: &H,
     pool: &Pool<C>,
@@ -85,7 +86,7 @@ pub(crate) fn place<H: Wait, J: PoolJob, C: Contexts<Spawned<J>>>(
     Ok(Some(post))
 }
 
-/// Posts the oldest job that waits for a place, if there is a place for it.
+/// Gives a place to the oldest job that waits for one, if there is a place for it.
 pub(crate) fn place_oldest<H: Wait, J: PoolJob, C: Contexts<Spawned<J>>>(
     rt: &H,
     pool: &Pool<C>,
@@ -114,8 +115,8 @@ pub(crate) fn place_oldest<H: Wait, J: PoolJob, C: Contexts<Spawned<J>>>(
     Ok(Some(post))
 }
 
-/// Parts off the oldest child that waits with the job in hand, and posts it, if a core has a place for it. If memory is
-/// refused, that is noted, and the child waits on.
+/// Makes the oldest child that waits with the job in hand a job of its own, and puts it at a place, if a core has one
+/// for it. If memory is refused, the refusal is noted, and the child goes on waiting.
 #[inline(always)]
 pub(crate) fn post_oldest<H: Wait, J: PoolJob, C: Contexts<Spawned<J>>>(
     rt: &H,
@@ -156,7 +157,8 @@ pub(crate) fn post_oldest<H: Wait, J: PoolJob, C: Contexts<Spawned<J>>>(
     Ok(Some(post))
 }
 
-/// Ends a job with all that ran in its place: frees the place, and leaves the result also if the table has disowned it.
+/// Ends a job with all that ran in its place: frees the place, and leaves the result. The result is left even if the
+/// table doesn't know the place.
 #[inline(always)]
 pub(crate) fn end<H: Wait, J: PoolJob, C: Contexts<Spawned<J>>>(
     rt: &H,

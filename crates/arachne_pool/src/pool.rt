@@ -73,8 +73,8 @@ impl<C: Seats + Drop> Pool<C> {
 }
 
 impl<C: Seats> Pool<C> {
-    /// Returns how many jobs were spawned or forked and have not ended, as reported by the workers. If it is 0, no job
-    /// makes another step, the result of each is there, and its place is free.
+    /// Returns how many jobs were spawned or forked and have not ended, as reported by the workers. If the number is 0,
+    /// no job makes another step, the result of each job has come, and each job's place is free.
     pub fn live(&self) -> u64 {
         self.live.count()
     }
@@ -88,12 +88,12 @@ impl<C: Seats> Pool<C> {
     }
 
     /// Returns whether the worker of a core sleeps, or has slept its time out and not looked since. Whoever has work
-    /// for it wakes it. One that is parked doesn't sleep.
+    /// for that worker must wake it. A worker that is parked doesn't sleep.
     pub fn is_asleep(&self, core: u8) -> bool {
         self.shared.hints().is_asleep(core)
     }
 
-    /// Stops all workers after their slices, those that sleep or are parked too.
+    /// Stops all workers after their slices, also those that sleep or are parked.
     pub fn stop(&self) {
         self.shared.stop();
     }
@@ -145,7 +145,8 @@ impl<C: Seats> Pool<C> {
         }
     }
 
-    /// Notes that no core had a place. The next worker that leaves one, or looks for work and sees one, notes that.
+    /// Notes that no core had a place. The next worker that leaves a place, or that sees a free one while it looks for
+    /// work, notes that there is one.
     pub(crate) fn no_room_was_seen(&self) {
         self.room.store(0, Ordering::SeqCst);
     }

@@ -1,6 +1,6 @@
-//! Jobs are posted at places that a seat has claimed.
+//! Puts jobs at places that a seat has claimed.
 //!
-//! It may touch the table through the seat that it is given.
+//! This module may touch the table, through the seat that it is given.
 ghost use Rattle.std.specs.Prelude.{◌≡◌, IfOk, IfSome, OnOk};
 ghost use Rattle.arachne_contexts.specs.Out.{Claim, HasOut};
 ghost use Rattle.arachne_pool.specs.Grounds.{IsSpent};
@@ -14,17 +14,17 @@ use std::marker::Model;
 use std::snapshot::Snapshot;
 use std::sync::Wait;
 
-/// The table didn't know a place or a job that a worker had of it.
+/// The error that the table didn't know a place or a job that a worker had got from it.
 #[derive(Clone, Copy, Debug, PartialEq, Eq)]
 pub(crate) struct Disowned;
 
-/// A job that was posted, and its place. Only `post` makes one, of the job that the table has taken from it. It is not
-/// `Drop`, so that the worker of its core must be signalled.
+/// A job that was put at a place, with that place. Only `post` makes a value of this type, for a job that it has given
+/// to the table. The type is not `Drop`, so that the caller must signal the worker of the job's core.
 ///
 /// Contracts see the job.
 pub(crate) struct Posted<J: PoolJob> {
     at: PostedThread,
-    /// It has no bytes.
+    /// The job. The field has no bytes.
     job: Snapshot<Spawned<J>>,
 }
 
@@ -37,14 +37,14 @@ impl<J: PoolJob> Model for Posted<J> {
 }
 
 impl<J: PoolJob> Posted<J> {
-    /// Signals the core's worker at once: who has posted the job may not come to a round of its own.
+    /// Signals the core's worker at once, since the thread that has posted the job may make no round of its own.
     pub(crate) fn tell(self, shared: &SharedWords) {
         let Posted { at, job: _ } = self;
         shared.hint(at.place);
     }
 
-    /// Signals the core's worker, unless that is this core's, which has posted the job: then its id and place are
-    /// returned.
+    /// Signals the worker of the job's core. If that core is `core`, whose worker has posted the job, returns the job's
+    /// id and place instead.
     #[inline(always)]
     pub(crate) fn tell_unless_on(self, core: u8, shared: &SharedWords) -> Option<PostedThread>
         ensures { IfSome result (λ post. post.place.core ≡ core) }
@@ -58,7 +58,7 @@ impl<J: PoolJob> Posted<J> {
     }
 }
 
-/// Posts a job at a place. The pool has counted it as spawned.
+/// Posts a job: puts it at a claimed place, ready to run. The pool has counted the job as spawned before.
 #[inline(always)]
 pub(crate) fn post<H: Wait, J: PoolJob, C: Contexts<Spawned<J>>>(
     rt: &H,

@@ -1,6 +1,6 @@
 //! The rounds of a call: one, or as many as it takes until all jobs, or the job of a handle, have ended.
 //!
-//! As the worker's loop they stand on a trait, and not on tables and jobs.
+//! Like the worker's loop, the rounds are written over a trait, and not over tables and jobs.
 ghost use Rattle.std.specs.Prelude.{◌≡◌, IfErr, IfOk};
 
 use crate::handle::Handle;
@@ -10,12 +10,13 @@ use arachne_workers::{CoreWorker, Desk, WorkerEvent};
 use std::sync::Wait;
 use std::time::Clock;
 
-/// After how many slices at most a worker reports its statistics.
+/// The number of slices after which a worker reports its statistics at the latest.
 const MOST_UNTOLD: u64 = 1024;
 
-/// A worker's desk, as rounds use it beside the worker's loop. No call changes what the seat is a seat at.
+/// A worker's desk (its access to the table and to the job in hand), as rounds use it beside the worker's loop. No call
+/// changes the pool to which the seat belongs.
 ///
-/// The trait has no types of its own, so that what stands on it is proved in a fraction of the time.
+/// The trait has no types of its own, so that the functions over it are proved in a fraction of the time.
 pub(crate) trait PoolDesk: Desk {
     /// Returns whether no job of the pool lives and it is not kept open.
     fn is_over(&self) -> bool;
@@ -32,12 +33,14 @@ pub(crate) trait PoolDesk: Desk {
     fn take_drained(&mut self) -> bool
         ensures { self.new ≡ self.old };
 
-    /// Adds to the pool's statistics of the core: `slices` slices, `rests` empty rounds, and what else was counted.
+    /// Adds to the pool's statistics of the core: `slices` slices, `rests` rounds that found nothing, and what else was
+    /// counted.
     fn report(&mut self, slices: u64, rests: u64)
         ensures { self.new ≡ self.old };
 }
 
-/// Makes one round, and a second one if the first only brought a job here. Returns whether the last one found anything.
+/// Makes one round, and a second one if the first only moved a job to this core. Returns whether the last round found
+/// anything.
 pub(crate) fn run_once<H: Wait + Clock, D: PoolDesk>(
     kernel: &mut CoreWorker<'_, H, D>,
 ) -> Result<bool, PoolFault>
@@ -115,8 +118,8 @@ pub(crate) fn run_until<H: Wait + Clock, D: PoolDesk, J: PoolJob>(
     unreachable!()
 }
 
-/// Makes one round, and waits if it found nothing. `idle` is the number of consecutive rounds before that found
-/// nothing.
+/// Makes one round, and waits if it found nothing. `idle` is the number of consecutive rounds before this one that
+/// found nothing.
 fn round<H: Wait + Clock, D: PoolDesk>(
     kernel: &mut CoreWorker<'_, H, D>,
     idle: u32,
@@ -138,7 +141,8 @@ fn round<H: Wait + Clock, D: PoolDesk>(
     Ok(false)
 }
 
-/// Adds what was done on the core since the last report to the pool's statistics, with `rests` empty rounds.
+/// Adds what was done on the core since the last report to the pool's statistics, with `rests` rounds that found
+/// nothing.
 pub(crate) fn report<H: Wait + Clock, D: PoolDesk>(kernel: &mut CoreWorker<'_, H, D>, rests: u64)
     ensures desk { kernel.new.desk ≡ kernel.old.desk }
     ensures told { kernel.new.slices ≡ 0 }

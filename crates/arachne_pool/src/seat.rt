@@ -1,5 +1,4 @@
-//! A worker's seat at the table of a pool, and what is out with it: the job in hand, and nothing else between two
-//! calls.
+//! A worker's seat at the table of a pool. Between two calls the seat has the job in hand, and nothing else.
 ghost use Rattle.std.specs.Prelude.{◌≡◌, ◌≤◌, IfSome, false};
 ghost use Rattle.arachne_pool.specs.Grounds.{in_hand};
 ghost use Rattle.arachne_pool.specs.Workers.{IsIdleAt};
@@ -22,33 +21,35 @@ use std::mem::replace;
 use std::sync::Wait;
 use std::sync::atomic::Ordering;
 
-/// Which call of the pool a worker is in.
+/// The call of the pool that a worker is in.
 #[derive(Clone, Copy, Debug, PartialEq, Eq)]
 pub(crate) enum Call {
-    /// One round, in which each job has one slice. It doesn't wait.
+    /// One round, in which each job has one slice. The worker doesn't wait.
     Turn,
-    /// Until no job lives. The worker parks if its core is closed.
+    /// Rounds until no job lives. The worker parks if its core is closed.
     Work,
-    /// Until a job has ended, which nobody signals.
+    /// Rounds until a job has ended; nobody signals that end.
     Join,
 }
 
-/// A worker's desk at the table. Contracts see what it is a seat at; its invariant says what is out with it.
+/// A worker's desk at the table. Contracts see the pool to which it belongs; its invariant says what the seat has in
+/// hand.
 #[derive(Drop)]
 pub(crate) struct Seat<'a, H, J: PoolJob, C: Contexts<Spawned<J>>> {
     pub(crate) rt: &'a H,
     pub(crate) pool: &'a Pool<C>,
     pub(crate) core: u8,
     pub(crate) call: Call,
-    /// The table has disowned a token, so something else may be out with the seat. The worker is at its end then.
+    /// True if the table did not know a place or a job of the worker's. If true, the seat may still have something in
+    /// hand, and the worker is at its end.
     pub(crate) is_broken: bool,
     pub(crate) seat: C::Seat,
     pub(crate) held: Option<Held<Spawned<J>, C::Hold>>,
-    /// The job in hand is put back as blocked.
+    /// True if the job in hand is put back as blocked.
     pub(crate) blocks: bool,
-    /// A job was taken since the worker last looked whether others have too many.
+    /// True if a job was taken since the worker last looked whether others have too many.
     pub(crate) has_taken: bool,
-    /// The core was seen closed and empty since that was last read.
+    /// True if the last look at the core found it closed and empty, and this was not read since.
     pub(crate) is_drained: bool,
     pub(crate) bench: Bench<J>,
 }
@@ -313,7 +314,7 @@ impl<'a, H: Wait, J: PoolJob, C: Contexts<Spawned<J>>> PoolDesk for Seat<'a, H, 
 }
 
 impl<'a, H: Wait, J: PoolJob, C: Contexts<Spawned<J>>> Seat<'a, H, J, C> {
-    /// Runs the job in hand for at most `left` steps. Without one it waits.
+    /// Runs the job in hand for at most `left` steps. Returns `Waits` if no job is in hand.
     #[inline(always)]
     fn go_on(&mut self, left: &mut u32) -> JobStop
         ensures desk { self.new ≡ self.old }
@@ -328,7 +329,8 @@ impl<'a, H: Wait, J: PoolJob, C: Contexts<Spawned<J>>> Seat<'a, H, J, C> {
             .slice(&mut bench.cells, &mut bench.tally, left, may_post)
     }
 
-    /// Counts the jobs that began and ended up to the end of this one. Returns its parent, if that has to be woken.
+    /// Counts the jobs that began and ended until the job in hand ended. Returns the parent of that job, if it has to
+    /// be woken.
     #[inline(always)]
     fn count_end(&mut self, ended: Ended<J>) -> Option<ThreadId>
         ensures desk { self.new ≡ self.old }
@@ -356,8 +358,8 @@ impl<'a, H: Wait, J: PoolJob, C: Contexts<Spawned<J>>> Seat<'a, H, J, C> {
         Ok(self.stop_after(posted))
     }
 
-    /// Returns what a posted child means to the loop: on the worker's own core it is noted as ready. On another core it
-    /// is for that core's worker, which is signalled.
+    /// Returns how the slice goes on after a child was posted (put at a place of its own). A child on the worker's own
+    /// core is noted as ready. A child on another core is left to that core's worker, which is signalled.
     #[inline(always)]
     fn stop_after(&self, posted: Option<Posted<J>>) -> ThreadStop {
         let Some(posted) = posted else {
@@ -369,8 +371,8 @@ impl<'a, H: Wait, J: PoolJob, C: Contexts<Spawned<J>>> Seat<'a, H, J, C> {
         }
     }
 
-    /// Prepares the job in hand to sleep, and gives it its id. While a child waits with it, it goes on instead, once a
-    /// slice, so that the child gets the first place that is free.
+    /// Prepares the job in hand to sleep, and gives it its id. While a child waits in the job's place, the job goes on
+    /// instead, once in each slice, so that the child gets the first place that is free.
     fn fall_asleep(&self, left: &mut u32) -> JobStop
         ensures { left.new ≤ left.old }
     {
@@ -395,7 +397,7 @@ impl<'a, H: Wait, J: PoolJob, C: Contexts<Spawned<J>>> Seat<'a, H, J, C> {
         false
     }
 
-    /// Moves a job that waits on another core to this one. Returns whether there was one.
+    /// Moves a job that waits on another core to this one. Returns whether there was such a job.
     fn fetch(&mut self) -> bool
         ensures { self.new ≡ self.old }
     {
@@ -410,7 +412,7 @@ impl<'a, H: Wait, J: PoolJob, C: Contexts<Spawned<J>>> Seat<'a, H, J, C> {
         false
     }
 
-    /// Moves a job that waits on `core` to the worker's. Returns whether there was one.
+    /// Moves a job that waits on `core` to the worker's own core. Returns whether there was such a job.
     fn fetch_from(&mut self, core: u8) -> bool
         ensures { self.new ≡ self.old }
     {
@@ -425,8 +427,8 @@ impl<'a, H: Wait, J: PoolJob, C: Contexts<Spawned<J>>> Seat<'a, H, J, C> {
         was_moved
     }
 
-    /// Moves the job at a place of another core here, unless it runs or has its core to itself. Returns whether it was
-    /// moved.
+    /// Moves the job at a place of another core here, unless it runs or has its core to itself. Returns whether the job
+    /// was moved.
     fn move_here(&mut self, place: Place) -> bool
         ensures { self.new ≡ self.old }
     {
@@ -444,8 +446,8 @@ impl<'a, H: Wait, J: PoolJob, C: Contexts<Spawned<J>>> Seat<'a, H, J, C> {
     }
 
     /// Returns a place of another core at which a job may be ready, if that core's worker is awake and has not come to
-    /// it. In a turn only a core counts for which a kernel thread has called `work`: the others may be turned by this
-    /// worker, which would move jobs to and fro.
+    /// it. In a `turn` only those cores count for which a kernel thread has called `work`. This worker may make the
+    /// rounds of the other cores itself, and would move jobs to and fro between them.
     fn waiting_on(&self, core: u8) -> Option<Place> {
         if core == self.core || self.call == Call::Turn && !self.pool.live.is_worked(core) {
             return None;
@@ -472,8 +474,8 @@ impl<'a, H: Wait, J: PoolJob, C: Contexts<Spawned<J>>> Seat<'a, H, J, C> {
         }
     }
 
-    /// Lets go the children that the job in hand, or one in its place, has ended without joining. Returns false if
-    /// memory was refused.
+    /// Releases the children that were not joined before their parent (the job in hand or one in its place) ended.
+    /// Returns false if memory was refused.
     fn let_go(&mut self) -> bool
         ensures { self.new ≡ self.old }
     {
@@ -484,7 +486,7 @@ impl<'a, H: Wait, J: PoolJob, C: Contexts<Spawned<J>>> Seat<'a, H, J, C> {
     }
 }
 
-/// Returns the seat of a worker whose rounds are over, unless something is out with it.
+/// Returns the seat of a worker whose rounds are over, unless the seat still has something in hand.
 pub(crate) fn idle_seat<J: PoolJob, C: Contexts<Spawned<J>>>(
     pool: &Pool<C>,
     seat: C::Seat,

@@ -3,8 +3,8 @@ ghost use Rattle.std.specs.Prelude.{◌≡◌, ◌+◌, ◌<◌};
 ghost use Rattle.arachne_contexts.specs.Words.{ShowsClosed, ShowsFull};
 
 /// The cores that one call has asked for a place, in ascending order, and that had none: the number that were full or
-/// exclusive to one job, and the number that were closed. A core is counted only with its word, which shows that none
-/// of its places is free.
+/// exclusive to one job, and the number that were closed. A core is counted only with its occupancy word, which shows
+/// that none of its places is free.
 #[derive(Clone, Copy, Debug, PartialEq, Eq)]
 pub struct NoPlaces {
     /// The core that was asked first.
@@ -32,7 +32,7 @@ impl NoPlaces {
         self.closed
     }
 
-    /// Returns a count of 0, of a table whose cores have `slots` places. `core` is the next one to be asked.
+    /// Returns counts of 0 for a table whose cores have `slots` places. `core` is the first core to be asked.
     pub(crate) fn before(core: u8, slots: u8) -> NoPlaces
         ensures seen { AreSeen core 0 slots result }
         ensures next { IsNext core result }

@@ -1,4 +1,4 @@
-//! A job in a pool, with those that run in its place, and the end at which it leaves its result.
+//! A job in a pool, with those that run in its place, and the sending end of the cell in which it leaves its result.
 ghost use Rattle.std.specs.Prelude.{◌≡◌, ◌+◌, ◌<◌, ◌≤◌, [], IfSome, IsSome, MatchOption, Some, None, length, true};
 ghost use Rattle.arachne_pool.specs.Frames.{CountsEach};
 
@@ -13,11 +13,13 @@ use std::alloc::Global;
 use std::marker::Model;
 use std::snapshot::Snapshot;
 
-/// A job that was spawned and has not ended. It is moved and never copied, and only its owner steps it. A child that it
-/// has forked while no place was free waits here, and runs in its place once it is awaited.
+/// A job that was spawned and has not ended. A job is moved and never copied, and only its owner makes its steps. A
+/// child that the job has forked while no place was free waits here, and runs in the job's place once the job awaits
+/// it.
 ///
-/// Contracts see its tag; the job as it was spawned; the id under which its parent runs, if that has to be woken; and
-/// how many jobs that have not ended run or wait in its place, and these as they are now.
+/// Contracts see the job's tag; the job as it was spawned; and the id under which its parent runs, if the parent has to
+/// be woken. Contracts also see the jobs that have not ended and run or wait in the job's place, as they are now, and
+/// their number.
 #[derive(Drop)]
 pub struct Spawned<J: PoolJob> {
     tag: u64,
@@ -48,7 +50,7 @@ impl<J: PoolJob> Tagged for Spawned<J> {
 impl<J: PoolJob> Spawned<J> {
     ghost use Rattle.arachne_pool.specs.Jobs.{one};
 
-    /// Begins a job, which leaves its result at this end, if there is one.
+    /// Begins a job, which leaves its result at the end `sender`, if there is one.
     pub(crate) fn begin(
         alloc: Global,
         job: J,
@@ -67,7 +69,7 @@ impl<J: PoolJob> Spawned<J> {
         }
     }
 
-    /// Returns whether it wants a core for itself.
+    /// Returns whether the job wants a core for itself.
     pub(crate) fn is_exclusive(&self) -> bool {
         self.stack.is_exclusive()
     }
@@ -87,20 +89,21 @@ impl<J: PoolJob> Spawned<J> {
         self.stack.has_aside()
     }
 
-    /// Returns whether the oldest of these wants a core for itself.
+    /// Returns whether the oldest child that waits here wants a core for itself.
     pub(crate) fn is_oldest_exclusive(&self) -> bool {
         self.stack.is_oldest_exclusive()
     }
 
-    /// Subtracts the number of jobs in this place that have not ended from `count`. Returns `None` if these are more.
+    /// Subtracts the number of jobs in this place that have not ended from `count`. Returns `None` if that number is
+    /// more than `count`.
     pub(crate) fn taken_from(&self, count: u64) -> Option<u64>
         ensures { MatchOption result (count < self.now.many) (λ rest. rest + self.now.many ≡ count) }
     {
         self.stack.taken_from(count)
     }
 
-    /// Runs the job for at most `left` steps, until a child is forked while one may be posted, or it waits or has
-    /// ended. Counts each job that begins or ends.
+    /// Runs the job for at most `left` steps. Stops earlier if the job forks a child that may get a place of its own
+    /// (`may_post`), waits, or has ended. Counts each job that begins or ends.
     pub(crate) fn slice(
         &mut self,
         cells: &mut Cells<J>,
@@ -115,13 +118,14 @@ impl<J: PoolJob> Spawned<J> {
         self.stack.slice(cells, tally, left, may_post)
     }
 
-    /// Returns how many children a job in this place has ended without joining.
+    /// Returns how many children were not joined before their parent, a job in this place, has ended.
     pub(crate) fn orphans(&self) -> usize {
         self.stack.orphans()
     }
 
-    /// Lets go one of these. If it had not begun, it is returned as a job of its own, whose result is dropped. If there
-    /// is no room for such a one, one that has not begun stays, and `None` is returned.
+    /// Releases one child that was not joined before its parent ended. If the child had not begun, returns it as a job
+    /// of its own, whose result is dropped. If there is no room for such a job, a child that has not begun stays, and
+    /// the result is `None`.
     pub(crate) fn let_go(&mut self, alloc: Global, has_room: bool) -> Option<Spawned<J>>
         ensures room { IsSome result → has_room ≡ true }
         ensures same { self.new ≡ record self.old { many = self.new.many; jobs = self.new.jobs } }
@@ -131,8 +135,8 @@ impl<J: PoolJob> Spawned<J> {
         Some(Spawned::begin(alloc, job, None, None))
     }
 
-    /// Makes the oldest child that waits here a job of its own, whose parent runs under `me`. Returns `None` if there
-    /// is none or memory is refused: then all is as before, these jobs and their order too.
+    /// Makes the oldest child that waits here a job of its own, whose parent runs under `me`. Returns `None` if no
+    /// child waits or memory is refused; then nothing has changed, not even the order of these jobs.
     pub(crate) fn part_oldest(
         &mut self,
         alloc: Global,
@@ -147,8 +151,8 @@ impl<J: PoolJob> Spawned<J> {
         Some(Spawned::begin(alloc, job, Some(sender), Some(me)))
     }
 
-    /// Ends the job, of which none is left: its handle or its parent gets its result, which is one of the job as it was
-    /// spawned.
+    /// Ends the job, once all jobs in its place have ended. The job's handle or its parent gets the result, which is a
+    /// result of the job as it was spawned.
     pub(crate) fn leave(self) -> Ended<J>
         requires { self.many ≡ 0 }
         ensures { result ≡ self }
@@ -167,8 +171,8 @@ impl<J: PoolJob> Spawned<J> {
         Ended { left, job, parent }
     }
 
-    /// Returns the job and those that run or wait in its place, as they are now, but for those that have ended. Unless
-    /// it has ended, it leaves no result.
+    /// Returns the jobs of this place that have not ended, as they are now: this one, and those that run or wait in its
+    /// place. Unless the job has ended, it leaves no result.
     pub fn into_jobs(self) -> Jobs<J>
         ensures { (result ≡ self.jobs) × (length result ≡ self.many) }
     {
@@ -181,13 +185,13 @@ impl<J: PoolJob> Spawned<J> {
     }
 }
 
-/// A job that has ended and whose result was left. Only `Spawned::leave` makes one.
+/// A job that has ended and whose result was left. Only `Spawned::leave` makes a value of this type.
 ///
 /// Contracts see the job as it ended.
 pub(crate) struct Ended<J: PoolJob> {
-    /// It has no bytes.
+    /// Shows that the result was left. The field has no bytes.
     left: ResultLeft<J>,
-    /// Nor has this.
+    /// The job as it ended. This field has no bytes either.
     job: Snapshot<Spawned<J>>,
     parent: Option<ThreadId>,
 }
@@ -204,7 +208,7 @@ impl<J: PoolJob> Model for Ended<J> {
 }
 
 impl<J: PoolJob> Ended<J> {
-    /// Returns the parent, if that has to be woken.
+    /// Returns the id under which the parent runs, if the parent has to be woken.
     #[inline(always)]
     pub(crate) fn parent(self) -> Option<ThreadId>
         ensures { result ≡ self.parent }

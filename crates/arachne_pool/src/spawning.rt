@@ -1,4 +1,4 @@
-//! Spawns that keep no job: if no core has a place for it, it is returned at once.
+//! Spawns that keep no job: a job for which no core has a place is returned at once.
 ghost use Rattle.std.specs.Prelude.{◌≡◌, ◌<◌, [], ◌∷◌, IfErr, IfOk, OnErr, OnOk};
 ghost use Rattle.arachne_contexts.specs.Out.{Claim, KeepsOut};
 ghost use Rattle.arachne_pool.specs.Grounds.{AddsOut};
@@ -19,7 +19,7 @@ use rand_xoshiro::Xoshiro256PlusPlus;
 use std::sync::Wait;
 use thiserror::Error;
 
-/// Why a job was not spawned.
+/// The reason why a job was not spawned.
 #[derive(Clone, Copy, Debug, PartialEq, Eq, Error)]
 pub enum Refusal {
     /// Each core that the job may be on was asked in this call, and none had a place.
@@ -27,7 +27,7 @@ pub enum Refusal {
     NoPlace(NoPlaces),
     #[error("out of memory")]
     Memory,
-    /// The table has disowned the worker's seat.
+    /// The worker has no seat, since the table did not know one of its places or jobs.
     #[error("the worker has no seat")]
     NoSeat,
 }
@@ -52,8 +52,8 @@ impl<C: Seats> Pool<C> {
     ghost use Rattle.arachne_pool.specs.Workers.{IsWorkerOf};
 
     /// Spawns a job on the core that `claim_normal` of `arachne_arbiter` chooses, and returns its handle. If no core
-    /// has a place, the job is returned, and all is as before. So there are at most as many jobs as places, and those
-    /// that run or wait in these.
+    /// has a place, the job is returned, and nothing has changed. So there are at most as many jobs as places, beside
+    /// children that run or wait in their parents' places.
     pub fn try_spawn<H: Wait, J: PoolJob>(
         &self,
         rt: &H,
@@ -82,7 +82,7 @@ impl<C: Seats> Pool<C> {
         }
     }
 
-    /// Spawns a job on this core, if that has a place. Returns its handle and the place.
+    /// Spawns a job on this core, if that has a place. Returns the job's handle and the place.
     pub fn try_spawn_on<H: Wait, J: PoolJob>(
         &self,
         rt: &H,
@@ -194,7 +194,8 @@ impl<C: Seats> Pool<C> {
         }
     }
 
-    /// Posts a job that a worker has counted at a place that its seat has claimed, and signals that core's worker.
+    /// Posts a job, which the worker has counted, at a place that its seat has claimed. Signals the worker of that
+    /// place's core.
     fn post_at<H: Wait, J: PoolJob>(
         &self,
         rt: &H,
@@ -223,7 +224,8 @@ impl<C: Seats> Pool<C> {
     }
 }
 
-/// Claims a place for a job, by choice, or else on the first core that has one. If none has one, each was asked.
+/// Claims a place for a job: on a core drawn at random, or else on the first core that has one. If no place was found,
+/// each core was asked.
 fn claim_any<H: Wait, J: PoolJob, C: Contexts<Spawned<J>>>(
     rt: &H,
     pool: &Pool<C>,
@@ -250,8 +252,8 @@ fn claim_any<H: Wait, J: PoolJob, C: Contexts<Spawned<J>>>(
     Err(Refusal::NoPlace(seen))
 }
 
-/// Claims a place on this core, if it has one. Otherwise it is counted with those that were seen without one. Tries
-/// again if another took the place meanwhile.
+/// Claims a place on this core, if one is free. If no place is free, adds the core to `seen`, the cores that had none.
+/// Tries again if another kernel thread took the place meanwhile.
 fn claim_on<H: Wait, J: PoolJob, C: Contexts<Spawned<J>>>(
     rt: &H,
     pool: &Pool<C>,

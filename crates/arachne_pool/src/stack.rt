@@ -15,11 +15,11 @@ use std::marker::Model;
 use std::mem::replace;
 use std::snapshot::Snapshot;
 
-/// A job in a place: as it was forked, as it is now, and how many children it has forked and not joined, beside one
-/// that runs in its place.
+/// A job in a place: as it was forked, as it is now, and the number of its children that were forked and not joined,
+/// without one that runs in the job's place.
 #[derive(Drop)]
 struct JobFrame<J: PoolJob> {
-    /// It has no bytes.
+    /// The job as it was forked. The field has no bytes.
     asked: Snapshot<J>,
     job: J,
     awaited: usize,
@@ -34,7 +34,7 @@ impl<J: PoolJob> Model for JobFrame<J> {
 }
 
 impl<J: PoolJob> JobFrame<J> {
-    /// Begins a job here.
+    /// Begins a job in a frame of its own.
     fn begin(job: J) -> JobFrame<J>
         ensures { result ≡ record { asked = job; job = job; awaited = 0 } }
     {
@@ -46,26 +46,26 @@ impl<J: PoolJob> JobFrame<J> {
     }
 }
 
-/// A job, and those that run in its place: each was forked by the one below it, which awaits it and had no place to
-/// give it. Only the topmost makes steps.
+/// A job and those that run in its place. Each job above the first was forked by the job below it, which awaits it and
+/// found no place for it. Only the topmost job makes steps.
 ///
-/// Contracts see the first job, as it was spawned; how many jobs there are that have not ended, with those that wait
-/// here to begin, and these as they are now; what the topmost has forked just now, or has ended with; and whether it
-/// has asked for the result of its newest child.
+/// Contracts see the first job, as it was spawned, and the jobs that have not ended, as they are now, also those that
+/// wait here to begin, and the number of these jobs. Contracts also see what the topmost job has forked just now, or
+/// has ended with, and whether it has asked for the result of its newest child.
 #[derive(Drop)]
 pub(crate) struct Stack<J: PoolJob> {
-    /// The first job as it was spawned. It has no bytes.
+    /// The first job as it was spawned. The field has no bytes.
     asked: Snapshot<J>,
     top: JobFrame<J>,
-    /// Those below it, the first job first.
+    /// The jobs below the topmost one, the first job first.
     below: Vec<JobFrame<J>>,
-    /// The children of all of them, but for those that run here.
+    /// The children of all jobs here, without those that run here.
     links: Links<J>,
-    /// A child that the topmost has forked, and that has to wait here.
+    /// A child that the topmost job has forked, and that has to wait here.
     child: Option<J>,
-    /// The result of the topmost, if it has ended.
+    /// The result of the topmost job, if it has ended.
     ended: Option<J::Output>,
-    /// The topmost must get the result of its newest child before its next step.
+    /// True if the topmost job must get the result of its newest child before its next step.
     waits: bool,
 }
 
@@ -106,7 +106,7 @@ impl<J: PoolJob> Stack<J> {
         }
     }
 
-    /// Returns whether the topmost wants a core for itself.
+    /// Returns whether the topmost job wants a core for itself.
     pub(crate) fn is_exclusive(&self) -> bool {
         self.top.job.is_exclusive()
     }
@@ -116,7 +116,7 @@ impl<J: PoolJob> Stack<J> {
         self.top.job.bound()
     }
 
-    /// Reports to the topmost the id under which it rests.
+    /// Reports to the topmost job the id under which it rests.
     pub(crate) fn sleeps_as(&self, id: ThreadId) {
         self.top.job.sleeps_as(id);
     }
@@ -126,12 +126,13 @@ impl<J: PoolJob> Stack<J> {
         self.links.aside() > 0
     }
 
-    /// Returns whether the oldest of these wants a core for itself.
+    /// Returns whether the oldest child that waits here wants a core for itself.
     pub(crate) fn is_oldest_exclusive(&self) -> bool {
         self.links.is_oldest_exclusive()
     }
 
-    /// Subtracts the number of those here that have not ended from `count`. Returns `None` if these are more.
+    /// Subtracts the number of jobs here that have not ended from `count`. Returns `None` if that number is more than
+    /// `count`.
     pub(crate) fn taken_from(&self, count: u64) -> Option<u64>
         ensures { MatchOption result (count < self.now.many) (λ rest. rest + self.now.many ≡ count) }
     {
@@ -142,8 +143,8 @@ impl<J: PoolJob> Stack<J> {
             .checked_sub(u64::from(self.child.is_some()))
     }
 
-    /// Runs for at most `left` steps, until a child is forked while one may be posted, the topmost waits or the first
-    /// has ended. Counts each job that begins or ends.
+    /// Runs the jobs for at most `left` steps. Stops earlier if a child is forked that may get a place of its own
+    /// (`may_post`), if the topmost job waits, or if the first job has ended. Counts each job that begins or ends.
     #[tactic(auto, using(crate::proofs::Together::counting))]
     pub(crate) fn slice(
         &mut self,
@@ -194,7 +195,7 @@ impl<J: PoolJob> Stack<J> {
         self.step(tally, may_post)
     }
 
-    /// Makes a step of the topmost.
+    /// Makes a step of the topmost job.
     fn step(&mut self, tally: &mut Tally, may_post: bool) -> JobStop
         requires running { (self.old.ended ≡ None) × (self.old.child ≡ None) × (self.old.waits ≡ false) }
         ensures asked { self.new.asked ≡ self.old.asked }
@@ -220,7 +221,7 @@ impl<J: PoolJob> Stack<J> {
         }
     }
 
-    /// Has the child that was forked just now wait here to begin.
+    /// Lets the child that was just forked wait here to begin.
     fn put_aside(&mut self, may_post: bool) -> JobStop
         requires { self.old.ended ≡ None }
         ensures { KeepsMany self.old self.new }
@@ -247,7 +248,8 @@ impl<J: PoolJob> Stack<J> {
         }
     }
 
-    /// Gives the topmost the result of its newest child, if that has ended. If that has not begun, it begins here.
+    /// Gives the topmost job the result of its newest child, if the child has ended. If the child has not begun, it
+    /// begins here.
     fn receive(&mut self, cells: &mut Cells<J>) -> JobStop
         requires running { (self.old.ended ≡ None) × (self.old.child ≡ None) × (self.old.waits ≡ true) }
         ensures same { KeepsMany self.old self.new }
@@ -271,7 +273,7 @@ impl<J: PoolJob> Stack<J> {
         }
     }
 
-    /// Begins the newest child, which has not begun, here, above the one that awaits it.
+    /// Begins the newest child here, above the job that awaits it.
     fn enter(&mut self) -> JobStop
         requires running { (self.old.ended ≡ None) × (self.old.child ≡ None) × (self.old.waits ≡ true) }
         ensures same { KeepsMany self.old self.new }
@@ -293,7 +295,7 @@ impl<J: PoolJob> Stack<J> {
         JobStop::Goes
     }
 
-    /// Gives the result of the topmost to the one below it, which goes on. The first one keeps its own.
+    /// Gives the result of the topmost job to the one below it, which goes on. The result of the first job stays here.
     fn pass_on(&mut self) -> JobStop
         requires { IsSome self.old.ended }
         ensures same { KeepsMany self.old self.new }
@@ -315,7 +317,7 @@ impl<J: PoolJob> Stack<J> {
         JobStop::Goes
     }
 
-    /// Returns how many children the topmost has ended without joining.
+    /// Returns how many children were not joined before their parent, the topmost job, has ended.
     pub(crate) fn orphans(&self) -> usize {
         if self.ended.is_some() {
             self.top.awaited
@@ -324,7 +326,8 @@ impl<J: PoolJob> Stack<J> {
         }
     }
 
-    /// Lets go one of these. If it had not begun, it is returned. If there is no room for such a one, all is as before.
+    /// Releases one child that was not joined before its parent ended. If the child had not begun, returns it. If there
+    /// is no room for such a child, nothing has changed.
     pub(crate) fn let_go(&mut self, has_room: bool) -> Option<J>
         ensures room { IsSome result → has_room ≡ true }
         ensures asked { self.new.asked ≡ self.old.asked }
@@ -338,8 +341,8 @@ impl<J: PoolJob> Stack<J> {
         self.links.forget_newest()
     }
 
-    /// Takes the oldest child that waits here, which begins elsewhere, and the end at which it leaves its result.
-    /// Returns `None` if there is none or memory is refused.
+    /// Takes the oldest child that waits here, to begin elsewhere, with the sending end of the cell for its result.
+    /// Returns `None` if no child waits or memory is refused.
     pub(crate) fn part_oldest(
         &mut self,
         alloc: Global,
@@ -352,7 +355,7 @@ impl<J: PoolJob> Stack<J> {
         self.links.part_oldest(alloc, cells)
     }
 
-    /// Returns the result of the first job, if it has ended, as it has if none is left.
+    /// Returns the result of the first job, if it has ended. The first job has ended if no job is left here.
     pub(crate) fn into_output(self) -> Option<J::Output>
         ensures result { IfSome result (J.is_result self.asked) }
         ensures over { self.many ≡ 0 → IsSome result }
@@ -361,7 +364,7 @@ impl<J: PoolJob> Stack<J> {
         if below.is_empty() { ended } else { None }
     }
 
-    /// Returns all that have not ended, and the result of the first job, if it has ended.
+    /// Returns all jobs that have not ended, and the result of the first job, if it has ended.
     pub(crate) fn into_jobs(self) -> (Jobs<J>, Option<J::Output>)
         ensures jobs { result.0 ≡ self.jobs }
         ensures many { length result.0 ≡ self.many }
@@ -398,10 +401,10 @@ fn unless_ended<J: PoolJob>(ended: &Option<J::Output>, job: J) -> Option<J>
     }
 }
 
-/// The jobs of one that was taken apart, which have not ended. They make no step more here; those that had not begun
-/// may be spawned.
+/// The jobs of a `Stack` that was taken apart, without those that have ended. These jobs make no more steps here; those
+/// that had not begun may be spawned.
 ///
-/// Contracts see those that are left, in the order in which they come.
+/// Contracts see the jobs that are left, in the order in which `take` returns them.
 #[derive(Drop)]
 pub struct Jobs<J: PoolJob> {
     child: Option<J>,
@@ -420,7 +423,7 @@ impl<J: PoolJob> Model for Jobs<J> {
 }
 
 impl<J: PoolJob> Jobs<J> {
-    /// Takes the next one: first those that had not begun, then those that had, of both the newest first.
+    /// Takes the next job: first those that had not begun, then those that had; in both groups the newest comes first.
     pub fn take(&mut self) -> Option<J>
         ensures { MatchOption result ((self.old ≡ []) × (self.new ≡ [])) (λ job. self.old ≡ job ∷ self.new) }
     {

@@ -6,18 +6,18 @@ ghost use Rattle.arachne_pool.specs.Done.{nothing_done};
 /// slices. Each count wraps at 2^64.
 #[derive(Clone, Copy, Debug, PartialEq, Eq)]
 pub struct Statistics {
-    /// Slices of jobs.
+    /// The number of slices of jobs.
     pub slices: u64,
-    /// Steps of jobs, those in the place of others too.
+    /// The number of steps of jobs, also of those that run in the place of others.
     pub steps: u64,
     /// How often a job was woken: by a worker of this core as a child of the job ended, or by `Pool::wake` while the
-    /// job was on this core. The latter is counted at once.
+    /// job was on this core. A wake by `Pool::wake` is counted at once.
     pub wakes: u64,
-    /// Rounds that found nothing to do, after which the worker waited.
+    /// The number of rounds that found nothing to do, after which the worker waited.
     pub rests: u64,
-    /// How often the worker's sleep timed out though there was something that nobody had signalled, or all was over. It
-    /// is counted at once. Workers with jobs for which no core has a place cause a few of these, since a place that
-    /// comes free is not signalled; many show a missing signal.
+    /// How often the worker's sleep timed out though there was something that nobody had signalled, or all was over.
+    /// Each such sleep is counted at once. Workers with jobs for which no core has a place cause a few of them, since a
+    /// place that becomes free is not signalled. Many such sleeps show that a signal is missing.
     pub overslept: u64,
 }
 

@@ -8,19 +8,19 @@ use arachne_core::Rest;
 /// The reason why a slice of a job stops.
 #[derive(Clone, Copy, Debug, PartialEq, Eq)]
 pub(crate) enum JobStop {
-    /// It goes on.
+    /// The job goes on.
     Goes,
-    /// It awaits a child that has begun elsewhere and has not ended.
+    /// The job awaits a child that has begun elsewhere and has not ended.
     Waits,
-    /// It rests until it is woken.
+    /// The job rests until it is woken.
     Sleeps,
-    /// It goes on, and has forked a child while a place may be free.
+    /// The job goes on, and has forked a child while a place may be free.
     Forks,
     /// A job has ended without joining all of its children, which must be let go.
     LetsGo,
-    /// It has ended.
+    /// The job has ended.
     Ends,
-    /// Memory was refused. All is as before.
+    /// Memory was refused. Nothing has changed.
     Short,
 }
 
@@ -38,7 +38,7 @@ impl JobStop {
     }
 }
 
-/// Returns how a job has to rest that is put back as blocked, or as ready.
+/// Returns the state in which a job is put back: blocked if `blocks`, else ready.
 #[inline(always)]
 pub(crate) fn rest_of(blocks: bool) -> Rest
     ensures { result ≡ (if blocks then Rest.Blocked else Rest.Ready) }
@@ -46,7 +46,7 @@ pub(crate) fn rest_of(blocks: bool) -> Rest
     if blocks { Rest::Blocked } else { Rest::Ready }
 }
 
-/// Returns how a job rests that was put back as `asked`: one that was woken before is ready.
+/// Returns the state of a job that was put back as `asked`: a job that was woken before is ready.
 #[inline(always)]
 pub(crate) fn rests_so(rested: Rested, asked: Rest) -> Rest
     ensures { result ≡ rests_as rested asked }

@@ -14,7 +14,8 @@ use arachne_core::{MarkWord, ThreadId};
 use std::marker::Model;
 use std::sync::Wait;
 
-/// A seat by which a kernel thread that is no worker, such as a timer, wakes jobs. One kernel thread at a time has it.
+/// A seat by which a kernel thread that is no worker, such as a timer, wakes jobs. One kernel thread at a time has the
+/// waker.
 #[derive(Drop)]
 pub struct Waker<S> {
     pub(crate) seat: S,
@@ -31,8 +32,8 @@ impl<C: Seats> Pool<C> {
     ghost use Rattle.arachne_pool.specs.Leftover.{HalvesWeight, JoinsWeights};
     ghost use Rattle.arachne_pool.specs.Workers.{IsWorkerOf};
 
-    /// Splits a waker off a worker, with a part of the weight of its seat. Nothing else of the worker changes. Returns
-    /// no waker if the worker has no seat.
+    /// Splits a waker off a worker, with a part of the weight of the worker's seat. Nothing else of the worker changes.
+    /// Returns no waker if the worker has no seat.
     pub fn split_waker<H: Wait, J: PoolJob>(
         &self,
         rt: &H,
@@ -73,10 +74,10 @@ impl<C: Seats> Pool<C> {
         worker
     }
 
-    /// Wakes the job of this id, and returns the answer of the table. `Woken`: it was blocked, and its core's worker is
-    /// signalled; or it is in hand, and doesn't rest then. `Already`: it was woken before, or goes on without. `Gone`:
-    /// the job of the id has ended; no other ever has the id again, but for jobs that ran in the same place at the same
-    /// time.
+    /// Wakes the job of this id, and returns the answer of the table. `Woken`: the job was blocked, and its core's
+    /// worker is signalled; or it is in a worker's hand, and won't rest then. `Already`: the job was woken before, or
+    /// goes on without a wake. `Gone`: the job of the id has ended; no other ever has the id again, but for jobs that
+    /// ran in the same place at the same time.
     pub fn wake<H: Wait, J: PoolJob>(
         &self,
         rt: &H,

@@ -1,4 +1,4 @@
-//! Workers of a pool: what each has of it, how one is split in two, and how two are put together.
+//! Workers of a pool: the part that each has of it, how one is split in two, and how two are joined.
 ghost use Rattle.std.specs.Option.{option_or};
 ghost use Rattle.std.specs.Prelude.{◌≡◌, ◌+◌, ◌≤◌, [], IfErr, IfOk, None};
 ghost use Rattle.arachne_pool.specs.Workers.{HasNoCore};
@@ -24,7 +24,8 @@ pub enum PoolFault {
     /// Memory was refused. All jobs are as before, and the worker may go on.
     #[error("out of memory")]
     Memory,
-    /// The table didn't know a place or a job that the worker had of it. The worker is at its end, and has no seat.
+    /// The table didn't know a place or a job that the worker had got from it. The worker is at its end, and has no
+    /// seat.
     #[error("the table knows no such token")]
     Token,
     /// The pool was stopped.
@@ -65,16 +66,16 @@ impl From<Halt> for PoolFault {
     }
 }
 
-/// A worker: what a kernel thread has of a pool. One thread at a time has it, for one core.
+/// A worker: a kernel thread's access to a pool. One kernel thread at a time has a worker, for one core.
 ///
-/// Contracts see its seat, which it has unless the table has disowned it; its jobs that have no place, and their
-/// number; its counts, and the part of them that it has reported; the orders by which cores come and go, if it has
-/// them; and the core for which it was last called.
+/// Contracts see the worker's seat and its orders, if it has them (the orders by which cores come and go), its jobs
+/// that have no place, and their number. Contracts also see the worker's counts, the part of the counts that it has
+/// reported, and the core for which it was last called.
 #[derive(Drop)]
 pub struct Worker<S, J: PoolJob> {
     pub(crate) seat: Option<S>,
     pub(crate) bench: Bench<J>,
-    /// The core that it works on, or has worked on. At first a number that is none.
+    /// The core on which the worker works, or last worked. A new worker has a number that no core has.
     pub(crate) core: u8,
     pub(crate) agenda: Agenda,
     pub(crate) pace: Pace,
@@ -98,8 +99,8 @@ impl<S, J: PoolJob> Model for Worker<S, J> {
 }
 
 impl<S, J: PoolJob> Worker<S, J> {
-    /// Returns how many jobs it has spawned, with those that jobs of its core have forked, and how many have ended with
-    /// it.
+    /// Returns how many jobs the worker has spawned, with those that jobs of its core have forked, and how many have
+    /// ended with it.
     pub fn tally(&self) -> Tally
         ensures { result ≡ self.now.tally }
     {
@@ -129,8 +130,8 @@ impl<C: Seats> Pool<C> {
     ghost use Rattle.arachne_pool.specs.Leftover.{HalvesWeight, JoinsWeights};
     ghost use Rattle.arachne_pool.specs.Workers.{IsIdleAt, IsWorkerOf};
 
-    /// Splits a worker in two. The first keeps its jobs, its counts, its orders and its core. The second has half of
-    /// the weight of its seat, if it has one, and has worked for no core.
+    /// Splits a worker in two. The first keeps the jobs, the counts, the orders and the core of `worker`. The second
+    /// has half of the weight of the seat of `worker`, if there is one, and has worked for no core.
     pub fn split<H: Wait, J: PoolJob>(
         &self,
         rt: &H,
@@ -154,9 +155,9 @@ impl<C: Seats> Pool<C> {
         (worker, others)
     }
 
-    /// Joins two workers into one, with the core of the first, and its orders, or those of the other if it has none. It
-    /// has a seat if both have. If memory for their jobs is refused, both are returned, which can't be if the other has
-    /// none.
+    /// Joins two workers into one, with the core of the first, and the orders of the first or else of the second. The
+    /// joined worker has a seat if both have one. If memory for the jobs of both is refused, both workers are returned;
+    /// this can't happen if the second has no jobs.
     pub fn join_workers<H: Wait, J: PoolJob>(
         &self,
         rt: &H,

@@ -1,4 +1,4 @@
-//! The counts and replies that the jobs of a row share with whoever wakes them.
+//! The counts and replies that the jobs of a row (a test case) share with whoever wakes them.
 use arachne_core::ThreadId;
 use std::alloc::Global;
 use std::sync::atomic::{AtomicU64, Ordering};
@@ -8,7 +8,7 @@ use std::thread::yield_now;
 /// The number of looks at a word before a job rests, which take some microseconds.
 const MOMENT: u32 = 2_000;
 
-/// The most looks for an answer. They take some tenths of a second if nothing else wants the processors.
+/// The most looks for an answer. These looks take some tenths of a second if nothing else wants the processors.
 const MOST_LOOKS: u32 = 1_000_000;
 
 /// The counts of a row's jobs, and the number of answers that have come.
@@ -49,7 +49,7 @@ impl Board {
         self.begun.fetch_add(1, Ordering::SeqCst);
     }
 
-    /// Notes the id of a job that is about to sleep. A moment passes, in which it may be woken.
+    /// Notes the id of a job that is about to sleep. Then a moment passes, in which the job may be woken.
     pub(crate) fn sleeps_as(&self, id: ThreadId) {
         self.context.store(u64::from(id.context), Ordering::SeqCst);
         self.generation.store(id.generation, Ordering::SeqCst);
@@ -83,7 +83,7 @@ impl Board {
         self.turns.load(Ordering::SeqCst)
     }
 
-    /// Waits until the turn was passed more than `turns` times, or returns for no reason.
+    /// Waits until the turn was passed more than `turns` times. May also return earlier, for no reason.
     pub(crate) fn await_turn<R: Wait>(&self, rt: &R, turns: u64) {
         self.turns.park(rt, (turns & 0xffff_ffff) as u32);
     }
@@ -93,7 +93,7 @@ impl Board {
         self.answers.fetch_add(1, Ordering::SeqCst);
     }
 
-    /// Waits until an answer has come. If none does, 1,000 are counted.
+    /// Waits until an answer has come. If no answer comes, counts 1,000 answers, with which no row agrees.
     pub(crate) fn await_answer(&self) {
         for _ in 0..MOST_LOOKS {
             if self.answers() > 0 {

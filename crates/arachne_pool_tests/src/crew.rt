@@ -11,7 +11,7 @@ use arachne_team::{Team, TeamFault};
 use std::sync::{Arc, Wait};
 use std::time::Clock;
 
-/// Two kernel threads, for core 0 and core 1, and the spell of each.
+/// Two kernel threads, for core 0 and core 1, and the work (the spell) of each.
 #[derive(Drop)]
 pub(crate) struct Crew<'p, C: Seats> {
     pub(crate) pool: &'p Pool<C>,

@@ -1,5 +1,5 @@
-//! Tests of pools for what no clause says: that kernel threads take part, that jobs are woken, and where jobs go. The
-//! crates that they test are proved without them.
+//! Tests of pools for what no contract says: that kernel threads take part, that jobs are woken, and to which cores
+//! jobs go. The crates under test are proved without these tests.
 #![tactic(auto)]
 
 #[cfg(test)]

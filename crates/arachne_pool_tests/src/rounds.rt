@@ -30,23 +30,23 @@ pub(crate) enum Act {
     Spawns(Sort),
     /// This number of jobs are spawned.
     SpawnsMany(u32, Sort),
-    /// A job is spawned and joined on core 0, with this result. If it is `None`, the join must fail because the pool is
-    /// stopped.
+    /// A job is spawned and joined on core 0, with this result. If the result is `None`, the join must fail because the
+    /// pool is stopped.
     Joins(Sort, Option<u64>),
-    /// A job is spawned, core 0 has a round, and the job is joined once the pool is stopped. It has ended by then, with
-    /// this result.
+    /// A job is spawned, core 0 has a round, and the job is joined once the pool is stopped. By then the job has ended,
+    /// with this result.
     JoinsLate(Sort, u64),
     /// A spawn in this way is tried, with this result.
     Tries(On, Sort, Comes),
     /// The job of this context and generation is woken, with this result.
     Wakes(u32, u64, Wakes),
-    /// An answer comes for the jobs that sleep. It wakes none of them.
+    /// An answer comes for the jobs that sleep. The answer wakes none of these jobs.
     Answers,
     /// This number of answers have come.
     Answered(u64),
-    /// A round on a core. It must find something if the second value is true, and nothing if it is false.
+    /// A round on a core. The round must find something if the second value is true, and nothing if it is false.
     Turns(u8, bool),
-    /// A round on a core. It must fail because memory is refused.
+    /// A round on a core. The round must fail because memory is refused.
     TurnsInNeed(u8),
     /// This number of a core's places are taken, and the core is in this state.
     Has(u8, u8, Is),
@@ -60,7 +60,7 @@ pub(crate) enum Act {
     Did(u8, u64, u64, u64, u64),
     /// Sleeps of kernel threads have timed out, although something was there for them, at most this number of times.
     Overslept(u64),
-    /// The same, at least this number of times.
+    /// Sleeps of kernel threads have timed out, although something was there for them, at least this number of times.
     OversleptAtLeast(u64),
     /// Jobs are spawned in each way until each place has one. A spawn may only fail because no place is free.
     Fills,
@@ -89,7 +89,7 @@ pub(crate) enum On {
     AnyDetached,
     /// On this core.
     Core(u8),
-    /// On this core. The spawn must report the place of this index there.
+    /// On this core. The spawn must report the core's place of this index.
     At(u8, u8),
 }
 
@@ -109,7 +109,7 @@ pub(crate) enum Comes {
 pub(crate) enum Wakes {
     /// The job slept.
     It,
-    /// It was awake.
+    /// The job was awake.
     Awake,
     /// There is no such job.
     Nobody,
@@ -120,7 +120,7 @@ pub(crate) enum Wakes {
 pub(crate) enum Is {
     Open,
     Closed,
-    /// It is exclusive to one job.
+    /// The core is exclusive to one job.
     Alone,
 }
 
@@ -143,8 +143,8 @@ pub(crate) struct Row {
     pub(crate) alive: usize,
 }
 
-/// Makes a row's pool and its worker, and does the row's first acts. Returns `None` if that fails, or if the result of
-/// an act is not the one that it states.
+/// Makes a row's pool and its worker, and does the row's first acts. Returns `None` if the pool can't be made, or if
+/// the result of an act is not the one that the act states.
 pub(crate) fn begin<C: Contexts<Spawned<Task>> + Drop, R: Wait + Clock>(
     rt: &R,
     alloc: Global,
@@ -204,7 +204,7 @@ fn count_left(left: Left<Task>) -> usize {
     count
 }
 
-/// Returns the number of jobs in one that is left: itself, and those that run or wait in its place.
+/// Returns the number of jobs in a job that is left: itself, and those that run or wait in its place.
 fn count_in(job: Spawned<Task>) -> usize {
     let mut jobs = job.into_jobs();
     let mut count: usize = 0;
@@ -214,8 +214,8 @@ fn count_in(job: Spawned<Task>) -> usize {
     count
 }
 
-/// Does the acts with this worker. Returns it if the result of each act is the one that it states. A waker has a part
-/// of the worker's seat meanwhile.
+/// Does the acts with this worker. Returns the worker if the result of each act is the one that the act states. A waker
+/// has a part of the worker's seat meanwhile.
 fn all_hold<C: Contexts<Spawned<Task>>, R: Wait + Clock>(
     rt: &R,
     alloc: Global,
@@ -406,7 +406,7 @@ fn is_wanted_at(on: On, place: Place) -> bool {
     }
 }
 
-/// Spawns `jobs` jobs. Returns true if each was spawned.
+/// Spawns `jobs` jobs. Returns true if each job was spawned.
 fn spawns_many<C: Contexts<Spawned<Task>>, R: Wait>(
     rt: &R,
     pool: &Pool<C>,
@@ -427,7 +427,7 @@ fn spawns_many<C: Contexts<Spawned<Task>>, R: Wait>(
 }
 
 /// Spawns jobs that no worker keeps until half of the places are taken, and then on each core until it is full. Returns
-/// true if each was spawned as long as there was a place.
+/// true if each job was spawned as long as there was a place.
 fn fills<C: Contexts<Spawned<Task>>, R: Wait>(
     rt: &R,
     pool: &Pool<C>,
@@ -522,7 +522,7 @@ fn joins<C: Contexts<Spawned<Task>>, R: Wait + Clock>(
     }
 }
 
-/// Spawns a job while memory is used up, and makes rounds on core 0 until all jobs have ended. After a refusal it tries
+/// Spawns a job while memory is used up, and makes rounds on core 0 until all jobs have ended. After a refusal, tries
 /// again with a little more memory. Returns true if all have ended, and a spawn and more than 20 rounds were refused.
 fn ends_in_need<C: Contexts<Spawned<Task>>, R: Wait + Clock>(
     rt: &R,

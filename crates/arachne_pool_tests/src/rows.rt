@@ -29,7 +29,7 @@ pub(crate) const ALONE_PARENT: Sort = Sort {
     ..PARENT
 };
 
-/// One that ends at its eleventh step.
+/// A job that ends at its eleventh step.
 pub(crate) const ELEVEN: Sort = Sort { steps: 10, ..LEAF };
 
 /// A tree of jobs with three children each, four generations deep: 121 jobs.
@@ -39,13 +39,13 @@ const TREE: Sort = Sort {
     ..LEAF
 };
 
-/// One that goes on for longer than any test.
+/// A job that goes on for longer than any test.
 const ENDLESS: Sort = Sort {
     steps: u32::MAX,
     ..LEAF
 };
 
-/// One that goes on for so long that a kernel thread which has nothing to do meanwhile is parked before its end.
+/// A job that goes on for so long that a kernel thread which has nothing to do meanwhile is parked before the job ends.
 const LONG: Sort = Sort {
     steps: 2_000_000,
     bound: 1_000,

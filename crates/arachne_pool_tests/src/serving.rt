@@ -8,43 +8,43 @@ use crate::tasks::{Joins, LEAF, PARENT, Sort};
 use arachne_core::CORES;
 use std::test::Fail;
 
-/// One that sleeps until an answer has come.
+/// A job that sleeps until an answer has come.
 const SLEEPER: Sort = Sort { answers: 1, ..LEAF };
 
-/// A job that forks another and then sleeps. The other one sleeps too.
+/// A job that forks another and then sleeps. The forked job sleeps too.
 const BESIDE: Sort = Sort {
     joins: Joins::Never,
     answers: 9,
     ..PARENT
 };
 
-/// One that goes on for so long that a kernel thread which waits for it sleeps.
+/// A job that goes on for so long that a kernel thread which waits for it sleeps.
 const LONG: Sort = Sort {
     steps: 50_000,
     bound: 1_000,
     ..LEAF
 };
 
-/// One that goes on for as long in one slice.
+/// A job that goes on for as long as `LONG`, in one slice.
 const LONG_AT_ONCE: Sort = Sort {
     bound: LONG.steps,
     ..LONG
 };
 
-/// One that goes on for far longer in one slice.
+/// A job that goes on for far longer than `LONG_AT_ONCE`, in one slice.
 const LONGEST: Sort = Sort {
     steps: 2_000_000,
     bound: 2_000_000,
     ..LEAF
 };
 
-/// One that is in its first step until an answer has come.
+/// A job whose first step lasts until an answer has come.
 const HELD: Sort = Sort {
     is_held: true,
     ..LEAF
 };
 
-/// One that takes some microseconds to be dropped.
+/// A job that takes some microseconds to be dropped.
 const LADEN: Sort = Sort {
     luggage: 500,
     ..LEAF
@@ -53,8 +53,8 @@ const LADEN: Sort = Sort {
 /// The number of times that a kernel thread is woken.
 const OFTEN: u32 = 100;
 
-/// The most sleeps of kernel threads that may time out in a [`Row`], although something was there for them. If each
-/// signal of one kind is lost, they time out nearly as often as one is sent.
+/// The most sleeps of kernel threads that may time out in a [`Row`], although something was there for them. If all
+/// signals of one kind are lost, sleeps time out nearly as often as such a signal is sent.
 const FEW: u64 = OFTEN as u64 / 4;
 
 const ROWS: &[Row] = &[

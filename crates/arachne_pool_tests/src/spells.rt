@@ -22,50 +22,54 @@ const GLANCES: u32 = 2000;
 /// The work of one kernel thread.
 #[derive(Clone, Copy)]
 pub(crate) enum Spell {
-    /// It does nothing.
+    /// The kernel thread does nothing.
     Not,
-    /// It works on its core until no job is left, or the pool is stopped.
+    /// The kernel thread works on its core until no job is left, or the pool is stopped.
     ToTheEnd,
     /// Like `ToTheEnd`, on this core.
     ToTheEndOn(u8),
-    /// It works as in `ToTheEnd` each time that the turn is passed to it, until the pool is stopped.
+    /// The kernel thread works as in `ToTheEnd` each time that the turn is passed to it, until the pool is stopped.
     ToTheStop,
-    /// It makes this number of rounds, or fewer if no job is left before. Then it stops the pool.
+    /// The kernel thread makes this number of rounds, or fewer if no job is left before. Then the kernel thread stops
+    /// the pool.
     Rounds(u32),
-    /// It makes rounds until no job lives, and never calls `work`.
+    /// The kernel thread makes rounds until no job lives, and never calls `work`.
     TurnsOut,
-    /// It makes rounds on this core until its own core is open, for ten seconds at most. Then it stops the pool.
+    /// The kernel thread makes rounds on this core until its own core is open, for ten seconds at most. Then the kernel
+    /// thread stops the pool.
     TurnsUntilOpen(u8),
-    /// Once a job has begun elsewhere, it works on its core while memory is used up, until memory is refused. If `work`
-    /// does not report that, or if the pool is not stopped by it, an answer comes, and the kernel thread stops the
-    /// pool.
+    /// Once a job has begun elsewhere, the kernel thread works on its core while memory is used up, until memory is
+    /// refused. If `work` does not report the refusal, or if the refusal does not stop the pool, an answer comes, and
+    /// the kernel thread stops the pool.
     InNeed,
-    /// Like `InNeed`, but it joins a job that it has spawned on its core before.
+    /// Like `InNeed`, but the kernel thread joins a job that it has spawned on its core before.
     JoinsInNeed,
-    /// It spawns this number of leaves, which no worker may keep, and works for no core.
+    /// The kernel thread spawns this number of leaves, which no worker may keep, and works for no core.
     Spawns(u32),
-    /// It spawns this number of leaves for core 1, each once that core's kernel thread sleeps and only one job lives.
-    /// Then it calls `finish`, after which no more come, and works to the end.
+    /// The kernel thread spawns this number of leaves for core 1, each once that core's kernel thread sleeps and only
+    /// one job lives. Then the kernel thread calls `finish`, after which no more come, and works to the end.
     Feeds(u32),
-    /// This number of times it keeps a pool without a job open, and passes the turn. Once core 1's kernel thread
-    /// sleeps, it calls `finish`, and waits until that kernel thread returns from its work. At last it stops the pool.
+    /// This number of times the kernel thread keeps a pool without a job open, and passes the turn. Once core 1's
+    /// kernel thread sleeps, this kernel thread calls `finish`, and waits until that one returns from its work. At last
+    /// the kernel thread stops the pool.
     Finishes(u32),
     /// This number of times an answer comes once the job that wants it is about to sleep, and then the job is woken. If
     /// the second value is true, the answer only comes once the kernel thread of core 1 sleeps too.
     Wakes(u32, bool),
-    /// This number of times it spawns a job on core 1 and passes the turn. Once that job has begun there, it works to
-    /// the end, or looks until no job lives. Then it polls the handle, and counts an answer if the result is there. At
-    /// last it stops the pool.
+    /// This number of times the kernel thread spawns a job on core 1 and passes the turn. Once that job has begun on
+    /// core 1, the kernel thread works to the end, or looks until no job lives. Then the kernel thread polls the
+    /// handle, and counts an answer if the result has come. At last the kernel thread stops the pool.
     Polls(u32, Sort, Until),
-    /// Once a job has begun, it spawns a leaf on core 1, and makes rounds on this core until the leaf has begun or an
-    /// answer has come. It counts an answer if a round has found something and the leaf has not begun. After the rounds
-    /// it counts an answer in any case, and works to the end.
+    /// Once a job has begun, the kernel thread spawns a leaf on core 1, and makes rounds on this core until the leaf
+    /// has begun or an answer has come. The kernel thread counts an answer if a round has found something and the leaf
+    /// has not begun. After the rounds it counts an answer in any case, and works to the end.
     Fetches(u8),
-    /// This number of times it spawns a job on core 0, passes the turn and joins the job on its own core. It counts an
-    /// answer for each join; with `WorkReturns`, only if the other kernel thread returns from `work` then. At last it
-    /// stops the pool.
+    /// This number of times the kernel thread spawns a job on core 0, passes the turn and joins the job on its own
+    /// core. The kernel thread counts an answer for each join; with `WorkReturns`, only if the other kernel thread
+    /// returns from `work` then. At last the kernel thread stops the pool.
     JoinsThere(u32, Sort, Until),
-    /// It makes rounds on its core until only one job lives, which sleeps, and wakes that job with an answer.
+    /// The kernel thread makes rounds on its core until only one job lives, which sleeps, and wakes that job with an
+    /// answer.
     WakesLast,
 }
 
@@ -76,8 +80,8 @@ pub(crate) enum Until {
     NoneLives,
 }
 
-/// Does a spell as the kernel thread of a core, which may be none of the pool's. Returns the worker, if it still has
-/// its seat.
+/// Does a spell as the kernel thread of a core, which need not be one of the pool's. Returns the worker, if it still
+/// has its seat.
 pub(crate) fn work<C: Contexts<Spawned<Task>>, R: Wait + Clock>(
     rt: &R,
     pool: &Pool<C>,
@@ -275,7 +279,7 @@ fn spawns<C: Contexts<Spawned<Task>>, R: Wait>(
     }
 }
 
-/// Does `Spell::Feeds`. It spawns the leaves by the three calls that name no core, in turn.
+/// Does `Spell::Feeds`. Spawns the leaves by the three calls that name no core, in turn.
 fn feeds<C: Contexts<Spawned<Task>>, R: Wait + Clock>(
     rt: &R,
     pool: &Pool<C>,

@@ -9,41 +9,42 @@ use std::sync::Arc;
 /// A kind of job: it forks children, joins them, sleeps until answers come, goes on for some steps and ends.
 #[derive(Clone, Copy)]
 pub(crate) struct Sort {
-    /// The number of generations below it.
+    /// The number of generations below the job.
     pub(crate) depth: u32,
-    /// The number of children that it forks.
+    /// The number of children that the job forks.
     pub(crate) forks: u32,
-    /// The number of answers for which it sleeps once it has forked and joined its children. A child sleeps for one
-    /// fewer.
+    /// The number of answers for which the job sleeps once it has forked and joined its children. A child sleeps for
+    /// one answer fewer than its parent.
     pub(crate) answers: u64,
-    /// The number of steps that it goes on before each fork, and before it ends.
+    /// The number of steps that the job makes before each fork, and before it ends.
     pub(crate) steps: u32,
     /// The most steps of a slice.
     pub(crate) bound: u32,
-    /// The number of its values, which take their time to be dropped.
+    /// The number of values that the job carries, which take time to be dropped.
     pub(crate) luggage: usize,
     pub(crate) joins: Joins,
     pub(crate) is_exclusive: bool,
-    /// Its first child is exclusive, also if the job itself is not.
+    /// True if the job's first child is exclusive, even if the job itself is not.
     pub(crate) is_first_exclusive: bool,
-    /// Its first step lasts until an answer has come, so that its kernel thread comes to no other job meanwhile.
+    /// True if the job's first step lasts until an answer has come, so that its kernel thread comes to no other job
+    /// meanwhile.
     pub(crate) is_held: bool,
 }
 
 /// The children that a job joins, and the time of the join.
 #[derive(Clone, Copy)]
 pub(crate) enum Joins {
-    /// It joins each child before it forks the next one.
+    /// The job joins each child before it forks the next one.
     InTurn,
-    /// It joins all children once it has forked the last one.
+    /// The job joins all children once it has forked the last one.
     AtLast,
-    /// It joins only the last child, once it has forked it.
+    /// The job joins only the last child, once it has forked that child.
     Newest,
-    /// It joins no child.
+    /// The job joins no child.
     Never,
 }
 
-/// A job that forks none and ends at its first step.
+/// A job that forks no child and ends at its first step.
 pub(crate) const LEAF: Sort = Sort {
     depth: 0,
     forks: 0,
@@ -57,7 +58,7 @@ pub(crate) const LEAF: Sort = Sort {
     is_held: false,
 };
 
-/// One that forks a leaf and joins it.
+/// A job that forks a leaf and joins it.
 pub(crate) const PARENT: Sort = Sort {
     depth: 1,
     forks: 1,
@@ -79,7 +80,7 @@ pub(crate) struct Task {
 }
 
 impl Task {
-    /// Returns a job of this sort, or `None` if memory is refused, or too many have the board.
+    /// Returns a job of this sort, or `None` if memory is refused, or the board has too many owners.
     pub(crate) fn new(sort: Sort, board: &Arc<Board>) -> Option<Task> {
         Some(Task {
             board: board.clone().ok()?,
@@ -93,7 +94,7 @@ impl Task {
         })
     }
 
-    /// Returns the child that it forks next.
+    /// Returns the child that the job forks next.
     fn child(&mut self) -> Option<Task> {
         if self.sort.depth == 0 || self.forked >= self.sort.forks {
             return None;
@@ -112,7 +113,7 @@ impl Task {
         Some(child)
     }
 
-    /// Returns whether it joins a child before it goes on.
+    /// Returns whether the job joins a child before it goes on.
     fn is_to_join(&self) -> bool {
         match self.sort.joins {
             Joins::InTurn => self.awaited > 0,

@@ -1,9 +1,10 @@
 //! The laws of the steps, one for each kind of step. Each is a function with an empty body, whose contract is the law.
 //!
-//! A law is about a board that shows a World, and about the seat that makes the step. It says that the step's event is
+//! A law is about a *board* (the table's words, its slots, and what each seat knows), which shows a *World* (the state
+//! of the table in the definitions), and about the seat that makes the step. The law says that the step's event is
 //! allowed in that World, and that the board with the one word changed shows the World after that event (`Steps`). So
-//! between any two steps the World is owned once. `EachCarried` and the like say to which seats and contexts a law
-//! applies.
+//! between any two steps no two threads share a context or a place (`OwnedOnce`). `EachCarried` and the like say to
+//! which seats and contexts a law applies.
 ghost use Rattle.std.specs.Prelude.{◌≡◌, ◌≢◌, ℕ, ◌+◌, ◌-◌, ◌^◌, ◌<◌, ◌≤◌, ◌⊎◌, Some, true, false, bit_and, bit_or, []};
 ghost use mathlib.Core.Option as slot;
 ghost use lib.ListN.{get_elem?};
@@ -33,111 +34,122 @@ use arachne_core::SLOTS;
 
 // ---- loads
 
-/// A look changes nothing. The steps that a seat has noted are no part of the World.
+/// A load of an occupancy word or a mark word changes nothing in the World (the table's state): the steps that a seat
+/// notes are no part of the World.
 pub fn a_look_is_still<T>()
     ensures { EachNoting T (λ s noting. Steps s event.Still (after_look s noting)) }
 {}
 
-/// A load of the place word of a context that the seat carries finds the context named there.
+/// If a seat carries a context (has claimed it, or holds its thread), a load of the word of the context's place finds
+/// the context's number.
 ///
-/// The empty slot of the context is then out with the seat.
+/// The context's empty slot is then with the seat, and not in the table.
 pub fn learning_is_still<T>()
     ensures { EachCarried T (λ s c. c.named ≡ true → c.away ≡ false → IsNamedAtHome s c × Steps s event.Still (after_learning s c)) }
 {}
 
 // ---- claims
 
-/// A won exchange that adds a free index to the word of an open core is Claim, of the context that stands there.
+/// A compare-exchange that adds a free index to the occupancy word of an open core makes the event `Claim`: the context
+/// that stands at that index is claimed.
 pub fn a_claim_is_claim<T>()
     ensures { EachFreePlace T (λ s p. (x : ℕ) × (s.world.at x ≡ p) × Steps s (event.Claim s.seat x) (after_claim s p x)) }
 {}
 
-/// A won exchange of a core's word from 0 is Alone of the context at index 0.
+/// A compare-exchange of a core's occupancy word from 0 makes the event `Alone`: the whole core is claimed, with the
+/// context at index 0.
 pub fn a_claim_of_a_core_is_alone<T>()
     ensures { EachEmptyCore T (λ s core. (x : ℕ) × (s.world.at x ≡ record { core = core; index = 0 }) × Steps s (event.Alone s.seat x) (after_alone s core x)) }
 {}
 
-/// Subtracting from a core's word what a claim of the seat had added is Release.
+/// Subtracting from a core's occupancy word what a claim of the seat had added makes the event `Release`.
 pub fn a_release_is_release<T>()
     ensures { EachCarried T (λ s c. c.held ≡ false → c.named ≡ true → c.away ≡ false → Steps s (event.Release s.seat c.context) (after_release s c)) }
 {}
 
 // ---- threads come and go
 
-/// A store of READY to the mark word of a claimed context, whose slot goes home with a value, is Post.
+/// A store of READY to the mark word of a claimed context makes the event `Post`. With this step the context's slot
+/// goes back to the table with a value.
 pub fn a_post_is_post<T>()
     ensures { EachValue T (λ s c value. c.held ≡ false → c.named ≡ true → Steps s (event.Post s.seat c.context (s.tag_in value)) (after_post s c value)) }
 {}
 
-/// A won exchange from READY to HELD is Take. The value was at home, and is then out with the seat.
+/// A compare-exchange from READY to HELD makes the event `Take`. The slot with the value goes from the table to the
+/// seat.
 pub fn a_take_is_take<T>()
     ensures { EachMarked T mark.Ready (λ s x. (value : T) × HasAtHome s x (Some value) × Steps s (event.Take s.seat x) (after_take s x value)) }
 {}
 
-/// A store of a held context to the word of its place changes nothing in the World. The context's empty slot goes home.
+/// A store of a held context's number to the word of its place changes nothing in the World. The context's empty slot
+/// goes back to the table.
 pub fn keeping_the_name_is_still<T>()
     ensures { EachCarried T (λ s c. c.held ≡ true → Steps s event.Still (after_keeping_name s c)) }
 {}
 
-/// A swap of a held context's mark word to FREE of the next generation is Retire, below the last generation.
+/// A swap of a held context's mark word to FREE, with the next generation, makes the event `Retire`, if the generation
+/// is not the last.
 ///
 /// The place stays claimed.
 pub fn a_retire_is_retire<T>()
     ensures { EachCarried T (λ s c. c.held ≡ true → c.named ≡ true → c.generation < s.world.last → Steps s (event.Retire s.seat c.context) (after_retire s c)) }
 {}
 
-/// A swap of a held context's mark word to SPENT is Retire, at the last generation.
+/// A swap of a held context's mark word to SPENT makes the event `Retire`, if the generation is the last.
 pub fn a_last_retire_is_retire<T>()
     ensures { EachCarried T (λ s c. c.held ≡ true → c.generation ≡ s.world.last → Steps s (event.Retire s.seat c.context) (after_last_retire s c)) }
 {}
 
 // ---- rest and wake
 
-/// A store of READY to the mark word of a held context, whose value goes home, is Rest as ready.
+/// A store of READY to the mark word of a held context makes the event `Rest`, as ready. With this step the thread's
+/// value goes back to the table.
 pub fn resting_ready_is_rest<T>()
     ensures { EachHeld T (λ s c value. Steps s (event.Rest s.seat c.context rest.Ready) (after_rest_ready s c value)) }
 {}
 
-/// A won exchange from HELD to BLOCKED, by which the value goes home, is Rest as blocked.
+/// A compare-exchange from HELD to BLOCKED makes the event `Rest`, as blocked. With this step the thread's value goes
+/// back to the table.
 pub fn resting_blocked_is_rest<T>()
     ensures { EachHeld T (λ s c value. (mark_at s c.context).mark ≡ mark.Held → Steps s (event.Rest s.seat c.context rest.Blocked) (after_rest_blocked s c value)) }
 {}
 
-/// A won exchange from BLOCKED to READY, by any seat, is Wake of the thread of that generation.
+/// A compare-exchange from BLOCKED to READY, by any seat, makes the event `Wake` for the thread of that generation.
 pub fn a_wake_is_wake<T>()
     ensures { EachMarked T mark.Blocked (λ s x. Steps s (event.Wake (thread_at s x)) (after_wake mark.Ready s x)) }
 {}
 
-/// A won exchange from HELD to WOKEN, by any seat, is Wake too.
+/// A compare-exchange from HELD to WOKEN, by any seat, makes the event `Wake` too.
 pub fn marking_woken_is_wake<T>()
     ensures { EachMarked T mark.Held (λ s x. Steps s (event.Wake (thread_at s x)) (after_wake mark.Woken s x)) }
 {}
 
 // ---- cores
 
-/// Setting the closed bit is CloseCore.
+/// Setting the closed bit of a core's word makes the event `CloseCore`.
 pub fn a_close_is_close_core<T>()
     ensures { EachCore T (λ tag_in bits w d b core. StepsTo tag_in bits w (event.CloseCore core) d (with_word b core (bit_or (b.occ core) (2 ^ 62)))) }
 {}
 
-/// Clearing the closed bit is OpenCore.
+/// Clearing the closed bit of a core's word makes the event `OpenCore`.
 pub fn an_open_is_open_core<T>()
     ensures { EachCore T (λ tag_in bits w d b core. StepsTo tag_in bits w (event.OpenCore core) d (with_word b core (bit_and (b.occ core) (2 ^ 64 - 1 - 2 ^ 62)))) }
 {}
 
 // ---- a move
 
-/// A won exchange that gives the mark word of a resting thread another place is Move.
+/// A compare-exchange that gives the mark word of a thread that no seat holds another place makes the event `Move`.
 ///
-/// That is the place of a context that the seat has claimed on another core, and neither core may be exclusive. The
-/// value stays at home, and the word changes only in its place.
+/// The new place is that of a context that the seat has claimed on another core, and neither core may be exclusive. The
+/// thread's value stays in the table, and the word changes only in its place.
 pub fn a_move_is_move<T>()
     ensures { EachTarget T (λ s x c. c.alone ≡ false → (mark_at s x).place.core ≢ c.place.core → Steps s (event.Move s.seat x c.context) (after_move s x c)) }
 {}
 
-/// A won exchange of a place word from a context that the seat's move has left unnamed changes nothing in the World.
+/// After a seat's move, a compare-exchange of a place word that still names the displaced context changes nothing in
+/// the World.
 ///
-/// The place word may be any one that names the context, and it may name any other context afterwards.
+/// This holds for any place word that names that context, and for any other context that the word names afterwards.
 pub fn naming_the_target_is_still<T>()
     ensures { EachUnnamed T (λ s p x. Steps s event.Still (after_naming_target s p x)) }
 {}
@@ -147,7 +159,7 @@ pub fn replacing_is_still<T>()
     ensures { EachCarried T (λ s c. c.held ≡ false → Steps s event.Still (after_replacing s c)) }
 {}
 
-/// A store of a claimed context to the word of its place changes nothing in the World.
+/// A store of a claimed context's number to the word of its place changes nothing in the World.
 ///
 /// The context's mark word must already show that place.
 pub fn naming_the_source_is_still<T>()
@@ -161,29 +173,31 @@ pub fn a_split_is_still<T>()
     ensures { EachSeat T (λ s. Steps s event.Still (after_split s)) }
 {}
 
-/// A join of another seat, which carries nothing, into a seat changes nothing in the World.
+/// A join of a seat that carries no context into another seat changes nothing in the World.
 pub fn a_join_is_still<T>()
     ensures { EachOtherSeat T (λ s other added o. o.carried ≡ [] → Steps s event.Still (after_join s other added o)) }
 {}
 
 // ---- the rule of a whole table
 
-/// The rule holds of a new table.
+/// The rule, the invariant of the table, holds for a new table.
 pub fn the_rule_holds_at_first<T>()
     ensures { EachFirst T (λ tag_in bits shape words. Holds tag_in bits shape (first_table shape words)) }
 {}
 
-/// If the rule holds, the World that is shown is owned once, and the history leads to it.
+/// If the rule holds, no two threads of the World that the words show share a context or a place, and the history leads
+/// to that World.
 ///
-/// A run of the history's events from the World at first gives the World that is shown. The history's steps from the
-/// first words give the words as they are.
+/// The events of the history, applied to the World of a new table, give the World that the words show. The steps of the
+/// history, applied to the words of a new table, give the words as they are.
 pub fn a_table_shows_a_run<T>()
     ensures { EachTable T (λ t. OwnedOnce t.rule.world × IsReplayed t) }
 {}
 
-/// A step that may come next keeps the rule, whatever its kind, if the World of its event is shown after it.
+/// A step that may come next keeps the rule (the invariant of the table), whatever its kind, if the words after it show
+/// the World after its event.
 ///
-/// It is then the newest step of the history.
+/// The step is then the newest of the history.
 pub fn a_step_keeps_the_rule<T>()
     ensures { EachStep T (λ t e next. HoldsAfter t.tag_in t.bits t.shape t.rule e next) }
 {}
@@ -198,14 +212,14 @@ pub fn an_occupancy_word_stands_apart()
 
 /// The steps that a seat in use has noted are exactly its own steps.
 ///
-/// Each of them is in the history at its place: it found the number that was in its word, and was an event that was
-/// allowed.
+/// Each noted step is in the history at its index: it found the number that was in its word, and its event was allowed.
 pub fn a_record_is_a_step<T>()
     ensures all { EachKnown T (λ t h k. k.records ≡ records_of h t.rule.history) }
     ensures each { EachKnown T (λ t h k. (at : ℕ) (r : Record) → get_elem? k.records at ≡ slot.some r → IsStepIn t h r) }
 {}
 
-/// Two seats that carry the same context, or contexts at the same place, are the same seat.
+/// Two seats that carry (have claimed, or hold the thread of) the same context, or contexts at the same place, are the
+/// same seat.
 ///
 /// So no context and no place belongs to two seats.
 pub fn a_context_has_one_carrier<T>()
@@ -215,7 +229,7 @@ pub fn a_context_has_one_carrier<T>()
 
 /// A thread that a seat has ended is no longer in its context, and can't be woken.
 ///
-/// This stays so, whichever seats have the context later.
+/// The thread stays gone, whichever seats have the context later.
 pub fn an_ended_thread_is_gone<T>()
     ensures { EachSeat T (λ s. (t : Thread) → HasEnded s.known t → IsContext s.world t.0.context × IsGoneForGood s t.0) }
 {}
@@ -230,7 +244,8 @@ pub fn a_drained_word_shows_a_drained_core<T>()
     ensures { EachCore T (λ tag_in bits w d b core. is_closed (b.occ core) ≡ true → HasNoOccupied w.slots (b.occ core) → IsDrained w core) }
 {}
 
-/// If a whole seat carries nothing, each thread that was posted has either ended or its value is in a slot.
+/// If one seat has the whole weight and carries no context, each thread that was put into the table has either ended or
+/// its value is in a slot of the table.
 pub fn what_was_posted_has_ended_or_is_left<T>()
     ensures { EachWhole T (λ t k slots. IsSettled t.tag_in k (left_from t.bits 0 t.table.words slots)) }
 {}

@@ -4,7 +4,8 @@ use arachne_core::SLOTS;
 /// The number of words of two cache lines, which processors fetch together.
 pub const SPACING: usize = 16;
 
-/// The offset of the occupancy word in a core's block. The two lines before and after it have no other word.
+/// The offset of the occupancy word in a core's block. The two cache lines before this word, and the two after it, have
+/// no other word.
 pub const OCCUPANCY: usize = SPACING;
 
 /// The offset of the place words in a core's block.

@@ -4,51 +4,52 @@ use arachne_core::{Place, ThreadId};
 use arachne_weights::Token;
 use std::collections::LinkedList;
 
-/// A context that a seat carries: it has claimed it, or holds its thread.
+/// A context that a seat carries: the seat has claimed the context, or holds its thread.
 pub struct Carried {
     pub context: u32,
     /// The place at which the context stands.
     pub place: Place,
-    /// The place that its mark word shows.
+    /// The place that the context's mark word shows.
     pub shown: Place,
     pub generation: u64,
-    /// True if its thread is held, false if the context is claimed.
+    /// True if the context's thread is held, false if the context is claimed.
     pub held: bool,
     /// The tag of the thread that is held.
     pub tag: u64,
-    /// True if its core is exclusive.
+    /// True if the context's core is exclusive.
     pub alone: bool,
-    /// True if the place word of its place names it.
+    /// True if the word of the context's place names the context.
     pub named: bool,
-    /// True if its slot is out with the seat, and not home in the table.
+    /// True if the context's slot is with the seat, and not in the table.
     pub away: bool,
 }
 
 /// The kinds of step on a word of the table.
 ///
-/// A slot is *home* in the table, or *out* with a seat.
+/// A slot is in the table, or with a seat.
 pub enum Kind {
     /// A load of an occupancy word or of a mark word.
     Look,
-    /// A load of a place word. The empty slot of the context that it names may then be out with the seat.
+    /// A load of a place word. The empty slot of the context that the word names may then go to the seat.
     Learn,
     /// An exchange of an occupancy word that claims an index.
     Claim,
     /// An exchange of an occupancy word from 0 that claims a whole core.
     Alone,
-    /// A store of a mark word: a thread is posted, and its value goes home.
+    /// A store of a mark word: a thread is posted, and its value goes to the table.
     Post,
-    /// An exchange of a mark word: a ready thread is taken, and its value is out with the seat.
+    /// An exchange of a mark word: a ready thread is taken, and its value goes to the seat.
     Take,
-    /// A store of a place word: the place of a taken context names it, and its empty slot goes home.
+    /// A store of a place word: the place of a taken context names that context, and the context's empty slot goes to
+    /// the table.
     KeepName,
     /// A swap of a mark word: a held thread has ended.
     Retire,
     /// A subtraction from an occupancy word: an index is free again.
     Release,
-    /// A store of a mark word: a held thread is put back as ready, and its value goes home.
+    /// A store of a mark word: a held thread is put back as ready, and its value goes to the table.
     RestReady,
-    /// An exchange of a mark word: a held thread is put back as blocked, and its value goes home.
+    /// An exchange of a mark word: a held thread is put back as blocked, and its value goes to the table.
     RestBlocked,
     /// An exchange of a mark word: a blocked thread becomes ready.
     Wake,
@@ -58,7 +59,8 @@ pub enum Kind {
     Close,
     /// The closed bit of an occupancy word is cleared.
     Open,
-    /// An exchange of a mark word: a thread at rest gets another place.
+    /// A thread that no worker has in hand gets another place, by an exchange of its context's mark word (the atomic
+    /// with its state and place).
     Move,
     /// An exchange of a place word: the target of a move names the context that came there.
     NameTarget,
@@ -76,15 +78,15 @@ pub struct Record {
     pub after: u64,
 }
 
-/// The knowledge of a seat.
+/// The knowledge of a seat: what it has in hand, and what it has done.
 pub struct Known {
-    /// The contexts that it has claimed or holds.
+    /// The contexts that the seat has claimed or holds.
     pub carried: LinkedList<Carried>,
-    /// The threads that it has posted, with their tags.
+    /// The threads that the seat has put into the table, with their tags.
     pub given: LinkedList<(ThreadId, u64)>,
-    /// The threads that it has ended, with their tags.
+    /// The threads that the seat has ended, with their tags.
     pub ended: LinkedList<(ThreadId, u64)>,
-    /// The steps that it has made, the newest first.
+    /// The steps that the seat has made, the newest first.
     pub records: LinkedList<Record>,
 }
 

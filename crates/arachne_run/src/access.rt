@@ -27,23 +27,23 @@ use std::time::Clock;
 /// A thread's request.
 #[derive(Clone, Copy)]
 pub(crate) enum Want {
-    /// This lock.
+    /// The thread asks for this lock.
     Asks(u64),
-    /// This lock, for which it has asked before and is not answered yet.
+    /// The thread has asked for this lock before, and is not answered yet.
     Awaits(u64),
-    /// To free this lock.
+    /// The thread frees this lock.
     Frees(u64),
-    /// To add this amount to this ledger.
+    /// The thread adds this amount to this ledger.
     Tallies(u64, u64),
 }
 
 /// The result of a thread's request.
 pub(crate) enum Served {
-    /// It waits for this lock.
+    /// The thread waits for this lock.
     Waits(u64),
-    /// It holds the lock that it asked for.
+    /// The thread holds the lock that it asked for.
     Holds(Granted),
-    /// The lock that it had is free, or another thread holds it now.
+    /// The lock that the thread had is free, or another thread holds it now.
     Freed(Freed),
     /// The amount was added.
     Added,
@@ -82,7 +82,7 @@ impl<'a> Model for Access<'a> {
 }
 
 impl<'a> Access<'a> {
-    /// Takes the holdings of these locks and ledgers.
+    /// Creates a worker's access to these locks and ledgers, with its holdings of them.
     pub(crate) fn new(resources: &'a Resources, holdings: Holdings) -> Access<'a>
         requires { AreHoldingsOf resources.now holdings }
         ensures { result ≡ record { resources = resources.now; sums = holdings.share.sums } }
@@ -99,8 +99,8 @@ impl<'a> Access<'a> {
         self.holdings
     }
 
-    /// Does what the thread of this id asks for, and replies to its pause unless it must wait. The locks know it by the
-    /// tag of the thread that runs in its place. Sets `has_lock`.
+    /// Does what the thread of this id asks for, and replies to its pause unless it must wait. The locks know the
+    /// thread by the tag of the one that runs in its place. Sets `has_lock`.
     pub(crate) fn serve<H: Wait + Clock, T: RunThread>(
         &mut self,
         rt: &H,
@@ -130,7 +130,7 @@ impl<'a> Access<'a> {
         }
     }
 
-    /// Does what a thread asks for. `who` is its name for the locks.
+    /// Does what a thread asks for. `who` is the thread's name for the locks.
     fn do_for<H: Wait + Clock>(
         &mut self,
         rt: &H,
@@ -159,7 +159,7 @@ impl<'a> Access<'a> {
         }
     }
 
-    /// Tries to get a lock by this call, until it is answered. Returns `None` if the thread waits for the lock.
+    /// Repeats this call for a lock until the lock answers. Returns `None` if the thread waits for the lock.
     pub(crate) fn get<H: Wait + Clock>(
         &mut self,
         rt: &H,
@@ -238,7 +238,7 @@ impl<'a> Access<'a> {
         )
     }
 
-    /// Adds the amount that is due to its ledger. Then nothing is due.
+    /// Adds the amount that is due to the amount's ledger. Afterwards nothing is due.
     #[inline(always)]
     pub(crate) fn settle(&mut self, due: &mut Due) -> Result<(), WorkerFault>
         ensures same { self.new.resources ≡ self.old.resources }
@@ -286,7 +286,7 @@ fn free_at(
     Ok(locks.free(seats, lock, who))
 }
 
-/// Adds to the share's sum for a ledger, if it exists.
+/// Adds to the share's sum for a ledger, if that ledger exists.
 fn add_to(ledgers: &Ledgers, share: &mut Share, ledger: u64, amount: u64) -> Result<(), WorkerFault>
     requires { IsShareOf ledgers.now share.old }
     ensures own { IsShareOf ledgers.now share.new }
@@ -301,7 +301,7 @@ fn add_to(ledgers: &Ledgers, share: &mut Share, ledger: u64, amount: u64) -> Res
     Ok(())
 }
 
-/// Adds the amount that is due, if one is, to the share's sum for its ledger. Then nothing is due.
+/// Adds the amount that is due, if one is, to the share's sum for its ledger. Afterwards nothing is due.
 #[inline(always)]
 fn settle_at(ledgers: &Ledgers, share: &mut Share, due: &mut Due) -> Result<(), WorkerFault>
     requires { IsShareOf ledgers.now share.old }
@@ -317,7 +317,7 @@ fn settle_at(ledgers: &Ledgers, share: &mut Share, due: &mut Due) -> Result<(), 
     Ok(())
 }
 
-/// Returns the number of a lock that exists.
+/// Returns `lock` as the number of a lock; the error is `Foreign` if there is no such lock.
 fn number_of(locks: &SleepLocks, lock: u64) -> Result<u8, WorkerFault>
     ensures there { IfOk result (λ number. number < length locks.now) }
     ensures same { IfOk result (λ number. number ≡ lock) }

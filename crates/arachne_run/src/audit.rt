@@ -7,7 +7,7 @@ ghost use Rattle.arachne_run.specs.Histories.{GrantsAreHolds, IsGrantedAsHeld, g
 ghost use Rattle.arachne_run.specs.declared.fault.WorkerFault.TheVariants.{Memory, Threads};
 
 use crate::fault::WorkerFault;
-use arachne_machine::{ThreadLine, ThreadLines};
+use arachne_machine::{LineView, ThreadLines};
 use arachne_sleep::{History, LockEvent};
 use std::alloc::{AllocError, Global};
 
@@ -41,7 +41,7 @@ fn marks_of(alloc: Global, threads: &ThreadLines) -> Result<Option<Vec<bool>>, A
     let mut marks = Vec::new(alloc);
     marks.resize(threads.len(), false)?;
     for line in threads.iter() {
-        let place = place_of(line);
+        let place = place_of(&line);
         if place == usize::MAX {
             return Ok(None);
         }
@@ -56,16 +56,16 @@ fn marks_of(alloc: Global, threads: &ThreadLines) -> Result<Option<Vec<bool>>, A
     Ok(Some(marks))
 }
 
-/// Returns the place of a thread's mark, which is its tag.
+/// Returns the index of a thread's mark: the thread's tag.
 #[inline(always)]
-fn place_of(line: &ThreadLine) -> usize
+fn place_of(line: &LineView<'_>) -> usize
     ensures { result ≡ line.now.tag }
 {
-    line.tag as usize
+    line.tag() as usize
 }
 
-/// Returns whether each lock was granted to each thread as often as it held the lock, and to no other. The marks are
-/// those of the threads' tags.
+/// Returns whether each lock was granted to each thread as often as it held the lock, and to no other. `marks` has a
+/// mark for the tag of each thread.
 fn are_grants_holds(
     alloc: Global,
     threads: &ThreadLines,
@@ -83,7 +83,7 @@ fn are_grants_holds(
     Ok(true)
 }
 
-/// Like `are_grants_holds`, of one lock, in a time that grows with its events and the threads.
+/// Like `are_grants_holds`, for one lock; the time grows with the numbers of its events and of the threads.
 fn is_granted_as_held(
     alloc: Global,
     threads: &ThreadLines,
@@ -98,15 +98,16 @@ fn is_granted_as_held(
         return Ok(false);
     };
     for line in threads.iter() {
-        let held = number_at(line.holds.as_slice(), lock);
-        if number_at(grants.as_slice(), line.tag as usize) != held {
+        let held = number_at(line.holds(), lock);
+        if number_at(grants.as_slice(), line.tag() as usize) != held {
             return Ok(false);
         }
     }
     Ok(true)
 }
 
-/// Returns how often the lock was granted to the thread of each tag. Returns `None` if one that got it isn't marked.
+/// Returns how often the lock was granted to the thread of each tag. Returns `None` if the tag of a thread that got the
+/// lock isn't marked.
 fn grants_by_tag(
     alloc: Global,
     marks: &[bool],
@@ -129,7 +130,7 @@ fn grants_by_tag(
     Ok(Some(grants))
 }
 
-/// Returns the number at a place, or 0 past the end.
+/// Returns the number at an index, or 0 past the end.
 fn number_at(numbers: &[u64], place: usize) -> u64
     ensures { result ≡ slice_index numbers.now place }
 {

@@ -1,10 +1,11 @@
-//! Which of two faults at a run's end is reported.
+//! Decides which of two faults at a run's end is reported.
 ghost use Rattle.std.specs.Prelude.{◌≡◌, ◌⊎◌, Err, IfErr, IfOk, IfSome, None, Ok, Some};
 ghost use Rattle.arachne_run.specs.declared.fault.WorkerFault.TheVariants.{Token};
 
 use crate::fault::WorkerFault;
 
-/// Returns both values, if neither is a fault. A missing token is reported before any other fault.
+/// Returns both values, if neither is a fault. A missing token (a seat, pass or share that was not returned) is
+/// reported before any other fault.
 pub(crate) fn both<A: Drop, B: Drop>(
     one: Result<A, WorkerFault>,
     other: Result<B, WorkerFault>,

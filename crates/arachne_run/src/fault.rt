@@ -1,4 +1,4 @@
-//! Why a run has no report.
+//! The reasons why a run has no report.
 use arachne_jobs::JobFault;
 use arachne_policy::OrderFault;
 use arachne_sleep::{AskFault, NotHolder};
@@ -7,7 +7,7 @@ use arachne_workers::Halt;
 use std::alloc::AllocError;
 use thiserror::Error;
 
-/// Why a run has no report. If several workers meet a fault, the first that was recorded is returned.
+/// The reason why a run has no report. If several workers meet a fault, the first that was recorded is returned.
 #[derive(Clone, Copy, Debug, PartialEq, Eq, Error)]
 pub enum RunFault {
     /// The setup has no core, or more than 64.
@@ -33,21 +33,21 @@ pub enum RunFault {
 /// A fault that a worker met, or that was found in what the workers left: each fault of a run but those of its setup.
 #[derive(Clone, Copy, Debug, PartialEq, Eq, Error)]
 pub enum WorkerFault {
-    /// A growth was refused.
+    /// Memory was refused.
     #[error("out of memory")]
     Memory,
-    /// A thread got another outcome than that of the child that it awaits, or one that its program can't have, or named
-    /// a ledger or a lock that doesn't exist.
+    /// A thread got an outcome that isn't the awaited child's or isn't one of its program, or it named a ledger or a
+    /// lock that doesn't exist.
     #[error("the outcome of another thread")]
     Foreign,
     /// Two threads have one tag, a thread asked for a lock that it had or freed one that it didn't have, or a lock's
     /// grants are not the threads' holds.
     #[error("two threads have one tag, or a lock's grants are not the holds")]
     Threads,
-    /// The word of a ledger is not the root's sum.
+    /// The word of a ledger differs from the sum in the root's outcome.
     #[error("a ledger's word is not the root's sum")]
     Ledgers,
-    /// The table didn't know a worker's place or thread, or in the end a seat or a share was not whole.
+    /// The table didn't know a worker's place or thread, or in the end not all seats and shares had been returned.
     #[error("the table knows no such token, or not all of a table came back")]
     Token,
     /// A kernel thread was refused, or had no chooser.

@@ -1,6 +1,6 @@
-//! How threads get their places: the child of a fork is posted at one, waits for one, or runs in its parent's.
+//! Gives threads their places: the child of a fork gets a place, waits for one, or runs in its parent's.
 //!
-//! It may touch the table by the seat that it is given, and the queue of tickets.
+//! This module may touch the table, by the seat that it is given, and the queue of tickets.
 ghost use Rattle.std.specs.Prelude.{◌≡◌, ◌↔◌, ◌<◌, ◌≤◌, [], ◌∷◌, false, IfOk, IfSome, IsOk, IsSome, IsTrue, OnOk, map};
 ghost use Rattle.rand_core.specs.Stream.{next_u64};
 ghost use Rattle.arachne_arbiter.specs.Placed.{GetsPlace, IsAtStartOfSome};
@@ -16,7 +16,7 @@ use crate::stack::Stack;
 use arachne_arbiter::{Cores, Pace};
 use arachne_contexts::{Contexts, Held, Identified, Placed};
 use arachne_jobs::{Openings, RunJob, Slice, make_room, put_ticket};
-use arachne_lang::Class;
+use arachne_program::Class;
 use arachne_spill::SpillPass;
 use arachne_workers::{PostedThread, ThreadStop};
 use rand_core::Rng;
@@ -24,10 +24,10 @@ use std::alloc::{AllocError, Global};
 use std::sync::Wait;
 use std::time::Clock;
 
-/// A worker's means for the forks of threads.
+/// The data that a worker needs for the forks of threads.
 #[derive(Drop)]
 pub(crate) struct ForkSupplies<R, P> {
-    /// The core's chooser.
+    /// The core's chooser, a random generator.
     pub(crate) chooser: R,
     pub(crate) openings: Openings,
     /// The memory of ended threads, for those that begin.
@@ -87,7 +87,7 @@ pub(crate) fn go_on<H: Wait + Clock, T: RunJob, C: Contexts<T>, R: Rng>(
     access.serve(rt, pace, want, id, &mut held.value, has_lock)
 }
 
-/// Draws this many words from the chooser.
+/// Draws `words` numbers from the chooser, a random generator.
 fn draw<R: Rng>(chooser: &mut R, words: u64) {
     for _ in 0..words {
         let _ = chooser.next_u64();
@@ -95,8 +95,8 @@ fn draw<R: Rng>(chooser: &mut R, words: u64) {
 }
 
 /// Answers a fork of the thread in hand: a normal child gets a place on the core that `claim_normal` of
-/// `arachne_arbiter` chooses, an exclusive one on an empty core. Otherwise a normal one waits if there is room in the
-/// queue, and any other runs in place.
+/// `arachne_arbiter` chooses, an exclusive one on an empty core. If there is no place, a normal child waits if there is
+/// room in the queue, and any other child runs in its parent's place.
 fn answer_fork<H: Wait, T: RunJob, C: Contexts<T>, R: Rng>(
     rt: &H,
     alloc: Global,
@@ -166,7 +166,8 @@ fn claim_for<H: Wait, T: RunJob, C: Contexts<T>, R: Rng>(
     }
 }
 
-/// Returns whether a child for which no place was found waits for one: a normal one does if the queue has room.
+/// Returns whether a child for which no place was found waits for one. A normal child (which may share a core) waits if
+/// the queue has room.
 fn may_wait(class: Class, has_room: bool) -> bool
     ensures { IsTrue result ↔ (class ≡ Class.Normal) × IsTrue has_room }
 {
@@ -180,7 +181,7 @@ fn is_worth_room(class: Class, is_large: bool) -> bool
     class == Class::Normal && is_large
 }
 
-/// Gives back a place at which nothing was posted. The caller counts it as free.
+/// Gives back a place at which no thread was put. The caller must count the place as free.
 pub(crate) fn give_place_back<H: Wait, T: RunJob, C: Contexts<T>>(
     rt: &H,
     machine: &Machine<C, T::Ticket>,
@@ -198,7 +199,7 @@ pub(crate) fn give_place_back<H: Wait, T: RunJob, C: Contexts<T>>(
     }
 }
 
-/// Returns a place of the core: the newest that is kept, otherwise one that is free.
+/// Returns a place of the core: the newest that the worker keeps for later children, otherwise one that is free.
 pub(crate) fn free_place<H: Wait, T: RunJob, C: Contexts<T>>(
     rt: &H,
     machine: &Machine<C, T::Ticket>,
@@ -223,7 +224,7 @@ pub(crate) fn free_place<H: Wait, T: RunJob, C: Contexts<T>>(
     Ok(claim)
 }
 
-/// Posts a job at a claimed place. Returns its id, and the place.
+/// Posts a job: puts it at a claimed place, ready to run. Returns the job's id, and the place.
 #[inline(always)]
 fn post_at<H: Wait, T: RunJob, C: Contexts<T>>(
     rt: &H,
@@ -245,8 +246,8 @@ fn post_at<H: Wait, T: RunJob, C: Contexts<T>>(
     }
 }
 
-/// Posts the root, or a child that has waited, at a place, or gives the place back if there is no job. Returns the
-/// job's id and place, if it was posted.
+/// Puts the root, or a child that has waited, at a place, or gives the place back if there is no job. Returns the job's
+/// id and place, if there was a job.
 pub(crate) fn post_waiting<H: Wait, T: RunJob, C: Contexts<T>>(
     rt: &H,
     machine: &Machine<C, T::Ticket>,

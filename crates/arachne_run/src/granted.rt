@@ -14,16 +14,16 @@ use std::snapshot::Snapshot;
 /// The call by which a lock was tried.
 #[derive(Clone, Copy)]
 pub(crate) enum LockCall {
-    /// The thread asked for it.
+    /// The thread asks for the lock.
     Ask,
-    /// It had asked before.
+    /// The thread has asked before, and checks whether it holds the lock now.
     Check,
 }
 
-/// Shows that the thread in hand holds the lock that it asked for, by this pass. It has no bytes.
+/// Shows that the thread in hand holds the lock that it asked for, by this pass. The value has no bytes.
 ///
-/// Only [`ask`] and [`check`] return one, for a pass that the lock gave in that call. A thread goes on after an ask only
-/// with one.
+/// Only [`ask`] and [`check`] return such a value, for a pass that the lock gave in that call. After an ask a thread
+/// goes on only with such a value.
 #[derive(Drop)]
 pub(crate) struct Granted {
     pass: Snapshot<Pass>,
@@ -47,7 +47,7 @@ impl Granted {
 #[derive(Drop)]
 pub(crate) enum Got {
     Granted(Granted),
-    /// The thread waits for it.
+    /// The thread waits for the lock.
     Waits,
     Refused(AskFault),
     /// Another kernel thread was at the lock. Nothing has changed.

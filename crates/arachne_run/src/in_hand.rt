@@ -8,7 +8,7 @@ use arachne_core::Rest;
 #[derive(Drop)]
 pub(crate) struct InHand<T, H> {
     pub(crate) held: Held<T, H>,
-    /// Set if it was granted a lock since it was taken, and has freed none since.
+    /// True if the thread was granted a lock since it was taken, and has freed none since.
     pub(crate) has_lock: bool,
 }
 
@@ -36,7 +36,7 @@ pub(crate) fn has_lock<T, H>(in_hand: &Option<InHand<T, H>>) -> bool
     }
 }
 
-/// Returns how a thread rests that was put back as `asked`: if it was woken meanwhile, it is ready.
+/// Returns the state of a thread that was put back as `asked`: if it was woken meanwhile, it is ready.
 #[inline(always)]
 pub(crate) fn rests_so(rested: Rested, asked: Rest) -> Rest
     ensures as_asked { rested ≡ Rested.AsAsked → result ≡ asked }

@@ -28,17 +28,17 @@ pub(crate) struct Holdings {
     pub(crate) lock_seats: LockSeats,
 }
 
-/// The rest of the ledgers and the locks once all workers have ended.
+/// The numbers in the words of the ledgers, and the histories of the locks, once all workers have ended.
 #[derive(Drop)]
 pub(crate) struct Remains {
-    /// The words of the ledgers.
+    /// The numbers in the words of the ledgers.
     pub(crate) words: Vec<u64>,
     /// The history of each lock.
     pub(crate) histories: Vec<History>,
 }
 
 impl Resources {
-    /// Returns this many ledgers and locks, and all of their holdings.
+    /// Returns `ledgers` ledgers and `locks` locks, and the holdings of all of them.
     pub(crate) fn new(
         alloc: Global,
         ledgers: u8,
@@ -53,7 +53,7 @@ impl Resources {
         Ok((Resources { ledgers, locks }, Holdings { share, lock_seats }))
     }
 
-    /// Halves the holdings. Returns the whole if memory is refused.
+    /// Splits the holdings in two. Returns the holdings whole if memory is refused.
     pub(crate) fn split(
         &self,
         alloc: Global,
@@ -90,7 +90,7 @@ impl Resources {
         }
     }
 
-    /// Returns what is left once all holdings are joined. The error is `Token` if they are not whole.
+    /// Returns what is left once all holdings are joined. The error is `Token` if some holdings were not joined.
     pub(crate) fn close(self, alloc: Global, holdings: Holdings) -> Result<Remains, WorkerFault>
         requires { AreHoldingsOf self holdings }
         ensures count { IfOk result (λ remains. length remains.histories.items ≡ length self.locks) }
@@ -109,7 +109,8 @@ impl Resources {
     }
 }
 
-/// Returns the history of each lock, in their order. The error is `Token` if not all of their seats were returned.
+/// Returns the history of each lock, in the order of the locks. The error is `Token` if not all seats of the locks were
+/// returned.
 fn closed_locks(
     alloc: Global,
     locks: SleepLocks,
@@ -132,7 +133,8 @@ fn closed_locks(
     }
 }
 
-/// Returns the words of the ledgers, which are the sums of the share. The error is `Token` if the share is not whole.
+/// Returns the numbers in the words of the ledgers, which are the sums of the share. The error is `Token` if not all
+/// other shares were joined into this one.
 fn closed_words(alloc: Global, ledgers: Ledgers, share: Share) -> Result<Vec<u64>, WorkerFault>
     requires { IsShareOf ledgers share }
     ensures missing { (IsWholeShare share → ⊥) → result ≡ Err Token }

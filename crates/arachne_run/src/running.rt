@@ -1,7 +1,7 @@
 //! A run of a program.
 ghost use Rattle.std.specs.Prelude.{◌≡◌, true, IfErr, IfOk, IsOk, None, Some, Err, length, vec_len};
-ghost use Rattle.arachne_lang.specs.Program.{source_of};
-ghost use Rattle.arachne_lang.specs.Checked.{IsChecked};
+ghost use Rattle.arachne_program.specs.Program.{source_of};
+ghost use Rattle.arachne_program.specs.Checked.{IsChecked};
 ghost use Rattle.arachne_policy.specs.Orders.{AreInOrder};
 ghost use Rattle.arachne_run.specs.Reports.{IsReportOf};
 ghost use Rattle.arachne_run.specs.Setups.{IsFirstOrderFault, IsSetupFault, is_of_setup, refusal_in};
@@ -16,7 +16,7 @@ use crate::stack::Stack;
 use crate::workers::work_all;
 use arachne_contexts::Contexts;
 use arachne_jobs::{JobOf, RunSpares};
-use arachne_lang::Program;
+use arachne_program::Program;
 use rand_core::Rng;
 use std::alloc::Global;
 use std::sync::Wait;
@@ -24,8 +24,8 @@ use std::thread::Threads;
 use std::time::Clock;
 
 /// Runs a program on one kernel thread for each core, over a table of the type `C`. Each core draws from its own
-/// chooser. The orders take cores back and grant them again while it runs; those that are not reached before its end
-/// are not applied.
+/// chooser. The orders take cores back and grant them again while the program runs; orders that are not reached before
+/// its end are not applied.
 ///
 /// The program is unchanged. After an error nothing of the run is left.
 pub fn run<

@@ -1,7 +1,7 @@
-//! A worker's seats at the table, and what is out with them.
+//! A worker's seats at the table, and the thread and the places that it has through them.
 //!
-//! Only this module and `forking` call the table while threads run. Between two calls the thread in hand is out with
-//! one seat, the kept places with the other, and nothing else.
+//! Only this module and `forking` call the table while threads run. Between two calls, one seat has the thread in hand,
+//! the other has the places that the worker keeps for later children, and neither has anything else.
 ghost use Rattle.std.specs.Prelude.{ℕ, ◌≡◌, ◌≢◌, ◌↔◌, ◌==◌, ◌<◌, if◌then◌else◌, false, true, IfOk, IsSome, IsTrue, MatchOption, None, OnOk, Some, map};
 ghost use Rattle.arachne_arbiter.specs.KernelThreads.{parked_cores};
 ghost use Rattle.arachne_arbiter.specs.Orders.{HasAppliedDue};
@@ -31,8 +31,8 @@ use std::marker::Model;
 use std::sync::Wait;
 use std::time::Clock;
 
-/// A worker's seats at the table. Contracts see the machine that they belong to; the invariant says what is out with
-/// them.
+/// A worker's seats at the table. Contracts see the machine that they belong to; the invariant says what the seats have
+/// in hand.
 #[derive(Drop)]
 pub(crate) struct RunSeat<'a, H, T: RunJob, C: Contexts<T>, R, G> {
     pub(crate) rt: &'a H,
@@ -46,7 +46,7 @@ pub(crate) struct RunSeat<'a, H, T: RunJob, C: Contexts<T>, R, G> {
     /// The seat through which the thread in hand was taken.
     pub(crate) seat: C::Seat,
     pub(crate) held: Option<InHand<T, C::Hold>>,
-    /// The seat through which the kept places were claimed.
+    /// The seat through which the places were claimed that the worker keeps for later children.
     pub(crate) spare: C::Seat,
     pub(crate) kept: Stack<C::Claim>,
     pub(crate) pass: SpillPass<T::Ticket>,
@@ -73,7 +73,7 @@ impl<'a, H, T: RunJob, C: Contexts<T>, R, G> Model for RunSeat<'a, H, T, C, R, G
 }
 
 impl<'a, H: Wait, T: RunJob, C: Contexts<T>, R: Rng + Drop, G: Gate> RunSeat<'a, H, T, C, R, G> {
-    /// Returns a worker's two seats, with which nothing is out, and what else it has of the machine.
+    /// Creates a worker's two seats, which have nothing in hand, with what else the worker needs of the machine.
     pub(crate) fn open(
         rt: &'a H,
         alloc: Global,
@@ -117,7 +117,8 @@ impl<'a, H: Wait, T: RunJob, C: Contexts<T>, R: Rng + Drop, G: Gate> RunSeat<'a,
         }
     }
 
-    /// Posts the root, if it begins here. Returns the index of its place: an empty table has one.
+    /// Puts the root thread at a place, if it begins here. Returns the index of the root's place: an empty table has
+    /// one.
     pub(crate) fn post_root(&mut self, root: Option<T>) -> Result<Option<u8>, WorkerFault>
         ensures same { self.new ≡ self.old }
         ensures index { IfOk result (λ index. IsSome index ↔ IsSome root) }
@@ -140,8 +141,8 @@ impl<'a, H: Wait, T: RunJob, C: Contexts<T>, R: Rng + Drop, G: Gate> RunSeat<'a,
         Ok(Some(index))
     }
 
-    /// Claims a place to keep in place of the one that a thread has left, if the core was full before (`before` is its
-    /// word then). Otherwise counts the place that was left as free.
+    /// Claims a place to keep for a later child, instead of the one that a thread has left, if the core was full before
+    /// (`before` is its word then). If no place is claimed, counts the place that was left as free.
     fn keep_or_count(&mut self, before: OccWord) -> Result<(), Halt>
         ensures { self.new ≡ self.old }
     {
@@ -421,8 +422,8 @@ impl<'a, H: Wait + Clock, T: RunJob, C: Contexts<T>, R: Rng + Drop, G: Gate> Des
     }
 }
 
-/// Applies the orders that are due, and moves threads away ([`Arbiter::tend`]). Returns how many are applied in all, if
-/// one was now, and the cores to which threads were moved.
+/// Applies the orders that are due, and moves threads away ([`Arbiter::tend`]). Returns the number of orders applied in
+/// all, if this call has applied one, and the cores to which threads were moved.
 #[inline(always)]
 fn tend_by<H: Wait, T: Tagged, C: Contexts<T>>(
     arbiter: &mut Arbiter,
@@ -459,7 +460,7 @@ fn has_orders_left(arbiter: &Option<Arbiter>, orders: usize) -> bool
     }
 }
 
-/// Posts the child of a ticket, if it still waits and the core has a place.
+/// Puts the child of a ticket at a place, if the child still waits and the core has a place.
 fn post_child<H: Wait, T: RunJob, C: Contexts<T>>(
     rt: &H,
     alloc: Global,
@@ -485,7 +486,7 @@ fn post_child<H: Wait, T: RunJob, C: Contexts<T>>(
     Ok(of_ticket(posted))
 }
 
-/// Returns what came of a ticket whose child was posted, or was gone.
+/// Returns the result of taking a ticket whose child was put at a place, or was gone.
 #[inline(always)]
 fn of_ticket(posted: Option<PostedThread>) -> TicketResult
     ensures { MatchOption posted (result ≡ TicketResult.Gone) (λ post. result ≡ TicketResult.Posted post) }

@@ -10,7 +10,7 @@ use arachne_policy::{CoreOrder, check_orders};
 
 const MAX_QUANTUM: u64 = 10_000;
 
-/// The machine of a run, and what happens to its cores.
+/// The machine of a run, and the orders about its cores.
 #[derive(Debug, Drop)]
 pub struct Setup {
     /// The number of cores, 1 to 64.
@@ -19,7 +19,7 @@ pub struct Setup {
     pub slots: u64,
     /// The most steps of a slice, 1 to 10,000.
     pub quantum: u64,
-    /// When cores are taken back and granted again.
+    /// The orders by which cores are taken back and granted again.
     pub orders: Vec<CoreOrder>,
 }
 

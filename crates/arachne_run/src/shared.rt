@@ -19,8 +19,8 @@ pub(crate) struct SharedState {
     workers: SharedWords,
 }
 
-/// The fault for which [`SharedState::fail`] has stopped all workers. A worker that ends without its tokens returns it.
-/// It has no bytes.
+/// Evidence that [`SharedState::fail`] has stopped all workers for a fault. A worker that ends without its tokens
+/// returns this value, which has no bytes.
 #[derive(Drop)]
 pub(crate) struct Failed {
     fault: Snapshot<WorkerFault>,
@@ -36,7 +36,7 @@ impl Model for SharedState {
 }
 
 impl SharedState {
-    /// Returns the words for this many cores with this many places each.
+    /// Returns the words for `cores` cores with `slots` places each.
     pub(crate) fn new(alloc: Global, cores: u8, slots: u8) -> Result<SharedState, AllocError>
         ensures { IfOk result (λ shared. shared ≡ cores) }
     {

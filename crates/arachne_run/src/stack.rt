@@ -4,7 +4,7 @@ ghost use Rattle.std.specs.Prelude.{◌≡◌, [], ◌∷◌, IfErr, MatchOption
 use std::alloc::Global;
 use std::marker::Model;
 
-/// A stack of values. Contracts see them in the order in which they are taken.
+/// A stack of values. Contracts see the values in the order in which they are taken.
 #[derive(Drop)]
 pub(crate) struct Stack<T> {
     items: Vec<T>,
@@ -19,7 +19,7 @@ impl<T> Model for Stack<T> {
 }
 
 impl<T> Stack<T> {
-    /// Returns an empty stack. It takes no memory.
+    /// Returns an empty stack. Takes no memory.
     pub(crate) fn new(alloc: Global) -> Stack<T>
         ensures { result ≡ [] }
     {
@@ -44,7 +44,7 @@ impl<T> Stack<T> {
         self.items.len()
     }
 
-    /// Adds a value. Returns it if memory is refused.
+    /// Adds a value. Returns the value if memory is refused.
     pub(crate) fn push(&mut self, item: T) -> Result<(), T>
         ensures pushed { OnOk result (self.new ≡ item ∷ self.old) }
         ensures refused { OnErr result (self.new ≡ self.old) }

@@ -10,8 +10,8 @@ use arachne_spill::SpillPass;
 use std::alloc::Global;
 use std::sync::Wait;
 
-/// A seat at the table, a pass of the queue of tickets, holdings of the ledgers and locks, and for one of the workers
-/// the arbiter.
+/// A worker's tokens: its seat at the table, its pass (right to use) of the queue of tickets, its holdings of the
+/// ledgers and locks, and for one of the workers the arbiter.
 #[derive(Drop)]
 pub(crate) struct Tokens<S, K> {
     pub(crate) seat: S,
@@ -21,7 +21,8 @@ pub(crate) struct Tokens<S, K> {
 }
 
 impl<S, K: Tagged + Drop> Tokens<S, K> {
-    /// Splits the tokens into two halves. The first half keeps the arbiter. Returns the whole if memory is refused.
+    /// Splits the tokens into two halves. The first half keeps the arbiter. Returns the tokens whole if memory is
+    /// refused.
     pub(crate) fn split<H: Wait, C: Seats<Seat = S>>(
         self,
         rt: &H,
@@ -55,7 +56,7 @@ impl<S, K: Tagged + Drop> Tokens<S, K> {
         Ok((own, others))
     }
 
-    /// Joins these tokens with others. Keeps only the arbiter of these.
+    /// Joins these tokens with `other`. Keeps the arbiter of these tokens only.
     pub(crate) fn join<H: Wait, C: Seats<Seat = S>>(
         self,
         rt: &H,

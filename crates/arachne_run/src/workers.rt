@@ -22,7 +22,7 @@ use std::sync::Wait;
 use std::thread::Threads;
 use std::time::Clock;
 
-/// The means that the workers of a run have in common.
+/// The references that the workers of a run have in common.
 #[derive(Drop)]
 struct Workers<'a, C, K: Tagged + Drop, G> {
     alloc: Global,
@@ -34,10 +34,10 @@ struct Workers<'a, C, K: Tagged + Drop, G> {
 #[derive(Drop)]
 struct WorkerShare<S, T: RunJob, R> {
     tokens: Tokens<S, T::Ticket>,
-    /// The thread that begins here.
+    /// The root thread, if it begins at this worker.
     root: Option<T>,
     chooser: Option<R>,
-    /// The choosers of the workers that are split off.
+    /// The choosers (random generators) of the workers that are split off from this share.
     choosers: Stack<R>,
 }
 
@@ -143,7 +143,7 @@ impl<'a, T: RunJob, C: Contexts<T>, R: Rng + Drop, G: Gate> Team<WorkerShare<C::
     }
 }
 
-/// Runs the workers of all cores until they are stopped, each with its chooser.
+/// Runs the workers of all cores until they are stopped, each with its chooser (random generator).
 pub(crate) fn work_all<
     H: Threads + Wait + Clock + Sync,
     T: RunJob + Send,
@@ -186,8 +186,9 @@ where
     Some(tokens)
 }
 
-/// Runs the worker of a core until all stop, from the root on if there is one. Returns its tokens. After a fault, for
-/// which it has stopped all, it returns no tokens: something may be out with them. A missing chooser is a fault.
+/// Runs the worker of a core until all workers stop, beginning with the root thread if there is one. Returns the
+/// worker's tokens. After a fault the worker stops all others and returns no tokens, since its seats may still have
+/// something in hand. A missing chooser (random generator) is a fault.
 fn work_on<H: Wait + Clock, T: RunJob, C: Contexts<T>, R: Rng + Drop, G: Gate>(
     rt: &H,
     alloc: Global,
@@ -246,7 +247,8 @@ fn worker_on<'a, H, D, C, K: Tagged + Drop>(
     }
 }
 
-/// Returns the tokens of a worker that has ended. It is a fault if something is out with them.
+/// Returns the tokens of a worker that has ended. The result is a fault if the worker's seats still have something in
+/// hand.
 fn into_tokens<'a, H: Wait, T: RunJob, C: Contexts<T>, R: Rng + Drop, G: Gate>(
     machine: &Machine<C, T::Ticket>,
     desk: RunSeat<'a, H, T, C, R, G>,

@@ -13,10 +13,10 @@ use std::sync::Wait;
 use std::sync::atomic::{AtomicU64, Ordering};
 use std::thread::yield_now;
 
-/// The word of a core that is open and full.
+/// The occupancy word of a core that is open and full.
 const FULL: u64 = 0x38FF_FFFF_FFFF_FFFF;
 
-/// The bits of a core's first three places in its word.
+/// The bits of a core's first three places in its occupancy word.
 const THREE: u64 = 0b111;
 
 /// The calls that a table answers itself instead of passing them on.
@@ -30,7 +30,7 @@ enum Alteration {
     RefusesMemory,
     /// `claim` finds every core but 0 full.
     IsFull,
-    /// `out` returns 1 for every seat, as if something were still out with it.
+    /// `out` returns 1 for every seat, as if the seat still had something in hand.
     HasOut,
     /// A claim on a core in use is refused memory. `finish` hands threads back, but only after such a refusal.
     RefusesMemoryFirst,

@@ -1,4 +1,4 @@
-//! A clock that makes each yield look as if other work had used the turn, or that cannot be read.
+//! A clock that makes each yield look as if other work had used a whole time slice, or that cannot be read.
 use std::io::{self, ErrorKind};
 use std::sync::Wait;
 use std::sync::atomic::{AtomicU64, Ordering};
@@ -13,7 +13,7 @@ const PASS: u64 = 10;
 pub struct SlowClock<'a, R> {
     rt: &'a R,
     looks: AtomicU64,
-    /// Each look whose number, from 1, is a multiple of this one fails. If it is 0, none does.
+    /// Each look whose number, from 1, is a multiple of this number fails. If this number is 0, no look fails.
     fails: u64,
 }
 

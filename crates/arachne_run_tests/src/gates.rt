@@ -1,4 +1,4 @@
-//! A gate that records which cores run, or holds cores up.
+//! A gate (an observer of a run) that records which cores run, or holds cores up.
 use arachne_core::{CORES, ThreadId};
 use arachne_judge::Log;
 use arachne_lang::Name;
@@ -24,8 +24,8 @@ const LOOKS: u32 = 100;
 
 /// The behaviour of a gate.
 ///
-/// A core that is held has entered its slice, and has not made the first step of it. If an event occurs that must not,
-/// `is_over` is false.
+/// A core that is *held* in a slice has entered the slice, and has not made the slice's first step. If an event occurs
+/// that must not, `is_over` is false.
 #[derive(Clone, Copy)]
 pub enum Watching {
     /// Does nothing.
@@ -35,8 +35,8 @@ pub enum Watching {
     /// `(a, b)`: core 1 is held in its first slice until core 0 has entered slice a, and core 0 in slice a until core 1
     /// has entered slice b.
     Meeting(u64, u64),
-    /// `(n)`: core 0 is held in slice n - 1 until core 1 has entered slice 0, and core 1 at the end of that slice until
-    /// core 0 has entered slice n. No order must be applied before that.
+    /// `(n)`: core 0 is held in slice n - 1 until core 1 has entered slice 0. Core 1 is held at the end of slice 0
+    /// until core 0 has entered slice n. No order may be applied before core 0 has entered slice n.
     Holding(u64),
     /// `(n)`: core 1 is held in slice 0 until core 0 has entered n slices.
     Lead(u64),
@@ -47,32 +47,34 @@ pub enum Watching {
     /// `(a, b)`: core 0 is held in slice a until core 1 is about to park, and in slice b until core 1 has entered slice
     /// 0.
     Granting(u64, u64),
-    /// `(n)`: core 0 is held in slice n until core 1 has ended a slice and had time to fall asleep, and in slice n + 4
-    /// until core 1 is about to park.
+    /// `(n)`: core 0 is held in slice n until core 1 has ended a slice and had time to fall asleep. Then core 0 is held
+    /// in slice n + 4 until core 1 is about to park.
     ///
-    /// A sleep that times out counts only if core 0 was held by the time at which core 1 parked. Before core 1 is
-    /// notified of the order, it may also notice at the end of a sleep that its core was taken back.
+    /// A sleep that times out is counted only if core 0 was already held when core 1 parked. Before core 1 is notified
+    /// of the order, its worker may also notice at the end of a sleep that the core was taken back.
     Parking(u64),
     /// `(core, n)`: core 0 is held in slice n until `core` is about to park.
     Parked(u8, u64),
     /// Counts the children that wait for a place with a ticket.
     Spills,
-    /// Records whether a thread was woken because its child had ended, and whether one was because it got its lock.
+    /// Records whether a thread was woken because its child had ended, and whether a thread was woken because it got
+    /// its lock.
     Wakes,
     /// `(n)`: core 0 is held in slice n until core 1 has entered slice 0, and core 1 in that slice until an order is
     /// applied. Core 1 must take a thread before each of its later slices.
     Anew(u64),
     /// `(a, b)`: core 0 is held in slice a until a thread of core 1 awaits a child. In slice b core 1 gets time to
-    /// park, which it must not do before a thread has ended there.
+    /// park, but must not park before a thread has ended on core 1.
     ParksLast(u64, u64),
     /// Core 1 is held in slice 0 until threads were moved away. Records the cores to which they were moved.
     Moving,
     /// `(core, n)`: core 0 is held in slice n until a thread of `core` has ended, waits or was moved away. If the
-    /// thread waits, core 0 yields in each slice until it was moved. Then core 0 is held until `core` is about to park.
+    /// thread waits, core 0 yields in each slice until the thread was moved. Then core 0 is held until `core` is about
+    /// to park.
     Emptied(u8, u64),
-    /// `(n)`: core 0 is held in slice 0 until a core is about to park, core 2 in slice 0 until core 1 has entered slice
-    /// n, and core 1 in slice n until the parked core is unparked, which shows that the run was stopped. Core 1 is held
-    /// in earlier slices until core 0's slice 0 has ended, and must not enter a later one.
+    /// `(n)`: core 0 is held in slice 0 until a core is about to park, and core 2 in slice 0 until core 1 has entered
+    /// slice n. Core 1 is held in slice n until the parked core is unparked, which shows that the run was stopped. In
+    /// earlier slices core 1 is held until core 0's slice 0 has ended. Core 1 must not enter a slice after slice n.
     Stopping(u64),
 }
 
@@ -113,7 +115,7 @@ impl Watch {
         }
     }
 
-    /// Returns whether all events for which a core was held have occurred, and none that must not.
+    /// Returns whether all events for which a core was held have occurred, and no event that must not occur has.
     pub fn is_over(&self) -> bool {
         let (zero, one) = match self.watching {
             Watching::Nothing | Watching::Cores | Watching::Spills => (0, 0),
@@ -202,7 +204,8 @@ impl Watch {
         }
     }
 
-    /// Holds core 0 until another core is empty and parks. `is_first`: this is the first slice in which it is held.
+    /// Holds core 0 until another core is empty and parks. `is_first` is true in the first slice in which core 0 is
+    /// held.
     fn empties(&self, is_first: bool) {
         if is_first {
             self.wait(&self.ended, 1);

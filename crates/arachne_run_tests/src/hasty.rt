@@ -12,19 +12,19 @@ use arachne_lang::{Class, Name, Program};
 use arachne_machine::Pending;
 use std::alloc::{AllocError, Global};
 
-/// A thread that forks a child and then ends. It makes no step of the program.
+/// A thread that forks a child and then ends. The thread makes no step of the program.
 #[derive(Drop)]
 pub struct Hasty {
-    /// The root's name, which all of these threads have.
+    /// The root's name, which all `Hasty` threads have.
     name: Name,
     tag: u64,
     parent: Option<ThreadId>,
     pending: Option<Pending>,
-    /// True if the thread ends in its next slice. This holds for a child from the start.
+    /// True if the thread ends in its next slice. The value is true for a child from the start.
     has_forked: bool,
 }
 
-/// A child, its ticket and the spares, all of them empty: no child waits for a place.
+/// Stands for a child, its ticket, and the memory of ended threads. The type is empty, as no child waits for a place.
 #[derive(Drop)]
 pub struct Nothing;
 

@@ -65,7 +65,7 @@ fn next_size(size: usize) -> usize
 }
 
 impl Hoard {
-    /// Takes all memory that can be had. After that kernel threads begin only on stacks of those that have ended
+    /// Takes all memory that can be had. After that a kernel thread can begin only on the stack of one that has ended
     /// before.
     pub fn take(alloc: Global) -> Result<Hoard, AllocError> {
         let mut small = Vec::with_capacity(alloc, BLOCKS)?;

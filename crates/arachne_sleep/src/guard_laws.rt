@@ -1,7 +1,8 @@
-//! The laws of the steps on a guard word, one for each kind: functions with an empty body, whose contract is the law.
+//! The laws of the steps on a guard word, a lock's atomic word (1 while a seat has the lock's state, else 0). There is
+//! one for each kind of step: a function with an empty body, whose contract is the law.
 //!
-//! A law says that its step keeps the rule of the lock's table, whatever the table is when the step is made, and what
-//! the seat knows after it.
+//! A law says what the seat knows after the step, and that the step keeps the rule (the invariant) of the lock's table,
+//! whatever the state of the table is.
 ghost use Rattle.std.specs.Prelude.{◌≡◌, ℕ, ◌==◌, List, [], ◌∷◌, slice_get, Some};
 ghost use mathlib.Core.Option.{some};
 ghost use lib.ListN.{get_elem?};
@@ -18,36 +19,38 @@ ghost use Rattle.arachne_sleep.specs.Trace.{Entry, Tells, records_of, IsStepOf};
 ghost use Rattle.arachne_sleep.specs.Rule.{Board, IsKept, idle_known, first_view, first_seat, second_seat, joined_seat, spent_seat};
 ghost use Rattle.arachne_sleep.specs.Steps.{Mine, idle, Takes, GivesBack, IsReturnable};
 
-/// The table of a new lock keeps the rule.
+/// The table of a new lock satisfies the rule, the invariant of a lock's table.
 pub fn the_rule_holds_at_first()
     ensures { (number : ℕ) (guarded : Guarded) → guarded.state ≡ record { number = number; history = [] }
         → IsKept number (opening first_words (guarded ∷ []) (first_view number)) }
 {}
 
-/// An exchange of the guard word from 0 to 1 keeps the rule.
+/// A compare-exchange of a lock's guard word from 0 to 1 keeps the rule, the invariant of the lock's table.
 ///
-/// If it is won, the state is with the seat, and has a history that begins with each history that the seat had seen. If
-/// it is lost, the seat has seen that the guard was taken.
+/// If the exchange succeeds, the seat has the lock's state, whose history begins with each history that the seat had
+/// seen. If the exchange fails, the seat has seen that the guard was taken.
 pub fn a_try_keeps_the_rule()
     ensures { (number slots id weight : ℕ) (log : SeatLog)
         → Allows (IsKept number) slots id (idle weight log) guard_word (λ n. either (n == 0) 1 n) (Takes (idle weight log)) }
 {}
 
-/// A store of 0 to the guard word keeps the rule.
+/// A store of 0 to a lock's guard word keeps the rule, the invariant of the lock's table.
 ///
-/// The state is at home again, with a history that begins with the one that was taken.
+/// The lock's state is in its slot again, with a history that begins with the one that the seat took.
 pub fn giving_back_keeps_the_rule()
     ensures { (number slots id : ℕ) (me : Mine) (guarded : Guarded) (before : List LockEvent) → slots ≡ 1 → IsReturnable me guarded before
         → Allows (IsKept number) slots id me guard_word (λ _. 0) (λ _ after. GivesBack me after) }
 {}
 
-/// A split of a seat keeps the rule. The new seat has seen what the other has, and has done nothing.
+/// A split of a seat keeps the rule, the invariant of the lock's table. The new seat has seen what the other seat has
+/// seen, and has done nothing.
 pub fn a_split_keeps_the_rule()
     ensures { (number id weight : ℕ) (log : SeatLog)
         → Splits (IsKept number) id (held weight (idle_known log)) (first_seat (held weight (idle_known log))) (second_seat (held weight (idle_known log))) }
 {}
 
-/// A join of another seat into a seat keeps the rule. The seat then has all that the other has done and seen.
+/// A join of another seat into a seat keeps the rule, the invariant of the lock's table. The seat then has all that the
+/// other has done and seen.
 pub fn a_join_keeps_the_rule()
     ensures { (number id weight : ℕ) (log : SeatLog) (other added : ℕ) (theirs : SeatLog)
         → Joins (IsKept number) id (held weight (idle_known log)) other (held added (idle_known theirs))
@@ -56,8 +59,8 @@ pub fn a_join_keeps_the_rule()
 
 /// The steps that a seat in use has noted are exactly its own steps.
 ///
-/// Each of them is in the one trace of all steps, at a place at which it found the number that was then in the guard
-/// word.
+/// Each noted step is in the trace of all steps: the step found the number that was in the guard word at its place in
+/// the trace.
 pub fn a_record_is_a_step()
     ensures all { (number : ℕ) (board : Board) → (rule : IsKept number board) → (place weight : ℕ) (known : Known)
         → get_elem? board.views place ≡ some (held weight known) → known.log.records ≡ records_of place rule.trace }

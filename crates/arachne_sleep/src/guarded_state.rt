@@ -12,9 +12,9 @@ use crossbeam_utils::CachePadded;
 use std::alloc::Global;
 use std::marker::Model;
 
-/// A lock's state, on cache lines of its own, and the place of the pass that the last call got from it.
+/// A lock's state, on cache lines of its own, and the index in the history of the pass that the last call got.
 ///
-/// The place is only for proofs: the step that gives the guard back finds it here.
+/// The index is only for proofs: the step that gives the guard back reads it here.
 #[derive(Drop)]
 pub struct GuardedState {
     state: CachePadded<LockState>,

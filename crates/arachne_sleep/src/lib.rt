@@ -1,8 +1,9 @@
 //! Sleep locks, which block a user thread and leave its core to others.
 //!
-//! [`LockState`] is the state of one: who owns it, who waits for it in which order, and the history of all asks, grants
-//! and frees. [`SleepLock`] is one that kernel threads share, each through a [`LockSeat`], which keeps what was done
-//! through it. [`SleepLocks`] are several, with [`LockSeats`]. No call waits.
+//! [`LockState`] is the state of a sleep lock: its owner, the threads that wait for it, in order, and the history of
+//! all asks, grants and frees. [`SleepLock`] is a sleep lock that kernel threads share. Each kernel thread calls the
+//! lock through a [`LockSeat`], which keeps what was done through the seat. [`SleepLocks`] are several such locks, used
+//! through [`LockSeats`]. No call waits.
 #![tactic(auto)]
 
 mod answer;

@@ -10,8 +10,8 @@ use std::marker::Model;
 
 /// A part of the right to use one sleep lock, with what was done through it.
 ///
-/// It must be used, split and joined with the lock that it came from. If a seat is dropped, its weight is lost, and no
-/// seat can be whole any more.
+/// A seat must be used, split and joined with the lock that it came from. If a seat is dropped, its weight is lost, and
+/// no seat can have the whole weight any more.
 #[derive(Drop)]
 pub struct LockSeat {
     pub(crate) seat: Seat<GuardedState, View>,
@@ -32,7 +32,7 @@ impl Model for LockSeat {
 }
 
 impl LockSeat {
-    /// Returns whether all other seats of its lock were joined into it.
+    /// Returns whether all other seats of the lock were joined into this one.
     pub fn is_whole(&self) -> bool
         ensures { IsTrue result ↔ IsWhole self.now }
     {

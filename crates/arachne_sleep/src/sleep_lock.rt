@@ -1,4 +1,4 @@
-//! A sleep lock that kernel threads share. None of them waits in its calls.
+//! A sleep lock that kernel threads share. No call on the lock waits.
 ghost use Rattle.std.specs.Prelude.{◌≡◌, ◌↔◌, List, MatchBool, IsTrue, IsOk, IfOk, None, [], ◌∷◌};
 ghost use Rattle.arachne_sleep.specs.declared.event.LockEvent.{LockEvent};
 ghost use Rattle.arachne_sleep.specs.History.{IsSound};
@@ -28,17 +28,17 @@ const WORDS: usize = 32;
 /// The index of the guard word.
 const GUARD: usize = 16;
 
-/// The guard word while the state is at home.
+/// The value of the guard word while the lock's state is in its slot.
 const HOME: u64 = 0;
 
-/// The guard word while the state is with a seat.
+/// The value of the guard word while a seat has the lock's state.
 const TAKEN: u64 = 1;
 
-/// A sleep lock on a word: 0 while its state is at home in a slot, 1 while the state is with a seat.
+/// A sleep lock with a guard word, which is 0 while the lock's state is in its slot, and 1 while a seat has the state.
 ///
-/// Each kernel thread uses it through a seat of its own. `ask`, `free` and `check` try the guard word once. If it is
-/// taken, they return `Contended`, and nothing has changed. Otherwise they call the state, and give the guard back,
-/// whatever the result is.
+/// Each kernel thread uses the lock through a seat of its own. `ask`, `free` and `check` try once to set the guard
+/// word. If the guard word is set already, a call returns `Contended`, and nothing has changed. If not, the call does
+/// its work on the lock's state, and gives the guard back, whatever the result is.
 #[derive(Drop)]
 pub struct SleepLock {
     number: u8,
@@ -66,7 +66,7 @@ fn first_slots(alloc: Global, number: u8) -> Result<Vec<GuardedState>, AllocErro
 }
 
 impl SleepLock {
-    /// Creates a lock that nobody has asked for yet, and its whole seat.
+    /// Creates a lock that nobody has asked for yet, and its seat with the whole weight.
     pub fn new(alloc: Global, lock: u8) -> Result<(SleepLock, LockSeat), AllocError>
         ensures number { IfOk result (λ made. made.0.number ≡ lock) }
         ensures seat { IfOk result (λ made. made.1 ≡ whole_seat made.0) }
@@ -92,7 +92,7 @@ impl SleepLock {
         self.number
     }
 
-    /// Asks for the lock. The thread holds it at once if nobody owns it, and waits otherwise.
+    /// Asks for the lock. The thread holds the lock at once if nobody owns it, and waits otherwise.
     ///
     /// Returns `AlreadyIn` if the thread owns the lock or waits for it. If memory is refused, nothing changes.
     pub fn ask(&self, seat: &mut LockSeat, who: Who) -> Tried<Result<Asked, AskFault>>
@@ -124,7 +124,7 @@ impl SleepLock {
         Tried::Answered(answer)
     }
 
-    /// Returns the pass of the thread if it owns the lock, and `None` otherwise.
+    /// Returns the thread's pass, which shows that it owns the lock, or `None` if the thread doesn't own the lock.
     pub fn check(&self, seat: &mut LockSeat, who: Who) -> Tried<Option<Pass>>
         requires { IsSeatOf self.now seat.old }
         ensures seat { IsSeatOf self.now seat.new × (seat.new.weight ≡ seat.old.weight) }
@@ -140,8 +140,8 @@ impl SleepLock {
 
     /// Splits a seat in two, each with half of its weight, rounded up for the first.
     ///
-    /// The first keeps what `seat` has done and seen, the second only what `seat` has seen. If the weight is 1 or 0,
-    /// both get weight 0.
+    /// The first seat keeps what `seat` has done and seen, the second only what `seat` has seen. If the weight is 1 or
+    /// 0, both seats get weight 0.
     pub fn split(&self, seat: LockSeat) -> (LockSeat, LockSeat)
         requires { IsSeatOf self.now seat }
         ensures first { result.0 ≡ first_half seat }
@@ -168,7 +168,7 @@ impl SleepLock {
 
     /// Joins two seats into one, which has all that both have done and seen.
     ///
-    /// Its weight is the sum of theirs, but at most the whole.
+    /// The weight of the result is the sum of both weights, but at most the whole.
     pub fn join_seats(&self, seat: LockSeat, other: LockSeat) -> LockSeat
         requires seat { IsSeatOf self.now seat }
         requires other { IsSeatOf self.now other }
@@ -192,14 +192,14 @@ impl SleepLock {
         seat.weight = seat.weight.join(added);
     }
 
-    /// Returns whether all other seats of the seat's lock were joined into it.
+    /// Returns whether all other seats of the lock were joined into `seat`.
     pub fn is_whole(&self, seat: &LockSeat) -> bool
         ensures { IsTrue result ↔ IsWhole seat.now }
     {
         seat.is_whole()
     }
 
-    /// Closes the lock. Returns all its asks, grants and frees, oldest first. Takes no memory.
+    /// Closes the lock. Returns all asks, grants and frees of the lock, oldest first. Takes no memory.
     pub fn close(self, seat: LockSeat) -> Result<History, (SleepLock, LockSeat)>
         requires own { IsSeatOf self seat }
         requires whole { IsWhole seat }
@@ -227,7 +227,7 @@ impl SleepLock {
         guarded.into_history()
     }
 
-    /// Tries to take the guard once. Returns whether the seat has it, and the state with it.
+    /// Tries once to take the guard. Returns whether the seat has the guard, and with it the lock's state.
     fn take(&self, seat: &mut Seat<GuardedState, View>) -> bool
         requires own { seat.old.table_id ≡ self.now.table }
         requires idle { seat.old.me ≡ idle seat.old.me.0.weight seat.old.me.0.known.log }
@@ -240,7 +240,7 @@ impl SleepLock {
         shared.compare_exchange::<Take>(seat, GUARD, HOME, TAKEN) == HOME
     }
 
-    /// Gives the guard back, and the state with it.
+    /// Gives the guard back, and with it the lock's state.
     fn give_back(&self, seat: &mut Seat<GuardedState, View>)
         requires own { seat.old.table_id ≡ self.now.table }
         requires guarded { (guarded : Guarded) × (before : List LockEvent) × IsReturnable seat.old.me guarded before }

@@ -33,7 +33,7 @@ impl Model for SleepLocks {
     ghost invariant = { λ l. AreNumbered l.locks.items };
 }
 
-/// One seat of each of some locks, in the order of the locks.
+/// A kernel thread's seats at several locks, one for each, in the order of the locks.
 #[derive(Drop)]
 pub struct LockSeats {
     seats: Vec<LockSeat>,
@@ -49,7 +49,7 @@ impl Model for LockSeats {
 }
 
 impl SleepLocks {
-    /// Creates `count` locks, which may be 0, and the whole seat of each.
+    /// Creates `count` locks, which may be 0, and for each lock the seat with the whole weight.
     pub fn new(alloc: Global, count: u8) -> Result<(SleepLocks, LockSeats), AllocError>
         ensures count { IfOk result (λ made. length made.0 ≡ count) }
         ensures own { IfOk result (λ made. AreSeatsOf made.0 made.1) }
@@ -130,7 +130,7 @@ impl SleepLocks {
         Ok((LockSeats { seats: own }, LockSeats { seats: others }))
     }
 
-    /// Joins each seat with the other one of its lock.
+    /// Joins each seat with the seat of `others` that belongs to the same lock.
     pub fn join_seats(&self, seats: LockSeats, others: LockSeats) -> LockSeats
         requires seats { AreSeatsOf self.now seats }
         requires others { AreSeatsOf self.now others }
@@ -146,14 +146,14 @@ impl SleepLocks {
         LockSeats { seats: own }
     }
 
-    /// Returns whether each seat is whole.
+    /// Returns whether each seat has the whole weight, so that no other seat of its lock is in use.
     pub fn are_whole(&self, seats: &LockSeats) -> bool
         ensures { IsTrue result ↔ All IsWhole seats.now }
     {
         seats.seats.iter().all(|seat| seat.is_whole())
     }
 
-    /// Closes all locks. Returns the history of each, in the order of the locks.
+    /// Closes all locks. Returns the history of each lock, in the order of the locks.
     ///
     /// If memory for the list is refused, returns the locks and the seats as an error.
     pub fn close(

@@ -1,11 +1,12 @@
-//! The rule of a lock's table, and the kinds of step on it. These types are only for proofs.
+//! The rule of a lock's table (its invariant), and the kinds of step on it. These types are only for proofs.
 use crate::guarded_state::GuardedState;
 use crate::view::View;
 use atomic_table::{Join, Play, Split, TableRule};
 
-/// The rule: there is one history, which the state at home has, and one trace of all steps on the guard word.
+/// The rule of a lock's table: there is one history, which the state in the slot has, and one trace of all steps on the
+/// guard word.
 ///
-/// The key of the table is the lock's number.
+/// The table's key, which never changes, is the lock's number.
 pub struct GuardRule;
 
 impl TableRule<GuardedState, View, u8> for GuardRule {
@@ -16,7 +17,7 @@ impl TableRule<GuardedState, View, u8> for GuardRule {
     ghost first = { first_view };
 }
 
-/// One try to take the guard.
+/// The step that tries once to take the guard.
 pub(crate) struct Take;
 
 impl Play<GuardedState, View> for Take {
@@ -25,7 +26,7 @@ impl Play<GuardedState, View> for Take {
     ghost then = { λ step before found after. Takes before found after };
 }
 
-/// The guard is given back.
+/// The step that gives the guard back.
 pub(crate) struct GiveBack;
 
 impl Play<GuardedState, View> for GiveBack {

@@ -3,7 +3,7 @@ use crate::{LockEvent, Pass};
 use arachne_weights::Token;
 use std::collections::LinkedList;
 
-/// An event that a seat made, and its place in the lock's history.
+/// An event that a seat made, and its index in the lock's history.
 pub struct PlacedEvent {
     pub at: usize,
     pub event: LockEvent,
@@ -11,9 +11,9 @@ pub struct PlacedEvent {
 
 /// The kinds of step on the guard word.
 pub enum Kind {
-    /// A compare-exchange from 0 to 1. If it is won, the lock's state is with the seat.
+    /// A compare-exchange from 0 to 1. If the exchange succeeds, the seat has the lock's state.
     Take,
-    /// A store of 0. The lock's state is at home again.
+    /// A store of 0. The lock's state is in its slot again.
     GiveBack,
 }
 
@@ -29,17 +29,17 @@ pub struct Record {
 pub struct SeatLog {
     /// The lock's number.
     pub number: u8,
-    /// The events that it made.
+    /// The events that the seat made.
     pub made: LinkedList<PlacedEvent>,
-    /// The passes that it got.
+    /// The passes that the seat got.
     pub passes: LinkedList<Pass>,
-    /// The last history that it saw, and the last ones of the seats that were joined into it since then.
+    /// The last history that the seat saw, and the last ones of the seats that were joined into it since then.
     pub seen: LinkedList<LinkedList<LockEvent>>,
-    /// The steps that it made, the newest first.
+    /// The steps that the seat made, the newest first.
     pub records: LinkedList<Record>,
 }
 
-/// A seat's log, and whether the lock's state is with the seat.
+/// A seat's log, and whether the seat has the lock's state.
 pub struct Known {
     pub taken: bool,
     pub log: SeatLog,

@@ -10,13 +10,13 @@ pub struct Known {
     pub popped: LinkedList<u64>,
 }
 
-/// The view of a pass in the queue's rule. No value of it is made.
+/// A pass as the queue's invariant sees it. No value of this type is made.
 pub type View = Token<Known>;
 
 /// A part of the right to a queue, with the tags that were pushed and popped through it.
 ///
-/// It is used and joined only with its own queue. If a pass is dropped, its weight is lost, and no pass is whole any
-/// more.
+/// A pass is used and joined only with its own queue. If a pass is dropped, its weight is lost, and no pass can have
+/// the whole weight any more.
 #[derive(Drop)]
 pub struct SpillPass<T> {
     pub(crate) pass: Pass<T, View>,

@@ -1,4 +1,4 @@
-//! The queue, and the calls on it.
+//! The queue of tickets, and the calls on the queue.
 ghost use Rattle.std.specs.Prelude.{◌≡◌, ◌↔◌, ◌++◌, [], ◌∷◌, ℕ, IfOk, IfErr, OnOk, OnErr, IfSome, IfNone, IsTrue};
 ghost use Rattle.arachne_weights.specs.Weight.{whole, first_part, second_part, joined};
 ghost use Rattle.arachne_spill.specs.Views.{IsPassOf, IsWhole, IsAheadBy, WasSeen, HasCounted, AllCameOut, capacity};
@@ -33,7 +33,7 @@ impl<T: Tagged + Drop> Model for SpillQueue<T> {
 }
 
 impl<T: Tagged + Drop> SpillQueue<T> {
-    /// Returns an empty queue, and the whole pass.
+    /// Returns an empty queue, and the pass with the whole weight.
     pub fn new(alloc: Global) -> Result<(SpillQueue<T>, SpillPass<T>), AllocError>
         ensures { IfOk result (λ made. made.1 ≡ record { table = made.0.table; weight = whole; pushed = []; popped = [] }) }
     {
@@ -45,9 +45,10 @@ impl<T: Tagged + Drop> SpillQueue<T> {
         Ok((SpillQueue { ring }, pass))
     }
 
-    /// Puts an item at the back. Returns it if the queue was full at one moment of the call.
+    /// Puts an item at the back. Returns the item if the queue was full at one moment of the call.
     ///
-    /// The clauses on a full queue are of use only for the whole pass: nothing ties other passes to this queue.
+    /// The clauses on a full queue are of use only if the pass has the whole weight: nothing ties other passes to this
+    /// queue.
     pub fn push<R: Wait>(&self, rt: &R, pass: &mut SpillPass<T>, item: T) -> Result<(), T>
         requires own { IsPassOf self.now pass.old }
         ensures pushed { OnOk result (pass.new ≡ record pass.old { pushed = pass.old.pushed ++ T.tag_of item ∷ [] }) }
@@ -61,7 +62,7 @@ impl<T: Tagged + Drop> SpillQueue<T> {
 
     /// Takes the item at the front. Returns `None` if the queue was empty at one moment of the call.
     ///
-    /// The clauses on an empty queue are of use only for the whole pass, as with [`SpillQueue::push`].
+    /// The clauses on an empty queue are of use only if the pass has the whole weight, as with [`SpillQueue::push`].
     pub fn pop<R: Wait>(&self, rt: &R, pass: &mut SpillPass<T>) -> Option<T>
         requires own { IsPassOf self.now pass.old }
         ensures popped { IfSome result (λ item. pass.new ≡ record pass.old { popped = pass.old.popped ++ T.tag_of item ∷ [] }) }
@@ -72,9 +73,9 @@ impl<T: Tagged + Drop> SpillQueue<T> {
         self.ring.pop_as::<Pop, R>(rt, &mut pass.pass)
     }
 
-    /// Returns the number of items in the queue at one moment of the call. It looks again while others push.
+    /// Returns the number of items in the queue at one moment of the call. The call looks again while others push.
     ///
-    /// The clauses on the number are of use only for the whole pass, as with [`SpillQueue::push`].
+    /// The clauses on the number are of use only if the pass has the whole weight, as with [`SpillQueue::push`].
     pub fn len<R: Wait>(&self, rt: &R, pass: &mut SpillPass<T>) -> usize
         requires own { IsPassOf self.now pass.old }
         ensures same { pass.new ≡ pass.old }
@@ -104,7 +105,8 @@ impl<T: Tagged + Drop> SpillQueue<T> {
         self.len(rt, pass) == 0
     }
 
-    /// Halves the weight, rounded up for the first pass, which keeps the tags. A weight of 1 or 0 gives two of 0.
+    /// Splits a pass in two, each with half of its weight, rounded up for the first, which keeps the tags. A pass of
+    /// weight 1 or 0 gives two of weight 0.
     pub fn split<R: Wait>(&self, _rt: &R, pass: SpillPass<T>) -> (SpillPass<T>, SpillPass<T>)
         requires own { IsPassOf self.now pass }
         ensures first { result.0 ≡ record pass { weight = first_part pass.weight } }

@@ -1,8 +1,8 @@
 //! Context tables: the trait that all forms implement, and the forms.
 //!
-//! This crate has no code of its own. It re-exports the crates below it: the trait `Contexts` with its seats and
-//! answers (`arachne_contexts`), the form behind a lock (`arachne_locked`), the form on atomic words (`arachne_words`),
-//! and a law for each kind of atomic step of that form (`arachne_rule`).
+//! This crate has no code of its own. The crate re-exports four others: the trait `Contexts` with its seats and answers
+//! (`arachne_contexts`), the form behind a lock (`arachne_locked`), the form on atomic words (`arachne_words`), and a
+//! law for each kind of atomic step of that form (`arachne_rule`).
 #![tactic(auto)]
 
 #[cfg(test)]

@@ -1,4 +1,4 @@
-//! Tests of the tables by public calls. Each form must give the results of each row.
+//! Tests of the tables by public calls. Each form of table must give the results of each row.
 ghost use Rattle.std.specs.Prelude.{ℕ};
 
 mod carriers;

@@ -34,8 +34,8 @@ impl<S, W: Team<S>> Promise<Option<S>> for Returns<W> {
 /// The calling kernel thread has number 0, and new ones have the other numbers. The call returns after all have ended,
 /// and returns `None` if a share is lost.
 ///
-/// If memory or a kernel thread is refused, `Team::fail` is called, and those that have begun work without the others.
-/// The idea is that of a team of threads of OpenMP.
+/// If memory or a kernel thread is refused, `Team::fail` is called, and the kernel threads that have begun work without
+/// the others. The idea is that of a team of threads in OpenMP.
 pub fn work_together<H: Threads + Wait + Clock + Sync, S: Drop + Send, W: Team<S> + Sync>(
     rt: &H,
     alloc: Global,
@@ -83,7 +83,7 @@ pub fn work_together<H: Threads + Wait + Clock + Sync, S: Drop + Send, W: Team<S
 
 /// Parts off a share for one more kernel thread, and reserves room for that thread in `others`.
 ///
-/// Returns the remaining share, and no other share if memory is refused.
+/// Returns the remaining share, and the new share unless memory is refused.
 fn part_off<H: Wait, S, W: Team<S>, O>(
     rt: &H,
     team: &W,

@@ -13,13 +13,13 @@ pub enum TeamFault {
     KernelThread,
 }
 
-/// The work of a team's kernel threads, each with a share of type `S`. They are numbered from 0, the number of the one
-/// that starts the others.
+/// The work of a team's kernel threads, each with a share of type `S`. The threads are numbered from 0, the number of
+/// the one that starts the others.
 ///
 /// Kernel threads are started only through this trait, whatever their shares are: see
 /// [`work_together`](crate::work_together).
 pub trait Team<S> {
-    /// The share is one of this team.
+    /// True if the share is one of this team.
     ghost has: { Self → S → Type 0 };
 
     /// The number of kernel threads.
@@ -37,21 +37,21 @@ pub trait Team<S> {
         ensures own { Self.has self.now result.0 }
         ensures other { IfSome result.1 (Self.has self.now) };
 
-    /// Does the work of the kernel thread of this number. Returns its share, or `None` if the share is lost.
+    /// Does the work of the kernel thread of this number. Returns the thread's share, or `None` if the share is lost.
     fn work<R: Wait + Clock>(&self, rt: &R, number: u8, share: S) -> Option<S>
         requires share { Self.has self.now share }
         requires number { number < Self.size self.now }
         ensures { IfSome result (Self.has self.now) };
 
-    /// Joins two shares into one. Returns `None` if they are lost.
+    /// Joins two shares into one. Returns `None` if the shares are lost.
     fn join<R: Wait>(&self, rt: &R, share: S, other: S) -> Option<S>
         requires own { Self.has self.now share }
         requires other { Self.has self.now other }
         ensures { IfSome result (Self.has self.now) };
 
-    /// Called if a kernel thread does not begin. No further one will begin.
+    /// Called if a kernel thread does not begin. No further kernel thread will begin.
     ///
-    /// Those that have begun run until they end by themselves. If they wait for one another, this call must make them
-    /// end.
+    /// The threads that have begun run until they end by themselves. If these threads wait for one another, `fail` must
+    /// make them end.
     fn fail<R: Wait>(&self, rt: &R, fault: TeamFault);
 }

@@ -44,7 +44,7 @@ fn gives_nothing_back(cell: &JoinCell<u64, Wanted>) -> bool {
 /// Returns whether a value that was put back is taken back, and one that was left is fetched.
 ///
 /// A fetch must fail, each time with the right state: before a value is put back, while it waits, after it was taken
-/// back, and after another was left and fetched.
+/// back, and after another value was left and fetched.
 fn passes(cell: &JoinCell<u64, Wanted>, end: SendingEnd<u64, Wanted>) -> bool
     requires number { cell.now.key.0 ≡ 7 }
     requires end { end ≡ cell.now.table }

@@ -7,7 +7,7 @@ use std::alloc::{AllocError, Global};
 use std::thread;
 use std::thread::Threads;
 
-/// Adds 2^63 + 3 a thousand times.
+/// Adds 2^63 + 3 to the first ledger a thousand times.
 fn add_threes(ledgers: &Ledgers, mut share: Share) -> Share
     requires share { IsShareOf ledgers.now share }
     requires some_ledger { 0 < ledgers.now.count }
@@ -56,7 +56,7 @@ fn sums(alloc: Global, ledgers: Ledgers, share: Share) -> Option<Vec<u64>>
     }
 }
 
-/// Returns whether the sums are these.
+/// Returns whether the sums are the expected ones.
 fn are_sums(sums: Option<Vec<u64>>, expected: &[u64]) -> bool {
     match sums {
         Some(sums) => sums.as_slice() == expected,
@@ -75,7 +75,7 @@ fn two_threads_add_up(rt: HostRuntime) -> Result<(), AllocError> {
 
 /// Adds to two ledgers through two shares, and reads what each has added through the other share.
 ///
-/// Returns both numbers, and the whole share.
+/// Returns the numbers read, and the whole share.
 fn add_apart(ledgers: &Ledgers, share: Share) -> ((u64, u64), Share)
     requires share { IsShareOf ledgers.now share }
     requires two { ledgers.now.count ≡ 2 }
@@ -109,7 +109,7 @@ fn add_to_each(ledgers: &Ledgers, mut share: Share) -> Share
     share
 }
 
-/// Returns whether `count` ledgers have these sums after each was added its number.
+/// Returns whether `count` ledgers have the expected sums after `add_to_each`.
 fn come_to(alloc: Global, count: usize, expected: &[u64]) -> Result<bool, AllocError> {
     let (ledgers, share) = make_ledgers(alloc, count)?;
     let share = add_to_each(&ledgers, share);

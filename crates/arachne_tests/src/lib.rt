@@ -1,6 +1,6 @@
 //! Tests of the crates below the commands, through their public calls only, with a module for each crate.
 //!
-//! The crates are proved without them.
+//! The crates are proved without these tests.
 #![tactic(auto)]
 
 #[cfg(test)]

@@ -1,4 +1,4 @@
-//! Tests of threads that can be cut at any step: worked values, and refused memory.
+//! Tests of threads that can be interrupted after any step: worked values, and refused memory.
 mod family;
 mod shortage;
 mod told;
@@ -98,7 +98,7 @@ fn told_of(alloc: Global, program: &Program, round: &mut Round, is_short: bool) 
     }
 }
 
-/// Returns the same for the program of an expression.
+/// Returns the text of the outcome of an expression's program, like `told_of`.
 fn told_of_text(
     alloc: Global,
     count: u8,
@@ -200,7 +200,7 @@ fn chain(alloc: Global) -> Option<String> {
 
 /// Returns whether the outcome lists sixty threads in order, each forked by the one before it.
 ///
-/// The last has a name of sixty numbers.
+/// The last thread has a name of sixty numbers.
 fn is_chain(alloc: Global, text: &str) -> Option<bool> {
     let mut round = Round::new(Way::AtFork, 3, 3);
     let told = told_of_text(alloc, 0, text, &mut round, false)?;
@@ -224,13 +224,11 @@ fn a_chain_in_place(rt: HostRuntime) {
 
 /// Three children, one after the other, each of which joins 130 children one after the other, of 1,010 threads each.
 ///
-/// So the lines of a thread are in up to 390 lists, and a list is put behind none, some and many.
+/// So the lines of a thread are in up to 390 lists, and a list is put behind no, some and many others.
 const LISTS: &str =
     "(fold (num 0) (num 3) (num 0) (fork n (fold (num 0) (num 130) (num 0) (fork n (sweep add 1 (num 0) (num 1010) (num 1)) (num 0) (add (var 3) (var 4)))) (num 0) (add (var 1) (var 2))))";
 
 /// Returns the number of threads of an expression's program.
-///
-/// No clause says that memory is enough if none is refused.
 fn threads_of(alloc: Global, expression: &str) -> Option<usize> {
     let program = program(alloc, 0, expression)?;
     let meaning = run_alone(alloc, &program, 1000).ok()?;

@@ -60,7 +60,8 @@ const MOVE: Event = Event::Move {
     to: 56,
 };
 
-/// A thread is woken while it is held and while it is blocked. Its core is closed and drained, and then exclusive.
+/// A thread is woken while it is held and while it is blocked. The thread's core is closed and drained, and then
+/// exclusive.
 const ON_ONE_CORE: &[Row] = &[
     (CLAIM, Some((0x100000000000001, 0x0))),
     (Event::Wake { id: ID }, None),
@@ -141,7 +142,7 @@ fn make(world: &mut World, event: Event) -> Result<(), NotApplied> {
     }
 }
 
-/// Returns whether an event gives these words, or isn't allowed if there are none.
+/// Returns whether an event leads to `words`, or isn't allowed if that is `None`.
 fn is_right(world: &mut World, event: Event, words: Option<(u64, u64)>) -> bool {
     match make(world, event) {
         Ok(()) => words.is_some() && shown(world) == words,
@@ -160,7 +161,7 @@ fn are_right(world: &mut World, rows: &[Row]) -> bool {
     true
 }
 
-/// Returns the same for a run that begins with a new World.
+/// Returns whether each event of a run that begins with a new World gives its words.
 fn is_right_run(alloc: Global, run: &(u8, usize, usize, &[Row])) -> Result<bool, AllocError> {
     let &(cores, posts, retires, rows) = run;
     if cores == 0 || cores > 64 {
@@ -179,10 +180,12 @@ fn runs_show_their_words(rt: HostRuntime) -> Result<(), AllocError> {
     Ok(())
 }
 
-/// The parts of a mark word: the code of its mark, whether it is exclusive, its core and index, and its generation.
+/// The parts of a mark word (a context's packed state): the code of its mark, whether it is exclusive, its core and
+/// index, and its generation.
 type Marked = (u64, bool, u8, u8, u64);
 
-/// Numbers, and the parts of each as a mark word. No mark has the code 6, and no core has the index 56.
+/// Numbers, and the parts of each as a mark word (a context's packed state). No mark has the code 6, and no core has
+/// the index 56.
 const MARKS: &[(u64, Option<Marked>)] = &[
     (0x10850, Some((0, false, 2, 5, 1))),
     (0x10851, Some((1, false, 2, 5, 1))),
@@ -204,8 +207,8 @@ fn marked(number: u64) -> Option<Marked> {
     Some((code, word.is_alone(), core, index, word.generation()))
 }
 
-/// Returns a word as it is made anew, with another mark, with another place, and read from its number in the first
-/// layout.
+/// Returns the word of `number` as it is packed again, with another mark, and with another place; and the word that is
+/// read from `first`, a number of the older layout.
 fn changed(number: u64, first: u64) -> Option<(u64, u64, u64, u64)> {
     let word = MarkWord::from_word(number)?;
     let last = Place {
@@ -232,7 +235,8 @@ fn mark_words(rt: HostRuntime) {
 /// index.
 type Occupied = (u64, u8, bool, bool, bool, Option<u8>);
 
-/// Numbers, and the parts of each as an occupancy word. The count of the last isn't that of its mask.
+/// Numbers, and the parts of each as an occupancy word (which places are occupied). The count of the last isn't that of
+/// its mask.
 const OCCUPANCIES: &[(u64, Option<Occupied>)] = &[
     (0, Some((0, 0, false, false, true, Some(0)))),
     (
@@ -259,7 +263,8 @@ fn occupied(number: u64) -> Option<Occupied> {
     ))
 }
 
-/// Returns a word with index 2 and without it, whether that is occupied, and the closed exclusive word without index 0.
+/// Returns four facts of an occupancy word: itself with index 2 occupied, itself with index 2 free, whether index 2 is
+/// occupied, and itself closed and exclusive with index 0 free.
 fn with_and_without(number: u64) -> Option<(u64, u64, bool, u64)> {
     let occ = OccWord::from_word(number)?;
     let (with, without) = (occ.with_bit(2), occ.without_bit(2));

@@ -51,13 +51,13 @@ enum Call {
     Free,
 }
 
-/// The result of a call: its name, the place in the history, and the next thread.
+/// The result of a call: its name, the index in the history, and the next thread.
 type Answer = (&'static str, usize, Option<Who>);
 
 /// Calls, each with its thread and its result.
 type Rows = &'static [(Call, Who, Answer)];
 
-/// Three threads ask for the lock: one gets it, and two wait. Each frees it once it has it.
+/// Three threads ask for the lock: one gets it, and two wait. Each frees the lock once it has it.
 const ROWS: Rows = &[
     (Call::Ask, A, ("granted", 1, None)),
     (Call::Ask, B, ("queued", 2, None)),
@@ -74,7 +74,7 @@ const ROWS: Rows = &[
     (Call::Check, C, ("no pass", 0, None)),
 ];
 
-/// The history of these calls.
+/// The history after the calls of `ROWS`.
 const WHOLE: &[LockEvent] = &[
     LockEvent::Ask(A),
     LockEvent::Grant(A),

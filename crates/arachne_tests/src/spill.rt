@@ -53,7 +53,7 @@ fn fill<R: Wait>(rt: &R, queue: &Queue, pass: &mut Pass) -> Option<u64>
 
 /// Pops until the queue is empty, and returns the number of tickets.
 ///
-/// Returns `None` if their tags are not those from 0 on.
+/// Returns `None` if the tickets' tags are not those from 0 on.
 fn drain<R: Wait>(rt: &R, queue: &Queue, pass: &mut Pass) -> Option<u64>
     requires { IsPassOf queue.now pass.old }
     ensures { IsPassOf queue.now pass.new }

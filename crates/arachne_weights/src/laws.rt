@@ -1,4 +1,4 @@
-//! Laws of all tokens of one object, at any time. They are contracts of functions with empty bodies.
+//! Laws of all tokens of one object, at any time. Each law is the contract of a function with an empty body.
 ghost use Rattle.std.specs.Prelude.{◌≡◌, ◌≢◌, ◌≤◌, ℕ, List};
 ghost use mathlib.Core.Option.{some};
 ghost use lib.ListN.{get_elem?};
@@ -11,7 +11,7 @@ pub fn tokens_within_the_whole<K>()
     ensures { (nothing : K) (tokens : List (Token K)) → IsReachable nothing tokens → total_weight tokens ≤ whole }
 {}
 
-/// The law that if one token has the whole weight, each other was joined into it or into one that was.
+/// The law that if one token has the whole weight, each other token was joined into it, directly or by way of others.
 pub fn whole_is_alone<K>()
     ensures { (nothing : K) (tokens : List (Token K)) → IsReachable nothing tokens
         → (i j : ℕ) (t u : Token K) → get_elem? tokens i ≡ some t → t.weight ≡ whole → j ≢ i → get_elem? tokens j ≡ some u

@@ -1,10 +1,10 @@
 //! The token of one holder of a shared object.
 
-/// The view that a shared object's rule has of one holder, with the holder's knowledge of the object. Only contracts
-/// use it: no value of it is made.
+/// The view that the rule (the invariant) of a shared object has of one holder, with the holder's knowledge of the
+/// object. Only contracts use this type: no value of it is made.
 pub struct Token<K> {
-    /// True if the token wasn't joined into another. A live token may have no weight, since a split at weight 1 gives
-    /// none.
+    /// True if the token wasn't joined into another. A live token may have no weight, since a split of weight 1 gives
+    /// two tokens without any.
     pub live: bool,
     pub weight: u128,
     pub known: K,

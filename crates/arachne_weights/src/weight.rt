@@ -6,7 +6,7 @@ use std::marker::Model;
 
 const WHOLE: u128 = 1 << 127;
 
-/// A part of the whole weight, 2^127. A contract sees it as a number.
+/// A part of the whole weight, 2^127. Contracts see a weight as a number.
 #[derive(Clone, Copy, Debug, PartialEq, Eq)]
 pub struct Weight {
     amount: u128,
@@ -33,7 +33,7 @@ impl Weight {
         Weight { amount: WHOLE }
     }
 
-    /// Returns half of the weight, rounded up, and the rest. A weight of 1 or 0 can't be halved: then both are 0.
+    /// Returns half of the weight, rounded up, and the rest. A weight of 1 or 0 can't be halved: both results are 0.
     pub fn split(self) -> (Weight, Weight)
         ensures first { result.0 ≡ first_part self }
         ensures second { result.1 ≡ second_part self }

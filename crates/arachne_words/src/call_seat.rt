@@ -1,11 +1,11 @@
-//! A seat within a call.
+//! A seat (the right of one kernel thread to use the table) while a call runs.
 use arachne_rule::View;
 use atomic_table::Seat;
 use std::marker::Model;
 
-/// A seat within a call, which may have slots out.
+/// A seat while a call runs, which may have taken slots out of the table.
 ///
-/// Contracts see its table, its weight, what it knows, and those slots.
+/// Contracts see the seat's table, its weight, what it knows, and those slots.
 #[derive(Drop)]
 pub(crate) struct CallSeat<T> {
     pub(crate) seat: Seat<Option<T>, View>,

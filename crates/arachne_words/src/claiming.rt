@@ -14,12 +14,12 @@ use crate::table::WordContexts;
 use arachne_contexts::{Claimed, Tagged};
 use arachne_core::{COUNT_ONE, EXCLUSIVE, OccWord, Place, SLOTS};
 
-/// The word of a core that one claim has for itself.
+/// The occupancy word of a core that a single claim has taken as a whole.
 const WHOLE_CORE: u64 = EXCLUSIVE + COUNT_ONE + 1;
 
-/// Returns the number that a claim adds to the word of its core, and its release subtracts.
+/// Returns the number that a claim adds to its core's occupancy word, and the release of the claim subtracts from it.
 ///
-/// It has the index's bit, one in the count, and the exclusive bit if the whole core was claimed.
+/// The number has the index's bit, one in the count, and the exclusive bit if the whole core was claimed.
 fn claim_sum(index: u8, alone: bool) -> u64
     requires { index < SLOTS }
     ensures { result ≡ sum_of alone index }
@@ -65,7 +65,7 @@ impl<T: Tagged + Drop> WordContexts<T> {
         Ok(())
     }
 
-    /// Claims the lowest free index of a core, by one look and one try.
+    /// Claims the lowest free index of a core: reads the core's word once, and tries once.
     pub fn claim(&self, seat: &mut WordSeat<T>, core: u8) -> Claimed<WordClaim>
         requires own { seat.old.table ≡ self.now.table }
         requires core { core < self.now.shape.cores }
@@ -109,7 +109,7 @@ impl<T: Tagged + Drop> WordContexts<T> {
         Ok(())
     }
 
-    /// Claims an empty core for one thread, at index 0, by one look and one try.
+    /// Claims an empty core for one thread, at index 0: reads the core's word once, and tries once.
     pub fn claim_alone(&self, seat: &mut WordSeat<T>, core: u8) -> Claimed<WordClaim>
         requires own { seat.old.table ≡ self.now.table }
         requires core { core < self.now.shape.cores }
@@ -136,7 +136,8 @@ impl<T: Tagged + Drop> WordContexts<T> {
         }
     }
 
-    /// Frees a place: subtracts its bit, one in the count, and the exclusive bit if `alone` is true, at once.
+    /// Frees a place: in one step subtracts the place's bit and 1 of the count from the core's word, and the exclusive
+    /// bit if `alone` is true.
     pub(crate) fn release(&self, seat: &mut CallSeat<T>, place: Place, alone: bool)
         requires own { seat.old.table ≡ self.now.table }
         requires claim { HasClaim self.now seat.old.known (record { place = place; alone = alone }) }
@@ -149,7 +150,7 @@ impl<T: Tagged + Drop> WordContexts<T> {
         shared.fetch_sub::<Release>(&mut seat.seat, word, less);
     }
 
-    /// Frees a claimed place at which nothing was posted.
+    /// Frees a claimed place at which no thread was put.
     pub fn give_back(&self, seat: &mut WordSeat<T>, claim: WordClaim)
         requires own { seat.old.table ≡ self.now.table }
         requires claim { HasClaim self.now seat.old.known claim }

@@ -35,7 +35,8 @@ impl<T: Tagged + Drop> WordContexts<T> {
         shared.fetch_and::<Open>(&mut seat.seat, self.core_word(core), !CLOSED)
     }
 
-    /// Closes a core, which then takes no more threads. Returns its occupancy word from before.
+    /// Closes a core, which then takes no more threads. Returns the core's occupancy word (which places are occupied,
+    /// as bits) from before.
     pub fn close_core(&self, seat: &mut WordSeat<T>, core: u8) -> u64
         requires own { seat.old.table ≡ self.now.table }
         requires core { core < self.now.shape.cores }
@@ -45,7 +46,7 @@ impl<T: Tagged + Drop> WordContexts<T> {
         self.set_closed(&mut seat.at, core)
     }
 
-    /// Opens a core. Returns its occupancy word from before.
+    /// Opens a core. Returns the core's occupancy word (which places are occupied, as bits) from before.
     pub fn open_core(&self, seat: &mut WordSeat<T>, core: u8) -> u64
         requires own { seat.old.table ≡ self.now.table }
         requires core { core < self.now.shape.cores }

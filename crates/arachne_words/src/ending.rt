@@ -1,4 +1,4 @@
-//! The end of a table, with the threads that were posted and have not ended.
+//! The end of a table, with the threads that were put into it and have not ended.
 ghost use Rattle.std.specs.Prelude.{◌≡◌, IfOk, IfErr};
 ghost use Rattle.arachne_rule.specs.Ending.{IsSettled};
 ghost use Rattle.arachne_contexts.specs.Answers.{IsByContext};
@@ -23,7 +23,8 @@ fn generation_in(word: u64) -> u64
 }
 
 impl<T: Tagged + Drop> WordContexts<T> {
-    /// Closes the table. Returns the threads that were posted and have not ended, in the order of the contexts.
+    /// Closes the table. Returns the threads that were put into the table and have not ended, in the order of the
+    /// contexts.
     ///
     /// If memory for the list is refused, returns the table and the seat as an error.
     pub fn close(

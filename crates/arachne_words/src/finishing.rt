@@ -13,7 +13,7 @@ use arachne_contexts::{Held, Tagged};
 use arachne_core::{Mark, MarkWord};
 
 impl<T: Tagged + Drop> WordContexts<T> {
-    /// Ends a thread below the last generation of its context. The seat has then claimed the context.
+    /// Ends a thread whose context can have another generation. The seat then has the context claimed.
     fn retire(&self, seat: &mut CallSeat<T>, hold: &WordHold)
         requires own { seat.old.table ≡ self.now.table }
         requires thread { (tag : ℕ) × HasThread self.now seat.old.known hold.now tag }
@@ -26,7 +26,7 @@ impl<T: Tagged + Drop> WordContexts<T> {
         shared.swap::<Retire>(&mut seat.seat, hold.id.context as usize, free.word());
     }
 
-    /// Ends a thread of the last generation of its context, which is then spent.
+    /// Ends the last thread of a context: the context is never used again.
     fn spend(&self, seat: &mut CallSeat<T>, hold: &WordHold)
         requires own { seat.old.table ≡ self.now.table }
         requires thread { (tag : ℕ) × HasThread self.now seat.old.known hold.now tag }
@@ -39,7 +39,7 @@ impl<T: Tagged + Drop> WordContexts<T> {
         shared.swap::<Spend>(&mut seat.seat, hold.id.context as usize, spent.word());
     }
 
-    /// Ends a thread, and frees its place unless its context is spent.
+    /// Ends a thread, and frees its place, unless the thread was the last that its context may have.
     fn end_thread(&self, seat: &mut CallSeat<T>, hold: &WordHold)
         requires own { seat.old.table ≡ self.now.table }
         requires thread { (tag : ℕ) × HasThread self.now seat.old.known hold.now tag }
@@ -55,7 +55,7 @@ impl<T: Tagged + Drop> WordContexts<T> {
         self.release(seat, hold.place, hold.alone);
     }
 
-    /// Ends a thread. Its place is then free, unless its context has had its last generation.
+    /// Ends a thread. The thread's place is then free, unless the thread was the last that its context may have.
     pub fn finish(&self, seat: &mut WordSeat<T>, thread: Held<T, WordHold>) -> T
         requires own { seat.old.table ≡ self.now.table }
         requires thread { HasThread self.now seat.old.known thread.hold (T.tag_of thread.value) }

@@ -1,4 +1,4 @@
-//! The first words of a table.
+//! The words of a new table.
 ghost use Rattle.std.specs.Prelude.{◌≡◌, ◌+◌, ◌*◌, ◌<◌, ◌≤◌, ℕ, IfOk, vec_len, slice_index};
 ghost use Rattle.arachne_core.specs.declared.layout.TheConstants.{CORES, LAST_GENERATION, SLOTS};
 ghost use Rattle.arachne_words.specs.FirstWords.{first_word};
@@ -7,7 +7,7 @@ use arachne_core::{Mark, MarkWord, Place};
 use arachne_rule::{BLOCK, NAMES};
 use std::alloc::{AllocError, Global};
 
-/// Returns the first word at this index, for `contexts` contexts and cores of `slots` places.
+/// Returns the word at this index of a new table with `contexts` contexts and cores of `slots` places.
 fn word_at(contexts: usize, slots: u8, generation: u64, index: usize) -> u64
     requires slots { slots ≤ SLOTS }
     requires contexts { contexts ≤ CORES * slots }

@@ -2,7 +2,7 @@
 //!
 //! Each core has an occupancy word, each context a mark word and a slot for its thread's value, and each place a word
 //! that names its context. A seat changes these words by single atomic steps, without waiting and without memory.
-//! Between any two steps they show a World in which no context and no place belongs to two threads.
+//! Between any two steps they show a state of the table in which no context and no place belongs to two threads.
 #![tactic(auto)]
 
 mod call_seat;

@@ -21,7 +21,7 @@ use crate::table::WordContexts;
 use arachne_contexts::{Moved, Tagged};
 use arachne_core::{Mark, MarkWord, Place};
 
-/// Returns whether a mark word shows its context at the place.
+/// Returns whether a mark word (a context's packed state) says that the context stands at the place.
 fn stands_at(seen: MarkWord, place: Place) -> bool
     ensures { IsTrue result ↔ (seen.place ≡ place) }
 {
@@ -31,7 +31,7 @@ fn stands_at(seen: MarkWord, place: Place) -> bool
 
 /// Returns the reason why the thread of a mark word can't be moved, if there is one.
 ///
-/// There is no thread, its core is exclusive, or it is held.
+/// The reasons are: there is no thread, its core is exclusive, or a seat holds it.
 fn obstacle(seen: MarkWord) -> Option<Moved>
     ensures some { IfSome result (IsObstacle seen) }
     ensures none { IfNone result (IsRestMark seen.mark × (seen.alone ≡ false)) }
@@ -45,7 +45,8 @@ fn obstacle(seen: MarkWord) -> Option<Moved>
 }
 
 impl<T: Tagged + Drop> WordContexts<T> {
-    /// Tries once to move a thread at rest to a place on another core, at which the seat has claimed a context.
+    /// Tries once to move a thread that no seat holds to a place on another core, at which the seat has claimed a
+    /// context.
     fn try_move(
         &self,
         seat: &mut CallSeat<T>,
@@ -72,7 +73,7 @@ impl<T: Tagged + Drop> WordContexts<T> {
         Ok(())
     }
 
-    /// Names a moved context at its new place, unless the place word was changed meanwhile.
+    /// Stores the number of a moved context in the word of its new place, unless that word was changed meanwhile.
     fn name_target(
         &self,
         seat: &mut CallSeat<T>,
@@ -91,7 +92,7 @@ impl<T: Tagged + Drop> WordContexts<T> {
         shared.compare_exchange::<NameTarget>(&mut seat.seat, word, replaced as u64, context as u64)
     }
 
-    /// Stores its new place in the mark word of the context whose place a move took.
+    /// Stores, in the mark word of the context that a move has displaced, that context's new place.
     fn replace(&self, seat: &mut CallSeat<T>, context: usize, free: MarkWord)
         requires own { seat.old.table ≡ self.now.table }
         requires claimed { (c : Carried) × IsClaimed self.now seat.old.known c × (context ≡ c.context) × (free ≡ marked_free c) }
@@ -101,7 +102,7 @@ impl<T: Tagged + Drop> WordContexts<T> {
         shared.store::<Replace>(&mut seat.seat, context, free.word());
     }
 
-    /// Stores the context that stands now at the place that a move left in the word of that place.
+    /// Stores, in the word of the place that a move left, the number of the context that stands there now.
     fn name_source(&self, seat: &mut CallSeat<T>, source: Place, context: usize)
         requires own { seat.old.table ≡ self.now.table }
         requires place { IsPlaceIn self.now.shape source }
@@ -113,8 +114,8 @@ impl<T: Tagged + Drop> WordContexts<T> {
         shared.store::<NameSource>(&mut seat.seat, word, context as u64);
     }
 
-    /// Makes the steps after the exchange of a move. Context `replaced`, which stood at the target, stands at the
-    /// source now.
+    /// Makes the remaining steps of a move, after the exchange of the thread's mark word (the atomic with its state and
+    /// place). Context `replaced`, which stood at the target, stands at the source now.
     fn move_off(
         &self,
         seat: &mut CallSeat<T>,
@@ -137,7 +138,7 @@ impl<T: Tagged + Drop> WordContexts<T> {
         self.release(seat, source, false);
     }
 
-    /// Moves a thread at rest to a place that the seat has claimed on another core.
+    /// Moves a thread that no seat holds to a place that the seat has claimed on another core.
     ///
     /// If the thread's mark word has changed, the place is freed again.
     fn move_to(
@@ -175,7 +176,8 @@ impl<T: Tagged + Drop> WordContexts<T> {
         Moved::Moved
     }
 
-    /// Claims a place on the target core for a thread that was seen at rest, and moves the thread there.
+    /// Claims a place on the target core for a thread that no seat held when its mark word was read, and moves the
+    /// thread there.
     fn move_seen(
         &self,
         seat: &mut CallSeat<T>,
@@ -207,9 +209,9 @@ impl<T: Tagged + Drop> WordContexts<T> {
         self.move_to(seat, moving, seen, source, target)
     }
 
-    /// Moves the thread at a place to the lowest free index of another core, if it is at rest. Tries once.
+    /// Moves the thread at a place to the lowest free index of another core, if no seat holds the thread. Tries once.
     ///
-    /// Its value stays in its slot, and its mark word changes only in its place.
+    /// The thread's value stays in its slot, and of its mark word only the place changes.
     pub fn move_one(&self, seat: &mut WordSeat<T>, place: Place, to: u8) -> Moved
         requires own { seat.old.table ≡ self.now.table }
         requires place { IsPlaceIn self.now.shape place }

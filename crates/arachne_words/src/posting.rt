@@ -1,4 +1,4 @@
-//! Posts of threads at claimed places.
+//! Posts: threads that are put at claimed places.
 ghost use Rattle.std.specs.Prelude.{◌≡◌, ◌<◌, ◌∷◌, Some, None};
 ghost use Rattle.atomic_table.specs.Table.{rest};
 ghost use Rattle.arachne_rule.specs.declared.view.Carried.{Carried};
@@ -17,7 +17,7 @@ use arachne_contexts::Tagged;
 use arachne_core::{Mark, MarkWord, Place, ThreadId};
 
 impl<T: Tagged + Drop> WordContexts<T> {
-    /// Reads the context that stands at a place that the seat has, and takes its empty slot.
+    /// Reads which context stands at a place that the seat has, and takes the context's empty slot.
     pub(crate) fn take_slot(&self, seat: &mut CallSeat<T>, place: Place) -> usize
         requires own { seat.old.table ≡ self.now.table }
         requires place { IsPlaceIn self.now.shape place }
@@ -53,7 +53,8 @@ impl<T: Tagged + Drop> WordContexts<T> {
         shared.store::<Post>(&mut seat.seat, context, ready.word());
     }
 
-    /// Posts a thread at a claimed place. The thread is ready, even if its core was closed after the claim.
+    /// Posts a thread: puts it at a claimed place, ready to run. The thread is ready, even if its core was closed after
+    /// the claim.
     pub fn post(&self, seat: &mut WordSeat<T>, claim: WordClaim, value: T) -> ThreadId
         requires own { seat.old.table ≡ self.now.table }
         requires claim { HasClaim self.now seat.old.known claim }

@@ -7,10 +7,10 @@ use arachne_core::{Place, ThreadId};
 use arachne_weights::Weight;
 use std::marker::Model;
 
-/// A seat at a table, through which a kernel thread calls it. It has a part of the whole weight.
+/// A seat at a table, through which a kernel thread calls it. The seat has a part of the table's whole weight.
 ///
-/// Contracts see the identity of its table, its weight, and what it knows: the claims and held threads that are out
-/// with it, the threads that it has posted and ended, and the steps that it has made.
+/// Contracts see the identity of the seat's table, the seat's weight, and what the seat knows: the claims and held
+/// threads that it has not spent, the threads that it has posted and ended, and the steps that it has made.
 #[derive(Drop)]
 pub struct WordSeat<T> {
     pub(crate) at: CallSeat<T>,

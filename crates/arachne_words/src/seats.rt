@@ -84,9 +84,10 @@ impl<T: Tagged + Drop> WordContexts<T> {
         self.table.shared.join_seat::<Deal>(&mut seat.seat, spent);
     }
 
-    /// Splits a seat in two, each with half of its weight, rounded up for the first. The first keeps what is known.
+    /// Splits a seat in two, each with half of its weight, rounded up for the first. The first half keeps what `seat`
+    /// knows.
     ///
-    /// If the weight is 1 or 0, both get weight 0.
+    /// If the weight is 1 or 0, both seats get weight 0.
     pub fn split(&self, seat: WordSeat<T>) -> (WordSeat<T>, WordSeat<T>)
         requires own { seat.table ≡ self.now.table }
         requires nothing_out { HasNothingOut seat.known }
@@ -114,9 +115,9 @@ impl<T: Tagged + Drop> WordContexts<T> {
         )
     }
 
-    /// Joins two seats into one, which has all that both have posted and ended.
+    /// Joins two seats into one, which knows all threads that either has put into the table or ended.
     ///
-    /// Its weight is the sum of theirs, but at most the whole.
+    /// The weight of the result is the sum of both weights, but at most the whole.
     pub fn join_seats(&self, seat: WordSeat<T>, other: WordSeat<T>) -> WordSeat<T>
         requires own { (seat.table ≡ self.now.table) × (other.table ≡ self.now.table) }
         requires nothing_out { HasNothingOut seat.known × HasNothingOut other.known }
@@ -147,7 +148,7 @@ impl<T: Tagged + Drop> WordContexts<T> {
         seat.weight.is_whole()
     }
 
-    /// Returns the number of claims and held threads that are out with the seat.
+    /// Returns the number of claims and held threads that the seat has not spent.
     pub fn out(&self, seat: &WordSeat<T>) -> u32
         ensures { result ≡ length seat.now.known.carried }
     {

@@ -20,7 +20,7 @@ use atomic_table::Table;
 use std::alloc::Global;
 use std::marker::Model;
 
-/// A context table on atomic words. Whoever has a seat may call it, without waiting.
+/// A context table on atomic words. A kernel thread that has a seat may call the table, and no call waits.
 ///
 /// Contracts see the identity of the table, and its shape.
 // In its methods a line `let _ = &self.places_per_core;` opens the table for the prover, which learns its sizes there
@@ -101,14 +101,15 @@ impl<T: Tagged + Drop> WordContexts<T> {
         shared.load::<LearnName>(&mut seat.seat, self.name_word(place)) as usize
     }
 
-    /// Returns the occupancy word of a core, read without a seat. Its contract promises nothing of the word.
+    /// Returns the occupancy word of a core (which places are occupied, as bits), read without a seat. The contract
+    /// promises nothing of the word.
     pub fn glance(&self, core: u8) -> u64
         requires core { core < self.now.shape.cores }
     {
         self.table.shared.peek(self.core_word(core))
     }
 
-    /// Returns the occupancy word of a core.
+    /// Returns the occupancy word of a core: which places are occupied, as bits.
     pub fn look(&self, seat: &mut WordSeat<T>, core: u8) -> u64
         requires own { seat.old.table ≡ self.now.table }
         requires core { core < self.now.shape.cores }
@@ -118,7 +119,7 @@ impl<T: Tagged + Drop> WordContexts<T> {
         self.see_core(&mut seat.at, core).word()
     }
 
-    /// Returns the mark word of a context.
+    /// Returns the mark word of a context: its packed state, place and generation.
     pub fn look_mark(&self, seat: &mut WordSeat<T>, context: u32) -> u64
         requires own { seat.old.table ≡ self.now.table }
         requires context { context < self.now.table.slots }

@@ -18,7 +18,7 @@ use crate::table::WordContexts;
 use arachne_contexts::{Held, Tagged, Taken};
 use arachne_core::{Mark, MarkWord, Place, ThreadId};
 
-/// Returns whether a mark word shows a thread that is ready at the place.
+/// Returns whether a mark word (a context's packed state) shows a thread that is ready at the place.
 fn is_ready_at(seen: MarkWord, place: Place) -> bool
     ensures { IsTrue result ↔ ((seen.mark ≡ Mark.Ready) × (seen.place ≡ place)) }
 {
@@ -57,7 +57,7 @@ impl<T: Tagged + Drop> WordContexts<T> {
             .unwrap()
     }
 
-    /// Names the context in the word of the place at which it was taken, and puts its empty slot back into the table.
+    /// Stores a taken context's number in the word of its place, and puts the context's empty slot back into the table.
     fn keep_name(&self, seat: &mut CallSeat<T>, context: usize, place: Place)
         requires own { seat.old.table ≡ self.now.table }
         requires place { IsPlaceIn self.now.shape place }

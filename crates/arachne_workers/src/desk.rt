@@ -16,7 +16,7 @@ pub struct Halt {
     pub why: u8,
 }
 
-/// The error that ended a worker's loop. It is not `Drop`, so that it must be handled.
+/// The error that ended a worker's loop. The type is not `Drop`, so that the error must be handled.
 ///
 /// Contracts see the cause.
 pub struct Halted {
@@ -51,10 +51,10 @@ impl Halted {
 
 /// A worker's access to its table and to the thread in hand.
 ///
-/// No call changes the table at which the seat is. The trait has no types of its own: over the types of a table and a
-/// job each proof of the loop takes far longer.
+/// No call changes the table to which the worker's seat belongs. The trait has no types of its own: over the types of a
+/// table and a job each proof of the loop takes far longer.
 pub trait Desk {
-    /// Takes the thread at a place in hand, if it is ready and no other is in hand, and reports it.
+    /// Takes the thread at a place, if it is ready and no thread is in hand yet, and reports that.
     fn take(&mut self, place: Place) -> Grip
         ensures { self.new ≡ self.old };
 
@@ -64,7 +64,7 @@ pub trait Desk {
     /// Runs the thread in hand for at most `left` steps, and serves its requests.
     ///
     /// The steps that it makes are subtracted from `left`. While another kernel thread has what a request needs, this
-    /// one waits by `pace` (`stand_by`).
+    /// kernel thread waits by `pace` (`stand_by`).
     fn advance(&mut self, pace: &mut Pace, left: &mut u32) -> Result<ThreadStop, Halt>
         requires { 1 ≤ left.old }
         ensures desk { self.new ≡ self.old }
@@ -73,23 +73,24 @@ pub trait Desk {
     /// Returns whether the thread in hand has acquired a lock since it was taken, and released none since.
     fn holds(&self) -> bool;
 
-    /// Puts the thread in hand back, as ready or blocked by its pause.
+    /// Puts the thread in hand back: ready or blocked, as the reason for which it stopped demands.
     ///
-    /// Returns how it rests: it is ready also if it was woken in the meantime.
+    /// Returns the state in which the thread was put back: it is ready also if it was woken in the meantime.
     fn rest(&mut self) -> Result<Rest, Halt>
         ensures { self.new ≡ self.old };
 
-    /// Ends the thread in hand, which leaves its outcome. Returns the id of the thread that awaits it, if there is one.
+    /// Ends the thread in hand, which leaves its outcome. Returns the id of the thread that awaits the ended one, if
+    /// there is one.
     ///
-    /// Its place is kept if the core, which looked like `before`, was full; otherwise the place is free. If it was the
-    /// last thread, all workers are stopped.
+    /// The worker keeps the thread's place, for a later child, if the core was full before (`before` is the core's word
+    /// then); otherwise the place is free. If the thread was the last one, all workers are stopped.
     fn end(&mut self, before: OccWord) -> Result<Option<ThreadId>, Halt>
         ensures { self.new ≡ self.old };
 
-    /// Returns the number of kept places.
+    /// Returns the number of places that the worker keeps for later children.
     fn kept(&self) -> usize;
 
-    /// Gives back the newest place that is kept. Returns whether there was one.
+    /// Gives back the newest place that is kept. Returns whether there was such a place.
     fn give_one_back(&mut self) -> Result<bool, Halt>
         ensures { self.new ≡ self.old };
 
@@ -105,7 +106,8 @@ pub trait Desk {
     fn try_wake(&mut self, id: ThreadId) -> Woken
         ensures { self.new ≡ self.old };
 
-    /// Moves the thread at a place of another core to this one, if workers may. Returns whether it was moved.
+    /// Moves the thread at a place of another core to this one, if workers may move threads. Returns whether the thread
+    /// was moved.
     fn pull(&mut self, place: Place) -> bool
         ensures { self.new ≡ self.old };
 
@@ -113,7 +115,8 @@ pub trait Desk {
     fn may_take_ticket(&mut self) -> bool
         ensures { self.new ≡ self.old };
 
-    /// Takes a thread that waits for a place, and posts it if it still waits and there is a place.
+    /// Takes the ticket of a thread that waits for a place, and puts the thread at a place if it still waits and there
+    /// is one.
     fn take_ticket(&mut self) -> Result<TicketResult, Halt>
         ensures { self.new ≡ self.old };
 
@@ -124,14 +127,14 @@ pub trait Desk {
     fn tend(&mut self) -> (Option<usize>, u64)
         ensures { self.new ≡ self.old };
 
-    /// Returns whether there are orders. `tend` is called only then.
+    /// Returns whether there are orders. `tend` is called only if there are orders.
     fn has_orders(&self) -> bool;
 
     /// Returns whether others may wait for this worker: it has orders that are not applied yet, or threads that wait
-    /// for a place. If so, its sleeps are short, and it doesn't park.
+    /// for a place. If so, the worker's sleeps are short, and it doesn't park.
     fn is_waited_for(&self) -> bool;
 
-    /// Returns whether the core is closed and empty. The worker parks only then.
+    /// Returns whether the core is closed and empty. The worker parks only if the result is true.
     fn is_drained(&mut self) -> bool
         ensures { self.new ≡ self.old };
 
@@ -145,19 +148,20 @@ pub trait Desk {
 /// The reason why the thread in hand stops.
 #[derive(Clone, Copy)]
 pub enum ThreadStop {
-    /// It goes on.
+    /// The thread goes on.
     Goes,
-    /// It goes on, and has forked a child that was posted.
+    /// The thread goes on, and has forked a child that got a place.
     Posted(PostedThread),
-    /// It goes on, and has forked a child that waits with a ticket.
+    /// The thread goes on, and has forked a child that waits with a ticket.
     Spilled,
-    /// It goes on, and has released a lock, which the thread of this id has now: that one goes before others.
+    /// The thread goes on, and has released a lock, which the thread of this id has now. The thread that has the lock
+    /// now runs before all others.
     Wakes(ThreadId),
-    /// It awaits a child that has not ended.
+    /// The thread awaits a child that has not ended.
     Blocks,
-    /// It waits for the lock of this number.
+    /// The thread waits for the lock of this number.
     Waits(u64),
-    /// It has ended.
+    /// The thread has ended.
     Ends,
 }
 
@@ -184,50 +188,51 @@ pub enum TicketResult {
 /// An event that a worker reports.
 #[derive(Clone, Copy, Debug, PartialEq, Eq)]
 pub enum WorkerEvent {
-    /// A slice has ended, after this many steps. One that meets a fault is not reported.
+    /// A slice has ended, after this many steps. A slice that meets a fault is not reported.
     Sliced(u32, SliceEnd),
     /// A blocked thread was woken.
     Woken(ThreadId, Cause),
-    /// A thread was moved here from this core, to run here.
+    /// A thread was moved from this core to the worker's own core, to run there.
     Pulled(ThreadId, u8),
-    /// A thread that has a lock now is about to run here, at its place on this other core.
+    /// The worker is about to run a thread that has a lock now, at the thread's place on this other core.
     Helps(ThreadId, u8),
     /// A child got no place and waits for one, with a ticket.
     Spilled,
-    /// A ticket was taken. True if its child was posted here; if not, its parent runs it, or there was no place.
+    /// A ticket was taken. The value is true if the ticket's child got a place here. If the value is false, the child's
+    /// parent runs the child, or there was no place.
     Ticket(bool),
     /// The core is closed and empty, and the worker is about to park.
     Parks,
     /// The worker was unparked.
     Unparked,
     /// The worker's sleep timed out, and then it found something that nobody had signalled. Threads and tickets that
-    /// are not signalled at once cause a few of these; many show a missing signal.
+    /// are not signalled at once cause a few such events; many of them show that a signal is missing.
     Overslept,
     /// The worker that has the orders has applied one: this many in all are applied now.
     Applied(usize),
-    /// It has moved threads away from a closed core to these cores, a bit for each.
+    /// The worker that has the orders has moved threads away from a closed core to these cores, a bit for each.
     MovedAway(u64),
 }
 
 /// The end of a slice.
 #[derive(Clone, Copy, Debug, PartialEq, Eq)]
 pub enum SliceEnd {
-    /// The thread goes on: its steps are used up, or another must run.
+    /// The thread can go on: its steps are used up, or another thread must run.
     GoesOn,
-    /// It awaits a child.
+    /// The thread awaits a child.
     AwaitsChild,
-    /// It waits for the lock of this number.
+    /// The thread waits for the lock of this number.
     Awaits(u64),
-    /// It has ended.
+    /// The thread has ended.
     Ended,
 }
 
 /// The reason why a thread is woken.
 #[derive(Clone, Copy, Debug, PartialEq, Eq)]
 pub enum Cause {
-    /// Its child has ended.
+    /// The thread's child has ended.
     ChildEnded,
-    /// It has the lock for which it waited, and for which others may wait.
+    /// The thread has the lock for which it waited, and for which others may wait.
     IsServed,
 }
 

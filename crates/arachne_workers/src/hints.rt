@@ -1,6 +1,7 @@
 //! A word for each core that says at which indexes threads may be ready, and whether the core's worker sleeps.
 //!
-//! It touches only atomics, so any host may call it: each call returns whom to wake, and the caller does so.
+//! The module uses only atomics, so any host may call it: each call returns which worker to wake, and the caller wakes
+//! it.
 ghost use Rattle.std.specs.Prelude.{◌≡◌, ◌↔◌, ◌<◌, ◌≤◌, ◌*◌, ◌/◌, ◌%◌, ◌^◌, IfOk, IsSome, IsTrue};
 ghost use Rattle.arachne_core.specs.declared.layout.TheConstants.{SLOTS};
 
@@ -10,7 +11,8 @@ use std::alloc::{AllocError, Global};
 use std::marker::Model;
 use std::sync::atomic::{AtomicU64, Ordering};
 
-/// The bit of a core's word that says that its worker sleeps. A sleep reads the low 32 bits, so it is one of them.
+/// The bit of a core's word that says that the core's worker sleeps. A sleeping worker waits on the low 32 bits of the
+/// word, so the bit is one of them.
 pub(crate) const SLEEPS: u64 = 1;
 
 const INDEX_SHIFT: u32 = 1;
@@ -53,9 +55,9 @@ fn says_sleeps(word: u64) -> bool
 
 /// A word of hints for each core, on a cache line of its own.
 ///
-/// It has a bit for each index at which a thread may be ready, and one that says that the core's worker sleeps. A bit
-/// is a hint: only the table says which threads are ready, and a scan of all occupied indexes finds those that have no
-/// bit.
+/// Each word has a bit for each index at which a thread may be ready, and a bit that says that the core's worker
+/// sleeps. The bit of an index is a hint: only the table says which threads are ready, and a pass over all occupied
+/// indexes finds also those that have no bit.
 #[derive(Drop)]
 pub struct Hints {
     words: Vec<CachePadded<AtomicU64>>,
@@ -89,8 +91,8 @@ impl Hints {
         self.words.len()
     }
 
-    /// Records that threads of a core may be ready at these indexes, a bit for each. Returns whether its worker sleeps
-    /// and must be woken.
+    /// Records that threads of a core may be ready at these indexes, a bit for each. Returns whether the core's worker
+    /// sleeps and must be woken.
     pub fn hint(&self, core: u8, indexes: u64) -> bool {
         match self.word(core) {
             Some(word) => says_sleeps(word.fetch_or(hint_of(indexes), Ordering::SeqCst)),
@@ -98,7 +100,7 @@ impl Hints {
         }
     }
 
-    /// Takes the indexes of a core that were recorded since the last call. Its worker no longer sleeps.
+    /// Takes the indexes of a core that were recorded since the last call. The core's worker no longer sleeps.
     pub(crate) fn take(&self, core: u8) -> u64 {
         match self.word(core) {
             Some(word) if word.load(Ordering::SeqCst) != 0 => {

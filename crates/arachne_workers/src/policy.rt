@@ -9,13 +9,13 @@ ghost use Rattle.arachne_workers.specs.declared.policy.TheConstants.{STEPS_PAST_
 
 use arachne_core::OccWord;
 
-/// The most threads that run one after another before a scan goes on.
+/// The most threads that run one after another before a scan (a pass over the indexes of a core) goes on.
 pub(crate) const MOST_IN_TURN: u32 = 64;
 
-/// The most slices of one turn.
+/// The most slices of one turn (from when a thread is taken until it is put back).
 pub(crate) const MOST_ALONE: u32 = 64;
 
-/// The number of scans of hinted indexes after which one scans all occupied indexes.
+/// After this many passes over the hinted indexes only, a worker looks at all occupied indexes of its core once.
 pub(crate) const SCANS_BETWEEN_LOOKS: u32 = 64;
 
 /// The most steps that a thread makes in its slice after it has released a lock whose next holder runs here.
@@ -24,18 +24,18 @@ pub(crate) const STEPS_PAST_FREE: u32 = 50;
 /// The grace of a turn: the most steps of the further slices that a thread gets because it holds a lock.
 pub(crate) const STEPS_TO_FREE: u32 = 500;
 
-/// The most posts on other cores whose signals a worker keeps back.
+/// The most threads that a worker has put on other cores without signalling those cores yet.
 pub(crate) const MOST_KEPT_BACK: usize = 8;
 
 /// The number of steps for which a worker keeps a signal back.
 pub(crate) const PATIENCE: u32 = 500;
 
-/// The number of posts on other cores that a worker signals immediately before it keeps any back.
+/// A worker signals its first posts on other cores immediately, up to this number; later ones it may keep back.
 ///
-/// At first the other cores need work.
+/// When a run begins, the other cores have no work, so the first threads put there are signalled without delay.
 pub(crate) const TOLD_AT_ONCE: u32 = 32;
 
-/// Returns whether a worker that has posted this many threads on other cores keeps the next signal back.
+/// Returns whether a worker that has put this many threads on other cores keeps the next signal back.
 pub(crate) fn keeps_back(posted: u32) -> bool
     ensures { IsTrue result ↔ TOLD_AT_ONCE ≤ posted }
 {
@@ -44,15 +44,16 @@ pub(crate) fn keeps_back(posted: u32) -> bool
 
 /// Returns whether places may be kept at all.
 ///
-/// They may not if a thread may want a whole core, if orders may close one, or if a thread that holds a lock may be
-/// moved to another core.
+/// Places may not be kept if a thread may want a whole core, if orders may close a core, or if a thread that holds a
+/// lock may be moved to another core.
 pub fn may_keep_places(has_exclusive: bool, orders: usize, locks: u8, cores: u8) -> bool
     ensures { IsTrue result ↔ MayKeepPlaces has_exclusive orders locks cores }
 {
     !has_exclusive && orders == 0 && (locks == 0 || cores <= 1)
 }
 
-/// Returns whether a place that a thread leaves is kept: its core, which looked like `before`, was full.
+/// Returns whether the worker keeps a place that a thread leaves, for a later child: so if the core was full before
+/// (`before` is its word then).
 pub fn keeps_place(before: OccWord, slots: u8) -> bool
     ensures { IsTrue result ↔ (slots ≤ count_of before.occupied) × (before.closed ≡ false) × (before.exclusive ≡ false) }
 {
@@ -85,8 +86,8 @@ pub fn is_drained(now: OccWord) -> bool
 
 /// Returns whether the thread in hand gets another slice immediately.
 ///
-/// It does if the core is open, and either the thread holds a lock, or no other is known to be ready and no ticket can
-/// be taken.
+/// The thread goes on if the core is open, and either the thread holds a lock, or no other thread is known to be ready
+/// and no ticket can be taken.
 pub(crate) fn may_go_on(now: OccWord, holds: bool, others: bool, takes_ticket: bool) -> bool
     ensures { IsTrue result ↔ (now.closed ≡ false) × ((holds ≡ true) ⊎ ((others ≡ false) × (takes_ticket ≡ false))) }
 {
@@ -104,8 +105,8 @@ pub(crate) fn left_past_free(left: u32, goes_next: bool) -> u32
     }
 }
 
-/// Returns the steps of a further slice of a turn: a quantum, and if the thread holds a lock, at most the grace that is
-/// `left`.
+/// Returns the steps of a further slice of a turn: a quantum, but at most `left` (what is left of the grace) if the
+/// thread holds a lock.
 pub(crate) fn most_steps(quantum: u32, holds: bool, left: u32) -> u32
     ensures { result ≡ (if holds then min quantum left else quantum) }
 {
@@ -121,7 +122,7 @@ const LAST_SPIN_ALONE: u32 = 10;
 /// The most times that the length of a spin doubles.
 pub(crate) const MOST_SPINS: u32 = LAST_SPIN_ALONE;
 
-/// Up to this round a worker that may yield does so once it no longer spins. After it, it sleeps.
+/// Up to this round a worker that no longer spins yields, if it may. After this round the worker sleeps.
 const LAST_YIELD: u32 = 40;
 
 /// Returns the last round in which a worker spins.
@@ -170,8 +171,8 @@ pub(crate) fn sleeps(idle: u32, may_yield: bool) -> bool
     idle > last_awake(may_yield)
 }
 
-/// Returns whether a round that finds nothing scans all occupied indexes too: the first in a row, and each before a
-/// sleep.
+/// Returns whether a round that finds nothing also scans all occupied indexes. The first of several rounds that find
+/// nothing scans them, and so does each such round before a sleep.
 #[inline(always)]
 pub(crate) fn looks_at_all(idle: u32, sleeps: bool) -> bool
     ensures { IsTrue result ↔ (idle ≡ 0) ⊎ (sleeps ≡ true) }
@@ -179,7 +180,8 @@ pub(crate) fn looks_at_all(idle: u32, sleeps: bool) -> bool
     idle == 0 || sleeps
 }
 
-/// Returns whether a thread that holds a lock has used up the grace of its turn.
+/// Returns whether a thread that holds a lock has used up the further steps that it gets for that (the grace of its
+/// turn).
 #[inline(always)]
 pub(crate) fn is_grace_over(holds: bool, grace: u32) -> bool
     ensures { IsTrue result ↔ (holds ≡ true) × (grace ≡ 0) }
@@ -187,7 +189,8 @@ pub(crate) fn is_grace_over(holds: bool, grace: u32) -> bool
     holds && grace == 0
 }
 
-/// Returns the grace that is left after a further slice of `most` steps.
+/// Returns the grace (steps beyond the first slice for a thread that holds a lock) that is left after a further slice
+/// of `most` steps.
 #[inline(always)]
 pub(crate) fn grace_left(holds: bool, grace: u32, most: u32) -> u32
     ensures { result ≡ (if holds then grace - most else grace) }
@@ -201,14 +204,14 @@ pub(crate) fn grace_left(holds: bool, grace: u32, most: u32) -> u32
 
 /// The microseconds that a worker sleeps if it may not yield and another kernel thread has what it needs.
 ///
-/// That kernel thread has lost its processor.
+/// The worker sleeps since that kernel thread has lost its processor.
 pub(crate) const STAND_BY: u64 = 50;
 
 /// The longest sleep, in microseconds, of a worker that others may wait for, or that has orders to apply.
 const SHORT_SLEEP: u64 = 100;
 
-/// The longest sleep, in microseconds, of any other worker. It is signalled when there is something to run, and no
-/// signal is missed, so a short sleep would only take the processor from others.
+/// The longest sleep, in microseconds, of any other worker. The worker is signalled when there is something to run, and
+/// no signal is missed, so a short sleep would only take the processor from others.
 const LONG_SLEEP: u64 = 20_000;
 
 /// Returns the most microseconds that a worker sleeps.

@@ -1,7 +1,7 @@
-//! A worker's notes: the indexes at which threads of its core may be ready, the thread that goes next, and the posts on
-//! other cores whose signals it keeps back.
+//! A worker's notes: the indexes at which threads of its core may be ready, the thread that goes next, and the threads
+//! put on other cores whose workers it has not signalled yet.
 //!
-//! They are plain data, which no other worker sees.
+//! The notes are plain data, which no other worker sees.
 ghost use Rattle.std.specs.Prelude.{◌≡◌, ◌≢◌, ◌≤◌, ◌<◌, ◌↔◌, ◌⊎◌, [], ◌∷◌, ◌++◌, ◌^◌, ◌+◌, ◌-◌, max, min, length, None, Some, if◌then◌else◌, IfSome, IsSome, IsTrue, MatchOption};
 ghost use Rattle.std.specs.Int.RustNames.{bit_or};
 ghost use Rattle.arachne_core.specs.declared.layout.TheConstants.{SLOTS};
@@ -14,7 +14,7 @@ use crate::policy;
 use arachne_core::{Place, SLOTS, ThreadId};
 use std::alloc::Global;
 
-/// A thread that was posted, and its place.
+/// A thread that was put into the table, and its place.
 #[derive(Clone, Copy)]
 pub struct PostedThread {
     pub id: ThreadId,
@@ -24,24 +24,24 @@ pub struct PostedThread {
 /// A worker's notes.
 #[derive(Drop)]
 pub struct Agenda {
-    /// The indexes that are left of this scan, a bit for each.
+    /// The indexes at which the current scan (pass over the core's indexes) has still to look, a bit for each.
     scan: u64,
     /// The indexes at which a thread may be ready, for the next scan.
     ready: u64,
     /// The place, maybe of another core, whose thread goes before all others.
     next: Option<Place>,
-    /// The posts on other cores that are not signalled yet, the newest last.
+    /// The threads put on other cores whose workers were not signalled yet, the newest last.
     posts: Vec<PostedThread>,
-    /// The number of steps after which all of them are signalled.
+    /// The number of steps after which all signals for `posts` are sent.
     patience: u32,
-    /// The number of threads that the worker has posted on other cores.
+    /// The number of threads that the worker has put on other cores.
     posted: u32,
     /// The number of scans that have begun since the last one of all occupied indexes.
     scans: u32,
 }
 
 impl Agenda {
-    /// Creates an agenda with the index of the root, if that begins here, and nothing else. It takes no memory.
+    /// Creates an agenda that has only the index of the root thread, if the root thread begins here. Takes no memory.
     pub fn new(alloc: Global, root: Option<u8>) -> Agenda
         ensures root { IfSome root (λ index. index < SLOTS → result.ready ≡ 2 ^ index) }
         ensures rootless { root ≡ None → result.ready ≡ 0 }
@@ -114,7 +114,8 @@ impl Agenda {
         self.scan | self.ready != 0 || self.next.is_some()
     }
 
-    /// Makes the thread at a place go before all others, unless another does. Returns whether it will.
+    /// Makes the thread at a place go before all others, unless another thread already does. Returns whether the thread
+    /// goes before all others now.
     pub(crate) fn goes_next(&mut self, place: Place) -> bool
         ensures will { IsTrue result ↔ (self.old.next ≡ None) }
         ensures next { self.new ≡ record self.old { next = if result then Some place else self.old.next } }
@@ -143,7 +144,7 @@ impl Agenda {
 
     /// Keeps back the signal of a post on another core, or returns the post to signal now.
     ///
-    /// That is this post, or the oldest that was kept back.
+    /// The post to signal is this one, or the oldest that was kept back.
     pub(crate) fn keep_back(&mut self, post: PostedThread) -> Option<PostedThread>
         ensures kept { IsKeptBack self.old.posted self.old.posts.items post result self.new.posts.items }
         ensures few { length self.old.posts.items ≤ MOST_KEPT_BACK → length self.new.posts.items ≤ MOST_KEPT_BACK }
@@ -181,7 +182,7 @@ impl Agenda {
         }
     }
 
-    /// Returns the number of the `left` steps of a slice that may be made before posts that are kept back may be due.
+    /// Returns how many of the `left` steps of a slice may be made before a signal that is kept back may be due.
     #[inline(always)]
     pub(crate) fn stretch(&self, left: u32) -> u32
         ensures { result ≡ min left (max 1 self.now.patience) }
@@ -189,7 +190,7 @@ impl Agenda {
         left.min(self.patience.max(1))
     }
 
-    /// Counts steps that were made. Returns whether all posts that are kept back must be signalled now.
+    /// Counts steps that were made. Returns whether all signals that are kept back must be sent now.
     pub(crate) fn spend(&mut self, steps: u32) -> bool
         ensures due { IsTrue result ↔ self.old.patience ≤ steps }
         ensures left { self.new ≡ record self.old { patience = if result then PATIENCE else self.old.patience - steps } }

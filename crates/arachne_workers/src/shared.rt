@@ -12,7 +12,8 @@ use std::sync::Wait;
 use std::sync::atomic::{AtomicU64, Ordering};
 use std::time::Duration;
 
-/// The word that stops all workers, the hints on whose words they sleep, the counts of their slices, and their parkers.
+/// The words that all workers share: a word that stops all workers, the hints (on whose words workers sleep), the
+/// counts of ended slices, and the parkers.
 #[derive(Drop)]
 pub struct SharedWords {
     /// 1 once all workers must stop.
@@ -90,7 +91,7 @@ impl SharedWords {
         }
     }
 
-    /// Signals that threads of a core may be ready at these indexes. Wakes its worker if it sleeps.
+    /// Signals that threads of a core may be ready at these indexes. Wakes the core's worker if that sleeps.
     #[inline(always)]
     fn hint_indexes(&self, core: u8, indexes: u64) {
         if self.hints.hint(core, indexes) {
@@ -114,7 +115,7 @@ impl SharedWords {
         self.stop.load(Ordering::SeqCst) != 0
     }
 
-    /// Parks the kernel thread of a core until it is unparked. Only that kernel thread calls this.
+    /// Parks the kernel thread of a core until it is unparked. Only the core's own kernel thread calls this.
     pub(crate) fn park<H: Wait>(&self, rt: &H, core: u8) {
         if usize::from(core) < self.hints.cores() {
             self.parking.park(rt, core);
@@ -134,7 +135,7 @@ impl SharedWords {
     }
 }
 
-/// Returns whether a core is among these, a bit for each.
+/// Returns whether the core's bit is set in `cores`, which has a bit for each core.
 #[inline(always)]
 fn has_core(cores: u64, core: u8) -> bool
     requires { core < 64 }

@@ -11,7 +11,8 @@ use std::time::Clock;
 
 impl<'a, H: Wait + Clock, D: Desk> CoreWorker<'a, H, D> {
     /// Gives the thread in hand, which was taken at this place, a slice, and more slices while it holds a lock or
-    /// nothing else is ready. Then puts it back or ends it. Returns whether it is blocked.
+    /// nothing else is ready. At the end of the turn puts the thread back or ends it. Returns whether the thread is
+    /// blocked.
     pub(crate) fn turn(&mut self, place: Place) -> Result<bool, Halt>
         ensures desk { self.new.desk ≡ self.old.desk }
         ensures scan { self.new.agenda.scan ≡ self.old.agenda.scan }
@@ -28,7 +29,7 @@ impl<'a, H: Wait + Clock, D: Desk> CoreWorker<'a, H, D> {
         Ok(rest == Rest::Blocked)
     }
 
-    /// Makes the slices of a turn. Returns how the last one ended.
+    /// Makes the slices of a turn. Returns how the last slice ended.
     fn slices(&mut self) -> Result<SliceEnd, Halt>
         ensures desk { self.new.desk ≡ self.old.desk }
         ensures scan { self.new.agenda.scan ≡ self.old.agenda.scan }
@@ -51,8 +52,9 @@ impl<'a, H: Wait + Clock, D: Desk> CoreWorker<'a, H, D> {
         Ok(end)
     }
 
-    /// Returns whether the thread in hand gets another slice at once: it holds a lock and has grace left, or nothing
-    /// else is ready here and no ticket can be taken; and the core is open, and the workers do not stop.
+    /// Returns whether the thread in hand gets another slice at once. The thread gets one if the core is open, the
+    /// workers do not stop, and either the thread holds a lock and has grace left, or nothing else is ready here and no
+    /// ticket can be taken.
     fn goes_on(&mut self, holds: bool, grace: u32) -> bool
         ensures desk { self.new.desk ≡ self.old.desk }
         ensures same { (self.new.agenda ≡ self.old.agenda) × (self.new.slices ≡ self.old.slices) }
@@ -69,7 +71,7 @@ impl<'a, H: Wait + Clock, D: Desk> CoreWorker<'a, H, D> {
         policy::may_go_on(self.desk.look(), holds, others, takes_ticket)
     }
 
-    /// Makes one slice of at most `most` steps. Returns how it ended.
+    /// Makes one slice of at most `most` steps. Returns how the slice ended.
     fn slice(&mut self, most: u32) -> Result<SliceEnd, Halt>
         ensures desk { self.new.desk ≡ self.old.desk }
         ensures number { self.new.slices ≡ min (self.old.slices + 1) u64.MAX }
@@ -85,7 +87,7 @@ impl<'a, H: Wait + Clock, D: Desk> CoreWorker<'a, H, D> {
         Ok(end)
     }
 
-    /// Makes the steps of a slice. Returns how many they are, and how the slice ends. If all of them are used up, every
+    /// Makes the steps of a slice. Returns the number of steps, and how the slice ends. If all steps are used up, every
     /// post that was kept back is signalled.
     fn spend(&mut self, most: u32) -> Result<(u32, SliceEnd), Halt>
         ensures desk { self.new.desk ≡ self.old.desk }

@@ -8,8 +8,8 @@ use std::time::{Clock, Duration};
 
 /// Waits without a sleep, after `round` rounds that found nothing.
 ///
-/// In the first rounds it spins, longer in each, until a thread of the core may be ready. Later it yields the
-/// processor.
+/// In the first rounds the worker spins, longer in each, until a thread of the core may be ready. In later rounds the
+/// worker yields the processor.
 pub(crate) fn stay_awake<H: Clock>(rt: &H, pace: &mut Pace, hints: &Hints, core: u8, round: u32) {
     if !policy::spins(round, pace.may_yield()) {
         pace.yield_once(rt);
@@ -25,8 +25,9 @@ pub(crate) fn stay_awake<H: Clock>(rt: &H, pace: &mut Pace, hints: &Hints, core:
 
 /// Waits while another kernel thread has what this one needs, after `tries` attempts.
 ///
-/// It spins after the first attempts, longer after each. Later it yields the processor if yields return immediately,
-/// and sleeps if not: the other kernel thread has lost its processor.
+/// After each of the first attempts the calling thread spins, longer each time. Later the thread yields the processor
+/// if yields return immediately. If yields take long, the thread sleeps: the other kernel thread has lost its
+/// processor.
 pub fn stand_by<H: Clock>(rt: &H, pace: &mut Pace, tries: u32) {
     if policy::spins(tries, pace.may_yield()) {
         for _ in 0..policy::spins_of(tries) {

@@ -1,4 +1,4 @@
-//! Signals to the workers of other cores for threads that a worker posts or wakes.
+//! Signals to the workers of other cores for threads that a worker puts there or wakes.
 ghost use Rattle.std.specs.Prelude.{◌≡◌, ◌≢◌, ◌↔◌, ◌≤◌, ◌<◌, ◌+◌, ◌^◌, [], false, length, min, IfSome, IsSome, None, Some};
 ghost use Rattle.std.specs.Int.RustNames.{bit_or};
 ghost use Rattle.arachne_core.specs.declared.layout.TheConstants.{SLOTS};
@@ -18,8 +18,9 @@ use std::time::Clock;
 impl<'a, H: Wait + Clock, D: Desk> CoreWorker<'a, H, D> {
     /// Wakes a thread, if it is blocked.
     ///
-    /// If it has a lock now, it runs next here, at its place on its own core, since others may wait for that. If its
-    /// own core's worker sleeps, it is moved here, since a move is cheaper than waking a kernel thread.
+    /// If the thread has a lock now, it runs next here, at its place on its own core, since others may wait for the
+    /// lock. If the worker of its own core sleeps, the thread is moved here, since a move is cheaper than waking a
+    /// kernel thread.
     pub(crate) fn wake(&mut self, id: ThreadId, cause: Cause)
         ensures desk { self.new.desk ≡ self.old.desk }
         ensures others { (self.new.agenda ≡ record self.old.agenda { ready = self.new.agenda.ready; next = self.new.agenda.next }) × (self.new.slices ≡ self.old.slices) }
@@ -59,7 +60,7 @@ impl<'a, H: Wait + Clock, D: Desk> CoreWorker<'a, H, D> {
         }
     }
 
-    /// Tries to wake a thread until the table says whether it was blocked, and returns that.
+    /// Tries to wake a thread until the table says whether the thread was blocked, and returns whether it was.
     fn try_wake(&mut self, id: ThreadId) -> bool
         ensures desk { self.new.desk ≡ self.old.desk }
         ensures same { (self.new.agenda ≡ self.old.agenda) × (self.new.slices ≡ self.old.slices) }
@@ -72,7 +73,7 @@ impl<'a, H: Wait + Clock, D: Desk> CoreWorker<'a, H, D> {
         unreachable!()
     }
 
-    /// Moves a thread from another core to this one, if workers may. Returns its place after that.
+    /// Moves a thread from another core to this one, if workers may. Returns the thread's place after the move.
     #[inline(always)]
     fn pull(&mut self, id: ThreadId, from: Place) -> Place
         ensures desk { self.new.desk ≡ self.old.desk }
@@ -93,8 +94,9 @@ impl<'a, H: Wait + Clock, D: Desk> CoreWorker<'a, H, D> {
 
     /// Returns the place of the thread that runs next, if one is known.
     ///
-    /// It is one that was handed a lock, maybe on another core. Otherwise, if the thread in hand blocked and nothing else is ready here, it is
-    /// the newest post that was kept back and can be moved here; those that can't are signalled.
+    /// The thread is one that was handed a lock, maybe on another core. Otherwise, if the thread in hand blocked and
+    /// nothing else is ready here, it is the newest thread with a kept-back signal that can be moved here from another
+    /// core. Posts that can't be moved are signalled.
     pub(crate) fn next(&mut self, waits: bool) -> Option<Place>
         ensures desk { self.new.desk ≡ self.old.desk }
         ensures next { IsSome self.old.agenda.next → HasGivenNext result self.old.agenda self.new.agenda }
@@ -123,7 +125,7 @@ impl<'a, H: Wait + Clock, D: Desk> CoreWorker<'a, H, D> {
     }
 }
 
-/// Returns a thread's place by its context's mark, if it is ready and was not taken since.
+/// Returns the place of a thread, as its context's mark says, if the thread is ready and was not taken since.
 #[inline(always)]
 fn ready_place(mark: Option<MarkWord>, id: ThreadId) -> Option<Place>
     ensures there { IsSome result → IsSome mark }
@@ -137,8 +139,8 @@ fn ready_place(mark: Option<MarkWord>, id: ThreadId) -> Option<Place>
     Some(mark.place())
 }
 
-/// Notes a thread that the worker of this core has posted here. Signals one that it has posted on another core, or
-/// keeps that signal back.
+/// Notes a thread that the worker of this core has put at a place here. Signals a thread that the worker has put on
+/// another core, or keeps that signal back.
 pub(crate) fn posted(agenda: &mut Agenda, shared: &SharedWords, core: u8, post: PostedThread)
     ensures others { (agenda.new.scan ≡ agenda.old.scan) × (agenda.new.next ≡ agenda.old.next) }
     ensures here { post.place.core ≡ core → agenda.new ≡ record agenda.old { ready = agenda.new.ready } }
@@ -154,7 +156,7 @@ pub(crate) fn posted(agenda: &mut Agenda, shared: &SharedWords, core: u8, post: 
     }
 }
 
-/// Signals all posts that were kept back.
+/// Sends all signals that were kept back.
 pub(crate) fn tell_all(agenda: &mut Agenda, shared: &SharedWords)
     ensures others { agenda.new ≡ record agenda.old { posts = agenda.new.posts } }
     ensures all { length agenda.old.posts.items ≤ MOST_KEPT_BACK → agenda.new.posts.items ≡ [] }

@@ -19,7 +19,8 @@ pub struct CoreWorker<'a, H, D> {
     pub shared: &'a SharedWords,
     pub core: u8,
     pub slots: u8,
-    /// It may run a thread of another core at that one's place, if the thread was handed a lock.
+    /// True if the worker may run a thread of another core, at the thread's place there, after the thread was handed a
+    /// lock.
     pub helps: bool,
     pub agenda: Agenda,
     /// The number of slices that this worker has begun.
@@ -83,7 +84,7 @@ impl<'a, H: Wait + Clock, D: Desk> CoreWorker<'a, H, D> {
 
     /// Applies the orders that are due, and waits.
     ///
-    /// `idle` is the number of consecutive rounds before the last one that found nothing.
+    /// `idle` is the number of consecutive rounds that found nothing, without the last one.
     pub fn rest_for(&mut self, idle: u32)
         ensures desk { self.new.desk ≡ self.old.desk }
         ensures same { (self.new.agenda ≡ self.old.agenda) × (self.new.slices ≡ self.old.slices) }
@@ -99,8 +100,8 @@ impl<'a, H: Wait + Clock, D: Desk> CoreWorker<'a, H, D> {
         }
     }
 
-    /// Gives a turn to each thread that is known to be possibly ready, then takes a ticket. Returns whether there was
-    /// either.
+    /// Gives a turn to each thread that may be ready by what the worker knows, then takes a ticket (the entry of a
+    /// child that waits for a place). Returns whether a thread was ready or a ticket was there.
     fn scan(&mut self) -> Result<bool, Halt>
         ensures desk { self.new.desk ≡ self.old.desk }
         ensures ended { IsOk result → self.new.agenda.scan ≡ 0 }
@@ -117,7 +118,7 @@ impl<'a, H: Wait + Clock, D: Desk> CoreWorker<'a, H, D> {
     }
 
     /// Gives a turn to each thread on the core. If none is ready, prepares to wait, and parks if the core is closed and
-    /// empty. Returns whether there was one, or the worker was parked.
+    /// empty. Returns whether a thread was ready, or the worker was parked.
     fn scan_all(&mut self) -> Result<bool, Halt>
         ensures desk { self.new.desk ≡ self.old.desk }
         ensures ended { IsOk result → self.new.agenda.scan ≡ 0 }
@@ -139,7 +140,7 @@ impl<'a, H: Wait + Clock, D: Desk> CoreWorker<'a, H, D> {
         Ok(true)
     }
 
-    /// Gives a turn to each ready thread of the scan, in ascending order. Returns whether there was one.
+    /// Gives a turn to each ready thread of the scan, in ascending order. Returns whether any thread was ready.
     fn run_each(&mut self) -> Result<bool, Halt>
         ensures desk { self.new.desk ≡ self.old.desk }
         ensures ended { IsOk result → self.new.agenda.scan ≡ 0 }
@@ -153,8 +154,8 @@ impl<'a, H: Wait + Clock, D: Desk> CoreWorker<'a, H, D> {
         Ok(found)
     }
 
-    /// Gives a turn to the thread at an index, if it is ready. Before the scan goes on, it also gives one to each
-    /// thread that `next` returns then. Returns whether one was ready.
+    /// Gives a turn to the thread at an index, if it is ready. Before the scan goes on, also gives a turn to each
+    /// thread that `next` then returns. Returns whether any of these threads was ready.
     fn run_at(&mut self, index: u8) -> Result<bool, Halt>
         ensures desk { self.new.desk ≡ self.old.desk }
         ensures scan { self.new.agenda.scan ≡ self.old.agenda.scan }
@@ -190,7 +191,7 @@ impl<'a, H: Wait + Clock, D: Desk> CoreWorker<'a, H, D> {
         Ok(found)
     }
 
-    /// Takes a ticket, if the core has a place for its child. Returns whether there was one.
+    /// Takes a ticket, if the core has a place for the ticket's child. Returns whether there was a ticket.
     fn take_ticket(&mut self) -> Result<bool, Halt>
         ensures desk { self.new.desk ≡ self.old.desk }
         ensures others { (self.new.agenda.scan ≡ self.old.agenda.scan) × (self.new.agenda.next ≡ self.old.agenda.next) × (self.new.slices ≡ self.old.slices) }

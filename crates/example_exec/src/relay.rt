@@ -17,7 +17,7 @@ use std::time::Clock;
 #[derive(Drop)]
 pub struct Relay {
     executor: Executor,
-    /// The number of kernel threads. Each is the worker of one shard.
+    /// The number of kernel threads. Each kernel thread is the worker of one shard.
     team: u8,
     /// The executor's name of each job.
     names: Vec<AtomicU64>,
@@ -53,7 +53,7 @@ fn spawn_all(
 impl Relay {
     /// Creates a relay of `jobs` jobs for each of `team` kernel threads.
     ///
-    /// Returns it with the seat of the first kernel thread. The error is a refusal of memory.
+    /// Returns the relay with the seat of the first kernel thread. The error is a refusal of memory.
     pub fn new(alloc: Global, team: u8, jobs: usize) -> Result<(Relay, ExecSeat), AllocError>
         ensures seat { IfOk result (λ made. IsFree made.0.executor made.1) }
         ensures team { IfOk result (λ made. made.0.team ≡ team) }
@@ -81,7 +81,7 @@ impl Relay {
 
     /// Closes the relay, and returns the number of jobs that are left.
     ///
-    /// Returns `None` if the seat is not whole or if memory is refused.
+    /// Returns `None` if another seat is still in use or if memory is refused.
     pub fn close(self, alloc: Global, seat: ExecSeat) -> Option<usize>
         requires { IsFree self.executor seat }
     {
@@ -119,7 +119,7 @@ impl Relay {
         }
     }
 
-    /// Ends a job and wakes the one after it, if the job before it has ended; otherwise blocks it.
+    /// Ends a job and wakes the next one, if the previous job has ended; otherwise blocks the job.
     fn run<R: Wait>(&self, rt: &R, seat: &mut ExecSeat, job: HeldJob)
         requires own { HasOne self.now.executor job seat.old }
         requires place { job.place < 4096 * self.now.executor.shards }

@@ -39,7 +39,7 @@ fn enter<R: Wait + Clock>(rt: &R, lock: &SleepLock, seat: &mut LockSeat, who: Wh
     unreachable!()
 }
 
-/// Frees the lock. Returns `None` if the thread didn't hold it.
+/// Frees the lock. Returns `None` if the thread didn't hold the lock.
 fn leave<R: Wait>(rt: &R, lock: &SleepLock, seat: &mut LockSeat, who: Who) -> Option<()>
     requires { IsSeatOf lock.now seat.old }
     ensures { IsSeatOf lock.now seat.new }
@@ -74,7 +74,7 @@ fn take_turns<R: Wait + Clock>(
 
 /// Closes a lock that nobody uses any more, and returns its history.
 ///
-/// Returns `None` if the seat is not whole.
+/// Returns `None` if another seat of the lock is still in use.
 fn history(lock: SleepLock, seat: LockSeat) -> Option<History>
     requires { IsSeatOf lock seat }
     ensures { IfSome result (λ history. HasOneHolderAtATime history.items) }

@@ -1,4 +1,4 @@
-//! Two kernel threads meet at a context table: one posts numbers on core 0, the other takes them there and sums them.
+//! Two kernel threads meet at a context table: one puts numbers on core 0, the other takes them there and sums them.
 
 ghost use Rattle.std.specs.Prelude.{◌≡◌, ◌<◌, IfSome};
 
@@ -15,7 +15,7 @@ const PLACES: u8 = 8;
 
 const NUMBERS: u64 = 1000;
 
-/// A value for the table. Any type can be one that has a tag which doesn't change while the table has the value.
+/// A value for the table. Any type will do that has a tag which doesn't change while the table has the value.
 #[derive(Drop)]
 struct Parcel(u64);
 
@@ -27,7 +27,7 @@ impl Tagged for Parcel {
     }
 }
 
-/// Posts all numbers, each as soon as there is a place for it.
+/// Puts all numbers into the table, each as soon as there is a place for it.
 ///
 /// Returns the seat, or `None` if memory is refused.
 fn post<C: Contexts<Parcel>, R: Wait + Clock>(rt: &R, table: &C, seat: C::Seat) -> Option<C::Seat>

@@ -1,4 +1,4 @@
-//! The kernel threads of a pool, one for each core, which work until all its jobs have ended. To copy as it is.
+//! The kernel threads of a pool, one for each core, which work until all its jobs have ended. Copy this file as it is.
 ghost use Rattle.std.specs.Prelude.{◌≡◌, ◌<◌, IfSome};
 ghost use Rattle.arachne_pool.specs.Workers.{IsWorkerOf};
 
@@ -8,7 +8,7 @@ use arachne_team::{Team, TeamFault};
 use std::sync::Wait;
 use std::time::Clock;
 
-/// The kernel threads of this pool, one for each core. Each has a worker.
+/// The kernel threads of this pool, one for each core. Each kernel thread has a worker.
 #[derive(Drop)]
 pub struct Crew<'p, C: Seats> {
     pub pool: &'p Pool<C>,

@@ -1,5 +1,5 @@
-//! A pool counts the grains of a heap by two kernel threads: each heap counts one, and forks heaps of halves of the
-//! rest.
+//! Counts the grains of a heap in a pool, with two kernel threads: the job of a heap counts one grain, and forks jobs
+//! for halves of the remaining grains.
 #![tactic(auto)]
 
 mod crew;
@@ -20,7 +20,7 @@ use std::time::Clock;
 /// The pool's table.
 type Table = WordContexts<Spawned<Heap>>;
 
-/// A heap: how many grains it has, how many are with no child yet, and how many are counted.
+/// A heap: the number of its grains, how many of them were given to no child yet, and how many are counted.
 #[derive(Drop)]
 struct Heap {
     size: u64,
@@ -85,7 +85,7 @@ fn begin<C: Contexts<Spawned<Heap>> + Drop, R: Wait>(
     Some((pool, worker, handle))
 }
 
-/// Ends the pool, and returns the number of grains that were counted, and that of the heaps that are left.
+/// Ends the pool, and returns the number of grains that were counted, and the number of heaps that are left.
 ///
 /// Returns `None` if the pool can't be closed or the heap has no result.
 fn end<C: Contexts<Spawned<Heap>> + Drop, R: Wait>(
@@ -105,7 +105,8 @@ fn end<C: Contexts<Spawned<Heap>> + Drop, R: Wait>(
 
 /// Counts a heap by two kernel threads.
 ///
-/// Only this function names the table's type: `proofs/run` shows that what a kernel thread takes along may cross.
+/// Only this function names the table's type: `proofs/run` shows that what a kernel thread takes along may be sent to
+/// it.
 fn run<R: Threads + Wait + Clock + Sync>(rt: &R, alloc: Global) -> Option<(u64, usize)>
     ensures { IfSome result (λ counted. counted.0 ≡ 10000) }
 {

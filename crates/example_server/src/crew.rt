@@ -16,8 +16,8 @@ use std::alloc::Global;
 use std::sync::Wait;
 use std::time::Clock;
 
-/// The kernel threads of the server. The first one is the sender, and the last one the timer's; between them there is
-/// one for each of the server's cores.
+/// The kernel threads of the server. The first thread is the sender's, the last is the timer's, and between them there
+/// is one for each of the server's cores.
 #[derive(Drop)]
 pub struct Crew<'s, C: Seats> {
     pub alloc: Global,
@@ -27,15 +27,15 @@ pub struct Crew<'s, C: Seats> {
     pub requests: &'s [Due],
 }
 
-/// The books of the sender.
+/// The records of the sender: the keeper of the cores, and the report.
 #[derive(Drop)]
 pub struct Books {
     pub keeper: Keeper,
     pub report: Report,
 }
 
-/// The share of a kernel thread: its worker, and the sender's books, before it begins and once all requests are
-/// answered.
+/// A kernel thread's share: its worker and, before the thread begins and once all requests are answered, the sender's
+/// records.
 #[derive(Drop)]
 pub struct Share<S> {
     pub worker: Worker<S, Request>,

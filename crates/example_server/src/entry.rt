@@ -12,26 +12,27 @@ pub const SLOW: u64 = 2_000_000;
 /// The entry that a request shares with the timer while it waits.
 #[derive(Drop)]
 pub struct Entry {
-    /// 1 while a request has it.
+    /// 1 while a request has the entry.
     is_taken: AtomicU64,
-    /// 1 once its slow part has begun.
+    /// 1 once the slow part of the request has begun.
     is_begun: AtomicU64,
     /// The time at which the answer comes, or 0 if none is awaited.
     until: AtomicU64,
-    /// The id of the job that sleeps until then.
+    /// The id of the job that sleeps until the answer comes.
     context: AtomicU64,
     generation: AtomicU64,
     /// 1 once the answer has come.
     answer: AtomicU64,
 }
 
-/// A request waits from now on. Only [`Entry::begin`] gives one. It can't be dropped, so that the request is counted.
+/// Evidence that a request waits from now on. Only [`Entry::begin`] returns it. The evidence can't be dropped, so that
+/// the request must be counted.
 pub struct Begun {
     since: (),
 }
 
 impl Begun {
-    /// Uses it up: the request is counted.
+    /// Uses the evidence up: the request is counted.
     pub fn counted(self) {
         let Begun { since: () } = self;
     }
@@ -105,7 +106,7 @@ fn end_of(now: u64) -> u64
     now.saturating_add(SLOW)
 }
 
-/// Returns the nanoseconds that are left until then, or `None` if `until` is 0, as nothing is awaited.
+/// Returns the nanoseconds from `now` to `until`, or `None` if `until` is 0, as nothing is awaited.
 fn left_of(until: u64, now: u64) -> Option<u64>
     ensures none { until ≡ 0 → result ≡ None }
     ensures left { 0 < until → result ≡ Some (until - now) }

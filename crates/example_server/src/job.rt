@@ -10,15 +10,15 @@ use arachne_table::Tagged;
 use std::rt::Clock;
 use std::sync::Arc;
 
-/// A request that was sent. It has a clock, by which it notes its begin and end.
+/// A request that was sent. The request has a clock, by which it notes when it begins and ends.
 #[derive(Drop)]
 pub struct Request {
     pub clock: HostRuntime,
-    /// Its place in the list.
+    /// The request's place in the list.
     pub number: u64,
     pub work: u32,
     pub class: Class,
-    /// Its call of the slow part, until that is answered.
+    /// The request's call of the slow part, until that is answered.
     call: Option<Call>,
 }
 
@@ -26,7 +26,7 @@ pub struct Request {
 #[derive(Drop)]
 pub struct Answer {
     pub value: u64,
-    /// The times at which its work began and was done, in nanoseconds of the clock.
+    /// The times at which the request's work began and was done, in nanoseconds of the clock.
     pub began: u64,
     pub ended: u64,
 }
@@ -51,7 +51,7 @@ impl Request {
         })
     }
 
-    /// Returns whether it waits for the slow part. If it no longer does, its entry is given back.
+    /// Returns whether the request waits for the slow part. If the request no longer waits, its entry is given back.
     pub fn waits(&mut self) -> bool
         ensures { self.new ≡ record self.old { call = self.new.call } }
     {
@@ -63,7 +63,7 @@ impl Request {
         false
     }
 
-    /// Gives its entry back, if it has one.
+    /// Gives the request's entry back, if it has one.
     pub fn give_up(&mut self)
         ensures { self.new ≡ record self.old { call = self.new.call } }
     {
@@ -84,7 +84,7 @@ pub fn now<R: Clock>(clock: &R) -> u64 {
     }
 }
 
-/// Returns the number that this many rounds make of `number`.
+/// Returns the number that `rounds` rounds of mixing make of `number`.
 fn mix(rounds: u32, number: u64) -> u64
     ensures { result ≡ mixed rounds number }
 {

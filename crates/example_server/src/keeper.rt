@@ -5,16 +5,17 @@ ghost use Rattle.arachne_policy.specs.Orders.{AreInOrder};
 use arachne_policy::{Advice, CoreOrder, Estimator, OrderKind, Sample, check_orders};
 use std::alloc::{AllocError, Global};
 
-/// The load over which a core is asked for, in thousandths of a request a scan.
+/// A core is asked for if more requests than this are ready per core, on average over the looks, in thousandths.
 const UP: u64 = 1500;
 
-/// The hysteresis of the policy, in thousandths of a core.
+/// A core is given back once the use of cores is this much below the use at which it was asked for, in thousandths of a
+/// core.
 const HYSTERESIS: u64 = 90;
 
-/// The sample of an interval, and the advice that it gave.
+/// The sample of an interval, and the advice that the sample gave.
 #[derive(Clone, Copy)]
 pub struct Judged {
-    /// The end of the interval, in nanoseconds from the begin.
+    /// The end of the interval, in nanoseconds since the server began.
     pub at: u64,
     pub sample: Sample,
     pub advice: Advice,
@@ -37,13 +38,13 @@ pub struct Keeper {
 }
 
 impl Keeper {
-    /// The most cores that it may have.
+    /// The most cores that the server may have.
     pub const MOST: u8 = 4;
 
     /// The number of places of a core.
     pub const PLACES: u8 = 56;
 
-    /// Returns a keeper that has all of at most `most` cores. If the interval is 0 it keeps them all.
+    /// Returns a keeper that has `most` cores and may have no more. If `interval` is 0, the keeper keeps all cores.
     pub fn new(alloc: Global, most: u8, interval: u64) -> Keeper
         requires some { 1 ≤ most }
         requires few { most ≤ 4 }
@@ -61,7 +62,7 @@ impl Keeper {
         }
     }
 
-    /// Counts a look at all cores that it has, at which this many requests were there.
+    /// Counts a look at all cores of the server, at which `requests` requests were there.
     pub fn scan(&mut self, requests: u64)
         ensures { self.new.most ≡ self.old.most }
     {

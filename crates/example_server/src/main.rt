@@ -34,7 +34,7 @@ const PATIENCE: u64 = 10_000_000;
 /// The numbers among the arguments.
 #[derive(Clone, Copy)]
 struct Numbers {
-    /// The most cores that it may have.
+    /// The most cores that the server may have.
     cores: Option<u64>,
     /// The microseconds between two looks at the load.
     interval: Option<u64>,
@@ -65,7 +65,8 @@ fn list(rt: &HostRuntime) -> Result<Vec<Due>> {
     }
 }
 
-/// Answers or refuses all requests of a list, as the numbers ask for it. Returns the books, or why there are none.
+/// Answers or refuses all requests of a list, with the settings in `numbers`. Returns the sender's records, or the
+/// reason why there are none.
 fn answer<R: Threads + Wait + Clock + Sync>(
     rt: &R,
     host: HostRuntime,

@@ -32,8 +32,8 @@ fn served(rt: &impl Print, report: &Report, requests: usize) -> io::Result<()> {
     )
 }
 
-/// Prints how many requests waited for the slow part, if there are slow ones, whether others were answered meanwhile,
-/// and what is left of it.
+/// Prints how many requests waited for the slow part, if any is slow, whether others were answered meanwhile, and what
+/// is left of the slow part.
 fn slow(rt: &impl Print, report: &Report) -> io::Result<()> {
     let slow = report.count(Class::Slow);
     if slow == 0 {

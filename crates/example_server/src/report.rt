@@ -7,18 +7,18 @@ use crate::requests::{Class, Due};
 use crate::timer::Left;
 use std::alloc::{AllocError, Global};
 
-/// A request that was answered. The answer is that of its own work.
+/// A request that was answered. The answer is the result of the request's own work.
 #[derive(Clone, Copy)]
 pub struct Answered {
     pub number: u64,
     pub work: u32,
     pub class: Class,
     pub value: u64,
-    /// The nanoseconds from when it was sent until its work began.
+    /// The nanoseconds from when the request was sent until its work began.
     pub waited: u64,
-    /// The time at which its work was done, in nanoseconds from the begin.
+    /// The time at which the request's work was done, in nanoseconds since the server began.
     pub ended: u64,
-    /// The nanoseconds from when it was due until its work was done.
+    /// The nanoseconds from when the request was due until its work was done.
     pub nanos: u64,
     ghost right: { value ≡ mixed work number },
 }
@@ -26,7 +26,7 @@ pub struct Answered {
 impl Answered {
     ghost use Rattle.example_server.specs.Counts.{has_waited};
 
-    /// Returns whether it has waited for the slow part, as long as that takes.
+    /// Returns whether the request has waited for the slow part, as long as that takes.
     fn has_waited(&self) -> bool
         ensures { result ≡ has_waited self.now }
     {
@@ -43,11 +43,11 @@ pub struct Report {
     pub refused: usize,
     /// The nanoseconds after which each request was sent once it was due.
     pub late: Vec<u64>,
-    /// The nanoseconds that the work of those that were answered took.
+    /// The nanoseconds that the work of the answered requests took.
     pub busy: u64,
     /// The nanoseconds from the begin to the last answer.
     pub nanos: u64,
-    /// The rest of the slow part.
+    /// The state of the slow part at the end.
     pub left: Left,
 }
 
@@ -129,7 +129,7 @@ impl Report {
     }
 }
 
-/// Returns the least of sorted times that this many of a thousand do not exceed.
+/// Returns the quantile of the sorted times for this number of thousandths: 500 gives the median.
 pub fn quantile(sorted: &[u64], thousandths: usize) -> u64 {
     let at = sorted.len().saturating_mul(thousandths) / 1000;
     match sorted.get(at.min(sorted.len().saturating_sub(1))) {

@@ -5,19 +5,19 @@ use std::alloc::{AllocError, Global};
 #[derive(Clone, Copy, Debug, PartialEq, Eq)]
 pub enum Class {
     Normal,
-    /// It wants a core for itself.
+    /// The request wants a core for itself.
     Exclusive,
-    /// It waits for the slow part first.
+    /// The request waits for the slow part first.
     Slow,
 }
 
 /// A request of the list.
 #[derive(Clone, Copy)]
 pub struct Due {
-    /// The time at which it is due, in nanoseconds from the begin.
+    /// The time at which the request is due, in nanoseconds since the server began.
     pub at: u64,
     pub class: Class,
-    /// The number of rounds of its work.
+    /// The number of rounds of the request's work.
     pub work: u32,
 }
 

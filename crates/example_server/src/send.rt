@@ -1,4 +1,4 @@
-//! The kernel thread that sends the requests, takes the answers, and has the cores kept.
+//! The kernel thread that sends the requests, takes the answers, and has a keeper add and remove cores.
 ghost use Rattle.std.specs.Prelude.{◌≡◌, ◌+◌, ◌<◌, IfOk, IfSome, IsSome, OnSome, if◌then◌else◌, length, vec_len};
 ghost use Rattle.std.specs.VecDeque.{deque_len};
 ghost use Rattle.arachne_pool.specs.Workers.{IsWorkerOf};
@@ -25,15 +25,16 @@ const BETWEEN_LOOKS: u64 = 20_000;
 struct Sent {
     number: u64,
     due: Due,
-    /// The time at which it was sent, in nanoseconds from the begin.
+    /// The time at which the request was sent, in nanoseconds since the server began.
     at: u64,
     handle: Handle<Request>,
     ghost number_right: { handle.number ≡ number },
     ghost work_right: { handle.work ≡ due.work },
 }
 
-/// Sends each request once its time has come and a place is free, and takes the answers. One that is later than the
-/// patience before there is a place is refused. Then the server is over. Returns `None` if memory is refused.
+/// Sends each request once its time has come and a place is free, and takes the answers. A request for which there is
+/// no place until it is later than `patience` is refused. After the last one the server is over. Returns `None` if
+/// memory is refused.
 pub fn send<R: Wait + Clock, C: Contexts<Spawned<Request>>>(
     rt: &R,
     alloc: Global,
@@ -74,7 +75,8 @@ pub fn send<R: Wait + Clock, C: Contexts<Spawned<Request>>>(
     }
 }
 
-/// Does the same until all are answered or refused. Returns `None` if memory is refused, or the server is over before.
+/// Sends the requests and takes the answers until all are answered or refused. Returns `None` if memory is refused, or
+/// the server is over before.
 fn send_all<R: Wait + Clock, C: Contexts<Spawned<Request>>>(
     rt: &R,
     server: &Server<C>,
@@ -126,8 +128,9 @@ fn due_by(requests: &[Due], next: usize, at: u64) -> Option<Due>
     if due.at <= at { Some(due) } else { None }
 }
 
-/// Returns whether a request that was due is settled: it was spawned, or is refused, since too many wait for the slow
-/// part, or no core has a place and it is later than the patience. Returns `None` if memory is refused.
+/// Returns whether a request that was due is settled: it was spawned or refused. The request is refused if too many
+/// wait for the slow part, or if no core has a place and the request is later than `patience`. Returns `None` if memory
+/// is refused.
 fn settles(
     spawned: Option<Result<Handle<Request>, Refused<Request>>>,
     number: u64,
@@ -173,7 +176,7 @@ fn settles(
 }
 
 /// Has orders applied, looks at the load, and orders a core or gives one back, if that is due. Returns the time at
-/// which it is due again, or `None` if memory is refused, or the server is over before.
+/// which the next call is due, or `None` if memory is refused, or the server is over before.
 fn keep_cores<R: Wait + Clock, C: Contexts<Spawned<Request>>>(
     rt: &R,
     server: &Server<C>,
@@ -204,7 +207,8 @@ fn keep_cores<R: Wait + Clock, C: Contexts<Spawned<Request>>>(
     Some(at.saturating_add(BETWEEN_LOOKS))
 }
 
-/// Takes the answer to the request that was sent first, if it has come, and adds up its work. Returns whether it had.
+/// Takes the answer to the request that was sent first, if it has come, and adds up its work. Returns whether the
+/// answer had come.
 fn take_answer(sent: &mut VecDeque<Sent>, begin: u64, report: &mut Report) -> Option<bool>
     ensures all { OnSome result (vec_len report.new.answers + deque_len sent.new ≡ vec_len report.old.answers + deque_len sent.old) }
     ensures refused { report.new.refused ≡ report.old.refused }

@@ -1,4 +1,4 @@
-//! The server that its kernel threads share, and the part of a core's.
+//! The server that its kernel threads share, and the work of a core's kernel thread.
 ghost use Rattle.std.specs.Prelude.{◌≡◌, ◌-◌, ◌<◌, IfSome};
 ghost use Rattle.arachne_pool.specs.Workers.{IsWorkerOf};
 
@@ -56,15 +56,15 @@ impl<C: Seats> Server<C> {
     }
 }
 
-/// Returns the number of those that live and don't wait.
+/// Returns `live` less `waiting`: the number of requests that live and don't wait.
 fn runnable_of(live: u64, waiting: u64) -> u64
     ensures { result ≡ live - waiting }
 {
     live.saturating_sub(waiting)
 }
 
-/// Serves as the kernel thread of a core until the server is over. It sleeps while there is nothing to do there, and
-/// while the core is given back. Returns at once if there is no such core.
+/// Serves as the kernel thread of a core until the server is over. The kernel thread sleeps while there is nothing to
+/// do there, and while the core is given back. Returns at once if there is no such core.
 pub fn serve<R: Wait + Clock, J: PoolJob, C: Contexts<Spawned<J>>>(
     rt: &R,
     server: &Server<C>,

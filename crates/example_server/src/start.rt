@@ -21,7 +21,7 @@ use std::time::Clock;
 type Table = WordContexts<Spawned<Request>>;
 
 /// Answers or refuses all requests of a list, with the cores of a keeper and one more core, on which nothing runs: the
-/// sender's. Returns the books, or why there are none.
+/// sender's. Returns the sender's records, or the reason why there are none.
 pub fn run<R: Threads + Wait + Clock + Sync>(
     rt: &R,
     alloc: Global,
@@ -73,8 +73,8 @@ fn begin<C: Contexts<Spawned<Request>> + Drop>(
     Ok((Server::new(pool, timer, clock), share))
 }
 
-/// Closes the pool of a server that is over, with the share that its kernel threads have left. Returns the books, or
-/// why there are none.
+/// Closes the pool of a server that is over, with the share that its kernel threads have left. Returns the sender's
+/// records, or the reason why there are none.
 fn end<C: Contexts<Spawned<Request>> + Drop, R: Wait>(
     rt: &R,
     alloc: Global,
@@ -90,8 +90,8 @@ fn end<C: Contexts<Spawned<Request>> + Drop, R: Wait>(
     done_of(pool.close(rt, alloc, worker).ok(), done)
 }
 
-/// Returns the books if the pool was closed with nothing left and the sender has ended, and why there are none
-/// otherwise.
+/// Returns the sender's records if the pool was closed with nothing left and the sender has ended, and otherwise the
+/// reason why there are none.
 fn done_of(left: Option<Left<Request>>, done: Option<Books>) -> Result<Books, &'static str>
     ensures { IfOk result (λ books. done ≡ Some books) }
 {

@@ -17,17 +17,17 @@ use std::time::{Clock, Duration};
 /// The nanoseconds that the timer sleeps if no request waits.
 const IDLE: u64 = 1_000_000_000;
 
-/// The next act of the timer's kernel thread.
+/// The next act of the timer's kernel thread, which wakes the requests that wait.
 enum Next {
     Wakes(ThreadId),
-    /// Nothing, for this many nanoseconds.
+    /// The thread sleeps for this number of nanoseconds.
     Rests(u64),
-    /// Nothing, until it is signalled: no request waits.
+    /// The thread sleeps until it is signalled, since no request waits.
     Idles,
 }
 
-/// The rest of the slow part once all requests are answered: nothing, if each was counted, its call was given back, and
-/// the timer was signalled.
+/// The state of the slow part once all requests are answered. All numbers are 0 if each request was counted, its call
+/// was given back, and the timer was signalled each time.
 #[derive(Clone, Copy)]
 pub struct Left {
     /// The number of requests that are counted as waiting.
@@ -95,7 +95,7 @@ impl Timer {
         self.waiting.count()
     }
 
-    /// Returns the rest of the slow part.
+    /// Returns the state of the slow part.
     pub fn left(&self) -> Left {
         let mut calls: usize = 0;
         for entry in self.entries.iter() {
@@ -119,8 +119,8 @@ impl Timer {
         self.tell();
     }
 
-    /// Signals the timer that a request waits before which none did. Each takes as long, so if others wait the timer
-    /// looks again before this one's time.
+    /// Signals the timer that a request waits while no other did. All requests wait equally long, so if others wait the
+    /// timer looks again before this one's time.
     fn tell_of_first(&self, first: First) {
         first.told();
         self.tell();
@@ -153,8 +153,8 @@ impl Timer {
         self.is_over() || self.entries.iter().any(|entry| entry.left(now) == Some(0))
     }
 
-    /// Sleeps for this long, unless it is signalled meanwhile, or was since the last call. Returns whether it was not
-    /// signalled.
+    /// Sleeps for `nanos` nanoseconds, unless the timer is signalled meanwhile, or was since the last call. Returns
+    /// true if the timer was not signalled.
     fn rest<R: Wait>(&self, rt: &R, nanos: u64) -> bool {
         if self.is_told.swap(0, Ordering::SeqCst) != 0 {
             return false;
@@ -164,8 +164,8 @@ impl Timer {
         self.is_told.load(Ordering::SeqCst) == 0
     }
 
-    /// Sleeps until it is signalled that there is something to do. It looks after a while all the same, and counts if
-    /// something is due by then that nobody has signalled.
+    /// Sleeps until the timer is signalled. After a while the timer looks all the same, and counts if something is due
+    /// by then that nobody has signalled.
     fn idle<R: Wait, K: Clock>(&self, rt: &R, clock: &K) {
         if self.rest(rt, IDLE) && self.is_due(now(clock)) {
             self.overslept.fetch_add(1, Ordering::SeqCst);
@@ -173,7 +173,7 @@ impl Timer {
     }
 }
 
-/// Returns the shorter one of the times of a sleep, if there is one, and of another.
+/// Returns the shorter of `left` and `rest`, or `left` if there is no `rest`.
 fn sooner(rest: Option<u64>, left: u64) -> u64
     ensures { MatchOption rest (result ≡ left) (λ nanos. result ≡ min nanos left) }
 {
@@ -191,7 +191,7 @@ pub struct Call {
 }
 
 impl Call {
-    /// Returns whether it was answered.
+    /// Returns whether the call was answered.
     pub fn is_answered(&self) -> bool {
         match self.timer.entries.get(self.entry) {
             Some(entry) => entry.is_answered(),
@@ -199,7 +199,7 @@ impl Call {
         }
     }
 
-    /// Begins the slow part, unless it has begun before. The job of this id sleeps until it is answered.
+    /// Begins the slow part, unless it has begun before. The job of this id sleeps until the call is answered.
     pub fn begin(&self, now: u64, id: ThreadId) {
         if let Some(entry) = self.timer.entries.get(self.entry)
             && let Some(begun) = entry.begin(now, id)
@@ -209,7 +209,7 @@ impl Call {
         }
     }
 
-    /// Gives its entry back, for another request.
+    /// Gives the call's entry back, for another request.
     pub fn end(&self) {
         if let Some(entry) = self.timer.entries.get(self.entry) {
             entry.give_back();
@@ -217,8 +217,8 @@ impl Call {
     }
 }
 
-/// Works as the timer's kernel thread, which is for no core, until the server is over. Returns `None` if its worker has
-/// no seat.
+/// Works as the timer's kernel thread, which is for no core, until the server is over. Returns `None` if the timer's
+/// worker has no seat.
 pub fn keep_time<R: Wait + Clock, C: Contexts<Spawned<Request>>>(
     rt: &R,
     server: &Server<C>,

@@ -10,12 +10,14 @@ pub struct Waiting {
     count: AtomicU64,
 }
 
-/// A request waits before which none did, so the timer may sleep. It can't be dropped, so that the timer is signalled.
+/// Evidence that a request waits while no other did, so that the timer may sleep. The evidence can't be dropped, so
+/// that the timer must be signalled.
 pub struct First {
     none_before: (),
 }
 
-/// One request fewer waits. Only [`Waiting::end_one`] gives one, and an answer uses one up. It can't be dropped.
+/// Evidence that one request fewer waits. Only [`Waiting::end_one`] returns it, and an answer uses it up. The evidence
+/// can't be dropped.
 pub struct CountedOff {
     done: (),
 }
@@ -28,13 +30,13 @@ impl Waiting {
         }
     }
 
-    /// Counts one more that waits. Returns a token if none did before.
+    /// Counts one more request that waits. Returns a token if no other did before.
     pub fn begin_one(&self, begun: Begun) -> Option<First> {
         begun.counted();
         First::after(self.count.fetch_add(1, Ordering::SeqCst))
     }
 
-    /// Counts one fewer that waits, since it is answered next.
+    /// Counts one request fewer that waits, since it is answered next.
     pub fn end_one(&self) -> CountedOff {
         self.count.fetch_sub(1, Ordering::SeqCst);
         CountedOff { done: () }
@@ -46,7 +48,7 @@ impl Waiting {
 }
 
 impl First {
-    /// Returns the token of a first one, if `waiting` ones waited before.
+    /// Returns the token that a request waits while no other did, if `waiting`, the number that waited before, is 0.
     fn after(waiting: u64) -> Option<First>
         ensures { IsSome result ↔ (waiting ≡ 0) }
     {
@@ -57,14 +59,14 @@ impl First {
         }
     }
 
-    /// Uses it up: the timer is signalled.
+    /// Uses the token up: the timer is signalled.
     pub fn told(self) {
         let First { none_before: () } = self;
     }
 }
 
 impl CountedOff {
-    /// Uses it up: the request is answered.
+    /// Uses the token up: the request is answered.
     pub fn heeded(self) {
         let CountedOff { done: () } = self;
     }

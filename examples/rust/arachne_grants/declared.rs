@@ -65,11 +65,12 @@ pub const PLACED: u32 = 15;
 /// The thread, which waited, was given the core: move the thread there, and notify it.
 pub const GRANTED: u32 = 16;
 
-/// A message of a client. Fields that it does not use are 0.
+/// A message of a client. Fields that the message does not use are 0.
 #[repr(C)]
 #[derive(Clone, Copy, Debug, PartialEq, Eq)]
 pub struct ArachneMessage {
-    /// HELLO, JOIN, WAIT or ASK; otherwise the reason that the bytes do not begin with a message.
+    /// HELLO, JOIN, WAIT or ASK if the bytes begin with such a message. If the bytes begin with no message, the
+    /// reason for that.
     pub code: u32,
     pub priority: u32,
     pub reserved: u32,
@@ -91,11 +92,11 @@ impl ArachneArbiter {
     pub const NULL: ArachneArbiter = ArachneArbiter { opaque: std::ptr::null_mut() };
 }
 
-/// The action that the caller must take on a thread. Fields that it does not use are 0.
+/// The action that the caller must take on a thread. Fields that the action does not use are 0.
 #[repr(C)]
 #[derive(Clone, Copy, Debug, PartialEq, Eq)]
 pub struct ArachneAction {
-    /// TAKEN, PLACED, GRANTED or NOTHING; REFUSED if the handle holds nothing.
+    /// TAKEN, PLACED, GRANTED or NOTHING, or REFUSED if the handle holds nothing.
     pub code: u32,
     pub core: u32,
     pub client: usize,
@@ -106,9 +107,9 @@ pub struct ArachneAction {
 #[repr(C)]
 #[derive(Clone, Copy, Debug, PartialEq, Eq)]
 pub struct ArachneShare {
-    /// The number of cores that it may have.
+    /// The number of cores that the client may have.
     pub allowed: u32,
-    /// The number of cores that its threads have.
+    /// The number of cores that the client's threads have.
     pub held: u32,
 }
 
@@ -136,8 +137,8 @@ unsafe extern "C" {
     /// Adds a client with its priority, of which 0 goes first, and the cores that it reserves and may ask for at
     /// most.
     ///
-    /// Its number is from 0 to 63, and no other client's. Returns DONE or REFUSED. The caller must check that the
-    /// client is entitled to these.
+    /// The client's number is from 0 to 63, and no other client's. Returns DONE or REFUSED. The caller must check
+    /// that the client is entitled to this priority and these cores.
     ///
     /// Threads: safe beside calls with other handles; two at once with `arbiter` are undefined behaviour.
     pub fn arachne_arbiter_hello(arbiter: *mut ArachneArbiter, client: usize, priority: u8, reserved: u32, most: u32) -> u32;
@@ -147,7 +148,8 @@ unsafe extern "C" {
     /// Threads: safe beside calls with other handles; two at once with `arbiter` are undefined behaviour.
     pub fn arachne_arbiter_ask(arbiter: *mut ArachneArbiter, client: usize, cores: u32) -> u32;
 
-    /// Removes a client, with all of its threads. Returns DONE, or REFUSED if its number is greater than 63.
+    /// Removes a client, with all of its threads. Returns DONE, or REFUSED if the client's number is greater than
+    /// 63.
     ///
     /// Threads: safe beside calls with other handles; two at once with `arbiter` are undefined behaviour.
     pub fn arachne_arbiter_leave(arbiter: *mut ArachneArbiter, client: usize) -> u32;
@@ -165,7 +167,7 @@ unsafe extern "C" {
     /// Threads: safe beside calls with other handles; two at once with `arbiter` are undefined behaviour.
     pub fn arachne_arbiter_wait(arbiter: *mut ArachneArbiter, client: usize, place: usize) -> u32;
 
-    /// Removes a thread. Returns DONE, or REFUSED if its client's number or its place is greater than 63.
+    /// Removes a thread. Returns DONE, or REFUSED if the client's number or the thread's place is greater than 63.
     ///
     /// Threads: safe beside calls with other handles; two at once with `arbiter` are undefined behaviour.
     pub fn arachne_arbiter_end(arbiter: *mut ArachneArbiter, client: usize, place: usize) -> u32;
@@ -184,7 +186,8 @@ unsafe extern "C" {
 
     /// Gives a free core to a thread that can take one, of a client that has fewer than it may have.
     ///
-    /// The higher priority goes first. Returns GRANTED if the thread waited, PLACED if it floats, or NOTHING.
+    /// A client of higher priority goes first. Returns GRANTED if the thread waited, PLACED if it floats, or
+    /// NOTHING.
     ///
     /// Threads: safe beside calls with other handles; two at once with `arbiter` are undefined behaviour.
     pub fn arachne_arbiter_give(arbiter: *mut ArachneArbiter) -> ArachneAction;

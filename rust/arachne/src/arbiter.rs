@@ -1,14 +1,17 @@
 //! The client of an arbiter, the daemon of `rust/arbiter`, which grants whole processors to processes.
 //!
 //! Worker 0 floats: it runs with a core of its own or without one. Each other worker waits for a core on a connection
-//! of its own, and gives it back by waiting again. How many cores there may be is a number on a page that the arbiter
-//! writes: each worker compares it with `active` as it looks out, and a kernel thread that reads the control connection
-//! hears of it while all sleep. Without an arbiter, or once it has gone, the policy decides as ever.
+//! of its own, and gives it back by waiting again. The number of cores that the runtime may have stands on a page that
+//! the arbiter writes. Each worker compares that number with `active` (the number of active workers) at its looks;
+//! while all workers sleep, the kernel thread that reads the control connection is notified. Without an arbiter, or
+//! once the arbiter has gone, the policy decides as ever.
 
-use crate::shared::Shared;
+use crate::shared::{Context, Shared};
 use crate::sync::atomic::{AtomicBool, AtomicPtr, AtomicU32, AtomicUsize, Ordering::*};
 use crate::sync::{thread, Arc, Condvar, Mutex, MutexGuard};
 use crate::sys;
+use crate::worker::{Ends, Turn};
+use std::fs::File;
 use std::io::{self, Read, Write};
 use std::net::Shutdown;
 use std::os::unix::io::AsRawFd;
@@ -28,7 +31,7 @@ const GRANT: u32 = 6;
 const ALLOWED: u32 = 7;
 const REFUSED: u32 = 8;
 
-/// The time until an arbiter that isn't there is looked for again, and until one that has refused is asked again.
+/// The time after which a runtime looks again for an arbiter that isn't there, or asks one again that has refused.
 const AGAIN: Duration = Duration::from_secs(1);
 const REFUSED_AGAIN: Duration = Duration::from_secs(30);
 /// How long a worker sleeps before it asks for a core again, if it got none or can't use it yet.
@@ -42,10 +45,10 @@ pub(crate) struct Wish {
     pub(crate) reserved: usize,
 }
 
-/// The state of its arbiter that a runtime's kernel threads share.
+/// The state of a runtime's arbiter, which the runtime's kernel threads share.
 #[derive(Default)]
 pub(crate) struct Client {
-    /// The page's number. Once mapped it is never unmapped.
+    /// The number on the page that the arbiter writes. Once mapped, the page is never unmapped.
     page: AtomicPtr<AtomicU32>,
     /// True if an arbiter decides how many cores there may be. Changed only under `order`.
     up: AtomicBool,
@@ -63,12 +66,14 @@ struct State {
     refused: bool,
     /// The control connection, and behind it one of each worker.
     streams: Vec<Arc<UnixStream>>,
-    /// By worker, the kernel's number of its thread; 0 until that runs.
+    /// For each worker the kernel's number of its thread, or 0 until that thread runs.
     threads: Vec<u32>,
+    /// The event that calls the worker that covers for the first while it waits for a core.
+    call: Option<File>,
     /// Processors that this process had before an arbiter moved threads.
     cpus: Vec<usize>,
-    /// True if the arbiter keeps threads on their cores by affinity. By cpusets a thread that set its affinity would be
-    /// kept on these processors also once its set has others.
+    /// True if the arbiter keeps threads on their cores by affinity. With cpusets, a thread that set its affinity would
+    /// be kept on these processors even when its set has others.
     pins: bool,
 }
 
@@ -90,16 +95,38 @@ fn receive(mut stream: &UnixStream) -> io::Result<[u32; 4]> {
 }
 
 impl Client {
-    /// Begins anew, for a runtime that has no arbiter yet.
+    /// Resets the state, for a runtime that has no arbiter yet.
     pub(crate) fn reset(&self) {
         *self.state.lock().unwrap() = State::default();
     }
 
     /// Prepares for an arbiter of a runtime of `workers` workers. Notes the processors that this kernel thread may run
-    /// on.
-    pub(crate) fn open(&self, workers: usize) {
+    /// on. Fails if a descriptor is refused.
+    pub(crate) fn open(&self, workers: usize) -> io::Result<()> {
         let mut state = self.state.lock().unwrap();
         (state.threads, state.cpus) = (vec![0; workers], sys::affinity());
+        state.call = Some(sys::new_event_file()?);
+        Ok(())
+    }
+
+    /// Waits for a message on this connection, or for a call, for at most `nanos`.
+    fn waits(&self, stream: &UnixStream, nanos: u64) -> Ends {
+        let call = self.state.lock().unwrap().call.as_ref().map_or(-1, |call| call.as_raw_fd());
+        match sys::readable([stream.as_raw_fd(), call], nanos) {
+            [true, _] => Ends::Core,
+            [_, true] => {
+                sys::lower(call);
+                Ends::Call
+            }
+            _ => Ends::Time,
+        }
+    }
+
+    /// Calls the worker that covers for the first, if it waits for a core.
+    pub(crate) fn call(&self) {
+        if let Some(call) = &self.state.lock().unwrap().call {
+            sys::raise(call.as_raw_fd());
+        }
     }
 
     /// Returns true if an arbiter says how many cores there may be.
@@ -124,7 +151,8 @@ impl Client {
         self.changed.notify_all();
     }
 
-    /// Lets the calling thread run on any processor: a thread that a worker starts begins on the worker's.
+    /// Lets the calling thread run on any processor: a thread that a worker starts begins with only the worker's
+    /// processor.
     pub(crate) fn unpin(&self) {
         let state = self.state.lock().unwrap();
         if state.pins {
@@ -132,7 +160,7 @@ impl Client {
         }
     }
 
-    /// Asks for this many cores; returns true if they are others than before.
+    /// Asks for this many cores; returns true if the number has changed.
     fn ask(&self, cores: usize) -> bool {
         if self.asked.swap(cores, SeqCst) == cores {
             return false;
@@ -172,8 +200,8 @@ impl Client {
 }
 
 impl Shared {
-    /// Asks for the number of cores that the policy wants, and gives back those beyond. Returns true if that changes
-    /// something.
+    /// Asks for the number of cores that the policy wants, and gives back those beyond. Returns true if the number of
+    /// cores asked for or held has changed.
     pub(crate) fn want(&self, cores: usize) -> bool {
         // Whoever has it changes the same.
         let _order = match self.arbiter.order.try_lock() {
@@ -189,7 +217,8 @@ impl Shared {
         asks
     }
 
-    /// Gives back the cores of the last workers, but for the first worker's, to have no more than the arbiter allows.
+    /// Gives back cores, so that the runtime has no more than the arbiter allows: those of the last workers, but never
+    /// the first worker's.
     fn obey(&self, _order: &MutexGuard<()>, allowed: usize) {
         if self.arbiter.is_up() && allowed.max(1) < self.active.0.load(SeqCst) {
             self.set_active(allowed.max(1));
@@ -209,14 +238,20 @@ impl Shared {
     }
 
     /// Gives this worker's core back, and waits until one is granted to it, or there is no arbiter any more. The caller
-    /// must check which.
+    /// must check which of the two has happened.
     #[cold]
-    pub(crate) fn wait_for_core(&self, me: usize) {
+    pub(crate) fn wait_for_core(&self, context: &Context, turn: &mut Turn) {
+        let me = context.me;
         let stream = match self.arbiter.state.lock().unwrap().streams.get(me + 1) {
             Some(stream) => stream.clone(),
             None => return,
         };
-        let heard = send(&stream, [WAIT, 0, 0, 0]).and_then(|()| receive(&stream));
+        let heard = send(&stream, [WAIT, 0, 0, 0]).and_then(|()| {
+            if me == 1 {
+                self.cover(context, turn, |rests| self.arbiter.waits(&stream, rests));
+            }
+            receive(&stream)
+        });
         if !matches!(heard, Ok([GRANT, ..])) {
             // Of a thread that the arbiter doesn't know any more it is no use to be its client.
             self.arbiter.hang_up(matches!(heard, Ok([REFUSED, ..])));
@@ -261,7 +296,8 @@ impl Shared {
         }
     }
 
-    /// Connects: for the runtime, and for each of its workers. Asks for `first` cores, or for as many as there are now.
+    /// Connects to the arbiter: once for the runtime, and once for each of its workers. Asks for `first` cores, or for
+    /// as many as there are now.
     fn meet(&self, wish: &Wish, first: Option<usize>) -> io::Result<Arc<UnixStream>> {
         let client = &self.arbiter;
         let state = client.state.lock().unwrap();

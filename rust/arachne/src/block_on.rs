@@ -124,7 +124,7 @@ impl Future for Yield {
     }
 }
 
-/// The future of `poll_fn`. It may be moved between polls.
+/// The future of `poll_fn`. The future may be moved between polls.
 ///
 /// ```
 /// use std::task::{Context, Poll};
@@ -143,7 +143,7 @@ impl<F> fmt::Debug for PollFn<F> {
     }
 }
 
-/// Returns a future that calls `poll` at each poll. It is std's function, which rustc 1.63 lacks.
+/// Returns a future that calls `poll` at each poll. This is std's function of the same name, which rustc 1.63 lacks.
 ///
 /// ```
 /// use std::task::Poll;
@@ -156,7 +156,7 @@ impl<F> fmt::Debug for PollFn<F> {
 /// assert_eq!(arachne::block_on(third), 3);
 /// ```
 ///
-/// It can wait for the first of several futures:
+/// Such a future can wait for the first of several futures:
 ///
 /// ```
 /// use std::{future::Future, pin::Pin, task::Poll, time::Duration};

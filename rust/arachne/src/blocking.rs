@@ -128,7 +128,7 @@ impl Pool {
         left.into_iter().for_each(|raw| unsafe { task::end(raw) });
     }
 
-    /// Waits until all threads have ended, for at most `time`. Returns true if they have.
+    /// Waits until all threads have ended, for at most `time`. Returns true if all have ended.
     pub(crate) fn wait_for_end(&self, time: Duration) -> bool {
         let state = self.state.lock().unwrap();
         let (state, _) = self.changed.wait_timeout_while(state, time, |state| state.threads != 0).unwrap();
@@ -148,9 +148,10 @@ impl Shared {
     }
 }
 
-/// Runs a closure that may block, on a thread of the runtime's blocking pool. Returns the handle on its result.
+/// Runs a closure that may block, on a thread of the runtime's blocking pool. Returns the handle on the closure's
+/// result.
 ///
-/// Once it has begun it can't be aborted. Within it, `block_on` waits for a future.
+/// Once the closure has begun, it can't be aborted. Within the closure, `block_on` waits for a future.
 ///
 /// ```
 /// let runtime = arachne::Runtime::new(1);
@@ -160,7 +161,7 @@ impl Shared {
 /// ```
 ///
 /// # Panics
-/// Outside of a runtime, or if the pool has no thread and none can be started.
+/// Panics outside of a runtime, or if the pool has no thread and none can be started.
 #[track_caller]
 pub fn spawn_blocking<T: Send + 'static>(work: impl FnOnce() -> T + Send + 'static) -> JoinHandle<T> {
     let about = About { spawned: Location::caller(), name: None };

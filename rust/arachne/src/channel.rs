@@ -1,4 +1,4 @@
-//! A bounded channel whose sender waits while it is full. Both ends may be cloned.
+//! A bounded channel whose sender waits while it is full. Both ends of the channel may be cloned.
 
 use crate::reactor::Slot;
 use crate::shared::here;
@@ -11,7 +11,7 @@ use std::pin::Pin;
 use std::task::{Context, Poll, Waker};
 
 struct Node {
-    /// It was taken out of the line because it is its turn.
+    /// True if the waiter was taken out of the line because its turn has come.
     called: AtomicBool,
     slot: Slot,
 }
@@ -57,7 +57,7 @@ fn wake(node: Option<Arc<Node>>) {
     }
 }
 
-/// Removes a node from a line. If its turn had come already, returns the next one, which gets the turn.
+/// Removes a node from a line. If the node's turn had come already, returns the next node, which gets the turn.
 fn leave(line: &mut VecDeque<Arc<Node>>, node: &Arc<Node>) -> Option<Arc<Node>> {
     match line.iter().position(|other| Arc::ptr_eq(other, node)) {
         Some(at) => {
@@ -103,7 +103,7 @@ impl<T> fmt::Display for SendError<T> {
 }
 impl<T> std::error::Error for SendError<T> {}
 
-/// The sending end of a `channel`. It may be cloned.
+/// The sending end of a `channel`. The sending end may be cloned.
 ///
 /// ```
 /// let (sender, receiver) = arachne::channel(2);
@@ -114,7 +114,7 @@ impl<T> std::error::Error for SendError<T> {}
 /// ```
 pub struct Sender<T>(Arc<Mutex<State<T>>>);
 
-/// The receiving end of a `channel`. It may be cloned; each value goes to one receiver.
+/// The receiving end of a `channel`. The receiving end may be cloned; each value goes to one receiver.
 ///
 /// ```
 /// let (sender, receiver) = arachne::channel(2);
@@ -125,7 +125,8 @@ pub struct Sender<T>(Arc<Mutex<State<T>>>);
 /// ```
 pub struct Receiver<T>(Arc<Mutex<State<T>>>);
 
-/// Returns the two ends of a channel with room for `room` values, at least one. With `usize::MAX` it is never full.
+/// Returns the two ends of a channel with room for `room` values, at least one. With `usize::MAX` the channel is never
+/// full.
 ///
 /// ```
 /// let (sender, receiver) = arachne::channel(16);

@@ -1,15 +1,16 @@
 //! The number of active cores: the limit that the machine sets, and the policy that follows the load.
 //!
-//! The load is the average over time of the number of tasks that were ready at a worker's looks. It is judged at each
-//! interval of the policy, and sooner after a request for a core. A worker that gives its core back waits; another one
-//! looks after its blocks and timers. The limit is read each second while there is a policy.
+//! The load is the average over time of the number of tasks that were ready at a worker's looks. The load is judged at
+//! each interval of the policy, and sooner after a request for a core. A worker that gives its core back waits; another
+//! one looks after its blocks and timers. While only the first worker has a core, the second one covers for it
+//! (`worker/sleepers.rs`). The limit is read each second while there is a policy.
 
 use crate::core::Estimator;
 use crate::shared::{Context, Shared, Worker};
 use crate::sync::atomic::Ordering::*;
 use crate::sys;
 use crate::timer::now;
-use crate::worker::Turn;
+use crate::worker::{Ends, Turn};
 use std::fs;
 use std::os::unix::fs::FileExt;
 use std::time::Duration;
@@ -61,8 +62,8 @@ impl Default for Policy {
 
 /// Returns the number of processors that this process may use.
 ///
-/// It is limited by the affinity mask, and by the control group's `cpu.max` (`cpu.cfs_quota_us` in version 1), rounded
-/// up.
+/// The number is limited by the affinity mask, and by the control group's `cpu.max` (`cpu.cfs_quota_us` in version 1),
+/// rounded up.
 ///
 /// ```
 /// let runtime = arachne::Runtime::new(arachne::available_cores());
@@ -125,7 +126,7 @@ const CALM: u64 = 50_000_000;
 pub(crate) struct Judge {
     estimator: Estimator,
     policy: Policy,
-    /// By worker, its totals at the last judgement.
+    /// The totals of each worker at the last judgement.
     last: Vec<Totals>,
     at: u64,
     looked: u64,
@@ -134,7 +135,7 @@ pub(crate) struct Judge {
     soon: u32,
     /// The time of the last request for a core.
     added: u64,
-    /// True if a load began within the last sample, which was not judged. The next one is judged in any case.
+    /// True if a load began within the last sample, which was not judged. The next sample is judged in any case.
     begins: bool,
 }
 
@@ -178,8 +179,8 @@ impl Judge {
     /// Returns true if the load began in the middle of this sample: enough tasks are ready to ask for a core, yet cores
     /// were idle for part of the time.
     ///
-    /// Such a sample is not judged. Its low use would be recorded as that at which the core was asked for, and the core
-    /// would be kept until the use is lower still.
+    /// Such a sample is not judged. The low use of such a sample would be recorded as the use at which the core was
+    /// asked for, and the core would be kept until the use is lower still.
     fn is_begin(&self, sample: Sample) -> bool {
         let wants = sample.runnable * 1000 > self.policy.load * sample.scans;
         wants && sample.busy * 10 < sample.elapsed * sample.cores * 9
@@ -269,6 +270,8 @@ fn sample(last: &[Totals], totals: &[Totals], elapsed: u64) -> Sample {
 
 impl Shared {
     /// Gives this worker's core back: lays down all jobs in its hand, and waits until the core is asked for again.
+    ///
+    /// Meanwhile the second worker covers for the first, which is the only one with a core then.
     pub(crate) fn give_back(&self, context: &Context, turn: &mut Turn) {
         self.lay_down(context, turn);
         let worker = context.worker;
@@ -277,11 +280,24 @@ impl Shared {
         // After all is laid down: the keeper, which may be about to sleep, looks at this worker's blocks and timers.
         self.ring(self.keeper(context.me));
         if self.arbiter.is_up() {
-            self.wait_for_core(context.me);
+            self.wait_for_core(context, turn);
         } else {
-            let mut given_back = gate.lock().unwrap();
-            while *given_back && !self.stop.load(SeqCst) && !self.arbiter.is_up() {
-                given_back = waits.wait(given_back).unwrap();
+            let ends = |given_back: &bool| !*given_back || self.stop.load(SeqCst) || self.arbiter.is_up();
+            if context.me == 1 {
+                self.cover(context, turn, |rests| {
+                    let held = gate.lock().unwrap();
+                    let called = || self.covers.0.load(SeqCst) != rests;
+                    let (held, _) = waits
+                        .wait_timeout_while(held, Duration::from_nanos(rests), |it| !ends(it) && !called())
+                        .unwrap();
+                    match ends(&held) {
+                        true => Ends::Core,
+                        false if called() => Ends::Call,
+                        false => Ends::Time,
+                    }
+                });
+            } else {
+                drop(waits.wait_while(gate.lock().unwrap(), |it| !ends(it)).unwrap());
             }
         }
         worker.away.store(false, SeqCst);

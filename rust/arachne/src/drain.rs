@@ -1,4 +1,4 @@
-//! An orderly end, and a limit of what is accepted.
+//! The orderly end of a runtime, and limits on what a server accepts.
 
 use crate::block_on::poll_fn;
 use crate::net::Async;
@@ -17,7 +17,7 @@ use std::pin::Pin;
 use std::task::{Context, Poll, Waker};
 use std::time::Duration;
 
-/// The wakers of all who wait for the end of a runtime to begin.
+/// The wakers of the tasks that wait until a runtime begins to end.
 #[derive(Default)]
 pub(crate) struct Draining {
     begun: AtomicBool,
@@ -71,19 +71,21 @@ pub fn is_stopping() -> bool {
 #[must_use = "it waits once it is awaited"]
 pub struct Stopping {
     shared: Option<&'static Shared>,
-    /// The key and the waker by which it waits.
+    /// The key and the waker by which the future waits.
     waits: Option<(u64, Waker)>,
     /// The number of polls, since the end began, in which the task polled this future before it had tried a socket.
     blind: u32,
 }
 
-/// The most such polls that stay pending: a task that polls in a random order tries its socket first in one of them.
+/// Once the end has begun the future stays pending for at most this many polls, so that a `select!` in random order
+/// most likely tries its socket first in one of them.
 const BLIND: u32 = 4;
 
 /// Waits until `Runtime::shutdown_within` is called, so that an idle connection can end; see `Stopping::or`.
 ///
-/// In a task that also waits for a socket it is ready only after that task has tried to read in the same poll, in
-/// whatever order it polls the two, or after a few polls. So a request that has arrived by then is still read.
+/// In a task that also waits for a socket, the future becomes ready only in a poll in which the task has tried to read,
+/// or after a few polls; the order in which the task polls the two doesn't matter. So a request that has arrived by
+/// then is still read.
 ///
 /// ```
 /// use std::time::Duration;
@@ -102,7 +104,7 @@ pub fn stopping() -> Stopping {
 impl Stopping {
     /// Waits for a future's output; returns None if the end has begun and the future is not ready.
     ///
-    /// The future is polled first. It may be used again and again, for each read of a connection.
+    /// The future is polled first. A `Stopping` may be used again and again, for each read of a connection.
     ///
     /// ```
     /// async fn serve(stream: arachne::net::TcpStream) -> std::io::Result<()> {
@@ -213,11 +215,11 @@ impl Runtime {
 
     /// Ends the runtime in order: lets its tasks finish, and drops those that have not by the deadline.
     ///
-    /// From the call on `stopping` is ready, and `accept` of a listener fails once all who had connected are accepted.
-    /// Tasks of `spawn_background` are not waited for. A poll in progress at the deadline is waited for. Blocking work
-    /// that still runs then goes on without the runtime, and the tasks that it spawns are cancelled; `aborted` doesn't
-    /// count it. `Duration::MAX` is no deadline. A task that calls this is waited for itself, until the deadline, and
-    /// counted.
+    /// From this call on, `stopping` is ready, and `accept` of a listener fails once all connections that had arrived
+    /// are accepted. Tasks of `spawn_background` are not waited for. A poll in progress at the deadline is waited for.
+    /// Blocking work that still runs at the deadline goes on without the runtime, and tasks that it then spawns are
+    /// cancelled; `aborted` doesn't count such work. `Duration::MAX` is no deadline. A task that calls this function is
+    /// itself waited for, until the deadline, and counted.
     ///
     /// ```
     /// use std::time::Duration;
@@ -270,9 +272,9 @@ impl AsRawFd for Event {
 impl Signal {
     /// Catches the signal of this number from now on; 15 is SIGTERM, 2 is SIGINT.
     ///
-    /// It stays caught once this value is dropped. If an earlier `Signal` caught it already, only the new one hears it
-    /// from then on. Fails for a number that is no signal's, or that can't be caught, such as 9; so do 4, 7, 8 and 11
-    /// (SIGILL, SIGBUS, SIGFPE, SIGSEGV), since a real fault must end the process.
+    /// The signal stays caught after this value is dropped. If an earlier `Signal` caught the same signal, only the new
+    /// one hears it from then on. Fails for a number that is no signal's, or that can't be caught, such as 9; so do 4,
+    /// 7, 8 and 11 (SIGILL, SIGBUS, SIGFPE, SIGSEGV), since a real fault must end the process.
     ///
     /// ```
     /// # fn main() -> std::io::Result<()> {
@@ -291,9 +293,9 @@ impl Signal {
 
     /// Waits until the signal comes, or returns at once if it has come since the last wait.
     ///
-    /// This is the form for tasks; `wait` blocks its thread, and in `spawn_blocking` would hold up the runtime's end.
-    /// If several tasks wait, one of them gets the signal. Like a socket it belongs to the runtime in which it first
-    /// waits; for a later runtime make a new one.
+    /// `recv` is the form for tasks; `wait` blocks its thread, and in `spawn_blocking` would hold up the runtime's end.
+    /// If several tasks wait, one of them gets the signal. Like a socket, a `Signal` belongs to the runtime in which it
+    /// first waits; for a later runtime make a new one.
     ///
     /// ```
     /// # fn main() -> std::io::Result<()> {
@@ -305,7 +307,7 @@ impl Signal {
     /// ```
     ///
     /// # Errors
-    /// If it has to wait outside of a runtime, or once its runtime has ended.
+    /// Fails if it has to wait outside of a runtime, or once the signal's runtime has ended.
     pub async fn recv(&self) -> io::Result<()> {
         let not_yet = || io::Error::from(io::ErrorKind::WouldBlock);
         let take = |event: &Event| sys::take_event(event.0).then_some(()).ok_or_else(not_yet);
@@ -320,7 +322,7 @@ impl Signal {
     }
 }
 
-/// Limits concurrent use to a maximum. Beyond it, `enter` returns None without waiting.
+/// Limits concurrent use to a maximum. Beyond the maximum, `enter` returns None without waiting.
 ///
 /// ```
 /// let limit = arachne::Limit::new(1);
@@ -332,7 +334,7 @@ impl Signal {
 #[derive(Clone, Debug)]
 pub struct Limit(Arc<(AtomicUsize, usize)>);
 
-/// A place under a limit, given back when this is dropped; see `Limit::enter`.
+/// A place under a limit, given back when the ticket is dropped; see `Limit::enter`.
 ///
 /// ```
 /// let limit = arachne::Limit::new(8);
@@ -346,7 +348,7 @@ pub struct Limit(Arc<(AtomicUsize, usize)>);
 pub struct Ticket(Limit);
 
 impl Limit {
-    /// Returns a limit of `most` concurrent uses. Its clones share the count.
+    /// Returns a limit of `most` concurrent uses. Clones of a limit share the count.
     ///
     /// ```
     /// let limit = arachne::Limit::new(1);

@@ -1,4 +1,4 @@
-//! A worker's hand: its local queues of jobs. Other workers may steal from them at any time.
+//! A worker's hand: its local queues of jobs. Other workers may steal from these queues at any time.
 
 use crate::core::Job;
 use crate::sync::atomic::{AtomicU64, Ordering::*};
@@ -8,11 +8,11 @@ pub(crate) const FIRST: usize = 8;
 /// The length of the line, a power of two.
 pub(crate) const LINE: usize = 64;
 
-/// The jobs in a worker's hand. Only that worker puts jobs there.
+/// The jobs in a worker's hand. Only the worker itself puts jobs into its hand.
 #[derive(Default)]
 pub(crate) struct Hand {
     pub(crate) next: Next,
-    /// Stolen jobs. They run before all others that are ready.
+    /// Stolen jobs. Stolen jobs run before all others that are ready.
     pub(crate) first: Jobs<FIRST>,
     /// Jobs that run after those that were ready before them.
     pub(crate) line: Jobs<LINE>,
@@ -24,12 +24,13 @@ impl Hand {
         self.next.is_empty() && self.waits() == 0
     }
 
-    /// Returns the number of jobs in hand behind the next one.
+    /// Returns the number of jobs in hand behind the one that runs next.
     pub(crate) fn waits(&self) -> usize {
         self.first.len() + self.line.len()
     }
 
-    /// Takes the first of the jobs behind the next one. If there is none and `next` is true, takes the next one.
+    /// Takes the first of the jobs behind the one that runs next. If there is none and `next` is true, takes the one
+    /// that runs next.
     pub(crate) fn take(&self, next: bool) -> Option<Job> {
         let behind = self.first.take(false).or_else(|| self.line.take(false));
         behind.or_else(|| if next { self.next.take(false) } else { None })
@@ -60,7 +61,7 @@ impl Slot {
 
 /// Takes the job of a slot by advancing `count` from `seen`. Returns the current count if another thread was quicker.
 ///
-/// If `alone`, no other thread ever takes, and a plain store suffices.
+/// If `alone` is true, no other thread ever takes a job, and a plain store suffices.
 ///
 /// The slot must be read before the count is advanced. The count only grows, and the worker writes a slot again only
 /// after it has seen the advance by which its job was taken. So a thread that advances the count has read one whole
@@ -75,9 +76,10 @@ fn take(count: &AtomicU64, seen: u64, slot: &Slot, alone: bool) -> Result<Job, u
     count.compare_exchange(seen, seen + 1, AcqRel, Acquire).map(|_| job)
 }
 
-/// The slot of the job that runs next. The hand's worker puts it there, and any thread takes it.
+/// The slot of the job that runs next. The hand's worker puts the job into the slot, and any thread takes it.
 ///
-/// It is on cache lines of its own: its worker writes there at each wake, while others read the rest of the hand.
+/// The slot is on cache lines of its own: the hand's worker writes there at each wake, while others read the rest of
+/// the hand.
 #[derive(Default)]
 #[repr(align(128))]
 pub(crate) struct Next {
@@ -92,7 +94,7 @@ impl Next {
         self.steps.load(Acquire) % 2 == 0
     }
 
-    /// Puts a job here. Returns false, and does nothing, if there is one already.
+    /// Puts a job here. Returns false, and does nothing, if a job is here already.
     #[inline]
     pub(crate) fn put(&self, job: Job) -> bool {
         let steps = self.steps.load(Acquire);
@@ -113,7 +115,7 @@ impl Next {
     }
 }
 
-/// A queue of jobs. The hand's worker puts them there, and any thread takes them.
+/// A queue of jobs. The hand's worker puts jobs into the queue, and any thread takes them.
 pub(crate) struct Jobs<const ROOM: usize> {
     taken: AtomicU64,
     put: AtomicU64,

@@ -10,14 +10,15 @@ use std::fmt;
 use std::future::Future;
 use std::panic::Location;
 
-/// One call of a handle in progress. The bits from `TURN` on count how often the door was opened or closed.
+/// Each call in progress raises the door's word by this number. The bits from `TURN` on count how often the door was
+/// opened or closed.
 const CALL: u64 = 1;
 const TURN: u64 = 1 << 32;
 
 /// Lets calls of handles in only while their runtime exists.
 ///
 /// The state that a runtime's threads share is used again by a later runtime, which old handles must not reach. So a
-/// handle keeps the count of turns at which it was made.
+/// handle keeps the count of turns (how often the door was opened or closed) at which it was made.
 #[derive(Default)]
 pub(crate) struct Door(AtomicU64);
 
@@ -34,12 +35,13 @@ impl Door {
         }
     }
 
-    /// Returns how often it was opened or closed, which tells the runtimes of one state apart.
+    /// Returns how often the door was opened or closed. So the runtimes that use one state, one after another, have
+    /// different counts.
     pub(crate) fn turns(&self) -> u64 {
         self.0.load(SeqCst) / TURN
     }
 
-    /// Makes a call, if the door is open and `turns` is its current count. The count is odd while it is open.
+    /// Makes a call, if the door is open and `turns` is its current count. The count is odd while the door is open.
     ///
     /// The call must be counted before the turns are compared: `close` changes the turns first, and then waits for the
     /// calls.
@@ -58,7 +60,7 @@ impl Door {
 
 /// A handle on a runtime, by which any thread can spawn.
 ///
-/// A task that it spawns after the runtime has ended is dropped at once, and fails with `JoinError::Cancelled`.
+/// A task that the handle spawns after the runtime has ended is dropped at once, and fails with `JoinError::Cancelled`.
 ///
 /// ```
 /// let runtime = arachne::Runtime::new(2);
@@ -92,7 +94,7 @@ impl Handle {
     /// ```
     ///
     /// # Panics
-    /// Outside of a runtime.
+    /// Panics outside of a runtime.
     #[must_use]
     #[track_caller]
     pub fn current() -> Handle {

@@ -11,7 +11,7 @@ use std::time::Duration;
 /// A tick that comes this late counts as missed.
 const LATE: Duration = Duration::from_millis(5);
 
-/// In place of a time beyond the clock's range: thirty years, in which no process waits.
+/// Used in place of a time beyond the clock's range: thirty years, for which no process waits.
 const NEVER: Duration = Duration::from_secs(30 * 365 * 86_400);
 
 /// Returns the moment a period after another one.
@@ -37,7 +37,7 @@ fn later(moment: Instant, period: Duration) -> Instant {
 /// ```
 #[derive(Clone, Copy, PartialEq, Eq, Debug, Default)]
 pub enum MissedTickBehavior {
-    /// The missed ticks come at once, one after the other.
+    /// The missed ticks come at once, one after another.
     #[default]
     Burst,
     /// The next tick comes a period after the late one.
@@ -75,7 +75,7 @@ pub struct Interval {
 /// ```
 ///
 /// # Panics
-/// If the period is zero.
+/// Panics if the period is zero.
 #[track_caller]
 pub fn interval(period: Duration) -> Interval {
     interval_at(Instant::now(), period)
@@ -93,7 +93,7 @@ pub fn interval(period: Duration) -> Interval {
 /// ```
 ///
 /// # Panics
-/// If the period is zero.
+/// Panics if the period is zero.
 #[track_caller]
 pub fn interval_at(start: Instant, period: Duration) -> Interval {
     assert!(period > Duration::ZERO, "an interval's period is more than zero");

@@ -33,7 +33,7 @@ impl Wake for Tells {
     }
 }
 
-/// A set of tasks whose outputs have one type. Dropping it aborts those that have not ended.
+/// A set of tasks whose outputs have one type. Dropping the set aborts the tasks that have not ended.
 ///
 /// ```
 /// let runtime = arachne::Runtime::new(2);
@@ -87,7 +87,7 @@ impl<T> JoinSet<T> {
         self.tasks.len()
     }
 
-    /// Returns true if there is no such task; see the example at `new`.
+    /// Returns true if the set has no task whose output has not been taken; see the example at `new`.
     #[must_use]
     pub fn is_empty(&self) -> bool {
         self.tasks.is_empty()
@@ -105,7 +105,7 @@ impl<T> JoinSet<T> {
     /// ```
     ///
     /// # Panics
-    /// Outside of a runtime.
+    /// Panics outside of a runtime.
     #[track_caller]
     pub fn spawn<F>(&mut self, future: F) -> AbortHandle
     where
@@ -175,7 +175,7 @@ impl<T> JoinSet<T> {
         }
     }
 
-    /// Aborts all tasks of the set. They stay in it until they are joined.
+    /// Aborts all tasks of the set. The tasks stay in the set until they are joined.
     ///
     /// ```
     /// arachne::Runtime::new(1).block_on(async {

@@ -31,10 +31,10 @@
 //! }
 //! ```
 //!
-//! The core is proved: no two handles have one task in hand, a waker of a task that has ended wakes no other task, and
+//! The core is proved: no two workers have one task in hand, a waker of a task that has ended wakes no other task, and
 //! a ready task that no worker has in hand is visible to the workers whenever no call is in progress. This crate
-//! decides which thread uses which handle, and is only tested. `docs/rust.md` lists the rules that it must keep for the
-//! proofs to apply to a program.
+//! decides which thread uses which seat, and is only tested. `docs/rust.md` lists the rules that the crate must keep
+//! for the proofs to apply to a program.
 //!
 //! Most names are tokio's, or std's. Outside of a runtime `spawn` and a sleep panic, and a socket that has to wait
 //! returns an error: use them in a task, or in `Runtime::block_on`. Linux, 64 bits, rustc 1.63 or later.
@@ -44,7 +44,7 @@
 //! | (none) | links the proved core: the archives in the folder above the crate, or in that of `ARACHNE_LIBS` |
 //! | `model` | the core's steps written by hand instead: needs no archive, and is **not** the proved code |
 //! | `tokio-io` | tokio's `AsyncRead` and `AsyncWrite` for `net::TcpStream` and `net::UnixStream` |
-//! | `futures-io` | those of futures-io |
+//! | `futures-io` | the traits of futures-io for the same types |
 
 #![cfg(all(target_os = "linux", target_pointer_width = "64"))]
 #![deny(missing_docs)]

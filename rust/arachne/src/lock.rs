@@ -1,4 +1,4 @@
-//! A lock for tasks and threads. The core decides who holds it, and who is next: the one that waits longest.
+//! A lock for tasks and threads. The core decides who holds the lock, and who is next: the one that waits longest.
 
 use crate::core::{Asked, Freed, LockCore};
 use crate::reactor::Slot;
@@ -12,15 +12,15 @@ use std::ops::{Deref, DerefMut};
 use std::pin::Pin;
 use std::task::{Context, Poll};
 
-/// A waiter. The core's queue has a reference count of it, as a number.
+/// A waiter. The core's queue keeps a counted reference to it, as a number.
 struct Node {
     granted: AtomicBool,
     slot: Slot,
 }
 
-/// A lock around a value, for tasks and threads. Its guard may be held across `await`.
+/// A lock around a value, for tasks and threads. The guard of a lock may be held across `await`.
 ///
-/// Waiters get it in the order in which they asked for it.
+/// Waiters get the lock in the order in which they asked for it.
 ///
 /// ```
 /// use std::sync::Arc;
@@ -189,7 +189,7 @@ impl<T: ?Sized> Drop for Locking<'_, T> {
     }
 }
 
-/// Access to the value of a lock, which is held until this is dropped.
+/// Access to the value of a lock, which is held until the guard is dropped.
 ///
 /// ```
 /// let lock = arachne::Lock::new(1);

@@ -1,15 +1,15 @@
 //! Sockets and other descriptors over the runtime's epoll.
 //!
-//! A socket belongs to the runtime in which it first waits. Once that has ended, to wait for it fails, in whatever
-//! runtime; `from_std(socket.into_std()?)` makes it anew.
+//! A socket belongs to the runtime in which it first waits. Once that runtime has ended, a wait for the socket fails in
+//! any runtime; `from_std(socket.into_std()?)` makes a new socket of it.
 //!
 //! Names are std's. `bind` and `from_std` don't wait, so they aren't `async`. Reads and writes take `&self`, so tasks
-//! may share a socket (by an `Arc`, say). Any number of them may wait for it in its methods; an event wakes all. Of
-//! several tasks that call a `poll_` function of one direction, or read by the traits of tokio or futures-io, only the
-//! last one is woken.
+//! may share a socket (by an `Arc`, say). Any number of tasks may wait for one socket in its methods; an event wakes
+//! all of them. Of several tasks that call a `poll_` function of one direction, or read by the traits of tokio or
+//! futures-io, only the last one is woken.
 //!
 //! Futures of single operations, such as `read`, `write`, `accept` and `recv_from`, lose nothing if they are dropped.
-//! `read_exact` and `write_all` may have moved a part of the bytes by then.
+//! `read_exact` and `write_all` may have moved a part of the bytes when they are dropped.
 //!
 //! ```
 //! use arachne::net::{TcpListener, TcpStream};
@@ -51,7 +51,8 @@ pub use unix::{UnixListener, UnixStream};
 #[derive(Clone)]
 struct Registered {
     shared: &'static Shared,
-    /// The count of the runtime's `Door`. A later runtime that uses the same state has another count.
+    /// The count of the runtime's `Door`: how often it was opened or closed. A later runtime that uses the same state
+    /// has another count.
     turns: u64,
     io: Arc<Io>,
     key: Key,
@@ -64,7 +65,7 @@ struct Registration {
     registering: Mutex<()>,
 }
 
-/// The part of a future that waits for a socket to read or to write, as any number may at once.
+/// The part of a future that waits until a socket can be read or written. Any number of futures may wait at once.
 struct Waiting<'a, const READS: bool> {
     of: &'a Registration,
     key: u64,
@@ -213,7 +214,8 @@ impl<S: AsRawFd> Source<S> {
         })
     }
 
-    /// Polls the operation; see `attempt`. Of several tasks that poll one direction the last one is woken.
+    /// Polls the operation; see `attempt`. Of several tasks that poll one direction (reading or writing) only the last
+    /// one is woken.
     #[inline]
     fn poll<T>(
         &self,
@@ -306,15 +308,15 @@ impl<S: AsRawFd> Source<S> {
 /// ```
 ///
 /// # Panics
-/// Outside of a runtime.
+/// Panics outside of a runtime.
 pub async fn lookup_host(host: impl ToSocketAddrs + Send + 'static) -> io::Result<Vec<SocketAddr>> {
     crate::spawn_blocking(move || host.to_socket_addrs().map(Iterator::collect)).await?
 }
 
-/// The backlog of a listener. std has 128; a client beyond it tries again after a second.
+/// The backlog of a listener. std's is 128; a client beyond the backlog tries again after a second.
 const BACKLOG: i32 = 4096;
 
-/// Polls for a connection. Fails once the end has begun and all who had connected are accepted.
+/// Polls for a connection. Fails once the runtime's end has begun and all connections that had arrived are accepted.
 fn poll_accept<S: AsRawFd, T>(
     listener: &Source<S>,
     cx: &mut Context<'_>,
@@ -341,7 +343,7 @@ fn poll_accept<S: AsRawFd, T>(
     }
 }
 
-/// Waits for a connection; also woken when the end begins.
+/// Waits for a connection; is also woken when the runtime's end begins.
 async fn accept<S: AsRawFd, T>(listener: &Source<S>, accept: impl Fn(&S) -> io::Result<T>) -> io::Result<T> {
     let (mut stopping, mut waiting) = (crate::drain::stopping(), listener.waiting());
     poll_fn(|cx: &mut Context<'_>| {
@@ -356,7 +358,7 @@ async fn accept<S: AsRawFd, T>(listener: &Source<S>, accept: impl Fn(&S) -> io::
 
 /// Any descriptor that epoll can watch: a pipe, an eventfd, a socket of a kind that has no type here.
 ///
-/// Its reads and writes are calls of `S` that return `WouldBlock` instead of waiting.
+/// Reads and writes are calls of `S` that return `WouldBlock` instead of waiting.
 ///
 /// ```
 /// use std::{io::{Read, Write}, os::unix::net::UnixStream};
@@ -374,7 +376,7 @@ pub struct Async<S: AsRawFd>(Source<S>);
 impl<S: AsRawFd> Async<S> {
     /// Takes a descriptor, and makes it non-blocking. `source` must keep the same descriptor.
     ///
-    /// If epoll can't watch it, the first read or write that has to wait fails, with `PermissionDenied`.
+    /// If epoll can't watch the descriptor, the first read or write that has to wait fails, with `PermissionDenied`.
     ///
     /// ```
     /// # fn main() -> std::io::Result<()> {
@@ -472,11 +474,11 @@ impl<S: AsRawFd + fmt::Debug> fmt::Debug for Async<S> {
     }
 }
 
-/// Conversions and the descriptor, for each type of socket. `$make` makes one of std's for the example.
+/// Conversions and the descriptor, for each type of socket. `$make` makes a socket of std's for the example.
 macro_rules! socket {
     ($name:ident, $std:ty, $make:literal) => {
         impl $name {
-            /// Takes a socket of std's, and makes it non-blocking. Its other options stay as they are.
+            /// Takes a socket of std's, and makes it non-blocking. The socket's other options stay as they are.
             ///
             /// ```
             /// # fn main() -> std::io::Result<()> {
@@ -521,7 +523,7 @@ macro_rules! socket {
     };
 }
 
-/// Reads and writes, for each type of connection. `$pair` makes two that are connected for the examples.
+/// Reads and writes, for each type of connection. `$pair` makes two connected sockets for the examples.
 macro_rules! stream {
     ($name:ident, $pair:literal) => {
         impl $name {
@@ -583,7 +585,7 @@ macro_rules! stream {
                 self.0.poll(cx, false, len, |mut socket| socket.write_vectored(bytes), |&n| n)
             }
 
-            /// Reads at most `buffer.len()` bytes, once there are some. Returns their number, 0 at the end.
+            /// Reads at most `buffer.len()` bytes, once there are some. Returns the number of bytes read, 0 at the end.
             ///
             /// ```
             /// # fn main() -> std::io::Result<()> {
@@ -622,7 +624,7 @@ macro_rules! stream {
                 Ok(())
             }
 
-            /// Writes some of the bytes, at least one, once there is room. Returns their number.
+            /// Writes some of the bytes, at least one, once there is room. Returns the number of bytes written.
             ///
             /// ```
             /// # fn main() -> std::io::Result<()> {

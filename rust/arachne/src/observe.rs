@@ -14,8 +14,8 @@ use std::time::Duration;
 
 /// Callbacks at the steps of tasks, for a tracing library, say; see `Builder::hooks`.
 ///
-/// Each is called on the thread that makes the step, and must not panic. `id` is a number that no other task of the
-/// runtime ever has.
+/// Each hook is called on the thread that makes the step, and must not panic. `id` is a number that no other task of
+/// the runtime ever has.
 ///
 /// ```
 /// use std::sync::{Arc, atomic::{AtomicUsize, Ordering::SeqCst}};
@@ -51,7 +51,8 @@ pub(crate) const HISTOGRAM: usize = 24;
 struct Record {
     spawned: AtomicPtr<Location<'static>>,
     label: AtomicPtr<Label>,
-    /// The task's name plus one (0: none), and for each of three states since when the task has been in it (0: not).
+    /// The task's name plus one, or 0 if there is no task. The other three words are one for each state: the time since
+    /// which the task is in that state, or 0 if it isn't.
     name: AtomicU64,
     waits_since: AtomicU64,
     ready_since: AtomicU64,
@@ -69,11 +70,11 @@ pub(crate) struct Observer {
 #[derive(Clone, Copy, PartialEq, Eq, Debug)]
 #[non_exhaustive]
 pub enum Doing {
-    /// It waits to be woken.
+    /// The task waits to be woken.
     Waits,
-    /// It waits for a worker.
+    /// The task waits for a worker.
     Ready,
-    /// A worker polls it.
+    /// A worker polls the task.
     Runs,
 }
 
@@ -83,11 +84,11 @@ pub enum Doing {
 pub struct TaskInfo {
     /// A number that no other task of the runtime ever has.
     pub id: u64,
-    /// Where it was spawned, and its name.
+    /// Where the task was spawned, and its name.
     pub about: About,
-    /// Its current state.
+    /// The task's current state.
     pub doing: Doing,
-    /// How long it has been in that state.
+    /// How long the task has been in that state.
     pub age: Duration,
 }
 

@@ -1,11 +1,11 @@
 //! The epoll of a runtime: the events of its sockets, and the waking of the worker that sleeps there.
 //!
-//! One worker waits there. The tasks of the events that it gets stay in its hand, its list of jobs to run next, in the
-//! order of the events. So it asks only for as many as have room there (`asks` in worker.rs): at most 8, and fewer if 8
-//! polls take more than about 100 us; the only active worker asks for more. The other events stay with the kernel for
-//! whoever looks next, so that they don't wait for a worker that loses its processor; if there may be more, a sleeping
-//! worker is woken. A worker that has ready jobs of its own looks too; the tasks that it wakes then become ready in
-//! their blocks, unless it is the only active worker.
+//! One worker at a time waits in the epoll. The tasks that these events wake go, in the events' order, to the hand of
+//! the worker that waited (its list of jobs to run next). So a worker asks only for as many events as have room in its
+//! hand (`asks` in worker.rs): at most 8, and fewer if 8 polls take more than about 100 us. A worker that is the only
+//! active one asks for more. The other events stay with the kernel for whoever looks next, so that they don't wait for
+//! a worker that loses its processor; if there may be more, a sleeping worker is woken. A worker that has ready jobs of
+//! its own looks too; the tasks that it wakes then become ready in their blocks, unless it is the only active worker.
 
 use crate::sync::atomic::{AtomicU64, AtomicUsize, Ordering::*};
 use crate::sync::{Arc, Condvar, Mutex};
@@ -21,15 +21,15 @@ pub(crate) const WRITE: u64 = 2;
 pub(crate) const READ_CLOSED: u64 = 4;
 pub(crate) const WRITE_CLOSED: u64 = 8;
 const TICK: u64 = 256;
-/// In place of a name: the waker is not that of a task of this runtime.
+/// Used in place of a name, if a waker is not that of a task of this runtime.
 const OTHER: u64 = NOBODY - 1;
 /// The key of the eventfd that ends a wait.
 const WOKEN: u64 = 0;
 /// The most events of one look.
 pub(crate) const EVENTS: usize = 64;
 
-/// A waker that is registered for one event. That of a task of this runtime is kept in one word, without a lock; others
-/// take a lock.
+/// A waker that is registered for one event. The waker of a task of this runtime is kept in one word, without a lock;
+/// other wakers take a lock.
 pub(crate) struct Slot {
     table: usize,
     name: AtomicU64,
@@ -89,12 +89,12 @@ pub(crate) struct Io {
     pub(crate) writers: Waiters,
 }
 
-/// The futures that wait for one direction of a descriptor. An event wakes all.
+/// The futures that wait for one direction of a descriptor. An event wakes all of these futures.
 pub(crate) struct Waiters {
     table: usize,
-    /// The name of one task of this runtime, which needs no lock. Its future may be gone.
+    /// The name of one task of this runtime, which needs no lock. The future of that task may be gone.
     first: AtomicU64,
-    /// The number of others, and their wakers by key.
+    /// The number of the other wakers, and these wakers by key.
     count: AtomicUsize,
     others: Mutex<(u64, Vec<(u64, Waker)>)>,
 }
@@ -104,9 +104,10 @@ impl Waiters {
         Waiters { table, first: AtomicU64::new(NOBODY), count: AtomicUsize::new(0), others: Mutex::default() }
     }
 
-    /// Registers a future's waker. `key` is 0 at first, and then the future's until `leave`.
+    /// Registers a future's waker. `key` must be 0 at first, and is the future's key from then until `leave`.
     ///
-    /// The caller must read the state after that: an event changes the state before it looks here.
+    /// The caller must read the descriptor's state after this call: an event changes the state before it looks for
+    /// wakers.
     #[inline]
     pub(crate) fn join(&self, key: &mut u64, waker: &Waker) {
         if *key == 0 {
@@ -140,7 +141,7 @@ impl Waiters {
         self.count.store(waiting.len(), SeqCst);
     }
 
-    /// Forgets a future that is dropped.
+    /// Removes the waker of a future that is dropped.
     pub(crate) fn leave(&self, key: u64) {
         let mut others = self.others.lock().unwrap();
         let left = others.1.iter().position(|(of, _)| *of == key).map(|at| others.1.swap_remove(at));
@@ -183,7 +184,7 @@ impl Io {
         }
     }
 
-    /// Clears bits, unless there was an event since `seen` was read. Returns the state after that.
+    /// Clears bits, unless there was an event since `seen` was read. Returns the state after the call.
     #[inline]
     pub(crate) fn clear(&self, seen: u64, bits: u64) -> u64 {
         match self.state.compare_exchange(seen, seen & !bits, SeqCst, SeqCst) {
@@ -226,7 +227,7 @@ struct Sources {
     free: Vec<u32>,
 }
 
-/// The events of one look at the epoll. Those beyond the number asked for stay with the kernel, in order.
+/// The events of one look at the epoll. Events beyond the number asked for stay with the kernel, in order.
 pub(crate) struct Found {
     events: [Event; EVENTS],
     count: usize,
@@ -254,7 +255,7 @@ impl Found {
 
 pub(crate) struct Reactor {
     epoll: RawFd,
-    /// The eventfd that ends a wait. It stays raised until a waiter has seen it.
+    /// The eventfd that ends a wait. The eventfd stays raised until a waiter has seen it.
     event: RawFd,
     used: AtomicUsize,
     sources: Mutex<Sources>,
@@ -351,7 +352,7 @@ impl Reactor {
         found
     }
 
-    /// Wakes the tasks that wait for these events. Returns the number of descriptors that had one.
+    /// Wakes the tasks that wait for these events. Returns the number of descriptors that had an event.
     pub(crate) fn tell(&self, found: &Found) -> usize {
         let sockets = found.events[..found.count].iter().filter(|event| event.data != WOKEN);
         sockets
@@ -363,7 +364,7 @@ impl Reactor {
     }
 }
 
-/// A worker sleeps on its bell while another waits in the epoll.
+/// The bell on which a worker sleeps while another worker waits in the epoll.
 #[derive(Default)]
 pub(crate) struct Bell {
     rung: Mutex<bool>,
@@ -377,7 +378,7 @@ impl Bell {
         self.heard.notify_one();
     }
 
-    /// Waits for at most `timeout` milliseconds (-1: for ever). Returns true if it was rung since the last wait.
+    /// Waits for at most `timeout` milliseconds (-1: for ever). Returns true if the bell was rung since the last wait.
     pub(crate) fn wait(&self, timeout: i32) -> bool {
         let rung = self.rung.lock().unwrap();
         let silent = |rung: &mut bool| !*rung;

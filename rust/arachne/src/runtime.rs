@@ -89,8 +89,8 @@ impl Builder {
 
     /// Sets the number of tasks that may be in progress at a time: 65,536 by default, at most 1,048,576.
     ///
-    /// It is rounded up to a multiple of 4,096 for each worker. Tasks beyond it wait in a queue until one ends, or are
-    /// refused by `try_spawn`.
+    /// The number is rounded up to a multiple of 4,096 for each worker. Tasks beyond the number wait in a queue until
+    /// one ends, or are refused by `try_spawn`.
     ///
     /// ```
     /// let runtime = arachne::Builder::new(1).places(4096).build().unwrap();
@@ -120,8 +120,8 @@ impl Builder {
     /// Shares the machine's processors with other processes, by the arbiter (`rust/arbiter`) that listens at `path`.
     ///
     /// The arbiter grants each worker a processor; the first worker also runs without one. The runtime asks for as many
-    /// as its policy wants, or for one per worker. `priority` is 0 (first) to 7; `reserved` cores (at most 65,535) go
-    /// to this runtime before others get more than is reserved for them.
+    /// processors as its policy wants, or for one per worker. `priority` is 0 (first) to 7; `reserved` cores (at most
+    /// 65,535) go to this runtime before others get more than is reserved for them.
     ///
     /// If there is no arbiter, or it refuses, the runtime works as without this call, and tries again each second.
     ///
@@ -214,8 +214,8 @@ impl Builder {
     /// Calls a function on each thread that polls tasks, before its first task: the workers, and the watcher of
     /// `watch_polls`.
     ///
-    /// It can set up thread-locals that tasks expect, such as tokio's: `std::mem::forget(handle.enter())` for the
-    /// handle of a runtime of tokio that runs beside this one. A panic there ends the process.
+    /// The function can set up thread-locals that tasks expect, such as tokio's: `std::mem::forget(handle.enter())` for
+    /// the handle of a runtime of tokio that runs beside this one. A panic there ends the process.
     ///
     /// ```
     /// use std::cell::Cell;
@@ -272,7 +272,7 @@ impl Builder {
         let mut runtime = Runtime { shared, threads: Vec::new(), ended: false };
         let shares = self.arbiter.is_some();
         if shares {
-            shared.arbiter.open(self.cores);
+            shared.arbiter.open(self.cores)?;
         }
         let cpus = if self.pin && !shares { sys::affinity() } else { Vec::new() };
         // The watcher is one more, behind the workers.
@@ -394,8 +394,8 @@ pub struct WorkerStats {
 
 /// A runtime: worker threads that run tasks.
 ///
-/// Dropping it ends it as `shutdown` does. If it is dropped by one of its own tasks, or by its blocking work, another
-/// thread ends it, and the drop returns at once.
+/// Dropping a runtime ends it as `shutdown` does. If a runtime is dropped by one of its own tasks, or by its blocking
+/// work, another thread ends it, and the drop returns at once.
 ///
 /// ```
 /// let runtime = arachne::Runtime::new(4);
@@ -424,13 +424,13 @@ impl Runtime {
     /// ```
     ///
     /// # Panics
-    /// If `Builder::build` returns an error.
+    /// Panics if `Builder::build` returns an error.
     #[must_use]
     pub fn new(cores: usize) -> Runtime {
         Builder::new(cores).build().expect("a runtime")
     }
 
-    /// Spawns a task, from any thread. Returns the handle on its output.
+    /// Spawns a task, from any thread. Returns the handle on the task's output.
     ///
     /// ```
     /// let runtime = arachne::Runtime::new(2);
@@ -688,7 +688,8 @@ impl Runtime {
 /// The time between two looks for tasks that blocking work has spawned since the end.
 const LOOK: Duration = Duration::from_millis(10);
 
-/// Waits for blocking work that outlives its runtime. Only then a later runtime may use the state.
+/// Waits for blocking work that outlives its runtime. A later runtime may use the ended one's state only after this
+/// wait.
 fn end_later(shared: &'static Shared) {
     while !shared.blocking.wait_for_end(LOOK) {
         end_spawned(shared);
@@ -697,7 +698,7 @@ fn end_later(shared: &'static Shared) {
     shared.give();
 }
 
-/// Ends the tasks that blocking work has spawned since the end: it may wait for them.
+/// Ends the tasks that blocking work has spawned since the end: the work may wait for them.
 fn end_spawned(shared: &'static Shared) {
     if shared.live() != 0 {
         entered(shared, || end_all(shared));
@@ -728,8 +729,8 @@ impl Drop for EndsTheProcess {
 
 /// Ends all tasks that have not ended.
 ///
-/// No worker runs any more, but other threads may be within a wake or a spawn. So it searches the tables again until as
-/// many tasks have ended as were spawned.
+/// No worker runs any more, but other threads may be within a wake or a spawn. So the call searches the tables again
+/// until as many tasks have ended as were spawned.
 fn end_all(shared: &'static Shared) {
     loop {
         end_queued(shared);

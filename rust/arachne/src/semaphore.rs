@@ -205,7 +205,7 @@ impl Semaphore {
     /// ```
     ///
     /// # Panics
-    /// If there would be more permits than a `usize` counts.
+    /// Panics if there would be more permits than a `usize` counts.
     #[track_caller]
     pub fn add_permits(&self, count: usize) {
         let mut state = self.state.lock().unwrap();
@@ -257,7 +257,7 @@ impl Semaphore {
     }
 }
 
-/// The future of `Semaphore::acquire`. If it is dropped while it waits, it leaves the line.
+/// The future of `Semaphore::acquire`. A future that is dropped while it waits leaves the line.
 ///
 /// ```
 /// let permits = arachne::Semaphore::new(1);
@@ -328,7 +328,7 @@ impl Drop for Acquire<'_> {
     }
 }
 
-/// Permits of a semaphore, given back when this is dropped.
+/// Permits of a semaphore, given back when this value is dropped.
 ///
 /// ```
 /// let permits = arachne::Semaphore::new(2);

@@ -29,7 +29,7 @@ pub use explored::{forget_runtimes, forget_thread, set_active};
 /// The most runtimes of a process at a time: each needs a table of waker functions.
 pub(crate) const TABLES: usize = 32;
 
-/// No worker's number.
+/// A number that no worker has.
 pub(crate) const NO_ONE: usize = usize::MAX;
 
 #[allow(clippy::declare_interior_mutable_const)]
@@ -37,7 +37,7 @@ const NO_TABLE: AtomicPtr<Shared> = AtomicPtr::new(ptr::null_mut());
 static ALL: [AtomicPtr<Shared>; TABLES] = [NO_TABLE; TABLES];
 /// The number of `Shared` made so far, and those that no runtime uses now.
 ///
-/// They are never freed, since a waker may be kept for ever.
+/// A `Shared` is never freed, since a waker may be kept for ever.
 static POOL: Mutex<(usize, Vec<&'static Shared>)> = Mutex::new((0, Vec::new()));
 
 /// The state that a runtime's kernel threads share.
@@ -46,31 +46,34 @@ pub(crate) struct Shared {
     pub(crate) root: Mutex<Root>,
     pub(crate) workers: Box<[Line<Worker>]>,
     pub(crate) reactor: Reactor,
-    /// The worker that waits in the epoll, and its deputy, which polls it now and then while the former runs tasks.
+    /// The worker that waits in the epoll, and its deputy, which polls the epoll now and then while that worker runs
+    /// tasks.
     pub(crate) waits: Line<AtomicUsize>,
     pub(crate) deputy: Line<AtomicUsize>,
     /// The time of the last look at the epoll by a worker that runs tasks.
     pub(crate) looked: Line<AtomicU64>,
-    /// Milliseconds between two looks at the others by the deputy, and by the worker that waits in the epoll.
+    /// Milliseconds between two looks at the other workers, by the deputy and by the worker that waits in the epoll.
     pub(crate) rests: AtomicI32,
     pub(crate) pauses: AtomicI32,
-    /// By shard, its blocks that may have a free place, as bits.
+    /// Nanoseconds between two looks of the worker that covers for the first one, if only the first has a core; else 0.
+    pub(crate) covers: Line<AtomicU64>,
+    /// For each shard, its blocks that may have a free place, as bits.
     pub(crate) roomy: Box<[Line<AtomicU64>]>,
-    /// By place, the name of the last task that waited there, so that it can be ended with the runtime.
+    /// For each place, the name of the last task that waited there, so that it can be ended with the runtime.
     pub(crate) names: Box<[AtomicU64]>,
-    /// The workers that sleep, as bits, and the number that search for work. They only decide which worker it is worth
-    /// waking.
+    /// The workers that sleep, as bits, and the number that search for work. These numbers only decide which worker it
+    /// is worth waking.
     pub(crate) sleepers: Line<AtomicU64>,
     pub(crate) searching: Line<AtomicUsize>,
     pub(crate) active: Line<AtomicUsize>,
     /// Tasks that wait for a free place, and have not begun.
     pub(crate) queue: Mutex<VecDeque<Raw>>,
     pub(crate) queued: Line<AtomicUsize>,
-    /// No queued task can get a place until a task ends.
+    /// True if no queued task can get a place until a task ends.
     pub(crate) clogged: AtomicBool,
     pub(crate) stop: AtomicBool,
     pub(crate) next_home: AtomicUsize,
-    /// The timers of threads that are no workers. They belong to the first worker.
+    /// The timers of threads that are no workers. These timers belong to the first worker.
     pub(crate) visitors: Timers,
     pub(crate) blocking: Pool,
     pub(crate) observer: Observer,
@@ -103,15 +106,17 @@ pub(crate) struct Worker {
     pub(crate) timers: Timers,
     /// True while the core is given back.
     pub(crate) given_back: (Mutex<bool>, Condvar),
-    /// The worker has laid down all jobs in its hand, and waits for its core.
+    /// True if the worker has laid down all jobs in its hand, and waits for its core.
     pub(crate) away: AtomicBool,
-    /// The worker's shards. To the core each belongs to a worker number, which is its index modulo `NUMBERS`.
+    /// The worker's shards. The core knows each shard by a worker number: the shard's index modulo `NUMBERS`.
     pub(crate) shards: Box<[usize]>,
-    /// The number of its shards, from the first on, that ever had a task. It only grows; the others are not searched.
+    /// The number of the worker's shards, from the first on, that ever had a task. This number only grows; the other
+    /// shards are not searched.
     pub(crate) used: AtomicUsize,
-    /// The block of its shards in which the next task may find room.
+    /// The block, of the worker's shards, in which the next task may find room.
     pub(crate) roomy: Line<AtomicUsize>,
-    /// The rights to park, one for each worker number of its shards. The worker that looks after these takes the lock.
+    /// The rights to park, one for each worker number of its shards. The worker that looks after these shards takes the
+    /// lock.
     pub(crate) parking: Mutex<Vec<Parking>>,
     pub(crate) polls: AtomicU64,
     pub(crate) spawned: AtomicU64,
@@ -236,7 +241,7 @@ impl Shared {
         Ok(shared)
     }
 
-    /// Makes a new `Shared`, which is never freed. Returns None if memory for its table is refused.
+    /// Makes a new `Shared`, which is never freed. Returns None if memory for the table is refused.
     fn make(table: usize, workers: usize, shards: usize, observed: bool) -> io::Result<Option<&'static Shared>> {
         let mut root = match Root::new(shards) {
             Some(root) => root,
@@ -263,6 +268,7 @@ impl Shared {
             looked: Line::default(),
             rests: AtomicI32::new(1),
             pauses: AtomicI32::new(1),
+            covers: Line::default(),
             roomy: (0..shards).map(|_| Line::default()).collect(),
             names: (0..places).map(|_| AtomicU64::new(NOBODY)).collect(),
             sleepers: Line::default(),
@@ -327,26 +333,29 @@ impl Shared {
 
     /// Returns the number of tasks for which a drain waits, those of the background left out.
     ///
-    /// It is never too low, even while tasks begin and end: `spawned` counts a background task before `background.0`
-    /// does, and `background.1` counts it before `ended` does. So the counts must be read in the reverse order.
+    /// The number is never too low, even while tasks begin and end: `spawned` counts a background task before
+    /// `background.0` does, and `background.1` counts it before `ended` does. So the counts must be read in the reverse
+    /// order.
     pub(crate) fn awaited(&self) -> u64 {
         let ended = self.ended() - self.background.1.load(SeqCst) as i64;
         let background = self.background.0.load(SeqCst) as i64;
         (self.spawned() - background - ended).max(0) as u64
     }
 
-    /// Returns true if the runtime of these turns of the door has ended, or is about to, so that nobody looks for its
-    /// events any more.
+    /// Returns true if the runtime that was made at the count `turns` of the `Door` has ended, or is about to: nobody
+    /// looks for its events any more.
     ///
-    /// Returns false in a poll of one of its own tasks, which is dropped instead.
+    /// Returns false in a poll of one of that runtime's own tasks, which is dropped instead.
     pub(crate) fn has_ended(&self, turns: u64) -> bool {
         let in_own_task = || Context::with(|worker| worker.map_or(false, |worker| ptr::eq(worker.shared, self)));
         self.door.turns() != turns || self.stop.load(SeqCst) && !in_own_task()
     }
 
-    /// Wakes those who wait for its sockets and timers in another runtime, or in blocking work, after its end.
+    /// Wakes those who wait for this runtime's sockets and timers after its end, in another runtime or in blocking
+    /// work.
     ///
-    /// From then on to wait for a socket fails, and a sleep goes on in the runtime in which it is polled.
+    /// After this call a wait for a socket of this runtime fails, and a sleep goes on in the runtime in which it is
+    /// polled.
     pub(crate) fn let_go(&self) {
         self.reactor.wake_all();
         let timers = self.workers.iter().map(|worker| &worker.0.timers);
@@ -355,7 +364,7 @@ impl Shared {
         }
     }
 
-    /// Gives this state back, for a later runtime. No thread of the ended one uses it any more.
+    /// Gives this state back, for a later runtime. No thread of the ended runtime uses the state any more.
     pub(crate) fn give(&'static self) {
         POOL.lock().unwrap().1.push(self);
     }
@@ -384,7 +393,7 @@ pub(crate) struct Context {
     pub(crate) me: usize,
     pub(crate) hands: Hands,
     pub(crate) worker: &'static Worker,
-    /// No other thread ever takes jobs out of this worker's hand.
+    /// True if no other thread ever takes jobs out of this worker's hand.
     pub(crate) alone: bool,
     /// The name of the task that runs here, and whether it woke itself.
     pub(crate) current: Cell<u64>,
@@ -394,8 +403,8 @@ pub(crate) struct Context {
     pub(crate) reads: Cell<u32>,
     pub(crate) put_off: Cell<bool>,
     pub(crate) looked: Cell<u64>,
-    /// A job that is woken runs next here. If false, the first `room` woken jobs go into this worker's line, in order,
-    /// the others become ready in their blocks, and no worker is woken to help.
+    /// True if a job that is woken runs next here. If false, the first `room` woken jobs go into this worker's line, in
+    /// order; the others become ready in their blocks, and no worker is woken to help.
     pub(crate) keeps: Cell<bool>,
     pub(crate) room: Cell<usize>,
     random: Cell<u64>,

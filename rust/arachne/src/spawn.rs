@@ -13,7 +13,7 @@ use std::task::{self as std_task, Poll};
 /// The number of tasks from other threads that go to one worker before the next one gets some.
 const IN_A_ROW: usize = 16;
 
-/// The error of `try_spawn`: no place is free. It has the future.
+/// The error of `try_spawn`: no place is free. The error has the future.
 ///
 /// ```
 /// let runtime = arachne::Builder::new(1).places(1).build().unwrap();     // rounded up to 4,096
@@ -104,7 +104,7 @@ impl Shared {
         Spawned::Full
     }
 
-    /// Puts a new task into a place, or into the queue if none is free.
+    /// Puts a new task into a place, or into the queue if no place is free.
     ///
     /// The place is this worker's, or each worker's in turn if `balanced` or if this thread is no worker.
     #[inline]
@@ -114,7 +114,7 @@ impl Shared {
         }
     }
 
-    /// Counts a new task, and puts it into a place. Returns false if none is free, or if tasks wait for one.
+    /// Counts a new task, and puts it into a place. Returns false if no place is free, or if tasks wait for a place.
     #[inline]
     fn place_new(&'static self, raw: Raw, balanced: bool) -> bool {
         Context::with(|worker| match worker {
@@ -155,7 +155,8 @@ impl Shared {
         }
     }
 
-    /// Puts a new task into a place of the first worker from `home` on that has a free one. Returns false if none has.
+    /// Puts a new task into a place of the first worker from `home` on that has a free one. Returns false if no worker
+    /// has a free place.
     fn spawn_among(&self, hands: &Hands, home: usize, raw: Raw) -> bool {
         if self.queued.0.load(Relaxed) != 0 {
             return false;
@@ -224,9 +225,9 @@ impl Shared {
     }
 }
 
-/// Spawns a task on the runtime of the calling task or `block_on`. Returns the handle on its output.
+/// Spawns a task on the runtime of the calling task or `block_on`. Returns the handle on the task's output.
 ///
-/// It runs next on this worker, or on another if the spawning task goes on for long.
+/// The task runs next on this worker, or on another if the spawning task goes on for long.
 ///
 /// ```
 /// let sum = arachne::Runtime::new(2).block_on(async {
@@ -237,7 +238,7 @@ impl Shared {
 /// ```
 ///
 /// # Panics
-/// Outside of a runtime.
+/// Panics outside of a runtime.
 #[inline]
 #[track_caller]
 pub fn spawn<F>(future: F) -> JoinHandle<F::Output>
@@ -257,7 +258,7 @@ where
 /// ```
 ///
 /// # Panics
-/// Outside of a runtime.
+/// Panics outside of a runtime.
 #[track_caller]
 pub fn spawn_named<F>(name: &str, future: F) -> JoinHandle<F::Output>
 where
@@ -280,7 +281,7 @@ where
 /// ```
 ///
 /// # Panics
-/// Outside of a runtime.
+/// Panics outside of a runtime.
 #[track_caller]
 pub fn spawn_balanced<F>(future: F) -> JoinHandle<F::Output>
 where
@@ -303,7 +304,7 @@ where
 /// ```
 ///
 /// # Panics
-/// Outside of a runtime.
+/// Panics outside of a runtime.
 #[track_caller]
 pub fn try_spawn<F>(future: F) -> Result<JoinHandle<F::Output>, Refused<F>>
 where
@@ -316,8 +317,8 @@ where
 
 /// Like `spawn`, for a task that doesn't end by itself, such as one that sweeps a store.
 ///
-/// `Runtime::shutdown_within` doesn't wait for it, and drops it once the other tasks have ended or at the deadline.
-/// Tasks that it spawns are waited for, unless they are spawned by this function too.
+/// `Runtime::shutdown_within` doesn't wait for such a task, and drops it once the other tasks have ended or at the
+/// deadline. Tasks that it spawns are waited for, unless they are spawned by this function too.
 ///
 /// ```
 /// use std::time::Duration;
@@ -335,7 +336,7 @@ where
 /// ```
 ///
 /// # Panics
-/// Outside of a runtime.
+/// Panics outside of a runtime.
 #[track_caller]
 pub fn spawn_background<F>(future: F) -> JoinHandle<F::Output>
 where

@@ -1,6 +1,6 @@
 //! The calls of Linux that the crate needs: epoll, eventfd, sockets, affinity, time slices, a shared page.
 //!
-//! They are declared by hand, as in Linux's C library on 64 bits. The functions around the calls are safe.
+//! The calls are declared by hand, as in Linux's C library on 64 bits. The functions around the calls are safe.
 
 use crate::sync::atomic::{AtomicI32, AtomicU32, Ordering::*};
 use crate::sync::{clock, told, wait as wait_in};
@@ -24,6 +24,7 @@ extern "C" {
     fn epoll_wait(epoll: i32, events: *mut Event, most: i32, timeout: i32) -> i32;
     fn eventfd(count: u32, flags: i32) -> i32;
     fn poll(descriptors: *mut Polled, count: u64, timeout: i32) -> i32;
+    fn ppoll(descriptors: *mut Polled, count: u64, timeout: *const [i64; 2], mask: *const u64) -> i32;
     fn close(fd: i32) -> i32;
     fn read(fd: i32, bytes: *mut u8, count: usize) -> isize;
     fn write(fd: i32, bytes: *const u8, count: usize) -> isize;
@@ -65,7 +66,7 @@ struct Header {
     flags: i32,
 }
 
-/// A descriptor beside a message: its length, SOL_SOCKET, SCM_RIGHTS, the descriptor.
+/// A control message that carries a descriptor: its length, SOL_SOCKET, SCM_RIGHTS, and the descriptor.
 #[derive(Default)]
 #[repr(C)]
 struct Rights {
@@ -104,6 +105,12 @@ pub(crate) fn new_epoll() -> io::Result<RawFd> {
 pub(crate) fn new_event() -> io::Result<RawFd> {
     // SAFETY: a call with numbers alone.
     checked(unsafe { eventfd(0, CLOSE_ON_EXEC | NON_BLOCKING) })
+}
+
+/// Returns a new event, which is closed as the file is dropped.
+pub(crate) fn new_event_file() -> io::Result<File> {
+    // SAFETY: the descriptor is new, and nobody else has it.
+    Ok(unsafe { File::from_raw_fd(new_event()?) })
 }
 
 pub(crate) fn close_fd(fd: RawFd) {
@@ -181,7 +188,7 @@ pub(crate) fn start_connect(to: &std::net::SocketAddr) -> io::Result<RawFd> {
     begin_connect(family, &mut bytes[..len])
 }
 
-/// Like `start_connect`, to a Unix socket's path. Fails with `WouldBlock` if its backlog is full.
+/// Like `start_connect`, to a Unix socket's path. Fails with `WouldBlock` if the listener's backlog is full.
 pub(crate) fn connect_unix(path: &Path) -> io::Result<RawFd> {
     let (path, mut bytes) = (path.as_os_str().as_bytes(), [0u8; 110]);
     // The path is ended by a zero byte.
@@ -234,7 +241,7 @@ pub(crate) fn pin(cpu: usize) -> bool {
     set_affinity(0, &[cpu])
 }
 
-/// Keeps a thread of this process on these processors; 0 is the calling one. Returns true if it succeeds.
+/// Keeps a thread of this process on these processors; 0 is the calling one. Returns true if the call succeeds.
 pub(crate) fn set_affinity(thread: u32, cpus: &[usize]) -> bool {
     let mut mask = [0u64; 16];
     cpus.iter().for_each(|cpu| mask[cpu / 64 % 16] |= 1 << (cpu % 64));
@@ -291,7 +298,7 @@ pub(crate) fn map_page(file: &File, at: *mut AtomicU32) -> io::Result<*mut Atomi
 /// The initial value; rustc 1.63 doesn't take the expression within the array.
 #[allow(clippy::declare_interior_mutable_const)]
 const NO_EVENT: AtomicI32 = AtomicI32::new(-1);
-/// The event to raise, by signal.
+/// For each signal, the eventfd to raise.
 static SIGNALLED: [AtomicI32; 65] = [NO_EVENT; 65];
 
 extern "C" fn handler(number: i32) {
@@ -303,7 +310,7 @@ extern "C" fn handler(number: i32) {
 
 /// The signals of faults: SIGILL, SIGBUS, SIGFPE and SIGSEGV.
 ///
-/// A handler that returns would begin the instruction that failed again, for ever.
+/// If a handler of such a signal returned, the instruction that failed would begin again, for ever.
 const FAULTS: [i32; 4] = [4, 7, 8, 11];
 
 /// Makes a signal raise this event, instead of its previous action or event. Fails for a signal of a fault.
@@ -321,7 +328,7 @@ pub(crate) fn raise_at(number: i32, event: RawFd) -> io::Result<()> {
     }
 }
 
-/// Clears an event that is raised. Returns false if it isn't.
+/// Clears an event that is raised. Returns false if the event isn't raised.
 pub(crate) fn take_event(event: RawFd) -> bool {
     let mut count = [0; 8];
     // SAFETY: there are eight bytes to write to.
@@ -343,6 +350,15 @@ pub(crate) fn await_event(event: RawFd) -> bool {
     }
 }
 
+/// Waits until one of these descriptors is readable or has failed, for at most `nanos`. Returns which are or have.
+pub(crate) fn readable(fds: [RawFd; 2], nanos: u64) -> [bool; 2] {
+    let mut polled = fds.map(|fd| Polled { fd, wanted: 1, found: 0 });
+    let time = [nanos as i64 / 1_000_000_000, nanos as i64 % 1_000_000_000];
+    // SAFETY: there are two descriptors and a time, which live through the call, and no mask.
+    unsafe { ppoll(polled.as_mut_ptr(), 2, &time, std::ptr::null()) };
+    polled.map(|it| it.found != 0)
+}
+
 /// The numbers of the calls `sched_setattr` and `sched_getattr`, on architectures for which they are known.
 #[cfg(target_arch = "x86_64")]
 const SCHEDULING: Option<(i64, i64)> = Some((314, 315));
@@ -351,7 +367,8 @@ const SCHEDULING: Option<(i64, i64)> = Some((274, 275));
 #[cfg(not(any(target_arch = "x86_64", target_arch = "aarch64", target_arch = "riscv64")))]
 const SCHEDULING: Option<(i64, i64)> = None;
 
-/// Requests a time slice of `nanos` for the calling thread (Linux 6.12 and later). Returns None if it isn't possible.
+/// Requests a time slice of `nanos` for the calling thread (Linux 6.12 and later). Returns None if the system doesn't
+/// grant it.
 ///
 /// A waking thread with a shorter slice gets a processor sooner. A thread of another policy than the default one is
 /// left unchanged.

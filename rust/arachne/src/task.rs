@@ -1,7 +1,7 @@
 //! A task: its future, then its output, behind one pointer.
 //!
-//! It is shared by the runtime, until the task has ended, and by its handles, until they are dropped; the last one
-//! frees it.
+//! The task is shared by the runtime, until it has ended, and by its handles, until they are dropped. Whichever of
+//! these goes last frees the task.
 
 use crate::sync::atomic::{AtomicU32, AtomicU64, Ordering::*};
 use crate::sync::Mutex;
@@ -24,11 +24,11 @@ const JOINED: u32 = 2;
 const WAITING: u32 = 4;
 /// The thread that ended the task no longer touches it.
 const SETTLED: u32 = 8;
-/// The task must end at its next turn.
+/// The task must end when a worker runs it next.
 const ABORTED: u32 = 16;
-/// There were abort handles before the task ended: the thread that ends it touches it until `SETTLED`.
+/// There were abort handles before the task ended, so the thread that ends the task touches it until `SETTLED` is set.
 const SHARED: u32 = 32;
-/// One abort handle; the bits from here on count them.
+/// One abort handle: the bits of the state from this bit on count the abort handles.
 const ONE: u32 = 64;
 /// There is a `JoinHandle` or an abort handle.
 const HELD: u32 = JOINED | !(ONE - 1);
@@ -94,7 +94,8 @@ impl JoinError {
         matches!(self, JoinError::Panicked(_))
     }
 
-    /// Returns true if the task was aborted, or if the runtime ended before it; see the example at `JoinHandle`.
+    /// Returns true if the task was aborted, or if the runtime ended before the task did; see the example at
+    /// `JoinHandle`.
     #[must_use]
     pub fn is_cancelled(&self) -> bool {
         !self.is_panic()
@@ -109,7 +110,7 @@ impl JoinError {
     /// ```
     ///
     /// # Panics
-    /// If the task didn't panic; see `try_into_panic`.
+    /// Panics if the task didn't panic; see `try_into_panic`.
     #[must_use]
     #[track_caller]
     pub fn into_panic(self) -> Box<dyn Any + Send> {
@@ -175,7 +176,7 @@ impl From<JoinError> for std::io::Error {
 }
 
 struct VTable {
-    /// Polls the future. Returns true if it has ended; then the output is stored.
+    /// Polls the future. Returns true if the future has ended; then its output is stored.
     poll: unsafe fn(*mut Header, &mut Context<'_>) -> bool,
     /// Drops the future, and stores an error as its output.
     cancel: unsafe fn(*mut Header, JoinError),
@@ -187,7 +188,7 @@ struct VTable {
 
 pub(crate) struct Header {
     state: AtomicU32,
-    /// The runtime's number. It and `name`, the task's name there, are written before the first poll.
+    /// The runtime's number. The number and `name`, the task's name in that runtime, are written before the first poll.
     table: AtomicU32,
     name: AtomicU64,
     vtable: &'static VTable,
@@ -206,9 +207,9 @@ pub(crate) struct Header {
 #[derive(Clone, Copy, PartialEq, Eq, Debug)]
 #[non_exhaustive]
 pub struct About {
-    /// Where it was spawned.
+    /// Where the task was spawned.
     pub spawned: &'static Location<'static>,
-    /// Its name, if it was given one.
+    /// The task's name, if it was given one.
     pub name: Option<&'static Label>,
 }
 
@@ -223,7 +224,7 @@ pub struct Label(String);
 static LABELS: Mutex<Vec<&'static Label>> = Mutex::new(Vec::new());
 
 impl Label {
-    /// Returns the label of this text. Makes it at the first call; see the example at `Label`.
+    /// Returns the label of this text. Makes the label at the first call; see the example at `Label`.
     pub fn of(text: &str) -> &'static Label {
         let mut labels = LABELS.lock().unwrap();
         if let Some(label) = labels.iter().find(|label| label.0 == text) {
@@ -314,8 +315,8 @@ fn at(raw: Raw) -> *mut Header {
     raw as usize as *mut Header
 }
 
-/// Polls a task, or ends it if it was aborted. Returns true if it has ended; then its handle was woken, and `raw` is
-/// consumed.
+/// Polls a task, or ends it if it was aborted. Returns true if the task has ended; then its handle was woken, and `raw`
+/// is consumed.
 ///
 /// # Safety
 /// `raw` must be from `new` and not consumed, and the caller must have the task in hand.
@@ -339,7 +340,7 @@ pub(crate) unsafe fn run(raw: Raw, table: usize, name: u64, cx: &mut Context<'_>
 /// Cancels a task that has not ended.
 ///
 /// # Safety
-/// As for `run`.
+/// `raw` must be as for `run`.
 pub(crate) unsafe fn end(raw: Raw) {
     let header = at(raw);
     ((*header).vtable.cancel)(header, JoinError::Cancelled);
@@ -349,7 +350,7 @@ pub(crate) unsafe fn end(raw: Raw) {
 /// Returns where the task was spawned, and its name.
 ///
 /// # Safety
-/// As for `run`.
+/// `raw` must be as for `run`.
 #[inline]
 pub(crate) unsafe fn about(raw: Raw) -> About {
     (*at(raw)).about
@@ -381,7 +382,7 @@ fn is_settled(state: u32) -> bool {
     state & COMPLETE != 0 && (state & (WAITING | SHARED) == 0 || state & SETTLED != 0)
 }
 
-/// Marks the task to end at its next turn, and wakes it.
+/// Marks the task to end when a worker runs it next, and wakes it.
 fn abort(header: &Header) {
     header.state.fetch_or(ABORTED, SeqCst);
     let name = header.name.load(SeqCst);
@@ -445,9 +446,9 @@ unsafe fn free<F: Future>(header: *mut Header) {
     let _ = catch_unwind(AssertUnwindSafe(|| drop(task)));
 }
 
-/// A handle on a task, and the future of its output. Dropping it leaves the task running.
+/// A handle on a task, and the future of its output. Dropping the handle leaves the task running.
 ///
-/// It must not be polled again once it was ready: that panics.
+/// A handle must not be polled again once it was ready: that panics.
 ///
 /// ```
 /// let runtime = arachne::Runtime::new(2);
@@ -494,9 +495,9 @@ impl<T> JoinHandle<T> {
         self.header().state.load(Acquire) & COMPLETE != 0
     }
 
-    /// Aborts the task: its future is dropped at its next turn, and the output is `JoinError::Aborted`.
+    /// Aborts the task: its future is dropped when a worker runs it next, and the output is `JoinError::Aborted`.
     ///
-    /// A task that has ended, or ends in the current turn, keeps its output. See the example at `JoinHandle`.
+    /// A task that has ended, or ends in the poll in progress, keeps its output. See the example at `JoinHandle`.
     pub fn abort(&self) {
         abort(self.header());
     }
@@ -521,7 +522,7 @@ impl<T> JoinHandle<T> {
 }
 
 impl<T> JoinHandle<T> {
-    /// Returns true if the task has ended. Otherwise keeps the waker, which is woken at its end.
+    /// Returns true if the task has ended. If not, keeps the waker, which is woken when the task ends.
     pub(crate) fn is_there(&mut self, waker: &Waker) -> bool {
         let header = self.header();
         let mut state = header.state.load(Acquire);

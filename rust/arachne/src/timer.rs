@@ -24,7 +24,7 @@ struct Queue {
 
 /// The timers of one worker.
 pub(crate) struct Timers {
-    /// The time at which the first is due; `u64::MAX` if there is none.
+    /// The time at which the first timer is due; `u64::MAX` if there is none.
     next: AtomicU64,
     queue: Mutex<Queue>,
 }
@@ -41,7 +41,7 @@ impl Timers {
         self.next.load(SeqCst)
     }
 
-    /// Adds a timer. Returns its key, and true if it is the first that is due.
+    /// Adds a timer. Returns the timer's key, and true if it is the first that is due.
     fn add(&self, at: u64, waker: Waker) -> (Key, bool) {
         let mut queue = self.queue.lock().unwrap();
         queue.made += 1;
@@ -68,7 +68,7 @@ impl Timers {
         }
     }
 
-    /// Removes a timer. Returns its waker, unless it has fired.
+    /// Removes a timer. Returns the timer's waker, unless the timer has fired.
     fn remove(&self, key: Key) -> Option<Waker> {
         let mut queue = self.queue.lock().unwrap();
         let waker = queue.waiting.remove(&key);
@@ -82,7 +82,7 @@ impl Timers {
         self.next.store(queue.waiting.keys().next().map_or(u64::MAX, |key| key.0), SeqCst);
     }
 
-    /// Fires the timers that are due at `now`. Returns their number.
+    /// Fires the timers that are due at `now`. Returns the number of timers that fired.
     pub(crate) fn fire(&self, now: u64) -> usize {
         let due = {
             let mut queue = self.queue.lock().unwrap();
@@ -105,7 +105,7 @@ struct Waits {
     name: u64,
 }
 
-/// The future of `sleep`. It may be moved between polls, so it needs no `pin!`.
+/// The future of `sleep`. The future may be moved between polls, so it needs no `pin!`.
 ///
 /// ```
 /// use std::time::Duration;
@@ -128,7 +128,7 @@ pub struct Sleep {
 /// ```
 ///
 /// # Panics
-/// The future panics if it has to wait outside of a runtime. `sleep` itself may be called there.
+/// The future panics if it has to wait outside of a runtime. `sleep` itself may be called anywhere.
 pub fn sleep(duration: Duration) -> Sleep {
     let nanos = duration.as_nanos().min(u64::MAX as u128 / 4) as u64;
     Sleep { at: now().saturating_add(nanos), waits: None }
@@ -144,7 +144,7 @@ pub fn sleep(duration: Duration) -> Sleep {
 /// ```
 ///
 /// # Panics
-/// As for `sleep`.
+/// Panics as `sleep` does.
 pub fn sleep_until(moment: Instant) -> Sleep {
     sleep(moment.saturating_duration_since(Instant::now()))
 }
@@ -249,7 +249,7 @@ pub struct Timeout<F> {
     sleep: Sleep,
 }
 
-/// Waits for a future's output for at most `duration`. After that it returns `Elapsed`.
+/// Waits for a future's output for at most `duration`. After that time the future returns `Elapsed`.
 ///
 /// ```
 /// use std::time::Duration;
@@ -258,7 +258,7 @@ pub struct Timeout<F> {
 /// ```
 ///
 /// # Panics
-/// As for `sleep`, unless the future is ready at once.
+/// Panics as `sleep` does, unless the future is ready at once.
 pub fn timeout<F: Future>(duration: Duration, future: F) -> Timeout<F> {
     Timeout { future, sleep: sleep(duration) }
 }

@@ -8,7 +8,7 @@ use crate::shared::{add, shared_of, with_hands, Context as Worker, TABLES};
 use std::mem::ManuallyDrop;
 use std::task::{RawWaker, RawWakerVTable, Waker};
 
-/// No task's name.
+/// A name that no task has.
 pub(crate) const NOBODY: u64 = u64::MAX;
 
 unsafe fn clone<const TABLE: usize>(data: *const ()) -> RawWaker {
@@ -29,7 +29,7 @@ macro_rules! tables {
 static VTABLES: [RawWakerVTable; TABLES] =
     tables!(0 1 2 3 4 5 6 7 8 9 10 11 12 13 14 15 16 17 18 19 20 21 22 23 24 25 26 27 28 29 30 31);
 
-/// Returns the waker of a task. It needs no drop.
+/// Returns the waker of a task. The waker needs no drop.
 #[inline]
 pub(crate) fn waker_of(table: usize, name: u64) -> ManuallyDrop<Waker> {
     // SAFETY: the functions of VTABLES take any word.

@@ -10,7 +10,7 @@ use crate::timer::now;
 use crate::waker::{waker_of, NOBODY};
 use std::time::Duration;
 
-/// The nanoseconds for which it looks after stuck workers before it searches for others.
+/// The nanoseconds for which the watcher looks after stuck workers before it searches for others.
 const TURN: u64 = 2_000_000;
 
 struct Seen {
@@ -75,7 +75,8 @@ fn tell(shared: &Shared, worker: usize, age: u64, log: bool) {
 
 /// Stands in for stuck workers: polls the epoll, fires their timers, and wakes another worker for their ready jobs.
 ///
-/// If all workers are stuck it runs these jobs itself. It returns once none of them is stuck any more, or after `TURN`.
+/// If all workers are stuck, the watcher runs these jobs itself. Returns once no worker is stuck any more, or after
+/// `TURN`.
 fn rescue(shared: &'static Shared, hands: &Hands, stuck: u64) {
     let polls: Vec<u64> = shared.workers.iter().map(|w| w.0.polls.load(Relaxed)).collect();
     let all = u64::MAX >> (64 - shared.active.0.load(Relaxed));

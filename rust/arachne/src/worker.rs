@@ -1,27 +1,30 @@
 //! A worker's loop: runs ready jobs, polls the epoll and its timers, steals from other workers, and parks.
 //!
-//! The core decides which handle has a job and whether a worker may park. This module decides where a worker looks
-//! next, and which sleeping worker to wake.
+//! The core decides which seat has a job and whether a worker may park. This module decides where a worker looks next,
+//! and which sleeping worker to wake.
 //!
 //! **Next.** A job that another makes ready or spawns runs next on the same worker, up to `NEXTS` in a row. A job that
-//! it displaces becomes ready in its block. One that yields, or would be beyond `NEXTS`, goes into the worker's line.
+//! would run next and is displaced by another becomes ready in its block. A job that yields, or would be beyond
+//! `NEXTS`, goes into the worker's line.
 //!
 //! **Order.** Then the worker sweeps its blocks with ready jobs: of each block it runs every job that was ready as the
-//! block's turn came, each of them once. At the end of a round all jobs in its line run, in order. So a job that is
-//! ready again and again makes no other wait for more than a round.
+//! block's turn came, each of them once. At the end of a round all jobs in the worker's line run, in order. So a job
+//! that is ready again and again makes no other wait for more than a round.
 //!
-//! **Looking out.** After `LOOK_OUT` polls, or by time if polls are long, a worker looks at its timers, and at the
-//! ready words and the hands of workers that make no progress, of which it takes up to two jobs each; also at the
-//! epoll, by time only if no other worker has lately. If polls are long (fewer than `FEW` fit into `LOOK_TIME`), a
-//! worker within one counts as making no progress; then more is taken only after the stolen jobs and one of its own
-//! have run, and not during its line, unless the other has been in its poll for `LONG_POLL`. At every `LONG`th such
-//! look it also fires the timers of a worker that has made no progress since the first.
+//! **Looking out.** After `LOOK_OUT` polls, or by time if polls are long, a worker looks at its timers and at the
+//! workers that make no progress. From the ready words and the hand of each such worker it takes up to two jobs. The
+//! worker also looks at the epoll, but in a look by time only if no other worker has looked there lately. If polls are
+//! long (fewer than `FEW` fit into `LOOK_TIME`), another worker counts as making no progress while it is in one poll.
+//! Then more jobs are taken only after the stolen jobs and one job of the worker's own have run, and not while the
+//! worker runs its line, unless the other worker has been in its poll for `LONG_POLL`. At every `LONG`th look at a
+//! worker that has made no progress since the first of these looks, the timers of that worker are fired too.
 //!
-//! **Helping.** All ready jobs can be taken by any free worker, those in hands too: first the one that would run first.
-//! An idle worker takes half of the ready jobs of another or, at last, half of those in its hand behind the next one; a
-//! single job only if its worker sleeps or makes no progress. Stolen jobs run before all that is ready there, and may
-//! be stolen again. A worker sleeps only if no other has two jobs or more that it could run. While one is idle, the
-//! others keep in hand only the jobs of about `LOOK_TIME`, and wake it for more.
+//! **Helping.** Any free worker can take any ready job, also from another worker's hand: first the one that would run
+//! first. An idle worker takes half of another worker's ready jobs or, at last, half of those in that worker's hand
+//! behind the next one. A single job is taken only if that worker sleeps or makes no progress. Stolen jobs run before
+//! all that is ready on the worker that stole them, and may be stolen again. A worker sleeps only if no other worker
+//! has two or more jobs that it could take over. While a worker is idle, the others keep in hand only as many jobs as
+//! run in about `LOOK_TIME`, and wake the idle one for more.
 
 use crate::core::{place_of, Hands, Job, Rested, Spawned, BLOCK, SHARD};
 use crate::cores::Judge;
@@ -35,6 +38,8 @@ use crate::waker::{waker_of, NOBODY};
 
 mod sleepers;
 
+pub(crate) use sleepers::Ends;
+
 /// The longest chain of jobs that run one after the other because each was made ready by the one before.
 const NEXTS: u32 = 128;
 
@@ -43,8 +48,8 @@ const NEXTS: u32 = 128;
 /// `LOOK_TIME`.
 const LOOK_OUT: u32 = 64;
 pub(crate) const LOOK_TIME: u64 = 100_000;
-/// The same for the only active worker: nobody else could run the jobs that a look finds. A look that is due by time
-/// polls the epoll only after `LONELY_LOOK`, since the jobs found there run behind those in hand.
+/// The time between two looks of the only active worker: nobody else could run the jobs that a look finds. A look that
+/// is due by time polls the epoll only after `LONELY_LOOK`, since the jobs found there run behind those in hand.
 const LONELY_TIME: u64 = 500_000;
 const LONELY_LOOK: u64 = 2_000_000;
 /// The worker that applies the core policy reads its clock after this many polls.
@@ -53,22 +58,26 @@ const JUDGED: u32 = 8;
 const LONG: u32 = 8;
 /// Nanoseconds in one poll after which a busy worker also takes the job that would run next at the stuck one.
 const LONG_POLL: u64 = 1_000_000;
-/// After this many looks at empty blocks that the summary still shows, the worker hides its empty blocks.
+/// A worker clears its empty blocks' bits in the summary after it has looked at this many empty blocks that the summary
+/// still shows.
 const STALE: u32 = 16;
-/// The most jobs in hand from one look at the epoll, or from another worker; and in all while a worker is idle.
+/// The most jobs that a worker keeps in hand from one look at the epoll or from another worker; while any worker is
+/// idle, the most in all.
 const FEW: usize = 8;
-/// The most jobs in line that yielded or ended a chain (`KEPT`), and of any kind for the only worker (`HAND`).
+/// The most jobs in a worker's line: those that yielded or ended a chain (`KEPT`), or, for the only worker, of any kind
+/// (`HAND`).
 const KEPT: usize = 16;
 pub(crate) const HAND: usize = 48;
 /// If a look finds this many events and timers beyond the room in hand, another worker is woken to help.
 const MANY: usize = 4;
 
-/// Counting the ready jobs of a worker for the core policy stops here.
+/// The core policy counts at most this many ready jobs of a worker.
 const CROWD: u32 = 128;
 
 /// A worker's position in its rounds, and the progress that it has seen of the other workers.
 pub(crate) struct Turn {
-    /// Stolen jobs left to run, and jobs of the line to run before the next sweep. Others may have taken some of both.
+    /// Stolen jobs left to run, and jobs of the line to run before the next sweep. Other workers may have taken some of
+    /// these jobs.
     first: usize,
     line_left: usize,
     /// The block that is being swept, those of its places that were ready when the sweep began and are still to come,
@@ -82,21 +91,23 @@ pub(crate) struct Turn {
     /// Polls since the last look or idle time, and the number of polls that take about `LOOK_TIME`.
     polls: u32,
     most: u32,
-    /// Each look counts the ready jobs for the policy, and checks if the arbiter wants the core back.
+    /// True if each look counts the ready jobs for the policy, and checks if the arbiter wants the core back.
     counts: bool,
-    /// By worker: its polls at the last look, the looks in a row without progress (modulo `LONG`), and since when.
+    /// For each worker, its polls at the last look, the looks in a row without progress (modulo `LONG`), and since
+    /// when.
     seen: Vec<u64>,
     stood: Vec<u32>,
     since: Vec<u64>,
-    /// By worker: its polls at the last look before a sleep; and the time of that look.
+    /// For each worker, its polls at the last look before a sleep; and the time of that look.
     met: Vec<u64>,
     looked: u64,
-    /// Milliseconds between its looks while it sleeps, and the polls of all workers at the last of them.
+    /// Milliseconds between the worker's looks at the others while it sleeps, and the polls of all workers at the last
+    /// look.
     rests: i32,
     watched: u64,
-    /// The last look left it with stolen jobs to run.
+    /// True if the last look left the worker with stolen jobs to run.
     helps: bool,
-    /// It woke from a sleep by itself, and has neither run a job nor called `goes_on` since.
+    /// True if the worker woke from a sleep by itself, and has neither run a job nor called `goes_on` since.
     unsaid: bool,
 }
 
@@ -154,8 +165,8 @@ impl Shared {
 
     /// Wakes a worker for a job that has become ready in its block.
     ///
-    /// If the core asks for an `unpark`, that is the worker that looks after the block. Otherwise, unless `quiet`, any
-    /// sleeping worker is woken to help.
+    /// If `unpark`, wakes the worker that looks after the block; otherwise any sleeping worker, to help, unless
+    /// `quiet`.
     #[inline]
     pub(crate) fn published(&self, name: u64, unpark: bool, quiet: bool) {
         if unpark {
@@ -212,8 +223,9 @@ impl Shared {
 
     /// Ends a worker's current sleep, or its next one.
     ///
-    /// The worker may start to wait in the epoll after `waits` was read here, and then misses the bell. It still sees
-    /// what the caller did before this call: it takes that post before it checks for work.
+    /// The worker may start to wait in the epoll after `waits` was read here, and then misses the bell. The worker
+    /// still sees what the caller did before this call, since it registers as the one in the epoll before it checks for
+    /// work.
     pub(crate) fn ring(&self, worker: usize) {
         if self.waits.0.load(SeqCst) == worker {
             self.reactor.notify();
@@ -222,7 +234,8 @@ impl Shared {
         }
     }
 
-    /// Wakes a sleeping worker, unless one is already searching: if possible not the one in the epoll or its deputy.
+    /// Wakes a sleeping worker, unless a worker is already searching. If possible, wakes neither the worker in the
+    /// epoll nor its deputy.
     #[inline]
     pub(crate) fn rouse_any(&self) {
         let sleepers = self.sleepers.0.load(SeqCst);
@@ -235,9 +248,10 @@ impl Shared {
         }
     }
 
-    /// Ends a search by a worker that stays awake. If it was the last one, wakes another for work that may be left.
+    /// Ends a search by a worker that stays awake. If that worker was the last to search, wakes another for work that
+    /// may be left.
     ///
-    /// While it searched, nobody was woken for new work, so the decrement must come before the check.
+    /// While the worker searched, no other was woken for new work, so the decrement must come before the check.
     fn stop_looking(&self, hands: &Hands) {
         if self.searching.0.fetch_sub(1, SeqCst) != 1 {
             return;
@@ -349,8 +363,8 @@ impl Shared {
         self.set_behind(context, job, self.kept());
     }
 
-    /// Ends a job. In this order: `spawn_at` hides a block before it tries it again, and `begin_queued` sets `clogged`
-    /// before its second try, so the place must be free before either is looked at.
+    /// Ends a job. The job's place must be free before `roomy` and `clogged` are looked at: `spawn_at` hides a block
+    /// before it tries the block again, and `begin_queued` sets `clogged` before its second try.
     #[inline]
     fn finish(&self, context: &Context, job: &Job) {
         context.hands.finish(job);
@@ -401,7 +415,7 @@ impl Shared {
         None
     }
 
-    /// Puts a job behind all that is ready here. It stays in hand unless `most` jobs are already in line.
+    /// Puts a job behind all that is ready here. The job stays in hand unless `most` jobs are already in line.
     #[inline]
     pub(crate) fn set_behind(&self, context: &Context, job: Job, most: usize) {
         if !context.worker.hand.line.put(job, most) {
@@ -640,8 +654,8 @@ impl Shared {
         self.has_taken(context, turn, got)
     }
 
-    /// Takes up to `most` jobs out of another worker's hand; they run next here. With `next`, also the one that would
-    /// run next there.
+    /// Takes up to `most` jobs out of another worker's hand; the jobs run next here. With `next`, also takes the job
+    /// that would run next on the other worker.
     fn take_out(&self, context: &Context, turn: &mut Turn, other: usize, most: usize, next: bool) -> bool {
         let most = most.min(FIRST - context.worker.hand.first.len());
         let jobs = (0..most).map_while(|_| self.workers[other].0.hand.take(next));
@@ -676,9 +690,9 @@ impl Shared {
 
     /// Returns how many events to ask the epoll for: as many as fit into this worker's hand.
     ///
-    /// The others stay with the kernel, in their order, for whoever looks next. Made ready here, they would wait for
-    /// this worker if it loses its processor, and run before the jobs in line. With no room it asks for a few, for
-    /// others to take.
+    /// The other events stay with the kernel, in their order, for whoever looks next. If they were taken too, their
+    /// tasks would wait if this worker loses its processor, and would run before the jobs in line. A worker with no
+    /// room asks for a few events, whose tasks others can take.
     fn asks(&self, room: usize) -> usize {
         match room {
             0 if self.is_alone() => EVENTS,
@@ -698,7 +712,7 @@ impl Shared {
         self.hear(context, &found, room)
     }
 
-    /// Wakes the tasks of these events, and fires the timers that are due. Returns the number of both.
+    /// Wakes the tasks of these events, and fires the timers that are due. Returns the number of events and timers.
     ///
     /// The first `room` of these tasks stay in this worker's hand, without waking another worker.
     fn hear(&self, context: &Context, found: &Found, room: usize) -> usize {
@@ -716,7 +730,7 @@ impl Shared {
         heard
     }
 
-    /// Fires the timers of a worker that makes no progress, without waking others. Returns their number.
+    /// Fires the timers of a worker that makes no progress, without waking others. Returns the number of timers fired.
     fn fire_quietly(&self, context: &Context, other: usize) -> usize {
         context.keeps.set(false);
         let fired = self.fire(other);
@@ -724,7 +738,7 @@ impl Shared {
         fired
     }
 
-    /// Fires a worker's timers that are due. Returns their number.
+    /// Fires a worker's timers that are due. Returns the number of timers fired.
     pub(crate) fn fire(&self, owner: usize) -> usize {
         if self.next_timer(owner) == u64::MAX {
             return 0;
@@ -747,7 +761,8 @@ impl Shared {
 
     /// Steals from another worker: half of its ready jobs or, with `last`, of those in its hand behind the next one.
     ///
-    /// A worker's single job is stolen only if that worker sleeps or makes no progress. Returns true if it got any.
+    /// A worker's single job is stolen only if that worker sleeps or makes no progress. Returns true if any job was
+    /// stolen.
     fn steal(&self, context: &Context, turn: &mut Turn, last: bool) -> bool {
         let count = self.workers.len();
         let offset = context.random() as usize % count;
@@ -805,7 +820,8 @@ impl Shared {
         self.lay_down(context, &mut turn);
     }
 
-    /// Looks for events, unless another worker waits in the epoll, and fires timers. Returns the number of both.
+    /// Looks for events, unless another worker waits in the epoll, and fires timers. Returns the number of events and
+    /// timers.
     fn look_when_idle(&self, context: &Context, turn: &mut Turn) -> usize {
         let room = self.room(context, turn);
         if self.waits.0.load(Relaxed) != NO_ONE {
@@ -820,7 +836,7 @@ impl Shared {
         heard
     }
 
-    /// Takes ready jobs of the workers without a core that this one looks after. Returns true if it got any.
+    /// Takes ready jobs of the workers without a core that this one looks after. Returns true if any job was taken.
     fn help_lodgers(&self, context: &Context, turn: &mut Turn) -> bool {
         self.lodgers(context.me)
             .any(|other| self.ready(&context.hands, other) != 0 && self.help(context, turn, other, FEW))

@@ -13,7 +13,7 @@ use std::thread;
 use std::time::{Duration, Instant};
 
 const MS: Duration = Duration::from_millis(1);
-/// Longer than a busy machine delays anything.
+/// A time that is longer than any delay on a busy machine.
 const LONG: Duration = Duration::from_secs(120);
 
 struct Nobody;
@@ -21,7 +21,7 @@ impl Wake for Nobody {
     fn wake(self: Arc<Self>) {}
 }
 
-/// Counts its wakes.
+/// A waker that counts its wakes.
 #[derive(Default)]
 struct Woken(AtomicUsize);
 impl Wake for Woken {
@@ -44,7 +44,8 @@ impl Drop for OnDrop {
     }
 }
 
-/// Polls a future with a counted waker, makes it ready, and polls until it is. Then the waker must have been freed.
+/// Polls a future with a counted waker, makes the future ready, and polls until it is. After that the waker must have
+/// been freed.
 fn frees_its_waker(runtime: &Runtime, what: &str, future: impl Future, let_it: impl FnOnce()) {
     let (mut future, counted, start) = (Box::pin(future), Arc::new(Nobody), Instant::now());
     let mut poll = || {
@@ -63,7 +64,7 @@ fn frees_its_waker(runtime: &Runtime, what: &str, future: impl Future, let_it: i
     }
 }
 
-/// The same for a future that is dropped while it waits.
+/// Polls a future with a counted waker, and drops the future while it waits. Then the waker must have been freed.
 fn frees_its_waker_at_drop(runtime: &Runtime, what: &str, future: impl Future) {
     let (mut future, counted) = (Box::pin(future), Arc::new(Nobody));
     let waker = counted.clone().into();
@@ -279,8 +280,8 @@ fn the_end_waits_for_work_that_blocks() {
     assert!(matches!(block_on(block_on(asks_late).unwrap()), Err(JoinError::Cancelled)));
 }
 
-/// Blocking work that doesn't end holds `shutdown_within` up until its deadline only, and no later runtime gets its
-/// tasks.
+/// Blocking work that doesn't end delays `shutdown_within` only until the deadline, and no later runtime gets the tasks
+/// of that work.
 #[test]
 fn the_end_leaves_work_that_blocks_for_ever() {
     let (release, blocks) = std::sync::mpsc::channel::<()>();
@@ -543,7 +544,7 @@ fn a_socket_of_an_ended_runtime_keeps_nobody_waiting() {
     }
 }
 
-/// A sleep that began in a runtime which has ended goes on in another, whichever it waits in by then.
+/// A sleep that began in a runtime which has ended goes on in another runtime, in whichever it is polled.
 #[test]
 fn a_sleep_outlives_its_runtime() {
     let (ends, runtime) = (Runtime::new(1), Runtime::new(2));
@@ -557,7 +558,7 @@ fn a_sleep_outlives_its_runtime() {
     runtime.block_on(moved);
 }
 
-/// A later runtime has the state of the ended one, if it has the same size. No other test has one of 7 workers.
+/// A later runtime has the state of the ended one, if it has the same size. No other test has a runtime of 7 workers.
 #[test]
 fn a_socket_of_an_ended_runtime_waits_in_no_later_one() {
     let (ends, signal) = (Runtime::new(7), Signal::heard(10).unwrap());

@@ -12,7 +12,7 @@ use std::thread;
 use std::time::{Duration, Instant};
 
 const MS: Duration = Duration::from_millis(1);
-/// Longer than a busy machine delays anything.
+/// A time that is longer than any delay on a busy machine.
 const LONG: Duration = Duration::from_secs(120);
 
 struct Nobody;
@@ -686,7 +686,8 @@ fn tasks_that_yield_for_ever_run_equally_often() {
     }
 }
 
-/// While all workers are busy, one keeps many tasks in its hand. Once another is idle, it makes most of them ready.
+/// While all workers are busy, one keeps many tasks in its hand. Once another worker is idle, the first makes most of
+/// these tasks ready.
 #[test]
 fn what_is_in_hand_is_for_whoever_has_nothing_to_do() {
     let runtime = Runtime::new(2);
@@ -855,7 +856,7 @@ fn what_is_read_within_block_on_in_a_task_is_not_put_off() {
     assert_eq!(block_on(task).unwrap(), 50);
 }
 
-/// The same with more tasks than a worker may have in hand.
+/// The tasks of the sockets run in the order of the events, also if they are more than a worker may have in hand.
 #[test]
 fn sockets_are_heard_in_the_order_in_which_they_were_told_of() {
     for count in [8, 200] {

@@ -8,11 +8,11 @@ use std::thread;
 use std::time::{Duration, Instant};
 
 const MS: Duration = Duration::from_millis(1);
-/// The length of the blocking poll, unless all have begun before. Nobody waits that long for a processor.
+/// The length of the blocking poll, unless all tasks have begun before. No thread waits that long for a processor.
 const POLL: Duration = Duration::from_secs(2);
 /// The time by which each has begun if processors are free, even if the free workers sleep as the tasks become ready.
 const SOON: Duration = Duration::from_millis(5);
-/// Longer than a busy machine delays anything.
+/// A time that is longer than any delay on a busy machine.
 const LONG: Duration = Duration::from_secs(60);
 const CORES: usize = 3;
 const BEHIND: usize = 8;
@@ -42,7 +42,8 @@ impl Seen {
         Seen(Arc::new(Marks { behind, ..Marks::default() }))
     }
 
-    /// The first that calls this blocks its worker, until all others have begun or `POLL` is over; the others begin.
+    /// The first task that calls this blocks its worker, until all others have begun or `POLL` is over; the others
+    /// begin.
     fn begins(&self) {
         let now = Instant::now();
         if !self.0.blocks.swap(true, SeqCst) {
@@ -60,7 +61,7 @@ impl Seen {
         self.0.began.lock().unwrap().len() == self.0.behind
     }
 
-    /// Waits until all have begun, which must be before the poll ends. Returns the delay of the last one.
+    /// Waits until all tasks have begun, which must be before the poll ends. Returns the delay of the last one.
     fn last(&self) -> Duration {
         until("what is behind a poll", LONG, || self.have_begun());
         let last = *self.0.began.lock().unwrap().iter().max().unwrap();
@@ -123,8 +124,8 @@ impl Calm {
     }
 }
 
-/// Checks rounds of this function. In each, all tasks behind the poll must begin before it ends; in half of the rounds
-/// in which the machine is calm, soon. If fewer than six are calm only the former is checked.
+/// Checks rounds of this function. In each round all tasks behind the poll must begin before the poll ends. In half of
+/// the rounds in which the machine is calm, the tasks must begin soon; this is checked if at least six rounds are calm.
 fn rounds(soon: Duration, behind: usize, round: impl Fn(&Runtime, &Seen, Duration)) {
     let runtime = Runtime::new(CORES);
     let (mut calm, mut late) = (0, Vec::new());
@@ -172,7 +173,7 @@ fn what_has_yielded_is_run() {
     });
 }
 
-/// One task was to run next, and the others were before it.
+/// One task is the next to run, and the others became ready before it.
 #[test]
 fn what_is_next_is_run() {
     for asleep in [true, false] {
@@ -217,7 +218,7 @@ fn what_is_next_is_run_after_a_long_sleep() {
     });
 }
 
-/// One look at the epoll has returned the events of all, while the other workers were busy.
+/// One look at the epoll has returned the events of all tasks, while the other workers were busy.
 #[test]
 fn what_was_told_of_is_run() {
     rounds(SOON, BEHIND, |runtime, seen, pause| {
@@ -243,7 +244,7 @@ fn what_was_told_of_is_run() {
     });
 }
 
-/// The same while the others sleep: the worker that waits in the epoll gets all the events at once.
+/// The events come while the other workers sleep: the worker that waits in the epoll gets them all at once.
 #[test]
 fn what_was_told_of_is_run_by_who_sleeps() {
     rounds(SOON, BEHIND, |runtime, seen, pause| {
@@ -291,7 +292,8 @@ fn what_was_taken_of_a_worker_that_does_not_get_on_is_run() {
     }
 }
 
-/// A busy worker takes them too, at last the one that was to run next: two workers, of which one is never idle.
+/// A busy worker takes the tasks behind a long poll too, last the one that was to run next. There are two workers, of
+/// which one is never idle.
 #[test]
 fn what_is_behind_is_run_by_one_that_is_busy() {
     let runtime = Runtime::new(2);
@@ -383,15 +385,16 @@ fn the_watcher_runs_what_is_behind() {
     }
 }
 
-/// The only active core is in a poll: the watcher runs the jobs in the blocks of the other, and fires its timers.
+/// The only active worker is in a poll, and the one that covers for it too: the watcher runs the jobs in the blocks of
+/// the third, and fires its timers.
 #[test]
 fn the_watcher_looks_after_a_core_that_was_given_back() {
-    let runtime = Builder::new(2).policy(Policy::default()).watch_polls(10 * MS, false).build().unwrap();
+    let runtime = Builder::new(3).policy(Policy::default()).watch_polls(10 * MS, false).build().unwrap();
     let (gate, ran) = (Arc::new(Semaphore::new(0)), Arc::new(AtomicUsize::new(0)));
     let waits = |at| {
         let (gate, ran) = (gate.clone(), ran.clone());
         runtime.spawn(async move {
-            // So both workers begin some.
+            // So all workers begin some.
             thread::sleep(MS);
             match at % 2 {
                 0 => sleep(3000 * MS).await,
@@ -401,10 +404,61 @@ fn the_watcher_looks_after_a_core_that_was_given_back() {
         })
     };
     // Of each worker's places.
-    let tasks: Vec<_> = (0..32).map(waits).collect();
+    let mut tasks: Vec<_> = (0..48).map(waits).collect();
     until("a core that is given back", LONG, || runtime.stats().active == 1);
-    let blocks = runtime.spawn(async move { until("what is ready", LONG, || ran.load(SeqCst) == 32) });
+    for name in ["arachne-0", "arachne-1"] {
+        let blocks = Arc::new(AtomicBool::new(false));
+        while !blocks.load(SeqCst) {
+            let (blocks, ran) = (blocks.clone(), ran.clone());
+            tasks.push(runtime.spawn(async move {
+                if thread::current().name() == Some(name) && !blocks.swap(true, SeqCst) {
+                    until("what is ready", LONG, || ran.load(SeqCst) == 48);
+                }
+            }));
+            thread::sleep(MS);
+        }
+    }
     thread::sleep(100 * MS);
-    gate.add_permits(16);
-    tasks.into_iter().chain([blocks]).for_each(|task| block_on(task).unwrap());
+    gate.add_permits(24);
+    tasks.into_iter().for_each(|task| block_on(task).unwrap());
+}
+
+/// The only worker with a core is in a poll: the other one, whose core was given back, runs what is ready, sees the
+/// events of sockets, and fires timers.
+#[test]
+fn a_worker_without_a_core_covers_for_the_only_one_with_one() {
+    let runtime = Builder::new(2).policy(Policy::default()).build().unwrap();
+    for _ in 0..5 {
+        until("a core that is given back", LONG, || runtime.stats().active == 1);
+        let ran = Arc::new(AtomicUsize::new(0));
+        let (mut far, near) = UnixStream::pair().unwrap();
+        near.set_nonblocking(true).unwrap();
+        block_on(runtime.spawn(async move {
+            let counts = || {
+                let ran = ran.clone();
+                move || ran.fetch_add(1, SeqCst)
+            };
+            let (ready, timer, socket) = (counts(), counts(), counts());
+            let near = net::UnixStream::from_std(near).unwrap();
+            let tasks = [
+                spawn(async move { ready() }),
+                spawn(async move {
+                    sleep(5 * MS).await;
+                    timer()
+                }),
+                spawn(async move {
+                    near.read(&mut [0]).await.unwrap();
+                    socket()
+                }),
+            ];
+            // So each of them waits, unless another worker runs it.
+            yield_now().await;
+            far.write_all(b"x").unwrap();
+            until("what waits behind a poll", LONG, || ran.load(SeqCst) == 3);
+            for task in tasks {
+                task.await.unwrap();
+            }
+        }))
+        .unwrap();
+    }
 }

@@ -8,10 +8,10 @@ use std::thread;
 use std::time::{Duration, Instant};
 
 const MS: Duration = Duration::from_millis(1);
-/// Longer than a busy machine delays anything.
+/// A time that is longer than any delay on a busy machine.
 const LONG: Duration = Duration::from_secs(120);
 
-/// A server that echoes each byte. At a `b` it counts itself, and blocks its worker until the flag is set.
+/// A server that echoes each byte. At a `b` the task counts itself, and blocks its worker until the flag is set.
 fn echo(runtime: &Runtime, ends: &Arc<AtomicBool>, blocked: &Arc<AtomicUsize>) -> SocketAddr {
     let listener = net::TcpListener::bind("127.0.0.1:0").unwrap();
     let at = listener.local_addr().unwrap();
@@ -60,8 +60,8 @@ fn until(done: impl Fn() -> bool) {
     }
 }
 
-/// The worker that waited in the epoll is in an endless poll, and then all but one are. Without a watcher the events of
-/// all sockets are still seen, even of those that connect later.
+/// The worker that waited in the epoll is in an endless poll, and then all workers but one are. Without a watcher the
+/// events of all sockets are still seen, even of those that connect later.
 #[test]
 fn sockets_are_seen_beside_polls_that_block() {
     for (cores, pause) in (2..5).flat_map(|cores| [(cores, MS / 4), (cores, 20 * MS)]) {
@@ -164,8 +164,8 @@ fn blocks(flag: &AtomicBool) {
     }
 }
 
-/// Jobs in a worker's hand, and the one to run next, are run by another while the worker is in a poll that waits for
-/// them: if the others sleep as that poll begins, and if they fall asleep later.
+/// While a worker is in a poll that waits for the jobs in its hand, another worker runs these jobs, also the one to run
+/// next. The others sleep as that poll begins, or fall asleep later.
 #[test]
 fn what_is_in_hand_is_run_beside_a_poll_that_blocks() {
     for (cores, pause) in (2..5).flat_map(|cores| [(cores, MS / 4), (cores, 20 * MS)]) {

@@ -14,7 +14,7 @@ use std::thread;
 use std::time::{Duration, Instant};
 
 const MS: Duration = Duration::from_millis(1);
-/// Longer than a busy machine delays anything.
+/// A time that is longer than any delay on a busy machine.
 const LONG: Duration = Duration::from_secs(120);
 
 struct OnDrop(Arc<AtomicUsize>);
@@ -660,7 +660,7 @@ fn a_host_is_looked_up_beside_the_workers() {
     assert!(runtime.block_on(arachne::net::lookup_host("no such host:80")).is_err());
 }
 
-/// That epoll can't watch a descriptor is only seen once it has to wait.
+/// A descriptor that epoll can't watch is noticed only when a task has to wait for it.
 #[test]
 fn a_descriptor_that_cannot_be_watched_fails_at_its_first_wait() {
     let file = arachne::net::Async::new(std::fs::File::open("/proc/self/exe").unwrap()).unwrap();

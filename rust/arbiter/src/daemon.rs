@@ -20,9 +20,9 @@ use std::sync::atomic::Ordering::*;
 use std::time::{Duration, Instant};
 use turns::Turns;
 
-/// The time for which a client may keep a core beyond what it is allowed.
+/// The time for which a client may keep more cores than it is allowed.
 const PATIENCE: Duration = Duration::from_millis(10);
-/// The time between two looks for threads that have ended, and for strangers on a granted core.
+/// The time between two looks for threads that have ended, and for threads of others on a granted core.
 const LOOKS: Duration = Duration::from_secs(1);
 /// The most threads that are looked at before a decision.
 const AT_ONCE: usize = 8;
@@ -31,23 +31,24 @@ const READERS: usize = 8;
 
 struct Thread {
     id: u32,
-    /// When it began, which tells it from another of its number.
+    /// When the thread began, which distinguishes it from a later thread of the same number.
     began: u64,
     connection: u64,
     core: Option<usize>,
 }
 
 struct Core {
-    /// The processors that nobody else has meanwhile. Its thread has the first.
+    /// The processors of the core, which nobody else uses while the core is granted. The owner's thread runs on the
+    /// first processor.
     cpus: Vec<usize>,
-    /// The client that has it and the place of its thread.
+    /// The client that has the core, and the place of its thread.
     owner: Option<(u32, u32)>,
     /// When the owner changed last.
     since: Instant,
 }
 
 struct Client {
-    /// Its number in the library's state.
+    /// The client's number in the library's state.
     number: usize,
     process: u32,
     user: u32,
@@ -58,16 +59,18 @@ struct Client {
     least: u32,
     asked: u32,
     allowed: u32,
-    /// The cores that were given to it.
+    /// The number of cores that were given to the client.
     given: u64,
-    /// The cores that were taken from it by force.
+    /// The number of cores that were taken from the client by force.
     forced: u64,
-    /// By when it must have given back what was asked back.
+    /// The time by which the client must have given back the cores that were asked back.
     until: Option<Instant>,
-    /// The last turn in which it got a core or gave one, or had no thread for one.
+    /// The last turn (a core's move from one client to another) in which the client got a core or gave one, or had no
+    /// thread for one.
     turned: u64,
-    /// How often the threads of its process have still to be moved into the rest. A thread that begins meanwhile begins
-    /// in the set of its parent, so it is done twice.
+    /// How many times the threads of the client's process must still be moved to the rest (the processors of threads
+    /// without a core). The threads are moved twice, since a thread that begins meanwhile begins in the set of its
+    /// parent.
     arrives: u32,
     /// The thread at each of the client's places.
     threads: BTreeMap<u32, Thread>,
@@ -76,7 +79,8 @@ struct Client {
 /// The threads that are still to be looked at.
 struct Look {
     threads: Threads,
-    /// All are admitted; else those on a core are moved off it.
+    /// True if all these threads are moved to the rest (the processors of threads without a core). If false, only those
+    /// that are on a granted core are moved off it.
     all: bool,
 }
 
@@ -96,16 +100,16 @@ pub struct Arbiter {
     rest: Vec<usize>,
     /// The processors on which threads run that are no client's any more.
     all: Vec<usize>,
-    /// By number, in the order in which they came.
+    /// The connections by number, in the order in which they came.
     connections: BTreeMap<u64, Connection>,
     /// The number of connections that have ever been.
     connected: u64,
-    /// By the number of their control connection.
+    /// The clients, by the number of their control connection.
     clients: BTreeMap<u32, Client>,
     forced: u64,
     turns: Turns,
     look: Option<Look>,
-    /// When a look at the threads of all clients last began.
+    /// The time at which a look at the threads of all clients last began.
     looked: Instant,
 }
 
@@ -176,7 +180,7 @@ impl Arbiter {
 
     // ------------------------------------------------------------------------------------------ decisions
 
-    /// Drops who is gone, decides anew, and takes and gives cores, until that changes nothing more.
+    /// Drops clients that have gone, decides anew, and takes and gives cores, until nothing changes any more.
     fn settle(&mut self) {
         loop {
             self.bury();
@@ -195,8 +199,8 @@ impl Arbiter {
         }
     }
 
-    /// Publishes how many cores a client is allowed, and takes what it has beyond that: at once from a thread that
-    /// floats, else if it is late.
+    /// Publishes how many cores a client is allowed, and takes those that it has beyond that: at once from a thread
+    /// that floats (never waits), from others only if the client is late.
     fn take_from(&mut self, id: u32) {
         let share = self.share(id);
         let client = self.clients.get_mut(&id).unwrap();
@@ -275,7 +279,8 @@ impl Arbiter {
 
     // ------------------------------------------------------------------------------------------ moves
 
-    /// Moves a thread to its core. Returns false if it can't be moved; then it is no thread of its client any more.
+    /// Moves a thread to its core. Returns false if the thread can't be moved; then it is no thread of its client any
+    /// more.
     fn place(&mut self, given: Move) -> bool {
         let id = match self.clients.iter().find(|(_, client)| client.number == given.client) {
             Some((&id, _)) => id,
@@ -300,7 +305,8 @@ impl Arbiter {
         true
     }
 
-    /// Moves a thread that has a core, and sleeps or not, into the rest.
+    /// Moves a thread that has a core into the rest, the processors on which threads without a core run. `sleeps` is
+    /// true if the thread waits.
     fn unplace(&mut self, client: u32, place: u32, sleeps: bool) {
         let of = self.clients.get_mut(&client).and_then(|it| Some((it.process, it.threads.get_mut(&place)?)));
         let (process, thread) = match of {
@@ -316,8 +322,8 @@ impl Arbiter {
         }
     }
 
-    /// Moves the owner's thread to a core, or into the rest while the host takes the core's processor, which is one of
-    /// the rest then. Returns false if it can't be moved.
+    /// Moves the owner's thread to its core, or into the rest while the machine's host takes the core's processor.
+    /// Returns false if the thread can't be moved.
     fn set_on_core(&mut self, core: usize) -> bool {
         let owner = self.cores[core].owner.and_then(|(id, place)| {
             let client = self.clients.get(&id)?;
@@ -383,7 +389,7 @@ impl Arbiter {
     }
 
     /// Returns the next look: at the threads of a client that has come, or else each second at those that clients'
-    /// threads may have begun. Then it drops threads that have ended, too.
+    /// threads may have begun. Each second the daemon also drops threads that have ended.
     fn next_look(&mut self, cpus: &[usize]) -> Option<Look> {
         if let Some(client) = self.clients.values_mut().find(|client| client.arrives != 0) {
             client.arrives -= 1;
@@ -447,7 +453,7 @@ impl Arbiter {
 }
 
 impl Thread {
-    /// Returns true if it has not ended, so that its number is no other thread's.
+    /// Returns true if the thread has not ended, so that its number is not that of another thread.
     fn is_of(&self, process: u32) -> bool {
         threads::began(process, self.id) == Some(self.began)
     }

@@ -6,8 +6,8 @@ use std::time::{Duration, Instant};
 
 /// The time between two looks at the account.
 pub const WINDOW: Duration = Duration::from_millis(200);
-/// A processor counts as taken once the host has had `MUCH` hundredths of it between two looks, until it has had no more
-/// than `LITTLE` hundredths at each of `CALM` looks in a row.
+/// A processor counts as taken once the host has had `MUCH` hundredths of it between two looks, until the host has had
+/// at most `LITTLE` hundredths of it at each of `CALM` looks in a row.
 const MUCH: u64 = 15;
 const LITTLE: u64 = 5;
 const CALM: u32 = 5;
@@ -27,15 +27,15 @@ pub struct Host {
 }
 
 impl Host {
-    /// Returns an account of these processors, of which none is taken. ARBITER_STAT names another file than the kernel's,
-    /// for tests.
+    /// Returns an account of these processors, of which none is taken. ARBITER_STAT names another file than the
+    /// kernel's, for tests.
     pub fn new(cpus: Vec<usize>) -> Host {
         let file = std::env::var_os("ARBITER_STAT").unwrap_or_else(|| "/proc/stat".into()).into();
         let processors = cpus.iter().map(|_| Processor { stolen: 0, all: 0, is_taken: false, calm: CALM }).collect();
         Host { file, looked: Instant::now(), cpus, processors }
     }
 
-    /// Returns true if the processor at a place of the list is taken.
+    /// Returns true if the host takes the `nth` processor of the list.
     pub fn takes(&self, nth: usize) -> bool {
         self.processors[nth].is_taken
     }
@@ -61,7 +61,7 @@ impl Host {
 }
 
 impl Processor {
-    /// Returns true if it is taken now and was not before, or the other way round.
+    /// Returns true if this look changes whether the processor counts as taken.
     fn looks(&mut self, stolen: u64, all: u64) -> bool {
         let (took, time) = (stolen.saturating_sub(self.stolen), all.saturating_sub(self.all));
         let is_first = self.all == 0;

@@ -1,5 +1,5 @@
-//! The calls of the proved library `arachne_grants_c`, which reads messages, and has the daemon's state and decisions.
-//! The declarations are those of `examples/c/arachne_grants.h`.
+//! The calls of the proved library `arachne_grants_c`, which reads messages, keeps the daemon's state, and decides. The
+//! declarations are those of `examples/c/arachne_grants.h`.
 
 #[repr(C)]
 struct Handle {
@@ -93,7 +93,7 @@ pub struct Move {
     pub client: usize,
     pub place: usize,
     pub core: usize,
-    /// True if it waits for the core, so that it must be notified.
+    /// True if the thread waits for the core, so that it must be notified.
     pub waited: bool,
 }
 
@@ -117,7 +117,8 @@ impl State {
         (code == DONE).then_some(state)
     }
 
-    /// Each event returns false if it is out of place; then it has changed nothing.
+    /// Adds a client. This call and those for the other events return false if the event is not allowed now; then
+    /// nothing has changed.
     pub fn hello(&mut self, client: usize, priority: u8, reserved: u32, most: u32) -> bool {
         // SAFETY: nobody else uses the handle, as `&mut` says.
         unsafe { arachne_arbiter_hello(&mut self.0, client, priority, reserved, most) == DONE }

@@ -3,13 +3,14 @@
 //!     [--turn MILLISECONDS] [--open] [--log]
 //! arachne-arbiter status SOCKET
 //!
-//! Of the cores (whose processors are LIST, as 0,2-5; else the folder's, or all that it may use) the first N (1) are
-//! never granted. The hyperthreads of a core are granted together, of which the first is used; with --hyperthreads each
-//! is a core. A core that is left over within a priority goes round each MILLISECONDS (100; 0: it stays).
-//! With a FOLDER of cpusets of version 1, granted cores are kept from all processes below it; with --sweep those that
-//! stand in the folder itself are moved below it. With a GROUP of version 2, or several, granted cores are kept from
-//! the processes below these. Else only clients' threads are moved, by their affinity. --open lets every user connect.
-//! It ends at SIGTERM, and puts all back. `docs/arbiter.md` and the page arachne-arbiter(8) say more.
+//! The first N cores (by default 1) are never granted. The cores' processors are LIST (as 0,2-5), or else the folder's,
+//! or all that the daemon may use. The hyperthreads of a core are granted together, and only the first is used; with
+//! --hyperthreads each hyperthread is a core. A core that is left over within a priority goes to the next client each
+//! MILLISECONDS (by default 100; with 0 it stays). With a FOLDER of cpusets of version 1, granted cores are kept from
+//! all processes below it; with --sweep the processes in the folder itself are moved below it. With a GROUP of version
+//! 2, or several, granted cores are kept from the processes below these. Without FOLDER and GROUP only clients' threads
+//! are moved, by their affinity. --open lets every user connect. The daemon ends at SIGTERM, and puts all threads back.
+//! `docs/arbiter.md` and the page arachne-arbiter(8) say more.
 
 mod daemon;
 mod host;
@@ -54,7 +55,7 @@ fn main() {
     }))
 }
 
-/// Runs the daemon as a child of this process, which puts all back if the child dies.
+/// Runs the daemon as a child of this process, which puts all threads back if the child dies.
 fn guard(options: &Options) {
     sys::hear_ends();
     if std::env::var_os("ARBITER_SERVES").is_some() {

@@ -1,4 +1,4 @@
-//! The means by which a core is kept for one kernel thread, and other threads from it.
+//! The ways to keep a core for one kernel thread, and other threads off it.
 
 use crate::sys;
 use crate::threads::{family, threads_of, Threads};
@@ -7,27 +7,29 @@ use std::io;
 use std::path::{Path, PathBuf};
 
 pub enum Means {
-    /// Cpusets of version 1, in a folder of their own: `rest`, and a `cpuN` for each processor.
+    /// Cpusets of version 1, in a folder of the arbiter's: `rest`, and a `cpuN` for each processor.
     Cpusets(Sets),
-    /// The affinity of clients' threads, and the processors of groups of version 2, in which other processes are. Without
-    /// a group these run on any processor.
+    /// The affinity of clients' threads, and the processors of groups of version 2, in which other processes are.
+    /// Without a group other processes run on any processor.
     Affinity(Vec<PathBuf>),
 }
 
 /// The folder of an arbiter's cpusets, and the moves that are still to be made there.
 ///
-/// Linux may let a move to another set wait for a grace period, some 10 ms. So a thread goes to its core by affinity,
-/// while the core is one of the rest's, and into the core's set once the client has been told.
+/// Linux may let a move to another set wait for a grace period, some 10 ms. So a thread is first moved to its core by
+/// affinity, while the core's processor is still one of the rest. It is moved into the core's set only after the client
+/// was notified.
 pub struct Sets {
     top: PathBuf,
-    /// All that an affinity can name: with fewer a thread would be kept on these also once it is in another set.
+    /// All processors that an affinity can name. A thread whose affinity names fewer would be kept on these even in
+    /// another set.
     all: Vec<usize>,
     /// Threads, each with the name of the set that it is moved to.
     later: Vec<(u32, String)>,
 }
 
 impl Sets {
-    /// Moves a thread to a set, and lets it run on all processors of that.
+    /// Moves a thread to a set, and lets it run on all processors of that set.
     fn put(&mut self, thread: u32, set: &str) -> io::Result<()> {
         self.later.retain(|(it, _)| *it != thread);
         let moved = write(self.top.join(set).join("tasks"), thread);
@@ -39,7 +41,8 @@ impl Sets {
         let _ = write(self.top.join("rest/cpuset.cpus"), list(rest));
     }
 
-    /// Moves a thread of the rest to a core, which may still be one of the rest's, and adds it to these if it isn't.
+    /// Moves a thread of the rest to a core. The core's processor is added to those of the rest, if it isn't one of
+    /// them.
     fn place(&mut self, thread: u32, cpu: usize, rest: &mut Vec<usize>) -> io::Result<()> {
         if !rest.contains(&cpu) {
             rest.push(cpu);
@@ -114,7 +117,7 @@ impl Means {
         }
     }
 
-    /// Returns the threads of a process that are to be admitted.
+    /// Returns the threads of a process that must be moved into the rest.
     pub fn arrivals(&self, process: u32) -> Threads {
         match self {
             Means::Cpusets(_) => threads_of(process),
@@ -122,7 +125,8 @@ impl Means {
         }
     }
 
-    /// Moves a thread of a client's process into the rest, by itself: to move a process Linux waits for all processors.
+    /// Moves one thread of a client's process into the rest: if a whole process is moved, Linux waits for all
+    /// processors.
     pub fn admit(&self, thread: u32) {
         if let Means::Cpusets(Sets { top, .. }) = self {
             let _ = write(top.join("rest/tasks"), thread);
@@ -136,8 +140,8 @@ impl Means {
         }
     }
 
-    /// Moves a thread to its core: by cpusets into the core's set only as all is carried out. Until then the core is
-    /// one of the rest's.
+    /// Moves a thread to its core. With cpusets, only `carry_out` moves the thread into the core's set; until then the
+    /// core's processor is one of the rest.
     pub fn place(&mut self, thread: u32, cpu: usize, rest: &mut Vec<usize>) -> io::Result<()> {
         match self {
             Means::Cpusets(sets) => sets.place(thread, cpu, rest),
@@ -145,7 +149,7 @@ impl Means {
         }
     }
 
-    /// Moves a thread into the rest: by cpusets, if it sleeps, only as all is carried out.
+    /// Moves a thread into the rest. With cpusets, a thread that sleeps is moved only by `carry_out`.
     pub fn unplace(&mut self, thread: u32, sleeps: bool, rest: &[usize]) -> io::Result<()> {
         match self {
             Means::Cpusets(sets) if sleeps => sets.later.push((thread, "rest".into())),
@@ -175,8 +179,8 @@ impl Means {
         }
     }
 
-    /// Returns the threads that clients' threads may have begun on their cores: each begins in its parent's set, and
-    /// with its affinity.
+    /// Returns the threads that may run on clients' cores without being registered: a thread begins with the cpuset and
+    /// affinity of the one that began it.
     pub fn strangers(&self, cpus: &[usize], processes: Vec<u32>) -> Threads {
         let begun = processes.into_iter().flat_map(family);
         match self {

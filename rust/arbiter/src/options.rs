@@ -20,7 +20,7 @@ pub struct Options {
 }
 
 impl Options {
-    /// Reads the words behind `run`. Returns None if they are wrong.
+    /// Reads the words behind `run`. Returns None if the words are wrong.
     pub fn read(mut words: impl Iterator<Item = String>) -> Option<Options> {
         let (socket, mut listed) = (words.next()?.into(), false);
         let mut options = Options {

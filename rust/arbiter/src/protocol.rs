@@ -1,26 +1,28 @@
-//! Messages of 16 bytes, four numbers of 32 bits each, the lowest byte first. The library reads those of clients.
+//! Messages of 16 bytes, four numbers of 32 bits each, the lowest byte first. The proved library reads the messages of
+//! clients.
 
 pub const VERSION: u32 = 1;
 pub const SIZE: usize = 16;
 
 /// From a client, first on its control connection: version, priority, least and most cores (`least << 16 | most`).
 pub const HELLO: u32 = 1;
-/// First on a connection of a kernel thread: the client's number, the thread's, and its place in the client's order
-/// (`place << 1 | floats`). A thread that floats never waits: it is moved to a core and back as it runs.
+/// The first message on a connection of a kernel thread: the client's number, the thread's number, and its place in the
+/// client's order (`place << 1 | floats`). A thread that floats never waits: it is moved to a core and away again while
+/// it runs.
 pub const JOIN: u32 = 2;
-/// On a thread's connection: it gives its core back, if it has one, and waits for another.
+/// A message on a thread's connection: the thread gives its core back, if it has one, and waits for another.
 pub const WAIT: u32 = 3;
-/// On the control connection: the number of cores that are wanted.
+/// A message on the control connection: the number of cores that the client wants.
 pub const ASK: u32 = 4;
 
-/// To a client, with the descriptor of its page: the client's number, the number of cores, and 1 if these are kept by
-/// cpusets.
+/// The answer to a client, with the descriptor of its page: the client's number, the number of cores, and 1 if these
+/// are kept by cpusets.
 pub const WELCOME: u32 = 5;
-/// To a thread that waits: the processor that it has now.
+/// A message to a thread that waits: the processor that it has now.
 pub const GRANT: u32 = 6;
-/// On the control connection: the number of cores that the client may have, if that is less than before.
+/// A message on the control connection: the number of cores that the client may have, if that is less than before.
 pub const ALLOWED: u32 = 7;
-/// Before the arbiter closes a connection of which it refuses a message.
+/// The last message on a connection that the arbiter closes because it refused a message there.
 pub const REFUSED: u32 = 8;
 
 /// Returns the bytes of a message.

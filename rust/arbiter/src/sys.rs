@@ -30,7 +30,7 @@ struct Header {
     flags: i32,
 }
 
-/// A descriptor beside a message: the length of this, SOL_SOCKET, SCM_RIGHTS, the descriptor.
+/// A control message that carries a descriptor: its length, SOL_SOCKET, SCM_RIGHTS, and the descriptor.
 #[repr(C)]
 struct Rights {
     len: usize,
@@ -93,7 +93,7 @@ pub fn send_with(stream: &UnixStream, bytes: &[u8], fd: RawFd) -> io::Result<()>
     }
 }
 
-/// A page that a client reads. It is only written here, so it doesn't matter if a client changes it.
+/// A page that a client reads. The daemon only writes the page, so it doesn't matter if a client changes it.
 pub struct Page {
     file: File,
     at: *mut u8,

@@ -19,7 +19,7 @@ pub fn threads_of(process: u32) -> Threads {
     Box::new(entries.filter_map(|entry| entry.file_name().to_str()?.parse().ok()))
 }
 
-/// Returns the threads of a process, of those that it has begun, and of all that these have.
+/// Returns the threads of a process, of the processes that it has begun, and of all that these have begun.
 pub fn family(process: u32) -> Threads {
     let (mut others, mut room) = (Vec::new(), FAMILY - 1);
     let (mut process, mut threads) = (process, threads_of(process));
@@ -53,8 +53,9 @@ pub fn began(process: u32, thread: u32) -> Option<u64> {
     text.rsplit_once(')')?.1.split_whitespace().nth(19)?.parse().ok()
 }
 
-/// Returns the number of the thread that its process calls `thread`: another one if that is in a PID namespace of its
-/// own. Returns None if there is no such thread, or if the process is in no namespace below this one's.
+/// Returns the number of the thread that its process calls `thread`: the two numbers differ if the process is in a PID
+/// namespace of its own. Returns None if there is no such thread, or if the process is in no namespace below this
+/// one's.
 pub fn thread_of(process: u32, thread: u32) -> Option<u32> {
     if names_of(process, process)?.len() <= 1 {
         return Some(thread);

@@ -3,8 +3,8 @@
 use std::fs;
 use std::path::PathBuf;
 
-/// Returns the processors of each core, in the order of the first ones. A processor of which the kernel has no account
-/// is a core by itself. ARBITER_TOPOLOGY names another folder than the kernel's, for tests.
+/// Returns the processors of each core; the cores are in the order of their first processors. A processor of which the
+/// kernel has no account is a core by itself. ARBITER_TOPOLOGY names another folder than the kernel's, for tests.
 pub fn by_core(cpus: &[usize]) -> Vec<Vec<usize>> {
     let folder = std::env::var_os("ARBITER_TOPOLOGY").unwrap_or_else(|| "/sys/devices/system/cpu".into());
     let mut cores: Vec<Vec<usize>> = Vec::new();
@@ -26,7 +26,7 @@ pub fn are_there(cpus: &[usize]) -> bool {
     cpus.iter().all(is_online) && (1..cpus.len()).all(|nth| !cpus[..nth].contains(&cpus[nth]))
 }
 
-/// Returns the processors of a list as 0,2-5.
+/// Parses a list of processors, such as `0,2-5`.
 pub fn read_list(text: &str) -> Option<Vec<usize>> {
     let mut cpus = Vec::new();
     for part in text.split(',') {

@@ -1,5 +1,6 @@
-//! The daemon by its protocol, which needs two processors: by affinity, or by cpusets in the folder ARBITER_CPUSET.
-//! None of these tests waits for a time but for one that is promised, so they pass on a machine that is busy, too.
+//! Tests of the daemon by its protocol, with affinity, or with cpusets in the folder ARBITER_CPUSET. The tests need two
+//! processors. None of them waits for a time but for one that is promised, so the tests pass on a machine that is busy,
+//! too.
 mod common;
 
 use arbiter::protocol::*;
@@ -432,7 +433,7 @@ fn the_status_says_who_has_which_core_and_what_was_moved() {
     becomes("nobody has it", || status(&daemon).contains(&format!("processor {cpu}: nobody, for ")));
 }
 
-/// Begins a thread, and returns its number and what ends it.
+/// Begins a thread, and returns its number and a function that ends it.
 fn begin() -> (u32, impl FnOnce()) {
     let (ends, waits) = mpsc::channel::<()>();
     let (sender, numbers) = mpsc::channel();
@@ -474,7 +475,7 @@ fn a_thread_that_has_the_number_of_one_that_ended_is_not_moved() {
     (again.1)();
 }
 
-/// They are more than the daemon looks at before a decision.
+/// The threads are more than the daemon looks at before a decision.
 #[test]
 fn all_threads_that_one_with_a_core_begins_leave_it() {
     let daemon = Daemon::new("begins");
@@ -511,7 +512,7 @@ fn a_thread_that_changes_its_affinity_leaves_its_core_only_by_affinity() {
     assert_eq!(processors_of(&id), if leaves { kept } else { &cpu[..] });
 }
 
-/// The daemon can't tell it from one that a thread has begun on its core.
+/// The daemon can't distinguish the thread from one that a client's thread has begun on its core.
 #[test]
 fn a_thread_that_is_kept_on_one_processor_is_freed() {
     let daemon = Daemon::new("kept");
@@ -642,7 +643,7 @@ struct Piece<'a> {
     len: usize,
 }
 
-/// The length of all, SOL_SOCKET, SCM_RIGHTS, the descriptor.
+/// A control message that carries a descriptor: its length, SOL_SOCKET, SCM_RIGHTS, and the descriptor.
 #[repr(C)]
 struct Rights {
     len: usize,

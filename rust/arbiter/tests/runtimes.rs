@@ -146,7 +146,8 @@ extern "C" {
     fn pause() -> i32;
 }
 
-/// Forks once it has all cores: the child has its connections and its page, and none of its kernel threads.
+/// A runtime that forks once it has all cores. The child process has the runtime's connections and its page, and none
+/// of its kernel threads.
 #[test]
 #[ignore = "the test before runs it, and kills it once it has all cores"]
 fn a_runtime_to_kill() {
@@ -180,7 +181,7 @@ fn the_core_that_is_left_over_goes_round_within_a_priority() {
     }
 }
 
-/// The batch has what the one that asks by its load leaves.
+/// The batch runtime gets the cores that are left by the runtime that asks by its load.
 #[test]
 fn cores_follow_the_load_between_two_priorities() {
     let daemon = Daemon::new("policy");
@@ -272,15 +273,15 @@ fn a_runtime_that_begins_in_the_rest_is_not_kept_there() {
     arachne::block_on(task).unwrap();
 }
 
-/// Returns true if this thread may run on the processors of the first one, which is no worker.
+/// Returns true if this thread may run on the processors of the process's first thread, which is no worker.
 fn is_free() -> bool {
     let link = fs::read_link("/proc/thread-self").unwrap();
     let me = link.file_name().unwrap().to_str().unwrap();
     processors_of(me) == processors_of(&std::process::id().to_string())
 }
 
-/// The core of a worker is asked back while it is in a poll, which blocks until what it makes ready then has run: by
-/// the other worker, which has nothing else to do and waits for sockets.
+/// A worker's core is asked back while the worker is in a poll, which blocks until a task that it makes ready has run.
+/// The other worker, which has nothing else to do and waits for sockets, must run that task.
 #[test]
 fn what_is_in_hand_is_run_though_the_core_was_asked_back() {
     let all = arachne::available_cores();
@@ -305,6 +306,25 @@ fn what_is_in_hand_is_run_though_the_core_was_asked_back() {
         is_back.store(true, SeqCst);
         arachne::block_on(task).unwrap();
         high.shutdown();
+    }
+}
+
+/// The only worker with a core is in a poll, and the other one, which waits for a core, runs what the poll waits for.
+#[test]
+fn what_is_behind_a_poll_is_run_by_who_waits_for_a_core() {
+    let daemon = Daemon::new("covers");
+    let runtime = Builder::new(2).policy(Policy::default()).arbiter(&daemon.socket.0, 0, 0).build().unwrap();
+    for pause in [0, 1, 30] {
+        becomes("it has one core", || runtime.stats().arbiter && active(&runtime) == 1);
+        thread::sleep(Duration::from_millis(pause));
+        let ran = flag();
+        let task = runtime.spawn(async move {
+            let runs = ran.clone();
+            let behind = arachne::spawn(async move { runs.store(true, SeqCst) });
+            becomes("what is behind the poll is run", || ran.load(SeqCst));
+            behind.await.unwrap();
+        });
+        arachne::block_on(task).unwrap();
     }
 }
 

@@ -15,7 +15,8 @@ impl Default for Store {
     }
 }
 
-/// Parses the number of the line at `at`. Returns it with the index of the next line; None if the line is incomplete.
+/// Parses the number of the line at `at`. Returns the number with the index of the next line; None if the line is
+/// incomplete.
 fn number(bytes: &[u8], at: usize) -> Option<Result<(i64, usize), ()>> {
     let end = at + bytes.get(at..)?.windows(2).position(|w| w == b"\r\n")?;
     let parsed = std::str::from_utf8(&bytes[at..end]).ok().and_then(|t| t.parse().ok());
@@ -102,7 +103,8 @@ impl Store {
         }
     }
 
-    /// Answers each complete command of `bytes`. Returns the number of bytes and of commands; fails if they are none.
+    /// Answers each complete command of `bytes`. Returns the number of bytes and of commands that were answered; fails
+    /// if the bytes are no commands.
     pub fn serve(&self, bytes: &[u8], out: &mut Vec<u8>) -> Result<(usize, u64), ()> {
         let (mut at, mut count) = (0, 0);
         while let Some(command) = command(&bytes[at..]) {

@@ -7,7 +7,8 @@ use std::sync::Wait;
 use std::thread::Threads;
 use std::time::Clock;
 
-/// The expected end of a run: its status, output and faults. `usage` stands for any text of `clap`.
+/// The expected end of a run: its status, output and faults. `usage` stands for any usage text of the command-line
+/// parser `clap`.
 #[derive(Clone, Copy)]
 pub(super) struct Told<'a> {
     pub(super) status: u8,
@@ -47,8 +48,8 @@ pub(super) fn shown(status: u8, faults: &[u8]) -> &[u8] {
     faults
 }
 
-/// Returns the status with which the program ends. It has no contract on the streams, so that the proofs of the tests
-/// are short.
+/// Returns the status with which the program ends. This function has no contract on the streams, so that the proofs of
+/// the tests are short.
 pub(super) fn status_of<R: Threads + Wait + Clock + Sync>(
     rt: &R,
     alloc: Global,
@@ -60,7 +61,7 @@ pub(super) fn status_of<R: Threads + Wait + Clock + Sync>(
     drive(rt, alloc, words, input, output, faults)
 }
 
-/// Runs the program on these words and streams. Returns whether it ends as expected.
+/// Runs the program on these words and streams. Returns whether the program ends as expected.
 ///
 /// If all went well the output must be flushed once, at its end. If the words are refused nothing must be read.
 pub(super) fn ends<R: Threads + Wait + Clock + Sync>(

@@ -6,9 +6,9 @@ use std::io::{self, ErrorKind, Read, Write};
 #[derive(Clone, Copy, Debug)]
 pub(super) struct Failure {
     pub(super) at: u64,
-    /// The error. If there is none, the call moves no byte.
+    /// The error that the failing call returns. If there is no error, the failing call moves no byte.
     pub(super) error: Option<ErrorKind>,
-    /// Only that call fails, and no later one.
+    /// True if only one call fails, and no later one.
     pub(super) once: bool,
 }
 
@@ -29,7 +29,7 @@ fn failed(failure: Option<Failure>, call: u64) -> Option<io::Result<usize>> {
 pub(super) struct Script<'a> {
     /// The bytes that the reader gives.
     pub(super) bytes: &'a [u8],
-    /// The bytes that the reader gives after those, again and again.
+    /// The bytes that the reader gives after `bytes`, again and again.
     pub(super) again: &'a [u8],
     /// The maximum number of bytes of a read.
     pub(super) step: usize,
@@ -72,7 +72,8 @@ impl Read for Script<'_> {
     }
 }
 
-/// A writer that takes at most `step` bytes at a time, and fails as its failures say. It keeps what it takes.
+/// A writer that takes at most `step` bytes at a time, and fails as its failures say. The writer keeps the bytes that
+/// it takes.
 #[derive(Drop)]
 pub(super) struct Tray {
     pub(super) kept: Vec<u8>,
@@ -109,7 +110,7 @@ impl Tray {
         Ok(tray)
     }
 
-    /// Returns whether it was flushed exactly once, after all the bytes that it keeps.
+    /// Returns whether the writer was flushed exactly once, after all the bytes that it keeps.
     pub(super) fn is_flushed_once(&self) -> bool {
         self.flushes == 1 && self.flushed == self.kept.len()
     }

@@ -1,4 +1,4 @@
-//! Tests of the program in a process whose memory is used up, with a little more of it for each run.
+//! Tests of the program in a process whose memory is used up; each run has a little more memory than the one before.
 use super::endings::{Told, shown, status_of, told_by};
 use super::fakes::{Script, Tray};
 use super::spelling::spelled;
@@ -9,7 +9,7 @@ use std::sync::Wait;
 use std::thread::Threads;
 use std::time::Clock;
 
-/// The maximum number of runs of a row, and the number of bytes that each has more than the previous one.
+/// The maximum number of runs of a row, and the number of bytes that each run has more than the one before.
 const RUNS: u64 = 5_000;
 
 const BYTES: usize = 100;
@@ -17,9 +17,9 @@ const BYTES: usize = 100;
 /// The lines of faults for refused memory and for a refused kernel thread.
 const WANTS: &[&[u8]] = &[b"fault 30\n", b"fault 35\n"];
 
-/// Runs the words on an input. Returns true if they end as expected.
+/// Runs the words on an input. Returns true if the run ends as expected.
 ///
-/// Returns false if memory or a kernel thread was refused, and `None` if they end in any other way.
+/// Returns false if memory or a kernel thread was refused, and `None` if the run ends in any other way.
 fn is_told<R: Threads + Wait + Clock + Sync>(
     rt: &R,
     alloc: Global,
@@ -72,8 +72,8 @@ const ROWS: &[Row] = &[
     ("arachne help policy", "", "2 !usage"),
 ];
 
-/// Runs on several cores. Once all memory was used up, the C library gives none to a kernel thread that has just begun,
-/// whatever was given back, so that these runs need not end as with memory.
+/// Rows that run on several cores. Runs of these rows need not end as they do with enough memory: once all memory was
+/// used up, the C library gives none to a new kernel thread, even if memory was given back.
 const ON_CORES: &[Row] = &[(
     "arachne run --cores 4 --quantum 1 --names 0:release:1 1:release:2 2:grant:1",
     "arachne 1|ledgers 0|locks 0|(sweep add 2 (num 0) (num 8) (var 0))|",

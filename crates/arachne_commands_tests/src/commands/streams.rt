@@ -11,7 +11,7 @@ use std::sync::Wait;
 use std::thread::Threads;
 use std::time::Clock;
 
-/// Words, an input, and their end on it, as rows spell them.
+/// The words of a command line, an input, and the end of the program on it, as rows spell them.
 type Row = (&'static str, &'static str, &'static str);
 
 /// Each of the commands in a run in which all goes well.
@@ -82,7 +82,7 @@ const REFUSED: &[Row] = &[
 /// The maximum numbers of bytes that a stream gives or takes at a time.
 const STEPS: &[usize] = &[1, 7, usize::MAX];
 
-/// Errors of streams, with those after which programs often try again, and whether each occurs only once.
+/// Errors of streams, each with whether it occurs only once. Programs often try again after some of these errors.
 const ERRORS: &[(ErrorKind, bool)] = &[
     (ErrorKind::Interrupted, true),
     (ErrorKind::Interrupted, false),
@@ -138,7 +138,7 @@ fn a_failed_read_is_not_tried_again(rt: HostRuntime) -> Result<(), AllocError> {
     Ok(())
 }
 
-/// Words, and the text that they read again and again.
+/// Words of a command line, and the text that they read again and again.
 const ENDLESS: &[(&str, &str)] = &[
     ("arachne run", "a"),
     ("arachne eval", "arachne 1\nledgers 0\nlocks 0\n(num 7)\n"),
@@ -184,7 +184,7 @@ enum Stream {
 struct Case<'a> {
     words: &'a str,
     input: &'a [u8],
-    /// The end, as a row spells it.
+    /// The expected end of the program, as a row spells it.
     row: &'a str,
     step: usize,
 }
@@ -202,13 +202,13 @@ fn trays(alloc: Global, step: usize, stream: Stream, failure: Option<Failure>) -
     (output, faults)
 }
 
-/// Returns the bytes that all writes before this one take, `step` bytes each.
+/// Returns the bytes that all writes before write number `at` take, if each takes `step` bytes.
 fn taken(bytes: &[u8], at: u64, step: usize) -> &[u8] {
     let count = (at as usize).saturating_sub(1).saturating_mul(step);
     &bytes[..count.min(bytes.len())]
 }
 
-/// Returns the end of a case if this call fails.
+/// Returns the expected end of a case in which the call of this number on the stream fails.
 fn told_of<'a>(case: &Case<'a>, stream: Stream, at: u64) -> Told<'a> {
     let told = told_by(case.row);
     match stream {
@@ -229,7 +229,8 @@ fn told_of<'a>(case: &Case<'a>, stream: Stream, at: u64) -> Told<'a> {
     }
 }
 
-/// Runs a case in which one call fails, or none. Checks its end, and returns the number of calls of this kind.
+/// Runs a case in which one call fails, or none. Checks the end of the run, and returns the number of calls on
+/// `stream`.
 fn calls_of<R: Abort + Threads + Wait + Clock + Sync>(
     rt: &R,
     alloc: Global,
@@ -253,7 +254,7 @@ fn calls_of<R: Abort + Threads + Wait + Clock + Sync>(
     })
 }
 
-/// Lets each call of this kind fail in turn, in each way. Checks that none follows the failed one.
+/// Lets each call on `stream` fail in turn, in each way. Checks that no call on `stream` follows the failed one.
 fn each_call_fails<R: Abort + Threads + Wait + Clock + Sync>(
     rt: &R,
     alloc: Global,
@@ -271,8 +272,8 @@ fn each_call_fails<R: Abort + Threads + Wait + Clock + Sync>(
     Ok(())
 }
 
-/// Writes of the output, its flush, or writes of a fault's line fail. A failure of the fault's line changes nothing
-/// else.
+/// Writes of the output, its flush, or writes of a fault's line fail. If the line of a fault cannot be written, nothing
+/// else changes.
 #[test]
 fn a_failed_write_is_not_tried_again(rt: HostRuntime) -> Result<(), AllocError> {
     let alloc = rt.alloc();
@@ -300,8 +301,7 @@ const USAGE: &[&str] = &["arachne", "arachne eval --cores 4", "arachne run --hel
 
 /// The status of refused words is the same if their text cannot be written.
 ///
-/// An interruption of every write is left out, since `std` repeats an interrupted write of that text, and would not
-/// end.
+/// No test interrupts every write: `std` repeats an interrupted write of that text, and would not end.
 #[test]
 fn a_usage_that_fails_changes_nothing(rt: HostRuntime) -> Result<(), AllocError> {
     let alloc = rt.alloc();

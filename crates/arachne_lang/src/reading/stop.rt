@@ -5,7 +5,8 @@ ghost use Rattle.arachne_lang.specs.declared.reading.stop.Stop.TheVariants.{Memo
 use crate::text_fault::TextFault;
 use std::alloc::AllocFailed;
 
-/// The reason why reading stops. A fault of the text has the bytes that are left, from the one at which it stands.
+/// The reason why reading stops. A reason that is a fault of the text has the rest of the text, from the byte on at
+/// which the fault stands.
 #[derive(Clone, Copy)]
 pub enum Stop<'t> {
     /// Memory was refused.
@@ -21,7 +22,8 @@ pub enum Stop<'t> {
 impl<'t> Stop<'t> {
     ghost use Rattle.arachne_lang.specs.Reading.{fault_within};
 
-    /// Returns the fault of the whole `text`, of which the bytes that are left are the end.
+    /// Returns this reason as a fault of the whole `text`. The rest of the text that the reason has must be the end of
+    /// `text`.
     pub fn fault(self, text: &[u8]) -> TextFault
         ensures { result ≡ fault_within text.now self.entry }
     {

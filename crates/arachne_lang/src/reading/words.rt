@@ -4,7 +4,7 @@ ghost use Rattle.arachne_lang.specs.Reading.{Gives, word_at};
 
 use super::stop::Stop;
 
-/// Returns the text behind `word`, which must be at its front.
+/// Returns the text behind `word`, with which the text must begin.
 pub fn word<'t>(text: &'t [u8], word: &[u8]) -> Result<&'t [u8], Stop<'t>>
     ensures read { Gives (λ rest. rest.now) result (word_at word.now text.now) }
     ensures takes_no_memory { IfErr result (λ stop. stop ≢ Stop.Memory) }

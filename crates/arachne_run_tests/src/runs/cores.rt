@@ -15,7 +15,8 @@ pub(super) const FORK: Source = Source {
     expr: "(fork n (num 2) (num 3) (add (var 0) (var 1)))",
 };
 
-/// Adds 1 to both choices of a fork: the first is the low half of a drawn word, the second the high half.
+/// A number which, added to a drawn word, adds 1 to both choices of a fork: to the low half of the word and to the high
+/// half.
 const STEP: u64 = 0x0000_0001_0000_0001;
 
 /// Core k's chooser draws core k + 1.
@@ -42,8 +43,8 @@ pub(super) const EXCLUSIVE: Source = Source {
 };
 
 /// The root and three other threads have all places while 301 more are forked, and the queue has no room for 45 of
-/// these. By then 304 words are drawn, each of which chooses the other core than the previous one. So the next thread
-/// is forked to core 0, and core 1 is empty for an exclusive one.
+/// these. All forks up to then have drawn 304 words, each of which chooses the other core than the previous word did.
+/// So the next thread is forked to core 0, and core 1 is empty for an exclusive one.
 const WORD_EACH: Row = Row {
     shows: "each fork draws a word, that of a thread that runs in place at once too",
     source: Source {

@@ -17,7 +17,7 @@ const CORE_TWO: Draws = Draws {
     apart: 0,
 };
 
-/// The root and another thread have both places. 300 children in turn wait for one until they are awaited, and the
+/// The root and another thread have both places. 300 children in turn wait for a place until they are awaited, and the
 /// queue has no room for 44 of them. Then the other thread ends, all tickets are taken, and of two further threads the
 /// second waits for the place of the first.
 const TICKETS: Row = Row {
@@ -68,7 +68,7 @@ const LARGE: Row = Row {
     told: "",
 };
 
-/// The root waits for a lock that its first child holds. Meanwhile its second child ends, which wakes the root.
+/// The root waits for a lock that its first child holds. Meanwhile the root's second child ends, which wakes the root.
 const STILL_WAITS: Row = Row {
     shows: "a thread that is woken while it waits for a lock waits on",
     source: Source {
@@ -236,10 +236,11 @@ const LOST_ALONE: Row = Row {
     told: "slot slot ",
 };
 
-/// The root and 15 others have all places of the core. The last of them forks one thread after another, for which there
-/// is no place, until the queue is full. The others end in one scan before it, and their places are kept until the last
-/// of them ends, which gives all of them back. So the next thread that is forked gets a place at once. Otherwise the
-/// forks of a whole slice would run in place.
+/// The root and 15 others have all places of the core. The last of these threads forks one thread after another, for
+/// which there is no place, until the queue is full. The other threads end before it, in one scan of the core, and the
+/// worker keeps their places. When the last of them ends, all of these places are given back. So the next thread that
+/// is forked gets a place at once. Otherwise the children that are forked in a whole slice would run in their parent's
+/// place.
 const GIVEN_BACK: Row = Row {
     shows: "a place that was kept and is given back is free at once",
     source: Source {

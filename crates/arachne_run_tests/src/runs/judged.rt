@@ -22,7 +22,7 @@ use std::time::Clock;
 /// The number of entries that a log has room for.
 const ROOM: usize = 120_000;
 
-/// 1 to 64 cores, by quanta of 1 to 10,000.
+/// Machines of 1 to 64 cores, with quanta of 1 to 10,000.
 const MANY: &[Machine] = &[
     (1, 1, 1),
     (2, 1, 2),
@@ -46,10 +46,10 @@ const MANY: &[Machine] = &[
     (64, 10_000, 64),
 ];
 
-/// The number of these machines that have the same quantum.
+/// The number of machines in `MANY` that have the same quantum.
 const LINE: usize = 5;
 
-/// One core, by quanta of 1 to 10,000.
+/// Machines of one core, with quanta of 1 to 10,000.
 const ONE: &[Machine] = &[(1, 1, 1), (1, 3, 1), (1, 7, 1), (1, 100, 1), (1, 10_000, 1)];
 
 /// A row that is run with several numbers of places, and whose logs are judged.
@@ -57,10 +57,10 @@ const ONE: &[Machine] = &[(1, 1, 1), (1, 3, 1), (1, 7, 1), (1, 100, 1), (1, 10_0
 struct Judged {
     row: Row,
     slots: &'static [u8],
-    /// The number of runs on each of its machines, each with another number of places or another form of table.
+    /// The number of runs on each of the row's machines, each with another number of places or another form of table.
     turns: usize,
     /// The number of orders on machines of several cores: releases and grants of cores from 1 on in turn, each due a
-    /// slice after the previous one. If it is 0, the orders are the row's.
+    /// slice after the previous one. If the number is 0, the orders are the row's.
     orders: u64,
     has_exclusive: bool,
     /// The number of the root's exclusive fork, if it is ever made.
@@ -166,8 +166,8 @@ fn run_is_lawful<R: Threads + Wait + Clock + Sync>(
 
 /// Returns the number of places and the form of table for the machine of this number in this turn.
 ///
-/// With as many turns as there are combinations of both, each machine has every combination. Machines that stand side
-/// by side differ in both.
+/// With as many turns as there are combinations of a number of places and a form, each machine has every combination.
+/// Machines that are neighbours in the list differ in number and form.
 fn kind_of(judged: &Judged, nth: usize, turn: usize) -> (u8, Form) {
     let count = judged.slots.len().max(1);
     let line = nth / LINE;
@@ -179,7 +179,7 @@ fn kind_of(judged: &Judged, nth: usize, turn: usize) -> (u8, Form) {
     (slots, form)
 }
 
-/// Runs a row on each of its machines in each of its turns. Each rule of the row must come up.
+/// Runs a row on each of its machines in each of its turns. Each rule of the row must be judged at least once.
 fn is_lawful<R: Threads + Wait + Clock + Sync>(
     rt: &R,
     alloc: Global,
@@ -291,7 +291,7 @@ const HOLDS: Judged = Judged {
 };
 
 /// Six threads of core 0 hold a lock for longer than a holder may run at once, so that the others come to wait for it.
-/// Each runs before other threads once it has the lock. Meanwhile an order is due in each slice.
+/// Once one of the six has the lock, it runs before other threads. Meanwhile an order is due in each slice.
 const NEXT: Row = Row {
     shows: "orders are applied before the slice of a thread that goes next",
     source: Source {
@@ -332,7 +332,8 @@ fn threads_that_hold_a_lock_keep_the_rules(rt: HostRuntime) -> Result<(), Fail> 
     are_lawful(&rt, rt.alloc(), HOLD)
 }
 
-/// The root's second fork is exclusive. Its child counts, forks and counts, beside 20 threads that hold a lock.
+/// The root's second fork is exclusive. The exclusive child counts, forks and counts, beside 20 threads that hold a
+/// lock.
 const EXCLUSIVE: Row = Row {
     shows: "a thread that has its core alone, and the others, keep the rules",
     source: Source {
@@ -423,8 +424,8 @@ const LONE: Row = Row {
     ..COUNTING
 };
 
-/// A thread that runs in its parent's place, after it was taken back from the queue. That of `BEGUN` begins there at
-/// once.
+/// A thread that runs in its parent's place, after it was taken back from the queue. The thread of `BEGUN` begins there
+/// at once.
 const IN_PLACE: Row = Row {
     shows: "the steps of a thread in place are charged to the slices",
     source: TAKEN_BACK,
@@ -486,7 +487,8 @@ fn each_step_is_charged(rt: HostRuntime) -> Result<(), Fail> {
     are_lawful(&rt, rt.alloc(), CHARGE)
 }
 
-/// Core 1 is closed at first, and its kernel thread parks. Once it is granted it gets a thread, and is closed again.
+/// Core 1 is closed at first, and its kernel thread parks. Once core 1 is granted it gets a thread, and is closed
+/// again.
 const PARKING: Row = Row {
     shows: "a core that is closed parks, and one that is granted goes on",
     source: Source {

@@ -28,8 +28,8 @@ const COUNTING: Source = Source {
     expr: "(fork n (fold (num 0) (num 3000) (num 0) (var 0)) (fork n (fold (num 0) (num 3000) (num 0) (var 0)) (fold (num 0) (num 1000) (num 0) (var 0)) (add (var 0) (var 1))) (add (var 0) (var 1)))",
 };
 
-/// 300 threads. The root forks nine of them and then counts to 3,000. After that it forks an exclusive one, and one
-/// more while that one lives.
+/// 300 threads. The root forks nine of them and then counts to 3,000. After that the root forks an exclusive thread,
+/// and one more thread while the exclusive one lives.
 const WAITING: Source = Source {
     ledgers: 0,
     locks: 0,
@@ -119,8 +119,8 @@ fn a_thread_alone_gets_a_core_among_the_last(rt: HostRuntime) -> Result<(), Fail
     row_holds(&rt, alloc, &FAR, orders.as_slice())
 }
 
-/// Core 1 is closed at first, and its kernel thread parks. Then it is granted again, and gets a thread. If core 1 did
-/// not run that thread, it would be moved away when core 1 is closed again.
+/// Core 1 is closed at first, and its kernel thread parks. Then core 1 is granted again, and gets a thread. If core 1
+/// did not run that thread, it would be moved away when core 1 is closed again.
 const GRANTED: Row = Row {
     shows: "a grant has a kernel thread that is parked go on",
     source: Source {

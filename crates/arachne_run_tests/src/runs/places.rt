@@ -10,7 +10,7 @@ use arachne_core::SLOTS;
 use arachne_policy::{CoreOrder, OrderKind};
 use std::test::Fail;
 
-/// One core, by quanta of 1 to 10,000.
+/// Machines of one core, with quanta of 1 to 10,000.
 const ONE_CORE: &[Machine] = &[(1, 1, 1), (1, 7, 1), (1, 100, 1), (1, 10_000, 1)];
 
 /// 1,000 threads that the root forks and joins one after another.
@@ -188,7 +188,8 @@ const THREE_WAIT: Row = Row {
     told: "",
 };
 
-/// Of the 1,000 threads of a sweep 134 get a place when they are forked. If places were kept, only 56 would get one.
+/// Of the 1,000 threads of a sweep 134 get a place when they are forked. If places were kept, only 56 threads would get
+/// a place.
 const NONE_KEPT: Row = Row {
     shows: "no place is kept where an order may close the core",
     source: Source {
@@ -333,9 +334,9 @@ const SLEEPING: Source = Source {
     expr: "(fork n (fork n (fork n (fork n (fold (num 0) (num 10000) (num 0) (var 1)) (num 1) (var 0)) (num 1) (var 0)) (num 1) (var 0)) (let (fold (num 0) (num 3000) (num 0) (var 1)) (fork n (num 1) (let (fold (num 0) (num 3000) (num 0) (var 2)) (fork n (num 1) (num 1) (num 0))) (num 0))) (var 0))",
 };
 
-/// Core 0 is full of the root and two of the four, and the two others wait on core 1. The thread that is forked beside
-/// them ends there, so that its place is kept and core 1's kernel thread has nothing to run. A call that finds core 1
-/// full waits in this table until a place is free, and no thread is moved.
+/// The root and two of the four threads fill core 0, and the two others wait on core 1. A thread that the root forks
+/// meanwhile ends on core 1, so that its place is kept and core 1's kernel thread has nothing to run. A call that finds
+/// core 1 full waits in this table until a place is free, and no thread is moved.
 const GIVEN_BACK: Row = Row {
     shows: "a kernel thread that sleeps keeps no place",
     source: SLEEPING,

@@ -34,7 +34,7 @@ fn numbers(alloc: Global, name: &Name) -> Result<Vec<u64>, Fail> {
 pub(super) fn threads_of(alloc: Global, report: &Report) -> Result<String, Fail> {
     let mut text = format!(in alloc; "{} {:?}", report.value, report.totals.as_slice())?;
     for line in report.threads.iter() {
-        let (name, holds) = (numbers(alloc, &line.name)?, line.holds.as_slice());
+        let (name, holds) = (numbers(alloc, line.name())?, line.holds());
         text.push_str(format!(in alloc; " {name:?}{holds:?}")?.as_str())?;
     }
     Ok(text)

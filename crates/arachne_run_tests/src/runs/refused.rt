@@ -1,4 +1,5 @@
-//! Memory that is refused to the job of a child that waits: the child stays in its cell until its job has all of it.
+//! Memory that is refused to the job of a child that waits: the child stays in its cell until there is enough memory
+//! for its job.
 ghost use Rattle.arachne_lang.specs.Checked.{IsChecked};
 ghost use Rattle.arachne_lang.specs.Program.{source_of};
 
@@ -23,10 +24,10 @@ const STEPS: u32 = 100;
 
 const SLICES: usize = 10;
 
-/// The numbers of bytes that are left for the child's job. The first is too few, and the last is enough.
+/// The numbers of bytes that are left for the child's job. The first number is too few, and the last is enough.
 const LEFT: &[usize] = &[0, 40, 80, 120, 160, 200, 240, 320, 400, 800, 1_600, 100_000];
 
-/// A worker's means for the two threads of a fork.
+/// The data that a worker needs for the two threads of a fork.
 #[derive(Drop)]
 struct Means<'p> {
     room: Room,
@@ -35,7 +36,7 @@ struct Means<'p> {
 }
 
 impl<'p> Means<'p> {
-    /// Runs a thread until it ends. Returns whether it does: nobody else runs a child that it awaits.
+    /// Runs a thread until it ends. Returns whether the thread ends: nobody else runs a child that it awaits.
     fn ends(&mut self, job: &mut Job<'p>) -> bool {
         for _ in 0..SLICES {
             let mut left = STEPS;
@@ -62,8 +63,8 @@ impl<'p> Means<'p> {
     }
 }
 
-/// Has the root's child wait, and makes its job with this many bytes. Returns whether the job was refused, if both
-/// threads end.
+/// Has the root's child wait, and makes the child's job with `bytes` bytes of memory. Returns whether the job was
+/// refused, if both threads end.
 fn is_refused(alloc: Global, program: &Program, bytes: usize) -> Option<bool>
     requires { IsChecked (source_of program.now) }
 {

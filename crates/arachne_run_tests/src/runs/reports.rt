@@ -23,8 +23,8 @@ pub(super) const MANY: Source = Source {
     expr: "(sweep add 1 (num 0) (num 901) (var 0))",
 };
 
-/// The chain on cores with fewer places. On one core of three places, three threads have a place, and the others run in
-/// their parents'; on 64 cores of two places all have one.
+/// The threads of `CHAIN` on cores with fewer places. On one core of three places, three threads have a place, and the
+/// others run in their parents'; on 64 cores of two places all have one.
 const FEW: Row = Row {
     shows: "a core has as many places as its setup says",
     source: CHAIN,

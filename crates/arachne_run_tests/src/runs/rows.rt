@@ -43,7 +43,7 @@ pub(super) struct Row {
     pub(super) watching: Watching,
     /// The facts that a report must show.
     pub(super) facts: &'static [(Fact, u64)],
-    /// Selects the text of a report, which must equal the next field. If there is no report, the text is that of the
+    /// Selects the text that is made of a report and must equal `told`. If there is no report, the text is that of the
     /// fault.
     pub(super) telling: Telling,
     pub(super) told: &'static str,

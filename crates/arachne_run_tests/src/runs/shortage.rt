@@ -21,10 +21,10 @@ use std::test::Fail;
 use std::thread::Threads;
 use std::time::Clock;
 
-/// The maximum number of runs of a row on one core. One of them has a report.
+/// The maximum number of runs of a row on one core. One of these runs has a report.
 const RUNS: u64 = 2_000;
 
-/// The maximum number of runs of a row on several cores. None need have a report: once all memory was used up, the C
+/// The maximum number of runs of a row on several cores. No run need have a report: once all memory was used up, the C
 /// library gives none to a kernel thread that has just begun, whatever was given back.
 const RUNS_ON_CORES: u64 = 200;
 
@@ -80,7 +80,7 @@ const WANTED: Source = Source {
     expr: "(sweep add 1 (num 0) (num 50) (hold 0 (num 1)))",
 };
 
-/// More threads than places. Some of them wait for a place.
+/// More threads than places. Some of the threads wait for a place.
 const WAITING: Source = Source {
     ledgers: 0,
     locks: 0,
@@ -165,7 +165,7 @@ type Tried = Result<bool, RunFault>;
 /// The run has a report that shows the row's facts.
 const WELL: Tried = Ok(true);
 
-/// Returns whether memory was refused. On several cores it may have been refused to a new kernel thread.
+/// Returns whether memory was refused. On several cores memory may have been refused to a new kernel thread.
 fn is_want(tried: Tried, cores: u64) -> bool {
     match tried {
         Err(RunFault::Worker(WorkerFault::Memory)) => true,
@@ -176,8 +176,8 @@ fn is_want(tried: Tried, cores: u64) -> bool {
 
 /// Runs a row's program with no memory, and then with `BYTES` bytes more each time.
 ///
-/// Stops if the outcome is `last`, or anything but a lack of memory. Returns the number of runs before, and the last
-/// outcome.
+/// Stops if the outcome is `last`, or anything but a lack of memory. Returns the number of runs before the last one,
+/// and the outcome of the last.
 fn refused<R: Threads + Wait + Clock + Sync>(
     rt: &R,
     alloc: Global,
@@ -203,7 +203,7 @@ fn refused<R: Threads + Wait + Clock + Sync>(
     (most, came)
 }
 
-/// Returns whether a row's program has its report `times` times. If each run left memory behind, the last ones would
+/// Returns whether a row's program has its report `times` times. If each run left memory behind, the last runs would
 /// have none.
 fn goes_well<R: Threads + Wait + Clock + Sync>(
     rt: &R,
@@ -224,9 +224,11 @@ fn goes_well<R: Threads + Wait + Clock + Sync>(
     true
 }
 
-/// Runs a row's program while memory is used up. Returns the number of runs that were refused it, and the last outcome.
+/// Runs a row's program while memory is used up. Returns the number of runs for which memory was refused, and the last
+/// outcome.
 ///
-/// On one core the program must then have its report again and again. If it has not, the outcome is a lack of memory.
+/// On one core the program must then have its report again and again. If the program has no report then, the outcome is
+/// a lack of memory.
 fn without_memory<R: Threads + Wait + Clock + Sync>(
     rt: &R,
     alloc: Global,

@@ -1,4 +1,4 @@
-//! Slices: which steps are charged to one, when one counts, and that none begins once the run is stopped.
+//! Slices: which steps are charged to a slice, when a slice counts, and that no slice begins once the run is stopped.
 use super::cores::FORK;
 use super::facts::{Fact, Telling};
 use super::places::{BESIDE, BESIDE_LONG};
@@ -10,7 +10,7 @@ use arachne_core::SLOTS;
 use arachne_policy::{CoreOrder, OrderKind};
 use std::test::Fail;
 
-/// A child that counts to 5,000. If it finds no place, it waits for one until its parent awaits it.
+/// A child that counts to 5,000. If the child finds no place, it waits for one until its parent awaits it.
 pub(super) const TAKEN_BACK: Source = Source {
     ledgers: 0,
     locks: 0,
@@ -18,7 +18,7 @@ pub(super) const TAKEN_BACK: Source = Source {
     expr: "(fork n (fold (num 0) (num 5000) (num 0) (var 1)) (num 2) (add (var 0) (var 1)))",
 };
 
-/// Like `TAKEN_BACK`, but after 299 other children, so that the queue of children that wait has no room for it.
+/// Like `TAKEN_BACK`, but after 299 other children, so that the queue of children that wait has no room for the child.
 pub(super) const AT_ONCE: Source = Source {
     ledgers: 0,
     locks: 0,
@@ -32,7 +32,8 @@ pub(super) const POSTED: Source = Source {
     ..TAKEN_BACK
 };
 
-/// Core 1's first slice does not end before core 0 has entered its slice 400. By then 400 slices have ended.
+/// Core 1's first slice does not end before core 0 has entered slice 400. When core 1's first slice ends, 400 slices
+/// have ended.
 const HELD_BACK: Row = Row {
     shows: "a slice counts once it has ended",
     source: BESIDE,
@@ -51,8 +52,8 @@ const HELD_BACK: Row = Row {
     told: "",
 };
 
-/// The root's first step forks a child to core 1. If the gate were called only after that step, core 1 could enter a
-/// slice before it.
+/// The root's first step forks a child to core 1. If the gate were called only after the fork's step, core 1 could
+/// enter a slice before the gate is called.
 const TOLD_FIRST: Row = Row {
     shows: "the gate is told of a slice before its steps",
     source: FORK,
@@ -168,7 +169,7 @@ fn a_slice_has_its_whole_quantum(rt: HostRuntime) -> Result<(), Fail> {
 }
 
 /// Core 3 is closed, so that its kernel thread parks. Two threads are on core 1, and an exclusive one is on core 2. The
-/// table hands that one back when it ends, which stops the run during core 1's first slice.
+/// table hands the exclusive thread back when it ends, which stops the run during core 1's first slice.
 const STOPPED: Row = Row {
     shows: "no slice begins once the run is stopped",
     source: Source {

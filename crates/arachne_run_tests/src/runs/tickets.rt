@@ -28,7 +28,7 @@ const WAITS: Row = Row {
 };
 
 /// The root has four children for the remaining places of its core, and a fifth that waits for one. On cores of five
-/// places the table loses two of three claims.
+/// places the table answers two of every three claims with `Lost`.
 const LOST: Row = Row {
     shows: "a claim that is lost is tried again",
     source: Source {
@@ -56,7 +56,7 @@ const TWO: Source = Source {
     expr: "(fork n (let (fork n (num 1) (num 1) (var 0)) (fork n (num 2) (fold (num 0) (num 40) (num 0) (var 2)) (add (var 1) (var 2)))) (num 3) (var 0))",
 };
 
-/// The first child ends while all places are taken, so that its place is kept. The second one waits and gets that
+/// The first child ends while all places are taken, so that its place is kept. The second child waits and gets that
 /// place, although its parent is the only thread on the core that could continue.
 const KEPT: Row = Row {
     shows: "a place that is kept is free for a thread that waits",

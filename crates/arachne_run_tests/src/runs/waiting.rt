@@ -76,7 +76,7 @@ const TOLD: Row = Row {
 };
 
 /// Core 1's worker has run a child, has nothing more to run, and sleeps when its core is taken back. At most five
-/// slices have ended before the pause in which it falls asleep.
+/// slices have ended before the pause in which the worker falls asleep.
 const TAKEN_BACK: Row = Row {
     shows: "who sleeps is told that its core is taken back",
     source: Source {

@@ -11,12 +11,14 @@ use std::test::Fail;
 use std::thread;
 use std::thread::Threads;
 
-/// The number of threads that each kernel thread posts.
+/// The number of threads that each kernel thread puts into the table.
 const THREADS: u64 = 10_000;
 
-/// The state of a kernel thread: its seat, its log, and the numbers of threads that it has posted and moved.
+/// The state of a kernel thread: its seat, its log, and the numbers of threads that it has put into the table and
+/// moved.
 ///
-/// The log has twice the tag of each thread that it has posted, and twice the tag plus 1 of each that it has ended.
+/// The log has twice the tag of each thread that the kernel thread has put into the table, and twice the tag plus 1 of
+/// each that it has ended.
 #[derive(Drop)]
 struct Work<S> {
     seat: S,
@@ -27,8 +29,8 @@ struct Work<S> {
 
 /// The result of a run: the number of threads that were settled, and the number that were moved.
 ///
-/// A thread is settled if it was posted exactly once, and if it then either has ended or is left in the table at the
-/// end, exactly once. If one is not, `settled` is `None`.
+/// A thread is settled if it was put into the table exactly once, and then either has ended or is left in the table,
+/// exactly once. If a thread is not settled, `settled` is `None`.
 #[derive(Clone, Copy)]
 struct ContentionResult {
     settled: Option<usize>,
@@ -36,7 +38,7 @@ struct ContentionResult {
 }
 
 impl ContentionResult {
-    /// Returns whether each thread of both kernel threads is settled.
+    /// Returns whether each thread of both kernel threads is settled (put in once, and ended or left once).
     fn is_settled(&self) -> bool {
         self.settled == Some(2 * THREADS as usize)
     }
@@ -46,7 +48,8 @@ type Words = WordContexts<TagOnly>;
 
 type WordWork = Work<WordSeat<TagOnly>>;
 
-/// Claims a place on a core, and posts a thread there if it got one. Returns `None` if memory or the claim is refused.
+/// Claims a place on a core, and puts a thread there if the claim succeeds. Returns `None` if memory or the claim is
+/// refused.
 fn post<C: Contexts<TagOnly>, R: Wait>(
     rt: &R,
     table: &C,
@@ -70,12 +73,12 @@ fn post<C: Contexts<TagOnly>, R: Wait>(
     }
 }
 
-/// Returns the number by which the log records the end of a thread.
+/// Returns the number by which the log records the end of this thread.
 fn ended(job: &TagOnly) -> u64 {
     job.0.wrapping_mul(2).wrapping_add(1)
 }
 
-/// Takes the thread at a place, if it is ready, and ends it. Returns whether it did.
+/// Takes the thread at a place, if it is ready, and ends it. Returns whether the thread was ended.
 fn end<C: Contexts<TagOnly>, R: Wait>(
     rt: &R,
     table: &C,
@@ -99,7 +102,7 @@ fn end<C: Contexts<TagOnly>, R: Wait>(
     }
 }
 
-/// Ends the threads that are ready on a core. Returns their number.
+/// Ends the threads that are ready on a core. Returns the number of these threads.
 fn end_all<C: Contexts<TagOnly>, R: Wait>(
     rt: &R,
     table: &C,
@@ -120,10 +123,11 @@ fn end_all<C: Contexts<TagOnly>, R: Wait>(
     Some(ended)
 }
 
-/// The plan of a kernel thread for each round, on a table of `cores` cores.
+/// The steps of a kernel thread in each round, on a table of `cores` cores.
 ///
-/// It posts one thread on the last core. If it moves threads, it then closes core 1, moves the threads there to core 0,
-/// and opens it. It ends the threads that are ready on the cores from `from` on.
+/// The kernel thread puts one thread on the last core. If it moves threads, it then closes core 1, moves the threads
+/// there to core 0, and opens core 1 again. The kernel thread ends the threads that are ready on the cores from `from`
+/// on.
 #[derive(Clone, Copy)]
 struct RoundPlan {
     cores: u8,
@@ -132,7 +136,8 @@ struct RoundPlan {
     first_tag: u64,
 }
 
-/// Closes core 1, moves the threads at rest there to core 0, and opens it. Returns the number of moved threads.
+/// Closes core 1, moves the threads there that no seat holds to core 0, and opens core 1 again. Returns the number of
+/// moved threads.
 fn move_away<C: Contexts<TagOnly>, R: Wait>(rt: &R, table: &C, work: &mut Work<C::Seat>) -> u64
     requires seat { C.sits table.now work.old.seat × C.idle table.now work.old.seat }
     requires cores { 1 < C.core_count table.now }
@@ -151,7 +156,7 @@ fn move_away<C: Contexts<TagOnly>, R: Wait>(rt: &R, table: &C, work: &mut Work<C
     moved
 }
 
-/// Makes rounds until the kernel thread has posted all of its threads. Returns `None` if memory is refused.
+/// Makes rounds until the kernel thread has put all of its threads into the table. Returns `None` if memory is refused.
 fn all_rounds<C: Contexts<TagOnly>, R: Wait>(
     rt: &R,
     table: &C,
@@ -217,7 +222,7 @@ fn work_side_by_side<R: Threads + Wait + Sync>(
     Some((first?, second?))
 }
 
-/// Returns the number of settled threads, or `None` if one is not settled.
+/// Returns the number of settled threads (put in once, and ended or left once), or `None` if one is not settled.
 ///
 /// The logs of both kernel threads are joined, and the threads that are left are counted as ended.
 fn settled(
@@ -236,7 +241,7 @@ fn settled(
     Ok(None)
 }
 
-/// Returns whether two entries of a sorted log say that a thread was posted and ended.
+/// Returns whether two neighbours of a sorted log say that one thread was put into the table and ended.
 fn is_pair(pair: &[u64]) -> bool {
     match pair {
         [posted, ended] => *posted % 2 == 0 && *ended == posted.wrapping_add(1),

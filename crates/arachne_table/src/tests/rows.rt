@@ -24,8 +24,9 @@ enum SpendKind {
     Ready,
 }
 
-/// A use of a claim or a thread: the answer of the step that gets it, the steps while it is out, the way in which it is
-/// spent, and the answer to that. If none is got, the use ends with the first answer.
+/// A use of a claim or a thread: the expected answer of the step that gets it, the steps made before it is spent, the
+/// way in which it is spent, and the expected answer to that. If the step that should get a claim or a thread gets
+/// none, the use ends with that step's answer.
 struct Use {
     got: Answer,
     steps: Rows,
@@ -33,8 +34,8 @@ struct Use {
     spent: Answer,
 }
 
-/// A part of a run: steps with nothing out; a claim on a core, of a place or of the whole core; or the thread at an
-/// index of a core.
+/// A part of a run: steps while the seat has no claim or thread; the use of a claim, of a place or of a whole core; or
+/// the use of the thread at an index of a core.
 enum RunPart {
     Steps(Rows),
     Claim(u8, bool, Use),
@@ -42,7 +43,8 @@ enum RunPart {
 }
 
 /// A run: the size of its table, the generation that its contexts begin with, its parts, and the threads that must be
-/// left at the end. Each of these has its context, its generation and its tag; `None` if they are not compared.
+/// left at the end. Each such thread is given by its context, its generation and its tag; the list is `None` if the
+/// threads are not compared.
 struct TableRun {
     cores: u8,
     slots: u8,
@@ -62,7 +64,7 @@ fn same(expected: Answer, shown: Answer) -> Result<(), Fail> {
     )))
 }
 
-/// Makes steps that leave out what is out with the seat.
+/// Makes steps that don't change which claims and threads the seat has.
 fn go_on<C: Contexts<TagOnly>, R: Wait>(
     rt: &R,
     table: &C,
@@ -82,7 +84,7 @@ fn go_on<C: Contexts<TagOnly>, R: Wait>(
     Ok(())
 }
 
-/// Posts a thread with the claim, or gives the claim back. Returns the answer.
+/// Puts a thread at the claimed place, or gives the claim back. Returns the answer.
 fn spend_claim<C: Contexts<TagOnly>, R: Wait>(
     rt: &R,
     table: &C,
@@ -101,7 +103,7 @@ fn spend_claim<C: Contexts<TagOnly>, R: Wait>(
     Some(told_id(table.post(rt, seat, claim, TagOnly(tag)).ok()?))
 }
 
-/// Makes the steps while a claim is out, and spends the claim.
+/// Makes the steps of `part` while the seat has the claim, and then spends the claim.
 fn use_claim<C: Contexts<TagOnly>, R: Wait>(
     rt: &R,
     table: &C,
@@ -178,7 +180,7 @@ fn spend_thread<C: Contexts<TagOnly>, R: Wait>(
     }
 }
 
-/// Takes the thread at a place, makes the steps while it is out, and spends it.
+/// Takes the thread at a place, makes the steps of `part`, and then ends the thread or puts it back.
 fn with_thread<C: Contexts<TagOnly>, R: Wait>(
     rt: &R,
     table: &C,
@@ -264,7 +266,7 @@ pub(super) fn close<C: Contexts<TagOnly> + Drop, R: Wait>(
     table.close(rt, alloc, seat).ok()
 }
 
-/// Makes a run.
+/// Makes a run on a new table.
 fn take<C: Contexts<TagOnly> + Drop, R: Wait>(
     rt: &R,
     alloc: Global,
@@ -743,7 +745,7 @@ const RUNS: &[TableRun] = &[
     },
 ];
 
-/// Returns the runs.
+/// Returns the runs that each form of table must pass.
 fn runs() -> &'static [TableRun] {
     RUNS
 }

@@ -26,7 +26,7 @@ const SLOT_COUNTS: &[(u8, u64)] = &[
     (56, 0x38ffffffffffffff),
 ];
 
-/// Posts a thread at each place of a core. One more must be refused, with the core's word.
+/// Puts a thread at each place of a core. One more thread must be refused, with the core's word as the answer.
 fn fill_core<C: Contexts<TagOnly>, R: Wait>(
     rt: &R,
     table: &C,
@@ -82,7 +82,7 @@ pub(super) fn fill_tables<C: Contexts<TagOnly> + Drop, R: Wait>(
     Ok(())
 }
 
-/// Makes a table of each possible size. Returns their number.
+/// Makes a table of each possible size. Returns the number of tables.
 pub(super) fn make_tables<C: Contexts<TagOnly> + Drop>(alloc: Global) -> Result<usize, AllocError> {
     let mut made = 0usize;
     for cores in 1..CORES + 1 {
@@ -94,7 +94,7 @@ pub(super) fn make_tables<C: Contexts<TagOnly> + Drop>(alloc: Global) -> Result<
     Ok(made)
 }
 
-/// Posts a thread on core 0, and ends it at this index.
+/// Puts a thread on core 0, and ends it at this index.
 fn pass<C: Contexts<TagOnly>, R: Wait>(
     rt: &R,
     table: &C,

@@ -1,4 +1,4 @@
-//! The steps of a run that leave out with the seat what was out with it, and their answers.
+//! The steps of a run that don't change which claims and threads the seat has, and their answers.
 ghost use Rattle.std.specs.Prelude.{◌≡◌, ◌<◌, List, IfSome};
 ghost use Rattle.arachne_contexts.specs.Out.{Out, KeepsOut};
 
@@ -10,7 +10,7 @@ use std::sync::Wait;
 /// A step, with its core, its context or its place.
 #[derive(Clone, Copy)]
 pub(super) enum Step {
-    /// Counts the claims and threads that are out with the seat.
+    /// Counts the claims and threads that the seat has not spent.
     Out,
     Look(u8),
     Close(u8),
@@ -21,15 +21,16 @@ pub(super) enum Step {
     Wake(u32, u64),
     /// Moves the thread at a core's index to another core.
     Move(u8, u8, u8),
-    /// Posts a thread with a tag on a core.
+    /// Puts a thread with a tag on a core.
     Post(u8, u64),
-    /// Claims two places of a core, posts a thread at the second, and gives the first back.
+    /// Claims two places of a core, puts a thread at the second, and gives the first back.
     Second(u8, u64),
-    /// Posts a thread at each place of a core. The answer is that to the last post.
+    /// Puts a thread at each place of a core. Its answer is what the table answered to the last of these threads.
     Fill(u8),
 }
 
-/// An answer: its name, and up to two numbers. These are a word, a core and an index, or a context and a generation.
+/// An answer: its name, and up to two numbers. The numbers are a word, a core and an index, or a context and a
+/// generation.
 pub(super) type Answer = (&'static str, u64, u64);
 
 /// Returns a thread's id as an answer: its context and its generation.
@@ -64,7 +65,8 @@ pub(super) struct Size {
     pub(super) slots: u8,
 }
 
-/// Makes a step at a core. Returns its answer, or `None` if it is no such step or the core doesn't exist.
+/// Makes a step at a core. Returns the step's answer, or `None` if the step is not one at a core, or if the core
+/// doesn't exist.
 fn at_core<C: Contexts<TagOnly>, R: Wait>(
     rt: &R,
     table: &C,
@@ -91,8 +93,8 @@ fn at_core<C: Contexts<TagOnly>, R: Wait>(
     }
 }
 
-/// Makes a step at a context, with a thread's id, at two cores, at a core, or the count of what is out. Returns its
-/// answer.
+/// Makes a step at a context, with a thread's id, or at a core or two, or counts the claims and threads that the seat
+/// hasn't spent. Returns the step's answer.
 fn at_context<C: Contexts<TagOnly>, R: Wait>(
     rt: &R,
     table: &C,
@@ -125,7 +127,7 @@ fn at_context<C: Contexts<TagOnly>, R: Wait>(
     }
 }
 
-/// Claims a place and posts a thread there. Returns the answer.
+/// Claims a place and puts a thread there. Returns the answer.
 fn post<C: Contexts<TagOnly>, R: Wait>(
     rt: &R,
     table: &C,
@@ -144,7 +146,7 @@ fn post<C: Contexts<TagOnly>, R: Wait>(
     Some(told_id(table.post(rt, seat, claim, TagOnly(tag)).ok()?))
 }
 
-/// Claims two places, posts a thread at the second, and gives the first back. Returns the answer to the post.
+/// Claims two places, puts a thread at the second, and gives the first back. Returns the table's answer to the thread.
 fn post_second<C: Contexts<TagOnly>, R: Wait>(
     rt: &R,
     table: &C,
@@ -165,7 +167,7 @@ fn post_second<C: Contexts<TagOnly>, R: Wait>(
     Some(id)
 }
 
-/// Posts a thread at each place of a core. Returns the answer to the last post.
+/// Puts a thread at each place of a core. Returns the table's answer to the last of these threads.
 fn fill<C: Contexts<TagOnly>, R: Wait>(
     rt: &R,
     table: &C,

@@ -73,7 +73,7 @@ const BY_TWOS: &[u8] = b"arachne 1\nledgers 0\nlocks 0\n(sweep add 2 (num 0) (nu
 
 const BY_ONES: &[u8] = b"arachne 1\nledgers 0\nlocks 0\n(sweep add 1 (num 0) (num 8) (var 0))\n";
 
-/// Returns whether two texts have the same meaning, or `None` if one has none.
+/// Returns whether two texts have the same meaning, or `None` if one of them has no meaning.
 fn mean_the_same(alloc: Global, some: &[u8], other: &[u8]) -> Option<bool> {
     Some(meaning_of(alloc, some)? == meaning_of(alloc, other)?)
 }

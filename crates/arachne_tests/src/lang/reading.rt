@@ -1,7 +1,7 @@
 //! Tests of texts that are read and printed, and of texts that have a fault.
 ghost use Rattle.std.specs.Prelude.{◌≤◌};
 ghost use Rattle.arachne_lang.specs.Program.{tree_of};
-ghost use Rattle.arachne_lang.specs.Text.{nesting};
+ghost use Rattle.arachne_lang.specs.Nesting.{nesting};
 
 use arachne_lang::{Program, TextFault, parse, print};
 use std::alloc::Global;
@@ -55,7 +55,7 @@ fn is_read_and_printed(alloc: Global, text: &[u8]) -> Result<bool, TextFault> {
     is_printed_as(alloc, &program, text)
 }
 
-/// Returns the same, and tries once more if memory is refused.
+/// Returns whether a text is printed as it was read, or its fault. Tries once more if memory is refused.
 fn answer(alloc: Global, text: &[u8]) -> Result<bool, TextFault> {
     match is_read_and_printed(alloc, text) {
         Err(TextFault::Memory) => is_read_and_printed(alloc, text),
@@ -63,7 +63,7 @@ fn answer(alloc: Global, text: &[u8]) -> Result<bool, TextFault> {
     }
 }
 
-/// With each allocation refused in turn, this passes too: a refusal is no fault of the text, changes no text, and
+/// The test passes too if each allocation is refused in turn: a refusal is no fault of the text, changes no text, and
 /// changes nothing for the next call.
 #[test]
 fn texts_are_read_and_printed_or_end_at_their_first_fault(rt: HostRuntime) {

@@ -17,17 +17,17 @@ const MOST: u64 = 100_000;
 /// The way in which children run.
 #[derive(Clone, Copy, Debug, PartialEq, Eq)]
 pub(super) enum Way {
-    /// In the parent's place: a child is handed back at its fork.
+    /// Children run in their parent's place: each is handed back at its fork.
     AtFork,
-    /// The same, but the root's first child has then handed one back itself.
+    /// Like `AtFork`, but the root's first child is handed back only after a child was handed back to it.
     GrownAtFork,
-    /// In the place of the thread that awaits it: a child is handed back there.
+    /// Children run in the place of the thread that awaits them: each is handed back at its join.
     AtJoin,
-    /// The same, but it has gone on before, with others in its place.
+    /// Like `AtJoin`, but the child has gone on before, with other threads in its place.
     GrownAtJoin,
-    /// On its own. It is joined once it has ended.
+    /// Each child runs on its own, and is joined once it has ended.
     Alone,
-    /// The same, but only for exclusive children: others begin immediately in their parent's place.
+    /// Like `Alone`, but only for exclusive children: others begin immediately in their parent's place.
     AloneIfExclusive,
 }
 
@@ -126,7 +126,7 @@ impl Round {
 
 /// The threads, children and outcomes of a run, with room for all.
 ///
-/// Each of `threads` waits for a child, but the last, which runs. `children` were given away and have not begun.
+/// Each of `threads` but the last waits for a child, and the last runs. `children` were given away and have not begun.
 /// `outcomes` has the outcome that must be joined next.
 #[derive(Drop)]
 struct Family<'p> {
@@ -170,7 +170,7 @@ fn place<'p>(thread: &mut Thread<'p>, child: Thread<'p>, round: &mut Round) -> b
     }
 }
 
-/// Runs a thread to its next pause. A forked child is handed back to it immediately.
+/// Runs a thread to its next pause. A forked child is handed back to the thread immediately.
 fn go_on_in_place(thread: &mut Thread, round: &mut Round) -> bool {
     if round.budget == 0 || thread.pending().is_some() {
         return false;

@@ -56,7 +56,7 @@ impl Memory {
         self.give_back(MANY);
     }
 
-    /// Takes what was given back, unless the last call was refused.
+    /// Takes the memory that was given back, unless the last call was refused.
     pub(super) fn begin_call(&mut self) -> Option<()> {
         if self.lately {
             self.lately = false;
@@ -65,7 +65,7 @@ impl Memory {
         self.take_again()
     }
 
-    /// Takes what was given back.
+    /// Takes the memory that was given back.
     pub(super) fn take_again(&mut self) -> Option<()> {
         if let Some(hoard) = &mut self.hoard {
             hoard.take_again().ok()?;

@@ -1,6 +1,7 @@
 //! Test of two kernel threads that contend for two locks.
 //!
-//! It is proved that the histories are lawful; the test compares them with the grants that the threads saw.
+//! Proofs show that the histories of locks are lawful. The test compares the histories with the grants that the threads
+//! saw.
 ghost use Rattle.std.specs.Prelude.{◌<◌, IfSome, length};
 ghost use Rattle.arachne_sleep.specs.SleepLocks.{AreSeatsOf};
 
@@ -23,10 +24,10 @@ fn poll(polls_left: &mut u64) -> Option<()> {
     Some(())
 }
 
-/// The places of a thread's grants in the histories of the first lock and of the second, in turn.
+/// The indexes of a thread's grants in the histories of the first lock and of the second, in turn.
 type Places = Option<Vec<usize>>;
 
-/// Returns room for the places of a thread's grants. Tries once more if memory is refused.
+/// Returns room for the indexes of a thread's grants. Tries once more if memory is refused.
 fn room(alloc: Global) -> Places {
     match Vec::with_capacity(alloc, 2 * ROUNDS) {
         Ok(places) => Some(places),
@@ -34,7 +35,8 @@ fn room(alloc: Global) -> Places {
     }
 }
 
-/// Returns whether every other place, from the first on, is that of a grant to the thread, in ascending order.
+/// Returns whether every other index of the list, from the first on, is that of a grant to the thread, and these
+/// ascend.
 fn are_grants_in_order(history: &[LockEvent], who: Who, places: &[usize]) -> bool {
     let mut least = 0usize;
     for &at in places.iter().step_by(2) {
@@ -46,7 +48,7 @@ fn are_grants_in_order(history: &[LockEvent], who: Who, places: &[usize]) -> boo
     true
 }
 
-/// Asks for a lock, and polls until the thread holds it. Returns the place of its grant.
+/// Asks for a lock, and polls until the thread holds it. Returns the index of the thread's grant in the history.
 fn enter_one(
     locks: &SleepLocks,
     seats: &mut LockSeats,
@@ -95,7 +97,7 @@ fn leave_one(
     None
 }
 
-/// Holds each of two locks in turn, `ROUNDS` times each. Returns the places of the grants.
+/// Holds each of two locks in turn, `ROUNDS` times each. Returns the indexes of the grants.
 fn hold_each(alloc: Global, locks: &SleepLocks, seats: &mut LockSeats, who: Who) -> Places
     requires own { AreSeatsOf locks.now seats.old }
     requires two { 1 < length locks.now }
@@ -127,7 +129,7 @@ fn work_on_each(
     (seats, places)
 }
 
-/// Lets A and B contend for two locks. Returns the joined seats, and the places of A's grants and of B's.
+/// Lets A and B contend for two locks. Returns the joined seats, and the indexes of A's grants and of B's.
 fn contend_for_each<R: Threads + Sync>(
     rt: &R,
     alloc: Global,
@@ -147,7 +149,7 @@ fn contend_for_each<R: Threads + Sync>(
     Some((locks.join_seats(own, theirs), of_a, of_b))
 }
 
-/// Returns whether the histories of two locks have a thread's grants at these places, `ROUNDS` in each.
+/// Returns whether the histories of two locks have a thread's grants at these indexes, `ROUNDS` in each.
 fn tell_of(first: &[LockEvent], second: &[LockEvent], who: Who, places: &[usize]) -> bool {
     places.len() == 2 * ROUNDS
         && are_grants_in_order(first, who, places)

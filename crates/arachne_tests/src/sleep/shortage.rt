@@ -1,4 +1,4 @@
-//! Tests of a lock without memory for those who ask for it: it stays as it was, and they ask again.
+//! Tests of a lock for whose asks memory is refused: the lock stays as it was, and the threads ask again.
 ghost use Rattle.std.specs.Prelude.{IfOk};
 ghost use Rattle.arachne_sleep.specs.Views.{IsSeatOf, IsWhole};
 
@@ -48,7 +48,7 @@ fn asks_at_last(lock: &mut LockState, tag: u64, hoard: &mut Hoard) -> Option<u64
     None
 }
 
-/// Frees the lock of a thread of the crowd. Returns whether the thread had it, and the one after it is next.
+/// Frees the lock of a thread of the crowd. Returns whether the thread had the lock, and the thread after it is next.
 fn leaves(lock: &mut LockState, tag: u64) -> bool {
     let due = tag.wrapping_add(1);
     let next = if due < CROWD {
@@ -60,7 +60,7 @@ fn leaves(lock: &mut LockState, tag: u64) -> bool {
         && matches!(lock.free(thread(tag, 0)), Ok(freed) if freed.next == next)
 }
 
-/// Lets the crowd ask without memory, and then free the lock in turn, which needs none.
+/// Lets the crowd ask without memory, and then free the lock in turn, which needs no memory.
 ///
 /// Returns the number of refused asks.
 fn comes_and_leaves(lock: &mut LockState, hoard: &mut Hoard) -> Option<u64> {
@@ -116,7 +116,8 @@ fn all_ask(lock: &SleepLock, seat: &mut LockSeat, hoard: &mut Hoard) -> Option<u
     None
 }
 
-/// Frees a shared lock of the first thread of the crowd. Returns whether it had it, and the second is next.
+/// Frees a shared lock of the first thread of the crowd. Returns whether that thread had the lock, and the second
+/// thread is next.
 fn first_leaves(lock: &SleepLock, seat: &mut LockSeat) -> bool
     requires { IsSeatOf lock.now seat.old }
     ensures { IsSeatOf lock.now seat.new }
@@ -141,7 +142,7 @@ fn make(alloc: Global) -> Result<(SleepLock, LockSeat), AllocError>
     }
 }
 
-/// Splits a lock's seat, joins it again and closes the lock. Returns its history.
+/// Splits a lock's seat, joins it again and closes the lock. Returns the lock's history.
 fn closed(lock: SleepLock, seat: LockSeat) -> Option<History>
     requires own { IsSeatOf lock seat }
 {
@@ -168,7 +169,7 @@ fn refusals(alloc: Global, lock: &SleepLock, seat: &mut LockSeat) -> Option<u64>
     refused
 }
 
-/// Returns the same, and the length of the history.
+/// Returns the number of refusals for the crowd, and the length of the lock's history.
 fn wanted(alloc: Global) -> Option<(u64, usize)> {
     let (lock, mut seat) = make(alloc).ok()?;
     let refused = refusals(alloc, &lock, &mut seat)?;

@@ -1,17 +1,18 @@
 //! The proved core: each call of a handle is one of `libarachne_exec_c.a`, as `arachne_exec.h` declares it.
 //!
-//! The rules on which the proofs reach a program, and what keeps each:
+//! The proofs hold for a program if these rules are kept. Each rule says what keeps it:
 //!
 //! - *A handle is null at first, only the library writes its pointer, and it is never copied*: `Handle` is made by
 //!   `Handle::empty`, moved and never cloned.
-//! - *One thread at a time uses a handle*: no call of the library calls back, and a type that has one is `Send` and not
-//!   `Sync`, except `Crew`. A worker that takes a job out of another's hand gets the job's handle with it (`hand.rs`).
-//! - *Two handles in one call have one origin*: `Root` splits and joins only its own.
+//! - *One thread at a time uses a handle*: no call of the library calls back, and a type that has a handle is `Send`
+//!   and not `Sync`, except `Crew`. A worker that takes a job out of another's hand gets the job's handle with it
+//!   (`hand.rs`).
+//! - *Two handles in one call have one origin*: `Root` splits and joins only its own handles.
 //! - *Pointers are not null*: all are from references.
 //! - *The declarations agree with the archive*: `tests/header.rs` compares each code, field and signature.
-//! - *A task's pointer is made, used and freed once*: `task.rs`.
-//! - *Tables outlive wakers*: a runtime's table is never freed. A later runtime of its shape uses it again, and
-//!   generations go on.
+//! - *A task's pointer is made, used and freed once*: `task.rs` keeps this rule.
+//! - *Tables outlive wakers*: a runtime's table is never freed. A later runtime of the same shape uses the table again,
+//!   and its generations go on.
 //! - *An unpark is obeyed*: a worker sleeps in the epoll, whose event stays raised until a waiter has seen it, or on
 //!   its bell, which stays rung. The worker to wake is looked up after the call.
 //! - *No panic crosses a call of the library*: panics of tasks are caught, and a panic of a worker's loop aborts.
@@ -19,8 +20,8 @@
 //! - *`malloc`, `realloc` and `free` are of one allocator*: the C library's; a program that replaces one must replace
 //!   all three.
 //!
-//! A handle, called a seat here, has at most one job in hand, so a thread has several. The seat goes with its job: a
-//! thread that steals a job uses its seat until it lays the job down.
+//! A handle, called a seat here, has at most one job in hand, so a thread has several seats. A seat goes with its job:
+//! a thread that steals a job uses the job's seat until it lays the job down.
 
 use super::{Asked, Freed, Job, Line, Rested, Spawned, Woken, BLOCK, MOST_SHARDS, NUMBERS};
 use crate::cores::{Advice, Sample};
@@ -29,7 +30,7 @@ use crate::sync::{Arc, Mutex};
 use std::cell::{Cell, RefCell, UnsafeCell};
 use std::ptr;
 
-/// Declarations as in the header. `tests/header.rs` compares them with it.
+/// The declarations of the header `arachne_exec.h`, with which `tests/header.rs` compares them.
 #[path = "declarations.rs"]
 #[allow(non_camel_case_types, dead_code)]
 mod declarations;
@@ -94,9 +95,10 @@ unsafe impl Sync for Crew {}
 pub(crate) struct Hands {
     crew: Arc<Crew>,
     me: usize,
-    /// Its seats with nothing in hand, as bits.
+    /// The seats with nothing in hand, as bits.
     free: Cell<u64>,
-    /// By seat, the index in a block at which its next take starts: the library goes round a block by seat.
+    /// For each seat, the index in a block at which its next take starts: the library keeps such an index per seat, not
+    /// per thread.
     from: Vec<Cell<u32>>,
     /// The seat that is used for sweeps over blocks.
     sweeps: Cell<usize>,
@@ -138,7 +140,7 @@ impl Root {
         }
     }
 
-    /// Makes the right to park this number. Returns None if memory is refused.
+    /// Makes the right to park as the worker of this number. Returns None if memory is refused.
     pub(crate) fn parking(&mut self, number: usize) -> Option<Parking> {
         let seat = self.0.split()?;
         // SAFETY: a handle.
@@ -148,10 +150,11 @@ impl Root {
 }
 
 impl Parking {
-    /// Asks the core for leave to sleep. If it returns true, the idle bit is set, and every summary word was found
+    /// Asks the core for leave to sleep. If the result is true, the idle bit is set, and every summary word was found
     /// empty after that.
     ///
-    /// It calls `next`, which also hides empty blocks. If that takes a job, the job is made ready again.
+    /// The call is one of the core's `next`, which also hides empty blocks. If `next` takes a job, the job is made
+    /// ready again.
     pub(crate) fn park(&self) -> bool {
         // SAFETY: a handle.
         let told = unsafe { arachne_exec_next(self.0.at()) };
@@ -212,7 +215,7 @@ impl Hands {
         self.crew.seats[self.me * self.crew.each].at()
     }
 
-    /// Records that this thread has taken a job out of another's hand, and its seat with it.
+    /// Records that this thread has stolen a job from another's hand. The seat by which the job was taken comes along.
     ///
     /// Returns false if the job must be made ready at once, so that the owner of the seat keeps enough seats.
     pub(crate) fn gets(&self, job: &Job, of: usize) -> bool {
@@ -252,11 +255,12 @@ impl Hands {
         }
     }
 
-    /// Begins a job that was kept in hand. Does nothing in this form.
+    /// Begins a job that was kept in hand. Does nothing in this form of the core.
     #[inline]
     pub(crate) fn begin(&self, _job: &Job) {}
 
-    /// Takes one ready job of a block. If no other thread takes at the time, None means that there is none.
+    /// Takes one ready job of a block. None means that the block has no ready job, unless another thread takes a job at
+    /// the same time.
     #[inline]
     pub(crate) fn take_any(&self, block: usize) -> Option<Job> {
         self.take(self.last_free()?, block)
@@ -264,9 +268,10 @@ impl Hands {
 
     /// Takes the next job of a sweep over the places `wanted` of a block, as bits.
     ///
-    /// A job that has become ready since may come before them. A place is wanted until the sweep has passed it, so that
-    /// a job which is ready again and again keeps no other waiting. The sweep uses one seat as long as that is free:
-    /// the library goes round a block by seat, so several seats would follow one another over the same jobs.
+    /// A job that has become ready since the sweep of the block began may come before the wanted ones. A place is
+    /// wanted until the sweep has passed it, so that a job which is ready again and again keeps no other waiting. The
+    /// sweep uses one seat as long as that seat is free: in the library each seat goes round a block by itself, so
+    /// several seats would follow one another over the same jobs.
     #[inline]
     pub(crate) fn take_next(&self, block: usize, wanted: &mut u64) -> Option<Job> {
         let seat = self.sweeping()?;
@@ -324,7 +329,7 @@ impl Hands {
         member.away.fetch_sub(1, Relaxed);
     }
 
-    /// Returns its seats with nothing in hand; if there are none, collects those that other threads have given back.
+    /// Returns the seats with nothing in hand; if there are none, collects those that other threads have given back.
     #[inline]
     fn free(&self) -> u64 {
         match self.free.get() {
@@ -386,7 +391,7 @@ impl Hands {
         }
     }
 
-    /// Ends a job in hand. Its place is free, and its name is never used again.
+    /// Ends a job in hand. The job's place is free then, and its name is never used again.
     #[inline]
     pub(crate) fn finish(&self, job: &Job) {
         // SAFETY: a handle.
@@ -397,7 +402,7 @@ impl Hands {
         self.is_free(job.seat);
     }
 
-    /// Wakes the job of this name. If it waited, `keep` takes it into this thread's hand.
+    /// Wakes the job of this name. If the job waited and `keep` is true, takes it into this thread's hand.
     #[inline]
     pub(crate) fn wake(&self, name: u64, keep: bool) -> Woken {
         let own = if keep { self.last_free() } else { None };
@@ -458,7 +463,7 @@ struct Sets {
 
 static SETS: Mutex<Option<Sets>> = Mutex::new(None);
 
-/// This thread's seats, by set.
+/// This thread's seats for locks, by set of locks.
 struct LockSeats(Vec<Option<LockHandle>>);
 
 thread_local! {
@@ -488,7 +493,7 @@ fn split_locks(set: usize) -> LockHandle {
     other
 }
 
-/// Returns an odd number that no other call returns, as a name to ask for a lock in.
+/// Returns an odd number that no other call returns, to be the name in which a lock is asked for.
 fn odd_number() -> u64 {
     static NEXT: AtomicU64 = AtomicU64::new(0);
     ASKED.with(|asked| {
@@ -504,7 +509,7 @@ fn odd_number() -> u64 {
 pub(crate) struct LockCore {
     set: usize,
     lock: usize,
-    /// The lock is probably held: then `try_ask` fails without a call of the core.
+    /// True if the lock is probably held: then `try_ask` fails without a call of the core.
     held: AtomicBool,
 }
 
@@ -553,7 +558,7 @@ impl LockCore {
         called.unwrap_or_else(|_| call(split_locks(self.set).0.get()))
     }
 
-    /// Repeats a call while another thread's call is in progress.
+    /// Repeats a call of the core as long as it fails because another thread's call is in progress.
     #[inline]
     fn insist(&self, call: impl Fn(*mut arachne_locks) -> arachne_lock_told) -> arachne_lock_told {
         loop {
@@ -565,7 +570,7 @@ impl LockCore {
         }
     }
 
-    /// Takes the lock if it is free. Returns the name in which it is held.
+    /// Takes the lock if it is free. Returns the name in which the lock is held.
     #[inline]
     pub(crate) fn try_ask(&self) -> Option<u64> {
         if self.held.load(Relaxed) {
@@ -592,7 +597,7 @@ impl LockCore {
         }
     }
 
-    /// Frees the lock, held in this name.
+    /// Frees the lock, which is held in the name `who`.
     #[inline]
     pub(crate) fn free(&self, who: u64) -> Freed {
         // SAFETY: a handle.
@@ -607,7 +612,7 @@ impl LockCore {
         }
     }
 
-    /// Removes a waiter from the line. Returns false if it holds the lock by now.
+    /// Removes a waiter from the line. Returns false if the waiter holds the lock by now.
     pub(crate) fn withdraw(&self, who: u64) -> bool {
         // SAFETY: a handle.
         let told = self.insist(|seat| unsafe { arachne_lock_withdraw(seat, self.lock, who) });

@@ -1,4 +1,4 @@
-//! The executor's core, behind one interface in two forms: which handle has a task in hand, which tasks are ready, and
+//! The executor's core, behind one interface in two forms: which seat has a task in hand, which tasks are ready, and
 //! which workers may sleep.
 //!
 //! By default each call is one of the proved library `libarachne_exec_c.a` (`library.rs`). With the feature `model` the
@@ -23,7 +23,7 @@ pub(crate) use library::{Estimator, Hands, LockCore, Parking, Root};
 #[derive(Default)]
 pub(crate) struct Line<T>(pub(crate) T);
 
-/// Places of a block, and blocks of a shard; few for the explorer, whose schedules count each step.
+/// The places of a block, and the blocks of a shard; few for the explorer (a test), whose schedules count each step.
 pub(crate) const BLOCK: usize = if cfg!(feature = "explore") { 2 } else { 64 };
 pub(crate) const SHARD: usize = if cfg!(feature = "explore") { 2 } else { 64 };
 /// The number of different shard numbers, and the most workers.
@@ -38,7 +38,7 @@ pub(crate) const MOST_SHARDS: usize = (1 << PLACE_BITS) / (BLOCK * SHARD);
 pub(crate) struct Job {
     pub(crate) name: u64,
     pub(crate) job: u64,
-    /// The seat that has it: see `library.rs`.
+    /// The seat that has the job in hand; see `library.rs`.
     pub(crate) seat: u16,
 }
 
@@ -57,9 +57,9 @@ pub(crate) fn place_of(name: u64) -> usize {
 /// The result of spawning a job.
 #[derive(Clone, Copy, PartialEq, Eq, Debug)]
 pub(crate) enum Spawned {
-    /// It is ready in its block. If `unpark`, the caller must wake the worker of its shard.
+    /// The job is ready in its block. If `unpark`, the caller must wake the worker of its shard.
     Ready { name: u64, unpark: bool },
-    /// It is in a seat's hand.
+    /// The job is in a seat's hand.
     Kept(Job),
     /// No place of the block is free. The caller keeps the job.
     Full,
@@ -68,12 +68,12 @@ pub(crate) enum Spawned {
 /// The result of laying down a job that has not ended.
 #[derive(Clone, Copy, PartialEq, Eq, Debug)]
 pub(crate) enum Rested {
-    /// It waits for a wake.
+    /// The job waits for a wake.
     Blocked,
-    /// It was woken while it ran, and stays in the seat's hand.
+    /// The job was woken while it ran, and stays in the seat's hand.
     #[cfg_attr(not(feature = "model"), allow(dead_code))]
     InHand,
-    /// It was woken while it ran, and is ready. If `unpark`, the caller must wake the worker of its shard.
+    /// The job was woken while it ran, and is ready. If `unpark`, the caller must wake the worker of its shard.
     #[cfg_attr(feature = "model", allow(dead_code))]
     Ready { unpark: bool },
 }
@@ -102,6 +102,6 @@ pub(crate) enum Asked {
 #[derive(Clone, Copy, PartialEq, Eq, Debug)]
 pub(crate) enum Freed {
     Free,
-    /// The waiter of this name holds it now; the caller must wake it.
+    /// The waiter of this name holds the lock now; the caller must wake it.
     HandedOn(u64),
 }

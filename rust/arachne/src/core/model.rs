@@ -48,7 +48,7 @@ impl Table {
     /// Returns the slot of a place.
     ///
     /// # Safety
-    /// It may only be accessed while the caller's seat has the place in hand.
+    /// The slot may only be accessed while the caller's seat has the place in hand.
     #[inline]
     unsafe fn slot(&self, place: usize) -> *mut u64 {
         self.blocks[place / BLOCK].slots[place % BLOCK].get()
@@ -56,8 +56,8 @@ impl Table {
 
     /// Makes the job of a place ready. Returns true if the caller must wake the worker of its shard.
     ///
-    /// If the ready word had a bit already, the thread that set its first one does the rest. The order closes the race
-    /// with `park`: the ready bit, then the summary bit, then a look at the idle bit.
+    /// If the ready word had a bit already, the thread that set the word's first bit does the rest. The order closes
+    /// the race with `park`: the ready bit, then the summary bit, then a look at the idle bit.
     #[inline]
     fn publish(&self, place: usize) -> bool {
         let block = place / BLOCK;
@@ -97,14 +97,14 @@ impl Table {
 /// A runtime's table, from which threads get their seats.
 pub(crate) struct Root(Arc<Table>);
 
-/// A thread's access to a table. It may move to another thread, and is used by one at a time.
+/// A thread's access to a table. The value may move to another thread, and is used by one thread at a time.
 pub(crate) struct Hands {
     table: Arc<Table>,
-    /// Makes it not `Sync`.
+    /// Makes `Hands` not `Sync`.
     _one_thread: Cell<()>,
 }
 
-/// The right to park the shards of one number.
+/// The right to park the shards of one worker number.
 pub(crate) struct Parking {
     table: Arc<Table>,
     number: usize,
@@ -130,7 +130,7 @@ impl Root {
         })))
     }
 
-    /// Makes the access of `threads` threads.
+    /// Returns the access (`Hands`) of each of `threads` threads.
     pub(crate) fn crew(&mut self, threads: usize, _most: usize) -> Option<Vec<Hands>> {
         Some((0..threads).map(|_| Hands { table: self.0.clone(), _one_thread: Cell::new(()) }).collect())
     }
@@ -146,9 +146,11 @@ impl Root {
 }
 
 impl Parking {
-    /// Sets the number's idle bit, and then looks at all its ready words. Returns true if they were empty.
+    /// Sets the idle bit of this worker number, and then looks at all ready words of its shards. Returns true if all
+    /// these words were empty.
     ///
-    /// In this order: a thread that publishes sets its ready bit before it looks at the idle bit.
+    /// The order of the two steps matters: a thread that publishes a job sets its ready bit before it looks at the idle
+    /// bit.
     pub(crate) fn park(&self) -> bool {
         let table = &*self.table;
         table.idle.0.fetch_or(1 << self.number, SeqCst);
@@ -199,7 +201,8 @@ impl Hands {
         }
     }
 
-    /// Records that this thread has taken a job out of another's hand. Always returns true in this form.
+    /// Records that this thread has taken a job out of another thread's hand. Always returns true in this form of the
+    /// core.
     #[inline]
     pub(crate) fn gets(&self, _job: &Job, _of: usize) -> bool {
         true
@@ -215,7 +218,8 @@ impl Hands {
         }
     }
 
-    /// Takes one ready job of a block. If no other thread takes at the time, None means that there is none.
+    /// Takes one ready job of a block. None means that the block has no ready job, unless another thread takes a job at
+    /// the same time.
     pub(crate) fn take_any(&self, block: usize) -> Option<Job> {
         let mut any = self.ready(block);
         self.take_next(block, &mut any)
@@ -256,7 +260,8 @@ impl Hands {
         self.table.summary[shard].0.load(SeqCst)
     }
 
-    /// Hides an empty block, unless it has jobs by now. Returns false, as nothing is left to hide.
+    /// Hides an empty block, unless it has jobs by now. Always returns false in this form of the core: nothing is left
+    /// to hide.
     pub(crate) fn hide(&self, block: usize) -> bool {
         self.table.hide(block);
         false
@@ -285,7 +290,7 @@ impl Hands {
         Rested::InHand
     }
 
-    /// Ends a job in hand. Its place is free, and its name is never used again.
+    /// Ends a job in hand. The job's place is free then, and its name is never used again.
     #[inline]
     pub(crate) fn finish(&self, job: &Job) {
         let next = (job.name >> PLACE_BITS) + 1;
@@ -295,7 +300,7 @@ impl Hands {
         }
     }
 
-    /// Wakes the job of this name. If it waited, `keep` takes it into this thread's hand.
+    /// Wakes the job of this name. If the job waited and `keep` is true, takes it into this thread's hand.
     #[inline]
     pub(crate) fn wake(&self, name: u64, keep: bool) -> Woken {
         let (place, generation) = (place_of(name), name >> PLACE_BITS);
@@ -338,7 +343,7 @@ pub(crate) struct LockCore {
 }
 
 impl LockCore {
-    /// Takes the lock if it is free. Returns the name in which it is held.
+    /// Takes the lock if it is free. Returns the name in which the lock is held.
     #[inline]
     pub(crate) fn try_ask(&self) -> Option<u64> {
         self.state.compare_exchange(FREE, HELD, SeqCst, SeqCst).is_ok().then_some(1)
@@ -373,7 +378,7 @@ impl LockCore {
         next.map_or(Freed::Free, Freed::HandedOn)
     }
 
-    /// Removes a waiter from the line. Returns false if it holds the lock by now.
+    /// Removes a waiter from the line. Returns false if the waiter holds the lock by now.
     pub(crate) fn withdraw(&self, who: u64) -> bool {
         let mut line = self.line.lock().unwrap();
         let found = line.iter().position(|&w| w == who);
@@ -396,12 +401,13 @@ impl LockCore {
     }
 }
 
-/// A stand-in for the proved estimator. Like that one it keeps the use at which each core was added, but nothing else.
+/// A stand-in for the proved estimator. Like the proved one it keeps the use at which each core was added, but nothing
+/// else.
 pub(crate) struct Estimator {
     load: u64,
     hysteresis: u64,
     most: u64,
-    /// By number of cores, the use (thousandths of a core) when that many were last asked for.
+    /// For each number of cores, the use (in thousandths of a core) at which that many were last asked for.
     used: Vec<u64>,
 }
 

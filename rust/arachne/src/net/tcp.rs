@@ -26,9 +26,10 @@ use std::os::unix::io::{AsRawFd, FromRawFd};
 pub struct TcpListener(pub(super) Source<std::net::TcpListener>);
 
 impl TcpListener {
-    /// Listens at the first of these addresses that is free. Unlike tokio's it isn't `async`.
+    /// Listens at the first of these addresses that is free. Unlike tokio's `bind`, this one isn't `async`.
     ///
-    /// Its backlog is 4,096, or the system's `somaxconn` if that is less; that of `from_std` is unchanged.
+    /// The listener's backlog is 4,096, or the system's `somaxconn` if that is less. A listener of `from_std` keeps its
+    /// backlog.
     ///
     /// ```
     /// let listener = arachne::net::TcpListener::bind("127.0.0.1:0").unwrap();
@@ -40,15 +41,15 @@ impl TcpListener {
         TcpListener::from_std(listener)
     }
 
-    /// Returns the address at which it listens; see the example at `bind`.
+    /// Returns the address at which the socket listens; see the example at `bind`.
     pub fn local_addr(&self) -> io::Result<SocketAddr> {
         self.0.socket.local_addr()
     }
 
-    /// Waits for a connection. Returns it with the other side's address.
+    /// Waits for a connection. Returns the connection with the other side's address.
     ///
-    /// Fails once the runtime's end has begun and all who had connected are accepted; `is_stopping` is true then. See
-    /// the example at `TcpListener`.
+    /// Fails once the runtime's end has begun and all connections that had arrived are accepted; `is_stopping` is true
+    /// then. See the example at `TcpListener`.
     pub async fn accept(&self) -> io::Result<(TcpStream, SocketAddr)> {
         let (stream, from) = accept(&self.0, |listener| listener.accept()).await?;
         Ok((TcpStream::from_std(stream)?, from))

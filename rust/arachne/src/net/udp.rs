@@ -6,7 +6,7 @@ use std::net::{SocketAddr, ToSocketAddrs};
 
 /// A socket that sends and receives datagrams. Each call takes `&self`.
 ///
-/// It has few of std's options; set the others before `from_std`.
+/// The type has few of std's options; set the others before `from_std`.
 ///
 /// ```
 /// use arachne::net::UdpSocket;
@@ -24,7 +24,8 @@ use std::net::{SocketAddr, ToSocketAddrs};
 pub struct UdpSocket(pub(super) Source<std::net::UdpSocket>);
 
 impl UdpSocket {
-    /// Returns a socket bound to the first of these addresses that is free. Unlike tokio's it isn't `async`.
+    /// Returns a socket bound to the first of these addresses that is free. Unlike tokio's `bind`, this one isn't
+    /// `async`.
     ///
     /// ```
     /// let socket = arachne::net::UdpSocket::bind("127.0.0.1:0").unwrap();
@@ -34,7 +35,7 @@ impl UdpSocket {
         UdpSocket::from_std(std::net::UdpSocket::bind(at)?)
     }
 
-    /// Sets the address to which `send` sends, and from which `recv` receives. It isn't `async`.
+    /// Sets the address to which `send` sends, and from which `recv` receives. The call isn't `async`.
     ///
     /// A host name is looked up on this thread, which blocks it.
     ///
@@ -76,19 +77,21 @@ impl UdpSocket {
         self.0.wait::<false, _>(0, send, |_| 0).await
     }
 
-    /// Sends a datagram to the address of `connect`, once there is room. Returns its length; see the example there.
+    /// Sends a datagram to the address of `connect`, once there is room. Returns the length of the datagram; see the
+    /// example at `connect`.
     pub async fn send(&self, bytes: &[u8]) -> io::Result<usize> {
         self.write(|socket| socket.send(bytes)).await
     }
 
-    /// Waits for a datagram from the address of `connect`. Returns its length; see the example there.
+    /// Waits for a datagram from the address of `connect`. Returns the length of the datagram; see the example at
+    /// `connect`.
     ///
     /// Bytes beyond the buffer are lost.
     pub async fn recv(&self, buffer: &mut [u8]) -> io::Result<usize> {
         self.read(|socket| socket.recv(buffer)).await
     }
 
-    /// Sends a datagram to the first of these addresses, once there is room. Returns its length.
+    /// Sends a datagram to the first of these addresses, once there is room. Returns the length of the datagram.
     ///
     /// A host name is looked up on this thread, which blocks it. See the example at `UdpSocket`.
     pub async fn send_to(&self, bytes: &[u8], to: impl ToSocketAddrs) -> io::Result<usize> {
@@ -97,7 +100,7 @@ impl UdpSocket {
         self.write(|socket| socket.send_to(bytes, to)).await
     }
 
-    /// Waits for a datagram. Returns its length, and the address of the sender.
+    /// Waits for a datagram. Returns the length of the datagram, and the address of the sender.
     ///
     /// Bytes beyond the buffer are lost. See the example at `UdpSocket`.
     pub async fn recv_from(&self, buffer: &mut [u8]) -> io::Result<(usize, SocketAddr)> {

@@ -29,9 +29,10 @@ use std::time::Duration;
 pub struct UnixListener(pub(super) Source<net::UnixListener>);
 
 impl UnixListener {
-    /// Listens at `path`, which must not exist; it stays when the listener is dropped. Unlike tokio's it isn't `async`.
+    /// Listens at `path`, which must not exist; the path stays when the listener is dropped. Unlike tokio's `bind`,
+    /// this one isn't `async`.
     ///
-    /// Its backlog is 4,096, or the system's `somaxconn` if that is less.
+    /// The listener's backlog is 4,096, or the system's `somaxconn` if that is less.
     ///
     /// ```
     /// # fn main() -> std::io::Result<()> {
@@ -47,15 +48,15 @@ impl UnixListener {
         UnixListener::from_std(listener)
     }
 
-    /// Returns the address at which it listens; see the example at `bind`.
+    /// Returns the address at which the socket listens; see the example at `bind`.
     pub fn local_addr(&self) -> io::Result<SocketAddr> {
         self.0.socket.local_addr()
     }
 
-    /// Waits for a connection. Returns it with the other side's address.
+    /// Waits for a connection. Returns the connection with the other side's address.
     ///
-    /// Fails once the runtime's end has begun and all who had connected are accepted; `is_stopping` is true then. See
-    /// the example at `UnixListener`.
+    /// Fails once the runtime's end has begun and all connections that had arrived are accepted; `is_stopping` is true
+    /// then. See the example at `UnixListener`.
     pub async fn accept(&self) -> io::Result<(UnixStream, SocketAddr)> {
         let (stream, from) = accept(&self.0, |listener| listener.accept()).await?;
         Ok((UnixStream::from_std(stream)?, from))
@@ -79,7 +80,7 @@ impl UnixListener {
 pub struct UnixStream(pub(super) Source<net::UnixStream>);
 
 impl UnixStream {
-    /// Connects to the listener at `path`. While its backlog is full, tries again each millisecond.
+    /// Connects to the listener at `path`. While the listener's backlog is full, tries again each millisecond.
     ///
     /// ```
     /// # fn main() -> std::io::Result<()> {

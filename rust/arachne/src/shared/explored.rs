@@ -14,7 +14,7 @@ pub fn forget_thread() {
     crate::block_on::forget_parker();
 }
 
-/// Frees the state of all runtimes. Each must have ended, and no waker may be left.
+/// Frees the state of all runtimes. Each runtime must have ended, and no waker may be left.
 pub fn forget_runtimes() {
     let mut pool = POOL.lock().unwrap();
     let (made, ended) = std::mem::take(&mut *pool);

@@ -1,34 +1,54 @@
 //! How workers sleep: one waits in the epoll, a deputy polls it now and then, and the others wait for their bells.
 //!
-//! The deputy stands in while the worker of the epoll runs tasks or has no processor. It wakes after 1, 2, 4 .. ms,
-//! each millisecond while tasks run, and takes the other's place if that one is stuck in a poll. So the events of
-//! sockets are seen as long as one worker is in no long poll.
+//! The deputy stands in while the worker of the epoll runs tasks or has no processor. The deputy wakes after 1, 2, 4 ..
+//! ms, each millisecond while tasks run, and takes the place of the worker of the epoll if that worker is stuck in a
+//! poll. So the events of sockets are seen as long as one worker is in no long poll.
 //!
 //! **Beside a long poll.** While any worker is awake, the one in the epoll and the deputy look at the others, at most
-//! `LONG_REST` apart. If a worker is in the same poll at two looks, they take all jobs in its hand, the next one too,
-//! fire its timers, and take the ready jobs of its blocks. A worker that is woken again and again does the same once a
-//! millisecond, before it goes back to sleep (`looks_before_sleep`), and a busy worker does it as it looks out
-//! (`look_out`). So, as long as one worker is in no long poll, a ready job behind one begins within about 4 ms plus the
-//! delays of the machine. Once all sleep, nobody looks; the first worker that runs a job after a sleep wakes one that
-//! does (`goes_on`).
+//! `LONG_REST` apart. If a worker is in the same poll at two looks, the looking worker takes all jobs in its hand, the
+//! next one too, fires its timers, and takes the ready jobs of its blocks. A worker that is woken again and again does
+//! the same once a millisecond, before it goes back to sleep (`looks_before_sleep`), and a busy worker does it as it
+//! looks out (`look_out`). So, as long as one worker is in no long poll, a ready job behind one begins within about 4
+//! ms plus the delays of the machine. Once all workers sleep, nobody looks. The first worker that runs a job after a
+//! sleep wakes another, which looks again (`goes_on`).
+//!
+//! **Without a core.** While only the first worker has a core, the second one covers for it (`cover`): each millisecond
+//! it looks if the first gets on. If not, as it is in a long poll or has lost its processor, the second runs what
+//! waits, on any processor that it may use. Once nothing has run for a while it looks less and less often, and
+//! `goes_on` calls it.
 //!
 //! With the watcher, ready jobs also run if all workers are in long polls.
 
-use super::{Turn, LONG_POLL};
+use super::{Turn, FEW, LONG_POLL, LOOK_OUT};
 use crate::cores::Judge;
 use crate::hand::FIRST;
 use crate::reactor::Found;
 use crate::shared::{add, Context, Shared, NO_ONE};
 use crate::sync::atomic::{AtomicI32, Ordering::*};
-use crate::timer;
+use crate::timer::{self, now};
 
 /// Rounds in which an idle worker searches for work before it sleeps.
 const SPINS: usize = 4;
 /// The most milliseconds between two looks at the other workers while one of them is awake. A worker that looks after
 /// the others and sleeps for longer is woken once tasks run again.
 const LONG_REST: i32 = 2;
-/// The same while all workers sleep.
+/// The milliseconds between two looks at the other workers while all workers sleep: some 17 minutes, so that nobody
+/// looks.
 const FOR_EVER: i32 = 1 << 20;
+/// Nanoseconds between two looks of the worker that covers for the first: while tasks run, once it had one to run, at
+/// most while the first is awake, and at most while it sleeps.
+const COVER: u64 = 1_000_000;
+const COVER_SOON: u64 = 200_000;
+const COVER_LONG: u64 = 2_000_000;
+const COVER_MOST: u64 = 3_600_000_000_000;
+
+/// The reasons for which a wait of a worker without a core ends.
+pub(crate) enum Ends {
+    /// The caller must check if there is a core.
+    Core,
+    Call,
+    Time,
+}
 
 impl Shared {
     /// Searches for work at the other workers, and sleeps if there is none.
@@ -167,8 +187,9 @@ impl Shared {
 
     /// Sleeps as the deputy until it is woken, `timeout` is over, or there is something to do.
     ///
-    /// It has something to do if tasks of a stuck worker need it, if the epoll has events that its waiter doesn't take
-    /// for want of a processor, or if nobody waits in the epoll and a worker that is awake makes no progress.
+    /// The deputy has something to do if tasks of a stuck worker need it, or if nobody waits in the epoll and a worker
+    /// that is awake makes no progress. The deputy also has something to do if the epoll has events that the worker who
+    /// waits there doesn't take for want of a processor.
     fn stand_in(&self, context: &Context, turn: &mut Turn, timeout: i32) -> (Found, bool) {
         let bell = &context.worker.bell;
         let mut left = timeout;
@@ -240,10 +261,85 @@ impl Shared {
         (stands, waits)
     }
 
+    /// Waits for a core by `waits`, whose argument is the most nanoseconds. Meanwhile covers for the first worker, the
+    /// only one that has a core.
+    pub(crate) fn cover(&self, context: &Context, turn: &mut Turn, mut waits: impl FnMut(u64) -> Ends) {
+        let mut rests = COVER;
+        loop {
+            self.covers.0.store(rests, SeqCst);
+            // Written before the check: as the first wakes, it clears its sleeper bit and then reads this (`goes_on`).
+            if rests > COVER_LONG && self.sleepers.0.load(SeqCst) & 1 == 0 {
+                rests = COVER_LONG;
+                self.covers.0.store(rests, SeqCst);
+            }
+            rests = match waits(rests) {
+                Ends::Core => break,
+                Ends::Call => COVER,
+                Ends::Time => self.look_at_first(context, turn, rests),
+            };
+        }
+        self.covers.0.store(0, SeqCst);
+    }
+
+    /// Runs what the first worker leaves undone. Returns the nanoseconds until the next look.
+    fn look_at_first(&self, context: &Context, turn: &mut Turn, rested: u64) -> u64 {
+        let polls = self.workers[0].0.polls.load(Relaxed);
+        if std::mem::replace(&mut turn.seen[0], polls) != polls {
+            return COVER;
+        }
+        // Without a core of its own it runs where this worker would.
+        if self.arbiter.limit() != 0 && self.runs_what_waits(context, turn) {
+            return COVER_SOON;
+        }
+        (2 * rested).clamp(COVER, COVER_MOST)
+    }
+
+    /// Makes the worker that covers for the first look each millisecond again.
+    fn call_cover(&self) {
+        let gate = self.workers[1].0.given_back.0.lock().unwrap();
+        self.covers.0.store(COVER, SeqCst);
+        self.workers[1].0.given_back.1.notify_all();
+        drop(gate);
+        self.arbiter.call();
+    }
+
+    /// Runs the jobs of workers that make no progress, and those of the events that nobody has taken. Returns true if
+    /// there were any.
+    fn runs_what_waits(&self, context: &Context, turn: &mut Turn) -> bool {
+        // While it has jobs, others look after it too.
+        context.worker.away.store(false, SeqCst);
+        turn.pace(context, now());
+        let waits = self.look_after(context, turn).1;
+        let found = if self.reactor.is_used() { self.reactor.look(FEW) } else { Found::NOTHING };
+        self.hear(context, &found, FEW);
+        let others = |turn: &mut Turn| (0..self.workers.len()).any(|other| self.help(context, turn, other, FEW));
+        let mut ran = 0;
+        while ran < LOOK_OUT {
+            let job = match context.worker.hand.take(true) {
+                Some(job) => job,
+                None if waits && others(turn) => continue,
+                None => break,
+            };
+            if ran == 0 {
+                self.goes_on();
+            }
+            context.hands.begin(&job);
+            self.run(context, turn, job);
+            ran += 1;
+        }
+        self.lay_down(context, turn);
+        context.worker.away.store(true, SeqCst);
+        if self.next_timer(context.me) != u64::MAX {
+            // Its timers are the keeper's, which may be asleep.
+            self.ring(self.keeper(context.me));
+        }
+        ran != 0
+    }
+
     /// Returns for how many milliseconds a worker that looks after the others sleeps, and publishes them.
     ///
-    /// That is `least` while tasks run, and `times` as long after each look at which none has run; at most `LONG_REST`
-    /// while any worker is awake.
+    /// The sleep is `least` while tasks run, and `times` as long after each look at which no task has run; at most
+    /// `LONG_REST` while any worker is awake.
     fn rests_of(&self, me: usize, turn: &mut Turn, least: i32, times: i32, told: &AtomicI32) -> i32 {
         let polls = self.workers.iter().map(|worker| worker.0.polls.load(Relaxed)).sum();
         let longer = turn.rests.saturating_mul(times).clamp(least, FOR_EVER);
@@ -266,8 +362,12 @@ impl Shared {
     /// Wakes a worker that looks after this one, which has woken and has something to do that may take long.
     ///
     /// If nobody waits in the epoll and there is no deputy, any sleeper is woken to wait there. If those that look
-    /// after the others sleep for longer than `LONG_REST`, one of them is woken, to look more often again.
+    /// after the others sleep for longer than `LONG_REST`, one of them is woken, to look more often again; so is the
+    /// worker that covers for the first.
     pub(crate) fn goes_on(&self) {
+        if self.covers.0.load(SeqCst) > COVER_LONG {
+            self.call_cover();
+        }
         if self.sleepers.0.load(SeqCst) == 0 {
             return;
         }

@@ -1,4 +1,4 @@
-//! Connections: what is read of them before a decision, and what each message does.
+//! Connections: reads what has come on them before a decision, and does what each message asks for.
 
 use super::{Arbiter, Client, Thread};
 use crate::means::Means;
@@ -10,16 +10,16 @@ use std::io::{ErrorKind, Read};
 use std::os::unix::io::AsRawFd;
 use std::os::unix::net::UnixStream;
 
-/// The most connections: of all processes, so that there are descriptors for each (three for a client's, of the usual
-/// limit of 1,024), and of one process (those of 64 workers and a control connection, twice).
+/// The most connections of all processes, so that there are descriptors for each: a client's take three, of the usual
+/// limit of 1,024. The second number is for one process: twice the connections of 64 workers and a control connection.
 const CONNECTIONS: usize = 300;
 const OF_A_PROCESS: usize = 130;
-/// The most passes over the sockets before a decision, and what is read in each at most: messages of a connection, and
-/// new connections. So nobody who sends all of the time holds a decision up.
+/// The most passes over the sockets before a decision. In each pass at most this many messages of a connection, and
+/// this many new connections, are read. So nobody who sends all of the time delays a decision.
 const PASSES: usize = 4;
 const MESSAGES: usize = 4;
 const ACCEPTED: usize = 64;
-/// The most clients: their numbers in the library's state.
+/// The most clients. The library's state numbers them from 0 to 63.
 const CLIENTS: usize = 64;
 /// Users other than root and the daemon's own have the priorities from this one on, no reserved cores, and this many
 /// clients each.
@@ -39,15 +39,16 @@ pub(super) struct Connection {
     bytes: [u8; SIZE],
     len: usize,
     pub(super) role: Role,
-    /// It has ended, or was refused, and is dropped by the next `bury`.
+    /// True if the connection has ended or was refused. The next `bury` drops the connection.
     pub(super) gone: bool,
 }
 
 impl Arbiter {
-    /// Reads all that has come. Waits for at most `timeout` milliseconds until something does.
+    /// Reads all messages that have come. Waits for at most `timeout` milliseconds until one comes.
     ///
-    /// It goes on until nothing more has come, for at most four passes. If a request were decided on before the threads
-    /// are known that joined or waited before it was sent, cores would go to others, and be taken back at once.
+    /// The call goes on until nothing more has come, for at most four passes. Otherwise a request might be decided on
+    /// before the daemon reads that threads joined or waited, although they did so first. Then cores would go to
+    /// others, and be taken back at once.
     pub(super) fn hear(&mut self, timeout: i32) {
         let mut timeout = timeout;
         for _ in 0..PASSES {
@@ -58,7 +59,7 @@ impl Arbiter {
         }
     }
 
-    /// Reads what has come, a few messages of each connection. Returns false if nothing has within `timeout`
+    /// Reads what has come, a few messages of each connection. Returns false if nothing has come within `timeout`
     /// milliseconds.
     fn pass(&mut self, timeout: i32) -> bool {
         self.bury();

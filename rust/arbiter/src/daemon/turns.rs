@@ -1,27 +1,28 @@
-//! Turns: the core that is left over within a priority goes round.
+//! Turns: a core that is left over among the clients of a priority goes from one of them to the next.
 
 use super::{Arbiter, Client};
 use std::collections::BTreeMap;
 use std::time::{Duration, Instant};
 
-/// The most clients for which a core is looked for at a time: each that has no thread for one costs a decision.
+/// The most clients that are tried for a turn at a time: each that has no thread for the core costs a decision.
 const TRIED: usize = 8;
 
 pub(super) struct Turns {
     /// The time between two turns; zero if there are none.
     every: Duration,
     looked: Instant,
-    /// The number of turns, and of clients that had no thread for theirs.
+    /// The number of turns, and of times that a client had no thread for the core of its turn.
     pub(super) count: u64,
     current: Option<Turn>,
 }
 
-/// A core is going from one client to another of its priority.
+/// A turn that is going on: a core goes from one client to another of its priority.
 struct Turn {
     priority: u32,
     from: u32,
     to: u32,
-    /// By client of that priority, the cores that it will have: until then it asks for no more.
+    /// For each client of that priority, the number of cores that it will have after the turn. During the turn the
+    /// client asks for no more.
     most: BTreeMap<u32, u32>,
 }
 
@@ -32,8 +33,8 @@ impl Turns {
 }
 
 impl Arbiter {
-    /// Reports to the library how many cores a client asks for: in a turn of its priority, no more than it will have, or
-    /// than its reserve.
+    /// Reports to the library how many cores a client asks for. During a turn of the client's priority, the number
+    /// reported is at most what the client will have after the turn, or its reserve if that is more.
     pub(super) fn tell(&mut self, id: u32) {
         if let Some(client) = self.clients.get(&id) {
             let turn = self.turns.current.as_ref().filter(|turn| turn.priority == client.priority);
@@ -55,8 +56,8 @@ impl Arbiter {
         may.then_some(*looked + *every)
     }
 
-    /// Decides how many cores each client is allowed. A turn is over if a client of its priority is allowed less than it
-    /// was to have after it: others, which ask for less meanwhile, may want what that leaves.
+    /// Decides how many cores each client is allowed. The turn ends if a client of its priority is allowed fewer than
+    /// the turn would give it: other clients, which ask for fewer during the turn, may want those cores.
     pub(super) fn decide(&mut self) {
         self.state.decide();
         let most = self.turns.current.as_ref().map_or(BTreeMap::new(), |turn| turn.most.clone());
@@ -66,7 +67,8 @@ impl Arbiter {
         }
     }
 
-    /// Begins a turn. Returns false if it is not yet time for one, or if no core can go round. All must be settled.
+    /// Begins a turn. Returns false if it is not yet time for a turn, or if no core can go from one client to another.
+    /// All earlier decisions must be carried out.
     pub(super) fn begin_turn(&mut self) -> bool {
         if !self.next_turn().map_or(false, |at| at <= Instant::now()) {
             return false;
@@ -88,8 +90,9 @@ impl Arbiter {
         false
     }
 
-    /// Returns the turn of the client that asks for more, while another of its priority has more than it and than its own
-    /// reserve, and has gone without for the longest; from the one that has had its core for the longest.
+    /// Returns the next turn. A turn moves a core between two clients of one priority: the taker asks for more; the
+    /// giver has more cores than the taker and than the giver's own reserve. Of such clients, the taker is the one that
+    /// has gone without a core for the longest, and the giver the one that has had its core for the longest.
     fn find_turn(&self) -> Option<Turn> {
         let alike = |priority| self.clients.iter().filter(move |(_, it)| it.priority == priority);
         let giver = |to: &Client| {
@@ -105,7 +108,7 @@ impl Arbiter {
         Some(Turn { priority: client.priority, from, to, most })
     }
 
-    /// Ends the turn if the core has changed hands. Returns false if not.
+    /// Ends the turn if the core has changed hands. Returns false if the turn goes on.
     pub(super) fn end_turn(&mut self) -> bool {
         let (from, to, most) = match &self.turns.current {
             Some(turn) => (turn.from, turn.to, turn.most[&turn.to]),

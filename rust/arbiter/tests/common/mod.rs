@@ -125,8 +125,9 @@ impl Drop for Daemon {
     }
 }
 
-/// Returns the command of a daemon: by cpusets, unless `words` say otherwise, if ARBITER_CPUSET names a folder. It knows
-/// nothing of the machine's host, which may take processors while a test runs, and of hyperthreads.
+/// Returns the command of a daemon: by cpusets, unless `words` say otherwise, if ARBITER_CPUSET names a folder. The
+/// daemon knows nothing of hyperthreads, and nothing of the machine's host, which may take processors while a test
+/// runs.
 pub fn run(path: &Path, words: &[&str]) -> Command {
     let mut command = Command::new(program());
     command.arg("run").arg(path).args(words).env("ARBITER_STAT", "/dev/null").env("ARBITER_TOPOLOGY", "/dev/null");
@@ -203,7 +204,7 @@ pub fn processors_of_process(process: &str) -> String {
     text.lines().find_map(|line| line.strip_prefix("Cpus_allowed_list:")).unwrap().trim().into()
 }
 
-/// Waits until something is so, which it is to become within `PATIENCE`.
+/// Waits until a condition holds, which it must do within `PATIENCE`.
 pub fn becomes(what: &str, is_so: impl Fn() -> bool) {
     let end = Instant::now() + PATIENCE;
     while !is_so() {

@@ -1,7 +1,9 @@
-//! A client of a Redis server that reports which connections wait: asks PORT CLIENTS IN-FLIGHT MILLISECONDS
-//! Two threads share the connections; each sends IN-FLIGHT SETs at once, and again once all are answered. It prints the
-//! time of such a round at 50, 99 and 99.9 per cent, the number of later rounds that overtook it, the stretches of time
-//! in which the slowest waited, and each connection's rounds and their times.
+//! A client of a Redis server that reports which connections wait: `asks PORT CLIENTS IN-FLIGHT MILLISECONDS`.
+//!
+//! Two threads share the connections. On each connection a round is IN-FLIGHT SETs, sent at once; the next round begins
+//! when all are answered. The program prints the time of a round at 50, 99 and 99.9 per cent, the number of later
+//! rounds that overtook it, and each connection's rounds and their times. The program also prints the stretches of time
+//! in which the slowest rounds waited.
 use std::thread;
 use std::time::{Duration, Instant};
 use tokio::io::{AsyncReadExt, AsyncWriteExt};
@@ -72,8 +74,8 @@ fn points(mut numbers: Vec<u64>) -> [u64; 4] {
     [0.5, 0.99, 0.999, 1.0].map(|part| numbers[((numbers.len() as f64 * part) as usize).min(last)])
 }
 
-/// The slowest rounds of a thousand, by the stretches of time in which one of them waited: how many of those there are,
-/// how long, and how many connections waited in one, by the middle and the most.
+/// Prints the stretches of time in which one of the slowest rounds (one in a thousand) waited: their number, the median
+/// of their lengths, and the median and the maximum of the numbers of connections that waited in one.
 fn stalls(rounds: &[Round]) {
     let times = points(rounds.iter().map(|r| r.answered - r.sent).collect());
     let mut slow: Vec<_> = rounds.iter().filter(|r| r.answered - r.sent >= times[2]).collect();

@@ -1,7 +1,8 @@
-//! A batch program, which computes for as long as it may: batch threads N on N kernel threads; batch arachne CORES
-//! [SOCKET PRIORITY] on a runtime with a policy, and with the arbiter at SOCKET. Each 10 ms it prints the time in
-//! milliseconds, how many units of work, of some 20 us, it has done, and on how many cores it is. It ends with its
-//! standard input.
+//! A batch program, which computes for as long as it may.
+//!
+//! `batch threads N` computes on N kernel threads; `batch arachne CORES [SOCKET PRIORITY]` on a runtime with a policy,
+//! and with the arbiter at SOCKET. Each 10 ms the program prints the time in milliseconds, how many units of work, of
+//! some 20 us each, it has done, and on how many cores it is. The program ends with its standard input.
 use std::sync::atomic::{AtomicU64, Ordering::Relaxed};
 use std::thread;
 use std::time::{Duration, SystemTime};

@@ -1,9 +1,13 @@
-//! An open-loop client of a server of Redis's protocol: due PORT CLIENTS RATE MILLISECONDS [PROCESSOR]
-//! Requests (SETs of 64 bytes) are due at random times, RATE a second on average, whether or not those before were
-//! answered; each goes to the next of CLIENTS connections. One kernel thread, which never sleeps, sends and receives.
-//! It prints how many were answered a second, and how long they took from when they were due, in us at 50, 99, 99.9 per
-//! cent and at most; by how much the client itself was late to send, at 99 and 99.9 per cent; and how often it lost its
-//! processor for more than 200 us. The first tenth of the time isn't counted.
+//! An open-loop client of a server of Redis's protocol: `due PORT CLIENTS RATE MILLISECONDS [PROCESSOR]`.
+//!
+//! Requests (SETs of 64 bytes) are due at random times, RATE a second on average, whether or not earlier ones were
+//! answered. Each request goes to the next of CLIENTS connections. One kernel thread, which never sleeps, sends and
+//! receives.
+//!
+//! The program prints how many requests were answered a second, and the times from when a request was due until its
+//! answer, in us at 50, 99 and 99.9 per cent and at most. The program prints by how much the client itself was late to
+//! send, at 99 and 99.9 per cent, and how often the client lost its processor for more than 200 us. The first tenth of
+//! the time isn't counted.
 use std::collections::VecDeque;
 use std::io::{ErrorKind::WouldBlock, Read, Write};
 use std::net::TcpStream;

@@ -1,8 +1,14 @@
-//! One executor on one load: executors EXECUTOR CORES LOAD N; prints nanoseconds an operation.
+//! One executor on one load: `executors EXECUTOR CORES LOAD N` prints nanoseconds an operation.
+//!
 //! EXECUTOR: arachne, tokio, async-executor.
-//! LOAD: spawn (spawn N from outside and join each), fan (the same from within a task), pingpong (two tasks hand a
-//! number over N times), pairs (16 pairs at once, N in all), lock (64 tasks, N critical sections in all, with a yield
-//! inside), chain (N tasks, each spawned by the one before and awaiting the next), yield (64 tasks, N yields in all).
+//! LOAD:
+//! - spawn: spawn N tasks from outside, and join each.
+//! - fan: spawn N tasks from within a task, and join each.
+//! - pingpong: two tasks hand a number over N times.
+//! - pairs: 16 pairs of tasks hand numbers over at once, N times in all.
+//! - lock: 64 tasks, N critical sections in all, with a yield inside.
+//! - chain: N tasks, each spawned by the one before and awaiting the next.
+//! - yield: 64 tasks, N yields in all.
 use arachne::Lock;
 use std::future::{poll_fn, Future};
 use std::pin::Pin;
@@ -13,7 +19,7 @@ use std::time::Instant;
 
 type Boxed<T> = Pin<Box<dyn Future<Output = T> + Send>>;
 
-/// The operations that the loads need of an executor. They are generic, so nothing is boxed.
+/// The operations that the loads need of an executor. The operations are generic, so nothing is boxed.
 trait Exec: Send + Sync + Clone + 'static {
     type Join<T: Send + 'static>: Future<Output = T> + Send;
     fn spawn<F: Future + Send + 'static>(&self, f: F) -> Self::Join<F::Output>

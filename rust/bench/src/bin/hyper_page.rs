@@ -1,5 +1,5 @@
-//! A page by hyper's server, unchanged, on arachne or tokio: hyper_page EXECUTOR CORES PORT, on 127.0.0.1.
-//! It ends when its standard input ends.
+//! A page by hyper's server, unchanged, on arachne or tokio: `hyper_page EXECUTOR CORES PORT`, on 127.0.0.1. The server
+//! ends when its standard input ends.
 use hyper::service::service_fn;
 use hyper::{Body, Request, Response};
 use std::convert::Infallible;

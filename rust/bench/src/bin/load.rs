@@ -1,7 +1,10 @@
-//! An open-loop client, whose requests are sent when they are due, whatever was answered: load redis|served:MICROS PORT
-//! RATE:MILLISECONDS.. sends SETs of Redis's protocol, or requests of MICROS to `served`, on 32 connections, in phases
-//! of a rate a second. It prints for each phase when it begins, and the latencies from when each request was due; and
-//! each 10 ms the time in milliseconds, how many were due and answered, and the latency in us at 99 % and the worst.
+//! An open-loop client, whose requests are sent when they are due, whatever was answered: `load redis|served:MICROS
+//! PORT RATE:MILLISECONDS..`.
+//!
+//! The client sends SETs of Redis's protocol, or requests of MICROS to `served`, on 32 connections, in phases of a rate
+//! a second. The client prints for each phase when the phase begins, and the latencies, from when each request was due.
+//! Each 10 ms the client prints the time in milliseconds, how many requests were due and answered, and the latency in
+//! us at 99 % and the worst.
 use std::collections::VecDeque;
 use std::io::{ErrorKind, Read, Write};
 use std::net::TcpStream;
@@ -9,7 +12,7 @@ use std::thread;
 use std::time::{Duration, Instant, SystemTime};
 
 const CONNECTIONS: u64 = 32;
-/// Requests that differ.
+/// The number of different requests.
 const KINDS: usize = 4096;
 const ROW: u64 = 10_000_000;
 
@@ -39,7 +42,7 @@ fn connect(port: u16) -> Connection {
     Connection { stream, due: VecDeque::new(), rest: 0 }
 }
 
-/// The latency in us that a part of these have at most.
+/// Returns the latency in us that the fraction `part` of the sorted latencies do not exceed.
 fn point(sorted: &[u64], part: f64) -> f64 {
     let at = ((sorted.len() as f64 * part) as usize).min(sorted.len().max(1) - 1);
     sorted.get(at).map_or(0.0, |&nanos| nanos as f64 / 1e3)

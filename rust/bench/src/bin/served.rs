@@ -1,8 +1,10 @@
 //! A server whose requests have a given length, and its client.
 //!
-//! `served EXECUTOR CORES [policy [SOCKET PRIORITY]]`, on arachne (SOCKET and PRIORITY are for an arbiter) or tokio,
-//! prints its port, and with `policy` a line at each change of the active cores; it ends with its standard input.
-//! `served client PORT CONNECTIONS IN-FLIGHT MICROS MILLISECONDS` keeps IN-FLIGHT requests in flight per connection;
+//! `served EXECUTOR CORES [policy [SOCKET PRIORITY]]` is the server, on arachne or tokio; SOCKET and PRIORITY are for
+//! an arbiter. The server prints its port, and with `policy` a line at each change of the active cores. The server ends
+//! with its standard input.
+//!
+//! `served client PORT CONNECTIONS IN-FLIGHT MICROS MILLISECONDS` keeps IN-FLIGHT requests in flight per connection.
 //! `served offer PORT RATE MICROS MILLISECONDS` sends each of RATE requests a second when it is due, on 32 connections.
 use std::io::{ErrorKind, Read, Write};
 use std::net::TcpStream;
@@ -25,7 +27,7 @@ fn clock() -> f64 {
     SystemTime::now().duration_since(SystemTime::UNIX_EPOCH).unwrap().as_micros() as f64 / 1e3
 }
 
-/// Serves each complete request of `buffer`. Returns their length in bytes.
+/// Serves each complete request of `buffer`. Returns the length of these requests in bytes.
 fn serve(buffer: &[u8]) -> usize {
     for request in buffer.chunks_exact(SIZE) {
         spin(Duration::from_micros(u64::from_le_bytes(request[8..].try_into().unwrap())));

@@ -1,4 +1,5 @@
-//! The server of examples/src/bin/redis.rs on tokio: tokio_redis CORES PORT. It ends when its standard input ends.
+//! The server of examples/src/bin/redis.rs on tokio: `tokio_redis CORES PORT`. The server ends when its standard input
+//! ends.
 use examples::{wait_for_end, Arguments, Buffer, Store};
 use std::sync::Arc;
 use tokio::io::{AsyncReadExt, AsyncWriteExt};

@@ -1,6 +1,6 @@
 //! An echo server, "Five minutes" of docs/rust.md: `echo [CORES PORT]`, on 127.0.0.1.
 //!
-//! It ends at SIGTERM: idle connections end at once, and the others within five seconds.
+//! The server ends at SIGTERM: idle connections end at once, and the others within five seconds.
 use arachne::net::{TcpListener, TcpStream};
 use std::io;
 use std::time::Duration;

@@ -1,4 +1,4 @@
-//! A page of HTTP/1.1 on 127.0.0.1, kept alive: http CORES PORT. It ends when its standard input ends.
+//! A page of HTTP/1.1 on 127.0.0.1, kept alive: `http CORES PORT`. The server ends when its standard input ends.
 use arachne::net::{TcpListener, TcpStream};
 use examples::{wait_for_end, Arguments, Buffer};
 use std::io;

@@ -1,7 +1,9 @@
-//! GET, SET, INCR, DEL and PING of Redis's protocol on 127.0.0.1: redis CORES PORT [policy [SOCKET PRIORITY]]
-//! It ends at SIGTERM or when its standard input ends: what it has read is answered, within a second, and it prints how
-//! many commands were accepted and how many of them answered. With `policy` cores follow the load, and a line each
-//! 10 ms says how many are held; SOCKET and PRIORITY are of an arbiter.
+//! GET, SET, INCR, DEL and PING of Redis's protocol on 127.0.0.1: `redis CORES PORT [policy [SOCKET PRIORITY]]`.
+//!
+//! The server ends at SIGTERM or when its standard input ends. The commands that it has read by then are answered
+//! within a second, and the server prints how many commands it has accepted, and how many of them it has answered. With
+//! `policy` the active cores follow the load, and a line each 10 ms says how many are held. SOCKET and PRIORITY are of
+//! an arbiter.
 use arachne::net::{TcpListener, TcpStream};
 use examples::{wait_for_end, Arguments, Buffer, Store};
 use std::io;

@@ -1,10 +1,13 @@
-//! Trials of a server on arachne, bounded in count and time: `trial NAME [CORES]`; each prints its figures and ends.
-//! soak: tasks of eight kinds for SECONDS (a third word; 300), with their count and the resident memory.
-//! overload: requests of 100 us at 0.8, 1, 1.2 and 2 times the rate that the cores can serve, behind a limit of
-//! concurrent requests (a third word; one more than there are cores).
-//! blocking: 10,000 requests of 5 us a second, while a task on each of four workers blocks for 100 ms.
-//! waiting: a million tasks that wait: bytes per task, and ping-pong with them and without.
-//! drain: SIGTERM to the server `redis` beside this program, under load and after a million answers.
+//! Trials of a server on arachne, bounded in count and time: `trial NAME [CORES]`. Each trial prints its figures and
+//! ends.
+//!
+//! - soak: tasks of eight kinds for SECONDS (a third word; 300 if there is none), with their count and the resident
+//!   memory.
+//! - overload: requests of 100 us at 0.8, 1, 1.2 and 2 times the rate that the cores can serve, behind a limit of
+//!   concurrent requests (a third word; one more than there are cores if there is none).
+//! - blocking: 10,000 requests of 5 us a second, while a task on each of four workers blocks for 100 ms.
+//! - waiting: a million tasks that wait: the bytes per task, and the time of a ping-pong with these tasks and without.
+//! - drain: SIGTERM to the server `redis` beside this program, under load and after a million answers.
 use arachne::net::{TcpListener, TcpStream};
 use arachne::{Builder, Limit, Lock, Runtime};
 use std::io::{ErrorKind, Read, Write};
@@ -14,8 +17,8 @@ use std::task::{Poll, Waker};
 use std::thread;
 use std::time::{Duration, Instant};
 
-/// A request: when it was due, in nanoseconds since the trial began, and the microseconds that it takes. An answer: the
-/// first, and whether it was accepted.
+/// The bytes of a message. A request has the time at which it was due, in nanoseconds since the trial began, and the
+/// microseconds that it takes. An answer has the request's time, and whether the request was accepted.
 const SIZE: usize = 16;
 
 fn spin(time: Duration) {
@@ -82,7 +85,7 @@ fn serve(runtime: &Runtime, most: usize) -> std::net::SocketAddr {
 struct Answers {
     sent: u64,
     refused: u64,
-    /// With when each was due.
+    /// The latency of each accepted answer, with when its request was due.
     times: Vec<(u64, u64)>,
 }
 

@@ -65,8 +65,8 @@ module _ (k after : Notes) where
   on-next : (answer : Next) (shards worker : ℕ) → HasAnswered answer shards worker k after → Sleeps answer shards worker k after
   on-next (next.Run job) shards worker is = (is.4.0, ap slept is.5.known ∙ ap slept is.4.3)
   on-next next.Park shards worker is = let was : ℕ = bit_at is.2.0 worker in (is.1.0, was, ap slept is.2.2 ∙ ap (λ (z : Notes). lain_more was worker z.sleeps) is.1.3, is.2.3)
-  on-next next.Again shards worker is = let was : ℕ = bit_at is.2.0 worker in let then : ℕ = bit_at is.2.3 worker in
-      (is.1.0, was, then, ap slept is.2.7 ∙ ap (λ (z : Notes). risen_more then worker (lain_more was worker z.sleeps)) is.1.3)
+  on-next next.Again shards worker is = let was : ℕ = bit_at is.3.0 worker in let then : ℕ = bit_at is.3.3 worker in
+      (is.1.0, was, then, ap slept is.3.7 ∙ ap (λ (z : Notes). risen_more then worker (lain_more was worker z.sleeps)) is.1.3)
 
 pub returns : goal.returns
 returns c = record {

@@ -3,6 +3,9 @@ use Rattle.arachne_exec.specs.Layout.{summary_at}
 use Rattle.arachne_exec.specs.Changes.{noted, rising}
 use Rattle.arachne_exec.proofs.executor.Executor.lie_down.Goals as goal
 
+pub sees_none-requires-clause-calm : goal.sees_none-requires-clause-calm
+sees_none-requires-clause-calm c = ap (λ v. v.known.unshown) c.loop-next.invariant.seen.1 ∙ c.requires.calm
+
 pub returns-clause-parks : goal.returns-clause-parks
 returns-clause-parks c =
     let lain = c.loop-next.invariant.seen in

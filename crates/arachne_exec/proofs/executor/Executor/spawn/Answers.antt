@@ -1,4 +1,4 @@
-use Rattle.std.proofs.Common.{◌≡◌, ℕ, ◌+◌, ◌*◌, ◌/◌, ◌∙◌, refl, ap, sym, arith}
+use Rattle.std.proofs.Common.{◌≡◌, ℕ, ◌+◌, ◌*◌, ◌/◌, ◌∷◌, ◌∙◌, refl, ap, sym, arith}
 use Rattle.arachne_exec.specs.Layout.{free_at, worker_of}
 use Rattle.arachne_exec.specs.Changes.{claiming, noted, rousing, spawning}
 use Rattle.arachne_exec.proofs.Chains.{missed, spawned}
@@ -9,6 +9,14 @@ returns-then-not-claim_bit-clause-answer c =
     let then = c.if-not-claim_bit.ensures.missed refl in
     let saw = ap (λ v. v.known) c.look-free.ensures.seat ∙ (λ i. noted (c.free_word.ensures i) c.look-free.result (ap (λ v. v.known) c.seat.view_is i)) in
     missed free_at c.args.block c.lowest_index.result c.look-free.result then.0 _ _ _ c.lowest_index.ensures.low c.lowest_index.ensures.there saw then.1 (ap (λ v. v.known) then.2)
+
+-- the mark was looked at last
+pub publish_new-unpark-requires-clause-named : goal.publish_new-unpark-requires-clause-named
+publish_new-unpark-requires-clause-named c = (
+  c.look-mark.result,
+  _,
+  ap (λ v. v.known.looks) c.lay.ensures.seat ∙ ap (λ v. v.known.looks) c.look-mark.ensures.seat ∙ (λ i. (c.mark_word.ensures i, c.look-mark.result) ∷ c.claim_bit.new.seat.known.looks),
+)
 
 pub returns-clause-answer : goal.returns-clause-answer
 returns-clause-answer c =

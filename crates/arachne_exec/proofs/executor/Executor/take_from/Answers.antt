@@ -56,20 +56,22 @@ returns-clause-took c =
     subst (λ (taken : TakenJob). HasTakenFrom c.args.from.index taken c.args.block c.args.seat.now.known c.lay.new.seat.known)
     (sym (c.new.ensures ∙ ap (taken_with c.has_more.result) c.job_at.ensures))
     (record {
-      took = record {
-        there = row;
-        ready = c.look-ready.result;
-        found = got.0;
-        taken = got.2;
-        mark = c.refresh-mark.result;
-        named = refl;
-        then = mark.0;
-        known =
-            ap (λ v. v.known) c.lay.ensures.seat
-            ∙ ap (λ v. v.known) c.lay-job.ensures.seat
-            ∙ ap (λ v. v.known) mark.1
-            ∙ ap (λ k. using_up c.refresh-mark.result place mark.0 (noted (mark_at place) c.refresh-mark.result k)) held;
+      turn = record {
+        took = record {
+          there = row;
+          ready = c.look-ready.result;
+          found = got.0;
+          taken = got.2;
+          mark = c.refresh-mark.result;
+          named = refl;
+          then = mark.0;
+          known =
+              ap (λ v. v.known) c.lay.ensures.seat
+              ∙ ap (λ v. v.known) c.lay-job.ensures.seat
+              ∙ ap (λ v. v.known) mark.1
+              ∙ ap (λ k. using_up c.refresh-mark.result place mark.0 (noted (mark_at place) c.refresh-mark.result k)) held;
+        };
+        first = subst (λ (from : ℕ). IsFirstFrom c.look-ready.result from (place % 64)) c.begun-from.ensures (subst (IsFirstFrom c.look-ready.result c.begun-from.result) back c.first_from-index.ensures);
       };
-      first = subst (λ (from : ℕ). IsFirstFrom c.look-ready.result from (place % 64)) c.begun-from.ensures (subst (IsFirstFrom c.look-ready.result c.begun-from.result) back c.first_from-index.ensures);
       more = subst (λ (i : ℕ). IsTrue c.has_more.result ↔ (2 * 2 ^ i ≤ c.look-ready.result)) back c.has_more.ensures;
     })
