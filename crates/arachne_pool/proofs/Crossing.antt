@@ -2,10 +2,12 @@
 use denote.RattleType.{RattleType}
 use denote.Struct.Declared as struct
 use denote.Struct.Struct.{Struct}
-use denote.Param.Send.{IsSend, AllSend, sendable, recorded_send, struct_send}
+use denote.Ref.{NamedLft}
+use denote.Param.Send.{IsSend, IsSync, AllSend, AllSync, sendable, recorded_send, recorded_sync, shr_sync, struct_send, struct_sync}
 use Rattle.std.proofs.Crossing as std
 use Rattle.rand_xoshiro.proofs.xoshiro256.Xoshiro256PlusPlus.TheSendSync as chooser
 use Rattle.arachne_pool.proofs.orders.PoolOrders.TheSendSync as orders
+use Rattle.arachne_contexts.specs.declared.seats.Seats as seats
 use Rattle.arachne_contexts.specs.declared.tagged.Tagged as tagged
 use Rattle.arachne_join.proofs.Crossing.{sender_send, receiver_send, unused_send}
 use Rattle.arachne_join.specs.declared.fits.Fits as fits
@@ -33,12 +35,19 @@ use Rattle.arachne_pool.specs.contracts.worker.Worker as worker
 use Rattle.arachne_pool.specs.contracts.worker.Worker.TheInside as worker_inside
 use Rattle.arachne_pool.specs.contracts.waking.Waker as waker
 use Rattle.arachne_pool.specs.contracts.waking.Waker.TheInside as waker_inside
+use Rattle.arachne_pool.specs.contracts.crew.Crew as crew
+use Rattle.arachne_pool.specs.contracts.crew.Share as share
+use Rattle.arachne_pool.specs.contracts.pool.Pool as pool
+use Rattle.arachne_pool.proofs.pool.Pool.TheSendSync as pool_own
 use Rattle.arachne_pool.specs.contracts.handle.Handle as handle
 use Rattle.arachne_pool.specs.contracts.handle.Handle.TheInside as handle_inside
 
 -- a struct may cross where its fields may
 fields_send : (D : struct.Declared) → AllSend (struct.fields D) → IsSend (struct.row D)
 fields_send D all = recorded_send (Struct (struct.shape D)) D.D D.to D.to_one (struct_send (struct.shape D) all)
+
+fields_sync : (D : struct.Declared) → AllSync (struct.fields D) → IsSync (struct.row D)
+fields_sync D all = recorded_sync (Struct (struct.shape D)) D.D D.to D.to_one (struct_sync (struct.shape D) all)
 
 -- a waker may cross where its seat may
 waker_in_send : (S : RattleType) → IsSend S → IsSend (waker_inside.the_row S)
@@ -111,3 +120,12 @@ module _ (J O : RattleType) (P : pool_job.Ghosts J.Denot O.Denot) (G : tagged.Gh
 
     pub worker_send : IsSend (worker.the_row S J O P G)
     worker_send = search (sendable, worker_in_send) depth 10
+
+    pub share_send : IsSend (share.the_row S J O P G)
+    share_send = fields_send (share.the_type S J O P G) (worker_send, (search (sendable, std.crosses, s) depth 20, (search (sendable, std.crosses, handle_send) depth 20, tt)))
+
+-- what the kernel threads of a run have in common may be looked at by all, if its table may
+module _ (κ : NamedLft) (C Job S : RattleType) (G : seats.Ghosts C.Denot S.Denot) (table : IsSync C) where
+  pub crew_sync : IsSync (crew.the_row κ C Job S G)
+  crew_sync = fields_sync (crew.the_type κ C Job S G)
+      (shr_sync κ.mir κ.lft (pool.the_row C S G) (pool_own.the_sync C S G table), (search (sendable, std.crosses) depth 20, (search (sendable, std.crosses) depth 20, tt)))

@@ -11,3 +11,4 @@ pub mod Calls
 pub mod Faults
 pub mod Done
 pub mod Stops
+pub mod Running

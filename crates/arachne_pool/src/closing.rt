@@ -29,6 +29,17 @@ pub struct Left<J: PoolJob> {
     pub near: VecDeque<Spawned<J>>,
 }
 
+impl<J: PoolJob> Left<J> {
+    ghost use Rattle.arachne_pool.specs.Leftover.{count_of};
+
+    /// Returns whether no job is left.
+    pub fn is_empty(&self) -> bool
+        ensures { IsTrue result → count_of self.now ≡ 0 }
+    {
+        self.placed.is_empty() && self.near.is_empty()
+    }
+}
+
 /// The reason why a pool was not closed.
 #[derive(Drop)]
 pub enum NotClosed<C: Seats, J: PoolJob> {

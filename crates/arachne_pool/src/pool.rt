@@ -87,6 +87,15 @@ impl<C: Seats> Pool<C> {
         self.live.done(core)
     }
 
+    /// Returns the statistics of all cores' workers together.
+    pub fn all_statistics(&self) -> Statistics {
+        let mut all = Statistics::new();
+        for core in 0..self.cores {
+            all = all.with(self.live.done(core));
+        }
+        all
+    }
+
     /// Returns whether the worker of a core sleeps, or has slept its time out and not looked since. Whoever has work
     /// for that worker must wake it. A worker that is parked doesn't sleep.
     pub fn is_asleep(&self, core: u8) -> bool {

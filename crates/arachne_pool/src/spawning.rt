@@ -1,5 +1,5 @@
 //! Spawns that keep no job: a job for which no core has a place is returned at once.
-ghost use Rattle.std.specs.Prelude.{◌≡◌, ◌<◌, [], ◌∷◌, IfErr, IfOk, OnErr, OnOk};
+ghost use Rattle.std.specs.Prelude.{◌≡◌, ◌<◌, [], ◌∷◌, IfErr, IfOk, OnErr};
 ghost use Rattle.arachne_contexts.specs.Out.{Claim, KeepsOut};
 ghost use Rattle.arachne_pool.specs.Grounds.{AddsOut};
 ghost use Rattle.arachne_pool.specs.Spawning.{HandsBack, IsNext, RefusesAfter, RefusesFor, SpawnsOne, slots_in};
@@ -111,40 +111,6 @@ impl<C: Seats> Pool<C> {
                     Ok(handle) => Ok((handle, place)),
                     Err(refused) => Err(refused),
                 }
-            }
-            Err(why) => {
-                worker.seat = Some(seat);
-                Err(Refused::of(job, why))
-            }
-        }
-    }
-
-    /// Spawns a job as `try_spawn` does, without a handle: its result is dropped.
-    pub fn spawn_detached<H: Wait, J: PoolJob>(
-        &self,
-        rt: &H,
-        worker: &mut Worker<C::Seat, J>,
-        job: J,
-    ) -> Result<(), Refused<J>>
-    where
-        C: Contexts<Spawned<J>>,
-        requires worker { IsWorkerOf C.sits C.idle self.now.table self.now.cores worker.old }
-        requires fresh { J.awaits job [] }
-        ensures worker { IsWorkerOf C.sits C.idle self.now.table self.now.cores worker.new }
-        ensures kept { worker.new ≡ record worker.old { seat = worker.new.seat; tally = worker.new.tally; told = worker.new.told } }
-        ensures begun { OnOk result (SpawnsOne worker.old worker.new) }
-        ensures handed_back { IfErr result (λ back. HandsBack 0 self.now.cores self.now.slots job worker.old worker.new back.job back.why) }
-    {
-        let Some(mut seat) = worker.seat.take() else {
-            return Err(Refused::of(job, Refusal::NoSeat));
-        };
-        let chooser = &mut worker.bench.chooser;
-        match claim_any::<H, J, C>(rt, self, &mut seat, chooser, job.is_exclusive()) {
-            Ok(claim) => {
-                worker.bench.tally.count_spawned();
-                let job = Spawned::begin(worker.bench.alloc, job, None, None);
-                self.post_at(rt, worker, seat, claim, job);
-                Ok(())
             }
             Err(why) => {
                 worker.seat = Some(seat);

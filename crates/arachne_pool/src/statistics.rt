@@ -34,4 +34,15 @@ impl Statistics {
             overslept: 0,
         }
     }
+
+    /// Returns the sum of these and the statistics of another core.
+    pub(crate) fn with(self, other: Statistics) -> Statistics {
+        Statistics {
+            slices: self.slices.wrapping_add(other.slices),
+            steps: self.steps.wrapping_add(other.steps),
+            wakes: self.wakes.wrapping_add(other.wakes),
+            rests: self.rests.wrapping_add(other.rests),
+            overslept: self.overslept.wrapping_add(other.overslept),
+        }
+    }
 }

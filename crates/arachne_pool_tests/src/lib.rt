@@ -13,6 +13,8 @@ mod rounds;
 #[cfg(test)]
 mod rows;
 #[cfg(test)]
+mod runs;
+#[cfg(test)]
 mod serving;
 #[cfg(test)]
 mod spells;

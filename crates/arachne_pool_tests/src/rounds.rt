@@ -85,8 +85,6 @@ pub(crate) enum On {
     AnyKept,
     /// On any core, by `try_spawn`.
     Any,
-    /// On any core, by `spawn_detached`, which returns no handle.
-    AnyDetached,
     /// On this core.
     Core(u8),
     /// On this core. The spawn must report the core's place of this index.
@@ -386,7 +384,6 @@ fn tried<C: Contexts<Spawned<Task>>, R: Wait>(
     let refused = match on {
         On::AnyKept => pool.spawn(rt, worker, task).err(),
         On::Any => pool.try_spawn(rt, worker, task).err(),
-        On::AnyDetached => pool.spawn_detached(rt, worker, task).err(),
         On::Core(core) | On::At(core, _) if core < pool.cores => {
             match pool.try_spawn_on(rt, worker, core, task) {
                 Ok((_, place)) if !is_wanted_at(on, place) => return None,
@@ -439,11 +436,7 @@ fn fills<C: Contexts<Spawned<Task>>, R: Wait>(
 {
     let places = u64::from(pool.cores) * u64::from(pool.slots);
     for nth in 0..places / 2 + places % 2 {
-        let on = match nth % 3 {
-            0 => On::AnyKept,
-            1 => On::Any,
-            _ => On::AnyDetached,
-        };
+        let on = if nth % 2 == 0 { On::AnyKept } else { On::Any };
         if tried::<C, R>(rt, pool, board, worker, on, LEAF) != Some(Comes::Begins) {
             return false;
         }

@@ -33,7 +33,7 @@ pub(crate) const ALONE_PARENT: Sort = Sort {
 pub(crate) const ELEVEN: Sort = Sort { steps: 10, ..LEAF };
 
 /// A tree of jobs with three children each, four generations deep: 121 jobs.
-const TREE: Sort = Sort {
+pub(crate) const TREE: Sort = Sort {
     depth: 4,
     forks: 3,
     ..LEAF

@@ -195,7 +195,6 @@ const ROWS: &[Row] = &[
             Act::Has(1, 1, Is::Open),
             Act::Tries(On::Any, LEAF, Comes::NoPlace(2, 1)),
             Act::Tries(On::Any, ALONE, Comes::NoPlace(2, 1)),
-            Act::Tries(On::AnyDetached, LEAF, Comes::NoPlace(2, 1)),
             Act::Tries(On::Core(0), LEAF, Comes::NoPlace(1, 0)),
             Act::Tries(On::Core(1), LEAF, Comes::NoPlace(1, 0)),
             Act::Tries(On::Core(2), LEAF, Comes::NoPlace(0, 1)),
@@ -205,7 +204,7 @@ const ROWS: &[Row] = &[
             Act::Tries(On::Core(1), LEAF, Comes::Begins),
             Act::Has(1, 1, Is::Open),
             Act::Turns(1, true),
-            Act::Tries(On::AnyDetached, LEAF, Comes::Begins),
+            Act::Tries(On::Any, LEAF, Comes::Begins),
             Act::Has(1, 1, Is::Open),
             Act::Turns(0, true),
             Act::Turns(1, true),
@@ -286,7 +285,7 @@ const ROWS: &[Row] = &[
         ..NOTHING
     },
     Row {
-        shows: "a spawn that is refused memory leaves all as it was, and a wake and a spawn without a handle take none",
+        shows: "a spawn that is refused memory leaves all as it was, and a slice and a wake take none",
         cores: 1,
         slots: 3,
         acts: &[
@@ -295,7 +294,9 @@ const ROWS: &[Row] = &[
             Act::Tries(On::Core(0), LEAF, Comes::NoMemory),
             Act::Has(0, 0, Is::Open),
             Act::Lives(0),
-            Act::Tries(On::AnyDetached, SLEEPER, Comes::Begins),
+            Act::Frees,
+            Act::Tries(On::Any, SLEEPER, Comes::Begins),
+            Act::Hoards,
             Act::Turns(0, true),
             Act::Answers,
             Act::Wakes(0, 0, Wakes::It),
@@ -341,11 +342,11 @@ const ROWS: &[Row] = &[
         ..NOTHING
     },
     Row {
-        shows: "an exclusive job that is spawned without a handle gets a core alone, as with one",
+        shows: "an exclusive job gets a core alone, by whichever call it is spawned",
         cores: 3,
         slots: 2,
         acts: &[
-            Act::Tries(On::AnyDetached, ALONE, Comes::Begins),
+            Act::Tries(On::Any, ALONE, Comes::Begins),
             Act::Has(0, 1, Is::Alone),
             Act::Tries(On::Any, ALONE, Comes::Begins),
             Act::Has(1, 1, Is::Alone),

@@ -279,7 +279,7 @@ fn spawns<C: Contexts<Spawned<Task>>, R: Wait>(
     }
 }
 
-/// Does `Spell::Feeds`. Spawns the leaves by the three calls that name no core, in turn.
+/// Does `Spell::Feeds`. Spawns the leaves by the two calls that name no core, in turn.
 fn feeds<C: Contexts<Spawned<Task>>, R: Wait + Clock>(
     rt: &R,
     pool: &Pool<C>,
@@ -296,10 +296,9 @@ fn feeds<C: Contexts<Spawned<Task>>, R: Wait + Clock>(
             return;
         };
         await_sleep(rt, pool, 1);
-        let is_begun = match job % 3 {
+        let is_begun = match job % 2 {
             0 => pool.spawn(rt, worker, task).is_ok(),
-            1 => pool.try_spawn(rt, worker, task).is_ok(),
-            _ => pool.spawn_detached(rt, worker, task).is_ok(),
+            _ => pool.try_spawn(rt, worker, task).is_ok(),
         };
         if !is_begun {
             pool.stop();

@@ -1,26 +1,12 @@
-//! Counts the grains of a heap in a pool, with two kernel threads: the job of a heap counts one grain, and forks jobs
-//! for halves of the remaining grains.
+//! A pool counts the grains of a heap on all processors: each heap counts one, and forks heaps of halves of the rest.
 #![tactic(auto)]
 
-mod crew;
+ghost use Rattle.std.specs.Prelude.{◌≡◌, ◌+◌, map, sum};
 
-ghost use Rattle.std.specs.Prelude.{◌≡◌, ◌+◌, ◌<◌, ◌≤◌, IfSome, map, sum};
-ghost use Rattle.arachne_pool.specs.Workers.{IsWorkerOf};
+use anyhow::Result;
+use arachne_pool::{Pool, PoolJob, Step, Tagged};
 
-use anyhow::{Result, bail};
-use arachne_pool::{Handle, Pool, PoolJob, Spawned, Step, Worker};
-use arachne_table::{Contexts, Seats, Tagged, WordContexts};
-use arachne_team::work_together;
-use crew::Crew;
-use std::alloc::Global;
-use std::sync::Wait;
-use std::thread::Threads;
-use std::time::Clock;
-
-/// The pool's table.
-type Table = WordContexts<Spawned<Heap>>;
-
-/// A heap: the number of its grains, how many of them were given to no child yet, and how many are counted.
+/// A heap of grains: its size, how many grains no child has yet, and how many are counted.
 #[derive(Drop)]
 struct Heap {
     size: u64,
@@ -64,61 +50,15 @@ impl PoolJob for Heap {
     }
 }
 
-/// Returns a pool of two cores of 8 places each, its worker, and the handle of the heap to count.
-///
-/// The pool may be over any form of table. Returns `None` if memory is refused.
-fn begin<C: Contexts<Spawned<Heap>> + Drop, R: Wait>(
-    rt: &R,
-    alloc: Global,
-) -> Option<(Pool<C>, Worker<C::Seat, Heap>, Handle<Heap>)>
-    ensures worker { IfSome result (λ begun. IsWorkerOf C.sits C.idle begun.0.table begun.0.cores begun.1) }
-    ensures cores { IfSome result (λ begun. begun.0.cores ≡ 2) }
-    ensures heap { IfSome result (λ begun. begun.2.size ≡ 10000) }
-{
-    let (pool, mut worker) = Pool::<C>::new::<Heap>(alloc, 2, 8, Vec::new(alloc)).ok()?;
+fn main(rt: HostRuntime) -> Result<()> {
     let heap = Heap {
         size: 10_000,
         rest: 9_999,
         counted: 1,
     };
-    let handle = pool.spawn(rt, &mut worker, heap).ok()?;
-    Some((pool, worker, handle))
-}
-
-/// Ends the pool, and returns the number of grains that were counted, and the number of heaps that are left.
-///
-/// Returns `None` if the pool can't be closed or the heap has no result.
-fn end<C: Contexts<Spawned<Heap>> + Drop, R: Wait>(
-    rt: &R,
-    alloc: Global,
-    pool: Pool<C>,
-    worker: Worker<C::Seat, Heap>,
-    handle: Handle<Heap>,
-) -> Option<(u64, usize)>
-    requires { IsWorkerOf C.sits C.idle pool.table pool.cores worker }
-    ensures { IfSome result (λ counted. counted.0 ≡ handle.size) }
-{
-    let left = pool.close(rt, alloc, worker).ok()?;
-    let count = handle.poll().ok()?;
-    Some((count, left.placed.len() + left.near.len()))
-}
-
-/// Counts a heap by two kernel threads.
-///
-/// Only this function names the table's type: `proofs/run` shows that what a kernel thread takes along may be sent to
-/// it.
-fn run<R: Threads + Wait + Clock + Sync>(rt: &R, alloc: Global) -> Option<(u64, usize)>
-    ensures { IfSome result (λ counted. counted.0 ≡ 10000) }
-{
-    let (pool, worker, handle) = begin::<Table, R>(rt, alloc)?;
-    let worker = work_together(rt, alloc, &Crew { pool: &pool }, worker)?;
-    end::<Table, R>(rt, alloc, pool, worker, handle)
-}
-
-fn main(rt: HostRuntime) -> Result<()> {
-    let Some((count, left)) = run(&rt, rt.alloc()) else {
-        bail!("memory or a kernel thread was refused");
-    };
-    println!(rt; "{count} grains; {left} heaps are left")?;
+    let done = Pool::run(&rt, rt.alloc(), heap).map_err(|unfinished| unfinished.why())?;
+    prove!(done.output == 10_000);
+    let left = done.tally.spawned - done.tally.ended;
+    println!(rt; "{} grains; {left} heaps are left", done.output)?;
     Ok(())
 }

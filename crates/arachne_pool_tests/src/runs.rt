@@ -1,0 +1,161 @@
+//! Jobs that are run to their end by one call (`Pool::run`), over the table on words.
+use crate::board::Board;
+use crate::rows::{ALONE_PARENT, TREE};
+use crate::tasks::{PARENT, Sort, Task};
+use arachne_pool::{Finished, Pool, PoolFault, RunFault, Setup, Tally, Unfinished};
+use arachne_shortage::Hoard;
+use std::alloc::Global;
+use std::sync::Wait;
+use std::test::Fail;
+use std::thread::Threads;
+use std::time::Clock;
+
+/// The result of a run.
+#[derive(Clone, Copy, PartialEq)]
+enum Comes {
+    /// The job ends, and has counted this many jobs, which have made this many steps.
+    Ends(u64, u64),
+    /// The job is returned, which was not spawned.
+    NotSpawned(RunFault),
+    /// All are stopped, and this many jobs with a place are returned.
+    Stopped(RunFault, usize),
+    /// All are stopped, and the jobs are dropped.
+    Lost(RunFault),
+}
+
+/// A job that is run on this many cores, while only this many bytes of memory are free, if there is a number.
+#[derive(Clone, Copy)]
+struct Row {
+    shows: &'static str,
+    cores: u8,
+    sort: Sort,
+    free: Option<usize>,
+    comes: Comes,
+}
+
+const ROWS: &[Row] = &[
+    Row {
+        shows: "a job is returned if a kernel thread is refused",
+        cores: 2,
+        sort: PARENT,
+        free: Some(700_000),
+        comes: Comes::NotSpawned(RunFault::KernelThread),
+    },
+    Row {
+        shows: "a tree ends on one kernel thread",
+        cores: 1,
+        sort: TREE,
+        free: None,
+        comes: Comes::Ends(121, 361),
+    },
+    Row {
+        shows: "a tree ends on two kernel threads",
+        cores: 2,
+        sort: TREE,
+        free: None,
+        comes: Comes::Ends(121, 361),
+    },
+    Row {
+        shows: "a tree ends on more kernel threads than there are processors",
+        cores: 16,
+        sort: TREE,
+        free: None,
+        comes: Comes::Ends(121, 361),
+    },
+    Row {
+        shows: "a child that wants a core for itself ends on the second kernel thread",
+        cores: 2,
+        sort: ALONE_PARENT,
+        free: None,
+        comes: Comes::Ends(2, 4),
+    },
+];
+
+/// A job that has its core for itself, and forks more children there than memory has room for.
+const PROLIFIC: Sort = Sort {
+    forks: u32::MAX,
+    ..ALONE_PARENT
+};
+
+/// Runs the job of a row. Returns what comes of it, or `None` if there is no memory for the row itself.
+fn run<R: Threads + Wait + Clock + Sync>(rt: &R, alloc: Global, row: &Row) -> Option<Comes> {
+    let board = Board::new(alloc)?;
+    let task = Task::new(row.sort, &board)?;
+    let setup = Setup {
+        cores: row.cores,
+        slots: 56,
+    };
+    if setup.cores < 1 || setup.cores > 64 {
+        return None;
+    }
+    let mut hoard = None;
+    if let Some(free) = row.free {
+        let mut all = Hoard::take(alloc).ok()?;
+        all.give_back(free);
+        hoard = Some(all);
+    }
+    let run = Pool::run_on(rt, alloc, setup, task);
+    drop(hoard);
+    match run {
+        Ok(done) => ended(done),
+        Err(Unfinished::NotSpawned(why, _)) => Some(Comes::NotSpawned(why)),
+        Err(Unfinished::Stopped(why, _, left)) => Some(Comes::Stopped(why, left.placed.len())),
+        Err(Unfinished::Lost(why)) => Some(Comes::Lost(why)),
+    }
+}
+
+/// Returns what a job has counted, if the pool has counted the same.
+fn ended(done: Finished<u64>) -> Option<Comes> {
+    let Finished {
+        output,
+        tally,
+        statistics,
+    } = done;
+    let counted = Tally {
+        spawned: output,
+        ended: output,
+    };
+    if tally == counted {
+        Some(Comes::Ends(output, statistics.steps))
+    } else {
+        None
+    }
+}
+
+#[test]
+fn each_job_is_run_to_its_end_or_returned(rt: HostRuntime) -> Result<(), Fail> {
+    for row in ROWS {
+        let comes = run(&rt, rt.alloc(), row);
+        assert!(rt; comes == Some(row.comes), "{}", row.shows);
+    }
+    Ok(())
+}
+
+/// Refused memory, as a worker reports it.
+const MEMORY: RunFault = RunFault::Worker(PoolFault::Memory);
+
+#[test]
+fn a_job_is_returned_wherever_memory_ends(rt: HostRuntime) -> Result<(), Fail> {
+    let (mut unspawned, mut stopped) = (0u32, 0u32);
+    for step in 0..40usize {
+        let row = Row {
+            shows: "memory ends before the job is spawned, as it forks, or as the jobs are collected",
+            cores: 1,
+            sort: PROLIFIC,
+            free: Some(step * 20_000),
+            comes: Comes::Stopped(MEMORY, 1),
+        };
+        let comes = run(&rt, rt.alloc(), &row);
+        unspawned = unspawned.saturating_add(u32::from(comes == Some(Comes::NotSpawned(MEMORY))));
+        stopped = stopped.saturating_add(u32::from(comes == Some(row.comes)));
+        let is_known = comes == Some(Comes::NotSpawned(MEMORY))
+            || comes == Some(Comes::Lost(MEMORY))
+            || comes == Some(row.comes);
+        assert!(rt; is_known, "{}", row.shows);
+    }
+    assert!(rt;
+        unspawned > 0 && stopped > 0,
+        "memory ends before the job is spawned, and later"
+    );
+    Ok(())
+}
