@@ -1,6 +1,7 @@
 //! What the peers of the server share: the list of requests, their work, the generator that sends each once it is due,
-//! and the table of how long they took.
+//! and the log of when they ended.
 
+use std::fmt::Write;
 use std::io::Read;
 use std::sync::atomic::{AtomicU64, Ordering::SeqCst};
 use std::sync::OnceLock;
@@ -11,7 +12,6 @@ use std::time::Instant;
 pub struct Due {
     /// Nanoseconds from the begin to the time at which it is sent.
     pub at: u64,
-    pub exclusive: bool,
     /// How many rounds its work has.
     pub rounds: u32,
 }
@@ -44,25 +44,26 @@ fn read() -> Vec<Due> {
     std::io::stdin().read_to_string(&mut text).unwrap();
     let due = |line: &str| {
         let mut words = line.split(' ');
-        let mut next = || words.next().unwrap();
-        Due { at: next().parse().unwrap(), exclusive: next() == "exclusive", rounds: next().parse().unwrap() }
+        let at = words.next().unwrap().parse().unwrap();
+        Due { at, rounds: words.nth(1).unwrap().parse().unwrap() }
     };
     text.lines().map(due).collect()
 }
 
-/// Sends all requests of the list on standard input, each once it is due, waits for all, and prints how long they took.
+/// Sends all requests of the list on standard input, each once it is due, waits for all, and prints when each was sent
+/// and ended.
 pub fn drive(mut spawn: impl FnMut(usize, Due)) {
     let list = read();
     ENDED.set(list.iter().map(|_| AtomicU64::new(0)).collect()).unwrap();
     BEGIN.set(Instant::now()).unwrap();
-    let mut late = Vec::with_capacity(list.len());
+    let mut sent = Vec::with_capacity(list.len());
     for (number, due) in list.iter().enumerate() {
         let mut now = nanos();
         while now < due.at {
             std::hint::spin_loop();
             now = nanos();
         }
-        late.push(now - due.at);
+        sent.push(now);
         spawn(number, *due);
     }
     let ended = |number: usize| loop {
@@ -72,33 +73,15 @@ pub fn drive(mut spawn: impl FnMut(usize, Due)) {
         }
     };
     let ends: Vec<u64> = (0..list.len()).map(ended).collect();
-    report(&list, &ends, late);
+    report(&sent, &ends);
 }
 
-fn report(list: &[Due], ends: &[u64], late: Vec<u64>) {
-    let times = |exclusive| {
-        let of = list.iter().zip(ends).filter(move |(due, _)| due.exclusive == exclusive);
-        of.map(|(due, end)| end.saturating_sub(due.at)).collect::<Vec<u64>>()
-    };
-    let (normal, exclusive) = (times(false), times(true));
-    println!(
-        "{0} of {0} requests served; the sum of their answers is {1}",
-        list.len(),
-        SUM.load(SeqCst)
-    );
-    println!("{:<12}{:>9}{:>11}{:>11}{:>11}{:>11}", "microseconds", "requests", "50 %", "99 %", "99.9 %", "most");
-    row("normal", normal);
-    row("exclusive", exclusive);
-    row("sent late", late);
-    let took = ends.iter().max().unwrap_or(&0);
-    println!("{} requests in {} ms", list.len(), took / 1_000_000);
-}
-
-fn row(name: &str, mut nanos: Vec<u64>) {
-    nanos.sort_unstable();
-    let at = |thousandths: usize| {
-        let index = (nanos.len() * thousandths / 1000).min(nanos.len().saturating_sub(1));
-        nanos.get(index).map_or(0.0, |nanos| *nanos as f64 / 1000.0)
-    };
-    println!("{name:<12}{:>9}{:>11.1}{:>11.1}{:>11.1}{:>11.1}", nanos.len(), at(500), at(990), at(999), at(1000));
+/// Prints the same log as the server.
+fn report(sent: &[u64], ends: &[u64]) {
+    let count = ends.len();
+    let mut log = format!("{count} of {count} requests served; the sum of their answers is {}\n", SUM.load(SeqCst));
+    for (number, (sent, end)) in sent.iter().zip(ends).enumerate() {
+        writeln!(log, "request {number}: sent {sent}, ended {end}").unwrap();
+    }
+    print!("{log}");
 }

@@ -1,90 +1,78 @@
 //! A request as a job of the pool.
-ghost use Rattle.std.specs.Prelude.{◌≡◌, IfSome};
-ghost use Rattle.example_server.specs.Work.{mixed};
+ghost use Rattle.std.specs.Prelude.{◌≡◌, ◌≤◌, IfSome};
+ghost use Rattle.example_server.specs.Work.{earliest, mixed};
 
 use crate::requests::{Class, Due};
-use crate::timer::{Call, Timer};
+use crate::timer::{SLOW, Timer};
 use arachne_core::ThreadId;
 use arachne_pool::{PoolJob, Step};
 use arachne_table::Tagged;
 use std::rt::Clock;
 use std::sync::Arc;
 
-/// A request that was sent. The request has a clock, by which it notes when it begins and ends.
-#[derive(Drop)]
+/// A request that was taken from the list.
+#[derive(Clone, Copy)]
 pub struct Request {
-    pub clock: HostRuntime,
-    /// The request's place in the list.
+    /// Its place in the list.
     pub number: u64,
-    pub work: u32,
-    pub class: Class,
-    /// The request's call of the slow part, until that is answered.
-    call: Option<Call>,
+    pub due: Due,
+    /// The time at which it was taken, in nanoseconds of the clock.
+    pub taken: u64,
 }
 
-/// The answer to a request.
-#[derive(Drop)]
+/// The answer to a request. Its work began after the slow part, if it has one.
+#[derive(Clone, Copy)]
 pub struct Answer {
+    pub request: Request,
     pub value: u64,
-    /// The times at which the request's work began and was done, in nanoseconds of the clock.
+    /// The times at which its work began and was done, in nanoseconds of the clock.
     pub began: u64,
     pub ended: u64,
+    ghost right: { value ≡ mixed request.due.work request.number },
+    ghost waited: { earliest request ≤ began },
 }
 
-impl Request {
-    /// Returns the request of this number that a line asks for, or `None` if too many wait for the slow part.
-    pub fn new(clock: HostRuntime, timer: &Arc<Timer>, number: u64, due: Due) -> Option<Request>
-        ensures number { IfSome result (λ request. request.number ≡ number) }
-        ensures work { IfSome result (λ request. request.work ≡ due.work) }
+/// The job of a request. It has a clock, by which it notes its begin and end.
+#[derive(Drop)]
+pub struct Job {
+    request: Request,
+    clock: HostRuntime,
+    /// The first time at which its work may begin, and the timer that wakes it then, if it has a slow part.
+    not_before: u64,
+    timer: Option<Arc<Timer>>,
+    ghost waits: { not_before ≡ earliest request },
+}
+
+impl Job {
+    /// Returns the job of a request, or `None` if it can't share the timer.
+    pub fn new(request: Request, clock: HostRuntime, timer: &Arc<Timer>) -> Option<Job>
+        ensures { IfSome result (λ job. job.request ≡ request) }
     {
-        let call = if due.class == Class::Slow {
-            Some(Timer::call(timer)?)
-        } else {
-            None
+        let (not_before, timer) = match request.due.class {
+            Class::Normal | Class::Exclusive => (0, None),
+            Class::Slow => (
+                request.taken.saturating_add(SLOW),
+                Some(timer.clone().ok()?),
+            ),
         };
-        Some(Request {
+        Some(Job {
+            request,
             clock,
-            number,
-            work: due.work,
-            class: due.class,
-            call,
+            not_before,
+            timer,
         })
-    }
-
-    /// Returns whether the request waits for the slow part. If the request no longer waits, its entry is given back.
-    pub fn waits(&mut self) -> bool
-        ensures { self.new ≡ record self.old { call = self.new.call } }
-    {
-        match &self.call {
-            Some(call) if !call.is_answered() => return true,
-            _ => {}
-        }
-        self.give_up();
-        false
-    }
-
-    /// Gives the request's entry back, if it has one.
-    pub fn give_up(&mut self)
-        ensures { self.new ≡ record self.old { call = self.new.call } }
-    {
-        if let Some(call) = self.call.take() {
-            call.end();
-        }
     }
 }
 
 /// Returns the nanoseconds of the clock, or 0 if it can't be read.
 pub fn now<R: Clock>(clock: &R) -> u64 {
     match clock.monotonic() {
-        Ok(time) => time
-            .as_secs()
-            .saturating_mul(1_000_000_000)
-            .saturating_add(u64::from(time.subsec_nanos())),
+        Ok(time) => u64::try_from(time.as_nanos()).unwrap_or(u64::MAX),
         Err(_) => 0,
     }
 }
 
-/// Returns the number that `rounds` rounds of mixing make of `number`.
+/// Returns the number that this many rounds make of `number`.
 fn mix(rounds: u32, number: u64) -> u64
     ensures { result ≡ mixed rounds number }
 {
@@ -96,29 +84,30 @@ fn mix(rounds: u32, number: u64) -> u64
     value
 }
 
-impl Tagged for Request {
-    ghost tag_of = { λ request. request.number };
+impl Tagged for Job {
+    ghost tag_of = { λ job. job.request.number };
 
     fn tag(&self) -> u64 {
-        self.number
+        self.request.number
     }
 }
 
-impl PoolJob for Request {
+impl PoolJob for Job {
     type Output = Answer;
 
-    ghost is_result = { λ request answer. answer.value ≡ mixed request.work request.number };
+    ghost is_result = { λ job answer. answer.request ≡ job.request };
 
     ghost awaits = { λ _ _. Unit {0} };
 
-    fn step(&mut self) -> Step<Request, Answer> {
-        // It may be stepped before it is woken, so it looks for its answer each time.
-        if self.waits() {
+    fn step(&mut self) -> Step<Job, Answer> {
+        let began = now(&self.clock);
+        // It may be stepped before it is woken, so it looks at the clock each time.
+        if began < self.not_before {
             return Step::Sleeps;
         }
-        let began = now(&self.clock);
-        let value = mix(self.work, self.number);
+        let value = mix(self.request.due.work, self.request.number);
         Step::Done(Answer {
+            request: self.request,
             value,
             began,
             ended: now(&self.clock),
@@ -128,12 +117,12 @@ impl PoolJob for Request {
     fn joined(&mut self, _output: Answer) {}
 
     fn sleeps_as(&self, id: ThreadId) {
-        if let Some(call) = &self.call {
-            call.begin(now(&self.clock), id);
+        if let Some(timer) = &self.timer {
+            timer.wake_at(self.not_before, id);
         }
     }
 
     fn is_exclusive(&self) -> bool {
-        self.class == Class::Exclusive
+        self.request.due.class == Class::Exclusive
     }
 }

@@ -1,21 +1,33 @@
-//! The keeper of the cores: it judges samples of the load, and orders cores and gives them back.
-ghost use Rattle.std.specs.Prelude.{◌≡◌, ◌*◌, ◌+◌, ◌≤◌, IfOk};
+//! The keeper of the cores: it samples the load, and orders cores and gives them back as the core policy advises.
+ghost use Rattle.std.specs.Prelude.{ℕ, ◌≡◌, ◌+◌, ◌<◌, ◌≤◌, [], ◌∷◌, IfSome};
 ghost use Rattle.arachne_policy.specs.Orders.{AreInOrder};
 
-use arachne_policy::{Advice, CoreOrder, Estimator, OrderKind, Sample, check_orders};
-use std::alloc::{AllocError, Global};
+use arachne_policy::{Advice, CoreOrder, Estimator, OrderKind, Sample};
+use std::alloc::Global;
 
-/// A core is asked for if more requests than this are ready per core, on average over the looks, in thousandths.
+/// The load over which a core is asked for, in thousandths of a request a scan.
 const UP: u64 = 1500;
 
-/// A core is given back once the use of cores is this much below the use at which it was asked for, in thousandths of a
-/// core.
+/// The hysteresis of the policy, in thousandths of a core.
 const HYSTERESIS: u64 = 90;
 
-/// The sample of an interval, and the advice that the sample gave.
+/// The settings of the server.
+#[derive(Clone, Copy)]
+pub struct Settings {
+    /// The most cores that it may have: up to 63, since a pool has 64 and one is the sender's.
+    pub most: u8,
+    /// The nanoseconds after which the load is judged.
+    pub interval: u64,
+    /// The most nanoseconds that a request may wait for a place.
+    pub patience: u64,
+    ghost some: { 1 ≤ most },
+    ghost few: { most < 64 },
+}
+
+/// The sample of an interval, and the advice that it gave.
 #[derive(Clone, Copy)]
 pub struct Judged {
-    /// The end of the interval, in nanoseconds since the server began.
+    /// The time at which the interval ended, in nanoseconds of the clock.
     pub at: u64,
     pub sample: Sample,
     pub advice: Advice,
@@ -27,34 +39,29 @@ pub struct Keeper {
     estimator: Estimator,
     interval: u64,
     pub most: u8,
-    pub held: u8,
+    held: u8,
+    /// What the sample of this interval begins with: the time, and the nanoseconds of work that were done by then.
     begun: u64,
     busy: u64,
+    /// The jobs that its scans saw, and the cores that they looked at.
     runnable: u64,
     scans: u64,
     pub judged: Vec<Judged>,
-    ghost some: { 1 ≤ most },
-    ghost few: { most ≤ 4 },
+    ghost some: { 1 ≤ held },
+    ghost few: { held ≤ most },
 }
 
 impl Keeper {
-    /// The most cores that the server may have.
-    pub const MOST: u8 = 4;
-
-    /// The number of places of a core.
-    pub const PLACES: u8 = 56;
-
-    /// Returns a keeper that has `most` cores and may have no more. If `interval` is 0, the keeper keeps all cores.
-    pub fn new(alloc: Global, most: u8, interval: u64) -> Keeper
-        requires some { 1 ≤ most }
-        requires few { most ≤ 4 }
+    /// Returns a keeper that has all cores at this time.
+    pub fn new(alloc: Global, settings: Settings, now: u64) -> Keeper
+        ensures { result.most ≡ settings.most }
     {
         Keeper {
-            estimator: Estimator::new(UP, HYSTERESIS, most),
-            interval,
-            most,
-            held: most,
-            begun: 0,
+            estimator: Estimator::new(UP, HYSTERESIS, settings.most),
+            interval: settings.interval,
+            most: settings.most,
+            held: settings.most,
+            begun: now,
             busy: 0,
             runnable: 0,
             scans: 0,
@@ -62,22 +69,17 @@ impl Keeper {
         }
     }
 
-    /// Counts a look at all cores of the server, at which `requests` requests were there.
-    pub fn scan(&mut self, requests: u64)
-        ensures { self.new.most ≡ self.old.most }
+    /// Counts a scan of all cores that it has, at which this many jobs could run. Once the interval has ended, its sample
+    /// is judged, and the order that follows is returned, if there is one. `busy` is the nanoseconds of work by now.
+    pub fn scan(&mut self, now: u64, runnable: u64, busy: u64) -> Option<CoreOrder>
+        ensures most { self.new.most ≡ self.old.most }
+        ensures order { IfSome result (λ order. AreInOrder (self.old.most + 1) (order ∷ [])) }
     {
-        self.runnable = self.runnable.saturating_add(requests);
+        self.runnable = self.runnable.saturating_add(runnable);
         self.scans = self.scans.saturating_add(u64::from(self.held));
-    }
-
-    /// Returns at the end of an interval whether a core should come or go. `busy` is the nanoseconds of work that are
-    /// done by now.
-    pub fn judge(&mut self, at: u64, busy: u64) -> Advice
-        ensures { self.new.most ≡ self.old.most }
-    {
-        let elapsed = at.saturating_sub(self.begun);
-        if self.interval == 0 || elapsed < self.interval {
-            return Advice::Stay;
+        let elapsed = now.saturating_sub(self.begun);
+        if elapsed < self.interval {
+            return None;
         }
         let cores = u64::from(self.held);
         let sample = Sample {
@@ -90,23 +92,24 @@ impl Keeper {
             elapsed,
         };
         self.busy = busy;
-        self.begun = at;
+        self.begun = now;
         self.runnable = 0;
         self.scans = 0;
         let advice = self.estimator.estimate(sample).unwrap_or(Advice::Stay);
+        let at = now;
         let _ = self.judged.push(Judged { at, sample, advice });
-        advice
+        self.follow(advice)
     }
 
-    /// Takes the advice. Returns the order for the pool, if there is one.
-    pub fn follow(&mut self, advice: Advice) -> Option<CoreOrder>
-        ensures { self.new.most ≡ self.old.most }
+    /// Counts the core that comes or goes by this advice, and returns the order for it, if there is one.
+    fn follow(&mut self, advice: Advice) -> Option<CoreOrder>
+        ensures most { self.new.most ≡ self.old.most }
+        ensures order { IfSome result (λ order. AreInOrder (self.old.most + 1) (order ∷ [])) }
     {
         match advice {
             Advice::Add if self.held < self.most => {
-                let core = self.held;
                 self.held += 1;
-                Some(order(OrderKind::Grant, core))
+                Some(order(OrderKind::Grant, self.held - 1))
             }
             Advice::Remove if self.held > 1 => {
                 self.held -= 1;
@@ -115,33 +118,14 @@ impl Keeper {
             _ => None,
         }
     }
-
-    /// Returns the order that closes the sender's core, the last one.
-    pub fn sender(&self) -> CoreOrder {
-        order(OrderKind::Release, self.most)
-    }
-
-    /// Returns the most requests that may wait for the slow part: half of those for which its cores have places, so
-    /// that there are places for others.
-    pub fn waiting(&self) -> usize
-        ensures { 2 * result ≡ 56 * self.now.most }
-    {
-        usize::from(self.most) * usize::from(Keeper::PLACES) / 2
-    }
-
-    /// Returns a list of this order, or an empty one if a pool with these cores and the sender's can't have it.
-    pub fn listed(&self, alloc: Global, order: CoreOrder) -> Result<Vec<CoreOrder>, AllocError>
-        ensures { IfOk result (λ orders. AreInOrder (self.now.most + 1) orders.items) }
-    {
-        let orders = vec![in alloc; order]?;
-        match check_orders(orders.as_slice(), u64::from(self.most) + 1) {
-            Ok(()) => Ok(orders),
-            Err(_) => Ok(Vec::new(alloc)),
-        }
-    }
 }
 
-fn order(kind: OrderKind, core: u8) -> CoreOrder {
+/// Returns the order for a core, which is due at once.
+#[tactic(auto, using(crate::proofs::Orders::one_in_order))]
+pub fn order(kind: OrderKind, core: u8) -> CoreOrder
+    requires { 0 < core }
+    ensures { (cores : ℕ) → core < cores → AreInOrder cores (result ∷ []) }
+{
     CoreOrder {
         after: 0,
         kind,

@@ -1,58 +1,37 @@
 //! A server over the pool: it answers a list of requests, and holds as many cores as their load asks for.
 //!
-//! `example_server < LIST` prints how many it has answered; `example_server CORES INTERVAL [PATIENCE] < LIST` also how
-//! long that took. Times are in microseconds.
+//! `example_server < LIST` prints how many it has answered; `example_server CORES INTERVAL [PATIENCE] < LIST` also its
+//! log. Times are in microseconds.
 #![tactic(auto)]
 
-mod crew;
-mod entry;
 mod job;
 mod keeper;
 mod print;
-mod report;
 mod requests;
 mod send;
-mod serve;
+mod server;
 mod start;
 mod timer;
-mod waiting;
 
 use anyhow::{Result, bail};
-use crew::Books;
-use keeper::Keeper;
+use keeper::Settings;
 use requests::{Due, requests};
 use start::run;
 use std::env;
 use std::io::Read;
-use std::sync::Wait;
-use std::thread::Threads;
-use std::time::Clock;
 
-/// The most microseconds that a request without a place may be late, if the arguments don't say it.
-const PATIENCE: u64 = 10_000_000;
-
-/// The numbers among the arguments.
-#[derive(Clone, Copy)]
-struct Numbers {
-    /// The most cores that the server may have.
-    cores: Option<u64>,
-    /// The microseconds between two looks at the load.
-    interval: Option<u64>,
-    /// The most microseconds that a request without a place may be late.
-    patience: Option<u64>,
+/// Returns the number at a place of the arguments, or the other one if there is none.
+fn number(words: &[String], place: usize, other: u64) -> u64 {
+    let number = words.get(place).and_then(|word| word.as_str().parse().ok());
+    number.unwrap_or(other)
 }
 
-fn arguments(rt: &HostRuntime) -> Result<Numbers> {
-    let words: Vec<String> = env::args(rt)?.collect(rt.alloc())?;
-    let mut numbers = words
-        .iter()
-        .skip(1)
-        .map(|word| word.as_str().parse::<u64>().ok());
-    Ok(Numbers {
-        cores: numbers.next().flatten(),
-        interval: numbers.next().flatten(),
-        patience: numbers.next().flatten(),
-    })
+fn settings(words: &[String]) -> Settings {
+    Settings {
+        most: number(words, 1, 2).clamp(1, 63) as u8,
+        interval: number(words, 2, 1000).saturating_mul(1000),
+        patience: number(words, 3, 10_000_000).saturating_mul(1000),
+    }
 }
 
 /// Returns the list of requests, which is the input.
@@ -65,30 +44,16 @@ fn list(rt: &HostRuntime) -> Result<Vec<Due>> {
     }
 }
 
-/// Answers or refuses all requests of a list, with the settings in `numbers`. Returns the sender's records, or the
-/// reason why there are none.
-fn answer<R: Threads + Wait + Clock + Sync>(
-    rt: &R,
-    host: HostRuntime,
-    numbers: Numbers,
-    list: &[Due],
-) -> Result<Books, &'static str> {
-    let most = numbers.cores.unwrap_or(2).clamp(1, u64::from(Keeper::MOST)) as u8;
-    let interval = numbers.interval.unwrap_or(1000).saturating_mul(1000);
-    let patience = numbers.patience.unwrap_or(PATIENCE).saturating_mul(1000);
-    let keeper = Keeper::new(host.alloc(), most, interval);
-    run(rt, host.alloc(), list, keeper, patience, host)
-}
-
 fn main(rt: HostRuntime) -> Result<()> {
-    let numbers = arguments(&rt)?;
+    let words: Vec<String> = env::args(&rt)?.collect(rt.alloc())?;
+    let settings = settings(words.as_slice());
     let list = list(&rt)?;
-    match answer(&rt, rt, numbers, list.as_slice()) {
-        Ok(books) => {
-            let is_asked = numbers.cores.is_some();
-            print::all(&rt, rt.alloc(), &books, list.len(), is_asked)?;
-            Ok(())
-        }
-        Err(why) => bail!("{why}"),
+    let Some(report) = run(&rt, rt.alloc(), list.as_slice(), settings, rt) else {
+        bail!("memory or a kernel thread was refused");
+    };
+    print::summary(&rt, &report, list.len())?;
+    if words.len() > 1 {
+        print::log(&rt, rt.alloc(), &report)?;
     }
+    Ok(())
 }

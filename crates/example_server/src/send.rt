@@ -1,255 +1,207 @@
-//! The kernel thread that sends the requests, takes the answers, and has a keeper add and remove cores.
-ghost use Rattle.std.specs.Prelude.{◌≡◌, ◌+◌, ◌<◌, IfOk, IfSome, IsSome, OnSome, if◌then◌else◌, length, vec_len};
+//! The kernel thread of the sender, for which the list stands for a network: it sends each request as a job once that
+//! is due, wakes those whose slow part is over, takes the answers, and has the cores kept.
+ghost use Rattle.std.specs.Prelude.{◌≡◌, ◌+◌, ◌<◌, IfOk, IfSome, IsSome, OnSome, Some, if◌then◌else◌, length, slice_get, vec_len};
 ghost use Rattle.std.specs.VecDeque.{deque_len};
-ghost use Rattle.arachne_pool.specs.Workers.{IsWorkerOf};
-ghost use Rattle.example_server.specs.Counts.{ended_in};
+ghost use Rattle.arachne_pool.specs.Workers.{IsIdleAt, IsWorkerOf};
 
-use crate::crew::Books;
-use crate::job::{Request, now};
-use crate::keeper::Keeper;
-use crate::report::{Answered, Report};
+use crate::job::{Answer, Job, Request, now};
+use crate::keeper::{Judged, Keeper};
 use crate::requests::Due;
-use crate::serve::Server;
-use arachne_pool::{Handle, Refusal, Refused, Spawned, Worker};
+use crate::server::Server;
+use crate::timer::wake_due;
+use arachne_pool::{Handle, Refusal, Spawned, Waker, Worker};
 use arachne_table::Contexts;
-use std::alloc::Global;
 use std::collections::VecDeque;
 use std::sync::Wait;
 use std::time::Clock;
 
-/// The nanoseconds between two looks at the cores, which take time from the requests.
+/// The nanoseconds between two looks at sleepers and cores, which take time from the requests.
 const BETWEEN_LOOKS: u64 = 20_000;
 
-/// A request that was sent and not answered.
+/// The report of the server.
 #[derive(Drop)]
-struct Sent {
-    number: u64,
-    due: Due,
-    /// The time at which the request was sent, in nanoseconds since the server began.
-    at: u64,
-    handle: Handle<Request>,
-    ghost number_right: { handle.number ≡ number },
-    ghost work_right: { handle.work ≡ due.work },
+pub struct Report {
+    /// The time at which it began, in nanoseconds of the clock.
+    pub begin: u64,
+    /// The answers, in the order in which their requests were sent.
+    pub answers: Vec<Answer>,
+    /// The number of requests that were refused.
+    pub refused: usize,
+    /// The nanoseconds that the work of those that were answered took.
+    busy: u64,
+    /// What was judged of the load.
+    pub judged: Vec<Judged>,
 }
 
-/// Sends each request once its time has come and a place is free, and takes the answers. A request for which there is
-/// no place until it is later than `patience` is refused. After the last one the server is over. Returns `None` if
-/// memory is refused.
-pub fn send<R: Wait + Clock, C: Contexts<Spawned<Request>>>(
+/// Answers or refuses all requests of the server's list. One for which there is no place is refused once it is later
+/// than the server's patience. Returns `None` if memory is refused, or the pool is stopped before.
+pub fn send<R: Wait + Clock, C: Contexts<Spawned<Job>>>(
     rt: &R,
-    alloc: Global,
-    server: &Server<C>,
-    worker: Worker<C::Seat, Request>,
-    patience: u64,
-    requests: &[Due],
-    books: Books,
-) -> Option<(Worker<C::Seat, Request>, Books)>
-    requires worker { IsWorkerOf C.sits C.idle server.now.pool.table server.now.pool.cores worker }
-    requires cores { books.keeper.most + 1 ≡ server.now.pool.cores }
-    requires none { (vec_len books.report.answers ≡ 0) × (books.report.refused ≡ 0) }
-    ensures worker { IfSome result (λ done. IsWorkerOf C.sits C.idle server.now.pool.table server.now.pool.cores done.0) }
-    ensures all { IfSome result (λ done. vec_len done.1.report.answers + done.1.report.refused ≡ length requests.now) }
+    server: &Server<'_, C>,
+    worker: Worker<C::Seat, Job>,
+) -> Option<(Worker<C::Seat, Job>, Report)>
+    requires { IsWorkerOf C.sits C.idle server.now.pool.table server.now.pool.cores worker }
+    ensures worker { IfSome result (λ sent. IsWorkerOf C.sits C.idle server.now.pool.table server.now.pool.cores sent.0) }
+    ensures all { IfSome result (λ sent. vec_len sent.1.answers + sent.1.refused ≡ length server.now.requests.now) }
 {
-    let (mut worker, mut books) = (worker, books);
-    let mut sent: VecDeque<Sent> = VecDeque::new(alloc);
-    let Books { keeper, report } = &mut books;
-    let done = send_all::<R, C>(
+    let (mut worker, waker) = server.pool.split_waker(rt, worker);
+    let mut waker = waker?;
+    let begin = now(rt);
+    let mut report = Report {
+        begin,
+        answers: Vec::with_capacity(server.alloc, server.requests.len()).ok()?,
+        refused: 0,
+        busy: 0,
+        judged: Vec::new(server.alloc),
+    };
+    let mut keeper = Keeper::new(server.alloc, server.settings, begin);
+    send_all::<R, C>(
         rt,
         server,
         &mut worker,
-        keeper,
-        patience,
-        requests,
-        report,
-        &mut sent,
-    );
-    match done {
-        Some(()) => {
-            server.finish();
-            Some((worker, books))
-        }
-        None => {
-            server.stop();
-            None
-        }
-    }
+        &mut waker,
+        &mut keeper,
+        &mut report,
+    )?;
+    server.pool.finish();
+    report.judged = keeper.judged;
+    Some((server.pool.join_waker(rt, worker, waker), report))
 }
 
-/// Sends the requests and takes the answers until all are answered or refused. Returns `None` if memory is refused, or
-/// the server is over before.
-fn send_all<R: Wait + Clock, C: Contexts<Spawned<Request>>>(
+/// Does the same with what the sender has.
+fn send_all<R: Wait + Clock, C: Contexts<Spawned<Job>>>(
     rt: &R,
-    server: &Server<C>,
-    worker: &mut Worker<C::Seat, Request>,
+    server: &Server<'_, C>,
+    worker: &mut Worker<C::Seat, Job>,
+    waker: &mut Waker<C::Seat>,
     keeper: &mut Keeper,
-    patience: u64,
-    requests: &[Due],
     report: &mut Report,
-    sent: &mut VecDeque<Sent>,
 ) -> Option<()>
     requires worker { IsWorkerOf C.sits C.idle server.now.pool.table server.now.pool.cores worker.old }
+    requires waker { IsIdleAt C.sits C.idle server.now.pool.table waker.old }
     requires cores { keeper.old.most + 1 ≡ server.now.pool.cores }
-    requires none { (vec_len report.old.answers ≡ 0) × (report.old.refused ≡ 0) × (deque_len sent.old ≡ 0) }
+    requires none { (vec_len report.old.answers ≡ 0) × (report.old.refused ≡ 0) }
     ensures worker { IsWorkerOf C.sits C.idle server.now.pool.table server.now.pool.cores worker.new }
-    ensures all { OnSome result (vec_len report.new.answers + report.new.refused ≡ length requests.now) }
+    ensures waker { IsIdleAt C.sits C.idle server.now.pool.table waker.new }
+    ensures all { OnSome result (vec_len report.new.answers + report.new.refused ≡ length server.now.requests.now) }
 {
-    server.await_kernel_threads(rt);
-    let begin = now(&server.clock);
+    let mut sent: VecDeque<Handle<Job>> = VecDeque::new(server.alloc);
     let mut next: usize = 0;
-    // The time of the next look at the cores.
-    let mut look: u64 = 0;
+    // The time of the next look.
+    let mut look = report.begin;
     for _ in rt.forever() {
-        let at = now(&server.clock).saturating_sub(begin);
-        if let Some(due) = due_by(requests, next, at) {
-            let number = next as u64;
-            let spawned = match Request::new(server.clock, &server.timer, number, due) {
-                Some(request) => Some(server.pool.try_spawn(rt, worker, request)),
-                None => None,
-            };
-            if settles(spawned, number, due, at, patience, report, sent)? {
-                next += 1;
-                continue;
-            }
+        let now = now(rt);
+        if let Some(request) = due_by(server.requests, next, report.begin, now)
+            && settles::<R, C>(rt, server, worker, request, report, &mut sent)?
+        {
+            next += 1;
         }
-        look = keep_cores(rt, server, worker, keeper, report.busy, at, look)?;
-        if !take_answer(sent, begin, report)? && next == requests.len() && sent.is_empty() {
-            report.nanos = at;
+        take_answer(&mut sent, report)?;
+        if next == server.requests.len() && sent.is_empty() {
             return Some(());
+        }
+        if server.pool.is_stopped() {
+            return None;
+        }
+        if look <= now {
+            look = now.saturating_add(BETWEEN_LOOKS);
+            wake_due::<R, C>(rt, server, waker, now);
+            keep_cores::<R, C>(rt, server, worker, keeper, now, report.busy)?;
         }
     }
     unreachable!()
 }
 
-/// Returns the next request, if its time has come.
-fn due_by(requests: &[Due], next: usize, at: u64) -> Option<Due>
-    ensures { IsSome result → next < length requests.now }
+/// Returns the request at this place of the list, if its time has come.
+fn due_by(requests: &[Due], next: usize, begin: u64, now: u64) -> Option<Request>
+    ensures next { IfSome result (λ request. request.number ≡ next) }
+    ensures due { IfSome result (λ request. Some request.due ≡ slice_get requests.now next) }
+    ensures within { IsSome result → next < length requests.now }
 {
     let due = *requests.get(next)?;
-    if due.at <= at { Some(due) } else { None }
-}
-
-/// Returns whether a request that was due is settled: it was spawned or refused. The request is refused if too many
-/// wait for the slow part, or if no core has a place and the request is later than `patience`. Returns `None` if memory
-/// is refused.
-fn settles(
-    spawned: Option<Result<Handle<Request>, Refused<Request>>>,
-    number: u64,
-    due: Due,
-    at: u64,
-    patience: u64,
-    report: &mut Report,
-    sent: &mut VecDeque<Sent>,
-) -> Option<bool>
-    requires handle { IfSome spawned (λ spawned. IfOk spawned (λ handle. (handle.number ≡ number) × (handle.work ≡ due.work))) }
-    requires few { report.old.refused < usize.MAX }
-    ensures all { IfSome result (λ settled. ended_in report.new + deque_len sent.new ≡ ended_in report.old + deque_len sent.old + (if settled then 1 else 0)) }
-{
-    let late = at.saturating_sub(due.at);
-    match spawned {
-        Some(Ok(handle)) => {
-            report.late.push(late).ok()?;
-            let one = Sent {
-                number,
-                due,
-                at,
-                handle,
-            };
-            sent.push_back(one).ok()?;
-            Some(true)
-        }
-        Some(Err(refused)) => {
-            let Refused { mut job, why } = refused;
-            job.give_up();
-            if why == Refusal::Memory {
-                return None;
-            }
-            // Else it waits until there is a place.
-            let is_refused = late > patience;
-            report.refused += usize::from(is_refused);
-            Some(is_refused)
-        }
-        None => {
-            report.refused += 1;
-            Some(true)
-        }
-    }
-}
-
-/// Has orders applied, looks at the load, and orders a core or gives one back, if that is due. Returns the time at
-/// which the next call is due, or `None` if memory is refused, or the server is over before.
-fn keep_cores<R: Wait + Clock, C: Contexts<Spawned<Request>>>(
-    rt: &R,
-    server: &Server<C>,
-    worker: &mut Worker<C::Seat, Request>,
-    keeper: &mut Keeper,
-    busy: u64,
-    at: u64,
-    look: u64,
-) -> Option<u64>
-    requires worker { IsWorkerOf C.sits C.idle server.now.pool.table server.now.pool.cores worker.old }
-    requires cores { keeper.old.most + 1 ≡ server.now.pool.cores }
-    ensures worker { IsWorkerOf C.sits C.idle server.now.pool.table server.now.pool.cores worker.new }
-    ensures cores { keeper.new.most ≡ keeper.old.most }
-{
-    if server.pool.is_stopped() {
+    if now.saturating_sub(begin) < due.at {
         return None;
     }
-    if at < look {
-        return Some(look);
-    }
-    server.pool.turn(rt, worker, keeper.most).ok()?;
-    keeper.scan(server.runnable());
-    let advice = keeper.judge(at, busy);
-    if let Some(order) = keeper.follow(advice) {
-        let orders = keeper.listed(*keeper.judged.allocator(), order).ok()?;
-        server.pool.order(rt, worker, orders).ok()?;
-    }
-    Some(at.saturating_add(BETWEEN_LOOKS))
+    Some(Request {
+        number: next as u64,
+        due,
+        taken: now,
+    })
 }
 
-/// Takes the answer to the request that was sent first, if it has come, and adds up its work. Returns whether the
-/// answer had come.
-fn take_answer(sent: &mut VecDeque<Sent>, begin: u64, report: &mut Report) -> Option<bool>
+/// Sends a request that is due, or refuses it if no core has a place and it is later than the patience. Returns whether
+/// it did either, and `None` if memory is refused.
+fn settles<R: Wait, C: Contexts<Spawned<Job>>>(
+    rt: &R,
+    server: &Server<'_, C>,
+    worker: &mut Worker<C::Seat, Job>,
+    request: Request,
+    report: &mut Report,
+    sent: &mut VecDeque<Handle<Job>>,
+) -> Option<bool>
+    requires worker { IsWorkerOf C.sits C.idle server.now.pool.table server.now.pool.cores worker.old }
+    requires few { report.old.refused < usize.MAX }
+    ensures worker { IsWorkerOf C.sits C.idle server.now.pool.table server.now.pool.cores worker.new }
+    ensures answers { vec_len report.new.answers ≡ vec_len report.old.answers }
+    ensures all { IfSome result (λ settled. report.new.refused + deque_len sent.new ≡ report.old.refused + deque_len sent.old + (if settled then 1 else 0)) }
+{
+    let job = Job::new(request, server.clock, &server.timer)?;
+    match server.pool.try_spawn(rt, worker, job) {
+        Ok(handle) => {
+            sent.push_back(handle).ok()?;
+            Some(true)
+        }
+        Err(refused) => match refused.why {
+            Refusal::NoPlace(_) => {
+                let due = report.begin.saturating_add(request.due.at);
+                let is_late = request.taken.saturating_sub(due) > server.settings.patience;
+                report.refused += usize::from(is_late);
+                Some(is_late)
+            }
+            Refusal::Memory | Refusal::NoSeat => None,
+        },
+    }
+}
+
+/// Takes the answer to the request that was sent first, if it has come. Returns `None` if memory is refused.
+fn take_answer(sent: &mut VecDeque<Handle<Job>>, report: &mut Report) -> Option<()>
     ensures all { OnSome result (vec_len report.new.answers + deque_len sent.new ≡ vec_len report.old.answers + deque_len sent.old) }
     ensures refused { report.new.refused ≡ report.old.refused }
 {
     let Some(first) = sent.pop_front() else {
-        return Some(false);
+        return Some(());
     };
-    let Sent {
-        number,
-        due,
-        at,
-        handle,
-    } = first;
-    match handle.poll() {
+    match first.poll() {
         Ok(answer) => {
-            let ended = answer.ended.saturating_sub(begin);
-            let busy = answer.ended.saturating_sub(answer.began);
-            report.busy = report.busy.saturating_add(busy);
-            report
-                .answers
-                .push(Answered {
-                    number,
-                    work: due.work,
-                    class: due.class,
-                    value: answer.value,
-                    waited: answer.began.saturating_sub(begin).saturating_sub(at),
-                    ended,
-                    nanos: ended.saturating_sub(due.at),
-                })
-                .ok()?;
-            Some(true)
+            let work = answer.ended.saturating_sub(answer.began);
+            report.busy = report.busy.saturating_add(work);
+            report.answers.push(answer).ok()
         }
-        Err(handle) => {
-            sent.push_front(Sent {
-                number,
-                due,
-                at,
-                handle,
-            })
-            .ok()?;
-            Some(false)
-        }
+        Err(first) => sent.push_front(first).ok(),
     }
+}
+
+/// Samples the load, and gives the pool the order that follows. Returns `None` if memory is refused.
+fn keep_cores<R: Wait + Clock, C: Contexts<Spawned<Job>>>(
+    rt: &R,
+    server: &Server<'_, C>,
+    worker: &mut Worker<C::Seat, Job>,
+    keeper: &mut Keeper,
+    now: u64,
+    busy: u64,
+) -> Option<()>
+    requires worker { IsWorkerOf C.sits C.idle server.now.pool.table server.now.pool.cores worker.old }
+    requires cores { keeper.old.most + 1 ≡ server.now.pool.cores }
+    ensures worker { IsWorkerOf C.sits C.idle server.now.pool.table server.now.pool.cores worker.new }
+    ensures most { keeper.new.most ≡ keeper.old.most }
+{
+    let asleep = server.timer.sleepers();
+    let runnable = server.pool.live().saturating_sub(asleep);
+    if let Some(order) = keeper.scan(now, runnable, busy) {
+        let orders = vec![in server.alloc; order].ok()?;
+        server.pool.order(rt, worker, orders).ok()?;
+    }
+    // A round on the sender's core, which is closed: it only applies the orders.
+    server.pool.turn(rt, worker, keeper.most).ok()?;
+    Some(())
 }

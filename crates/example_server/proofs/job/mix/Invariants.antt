@@ -2,6 +2,6 @@ use Rattle.std.proofs.Common.{◌≡◌}
 use Rattle.example_server.specs.Work.{mixed}
 use Rattle.example_server.proofs.job.mix.Given as goal
 
--- so many rounds were made
+-- this many rounds were made
 abbrev pub invariant-loop : goal.invariant-loop
 invariant-loop l = l.value ≡ mixed l.counter l.number
