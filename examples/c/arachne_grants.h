@@ -124,8 +124,7 @@ uint32_t arachne_arbiter_new(arachne_arbiter *arbiter, uint32_t cores);
  * Threads: safe beside calls with other handles; two at once with `arbiter` are undefined behaviour. */
 void arachne_arbiter_close(arachne_arbiter *arbiter);
 
-/* Adds a client with its priority, of which 0 goes first, and the cores that it reserves and may ask for at
- * most.
+/* Adds a client with its priority (0 goes first), and the cores that it reserves and may ask for at most.
  *
  * The client's number is from 0 to 63, and no other client's. Returns DONE or REFUSED. The caller must check
  * that the client is entitled to this priority and these cores.

@@ -242,8 +242,8 @@ impl World {
         }
     }
 
-    /// Lets time pass, as no thread can run: the next thread that sleeps wakes, unless an epoll has an event that
-    /// nobody announced.
+    /// Lets time pass, as no thread can run: the next thread that sleeps wakes, unless an epoll has an event that no
+    /// thread was notified of.
     fn pass_time(&self, timer: u64) {
         for thread in self.all().filter(|thread| thread.state.get() == State::Waits && thread.epoll.get() >= 0) {
             let mut what = [thread.epoll.get(), 1];
@@ -269,7 +269,7 @@ impl World {
         thread.told.get()
     }
 
-    /// Lets threads that wait for this object run: all of them, or one by chance.
+    /// Lets threads that wait for this object run: all of them, or one chosen at random.
     fn tell(&self, on: usize, one: bool) {
         let waits = |thread: &&Thread| thread.state.get() == State::Waits && thread.on.get() == on;
         let count = self.all().filter(waits).count();

@@ -783,7 +783,7 @@ fn sockets() {
     }
 }
 
-/// Three tasks wait for one socket, of which one may leave: each of the others reads a byte.
+/// Three tasks wait for one socket, and one may leave: each of the others reads a byte.
 fn crowd() {
     let (runtime, (mut near, far)) = (runtime(2), UnixStream::pair().unwrap());
     let (far, leaves) = (Arc::new(Async::new(far).unwrap()), choose(2) == 0);

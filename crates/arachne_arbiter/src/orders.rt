@@ -42,7 +42,7 @@ impl Model for Orders {
 impl Orders {
     ghost use Rattle.arachne_arbiter.specs.Orders.{is_closed_after, next_effect, with_next, IsDue, IsNoneDue, IsWithin};
 
-    /// Creates the orders from `list`, of which none was applied yet, for `cores` cores, all of which are open.
+    /// Creates the orders of `list`, none of them applied yet, for `cores` cores, all of them open.
     ///
     /// The error is a refusal of memory.
     pub fn new(alloc: Global, list: Vec<CoreOrder>, cores: u8) -> Result<Orders, AllocError>

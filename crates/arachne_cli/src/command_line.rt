@@ -123,7 +123,7 @@ fn names_flag<'a>(alloc: Global) -> Arg<'a>
         .help("Print a line for each thread")
 }
 
-/// Returns the argument for order words, of which there may be any number.
+/// Returns the argument that takes any number of order words.
 fn order_words<'a>(alloc: Global) -> Arg<'a>
     ensures rule { rule_of result ≡ orders_rule }
     ensures local { result.global ≡ false }

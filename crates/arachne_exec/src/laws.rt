@@ -70,8 +70,8 @@ pub fn sleepers_are_woken()
 {}
 
 /// Each time that a worker set its idle bit (lay down), the bit was cleared once since, by the worker itself (it rose)
-/// or by a seat that wakes it (it was roused); or the bit is still set. So a worker whose bit is clear has risen or was
-/// roused as often as it lay down.
+/// or by a seat that wakes it (it was roused); or the bit is still set. So a worker whose bit is clear has ended each
+/// of its sleeps by a call of its own or another's.
 pub fn sleepers_are_told()
     ensures { (shards : ℕ) (b : Board) → IsLawful shards b → (worker : ℕ) → worker < 64
         → lies worker b.views ≡ rises worker b.views + rouses worker b.views + is_idle b.words worker }

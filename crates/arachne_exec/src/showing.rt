@@ -1,5 +1,5 @@
 //! Shows that a job is ready: sets its bit in the block's ready word, and the block's bit in the summary word, and
-//! looks whether a sleeping worker must be woken.
+//! checks whether a sleeping worker must be woken.
 ghost use Rattle.std.specs.Prelude.{◌≡◌, ◌≢◌, ℕ, ◌+◌, ◌*◌, ◌/◌, ◌<◌};
 ghost use Rattle.atomic_table.specs.Table.{rest};
 ghost use Rattle.arachne_exec.specs.Board.{IsLast};

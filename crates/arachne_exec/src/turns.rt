@@ -42,7 +42,7 @@ pub(crate) fn has_more(word: u64, index: usize) -> bool
     word >> index as u32 > 1
 }
 
-/// Returns the shard that a search comes to at `index`, if it goes from shard `first` to the last of `count` and then
+/// Returns the shard that a search reaches at `index`, if it goes from shard `first` to the last of `count` and then
 /// round to the one before `first`.
 pub(crate) fn shard_in_turn(first: usize, index: usize, count: usize) -> usize
     requires first { first < count }

@@ -63,7 +63,7 @@ impl Adding {
         Some(self.ledgers.read(&mut self.share, ledger))
     }
 
-    /// Splits the share in two. Fails, with nothing changed, if the ledgers can have no further owner.
+    /// Splits the share in two. Fails, with nothing changed, if the ledgers' `Arc` can't be cloned.
     pub(crate) fn split(self) -> Result<(Adding, Adding), Adding>
         ensures ok { IfOk result (λ parts. (parts.0 ≡ first_of self) × (parts.1 ≡ second_of self)) }
         ensures err { IfErr result (λ same. same ≡ self) }
@@ -104,7 +104,7 @@ impl Adding {
 
 /// Splits the share in `mine`, and puts the second part into `theirs`.
 ///
-/// Returns false, with nothing changed, if the ledgers can have no further owner, or if `mine` is empty.
+/// Returns false, with nothing changed, if the ledgers' `Arc` can't be cloned, or if `mine` is empty.
 pub(crate) fn cut(mine: &mut Option<Adding>, theirs: &mut Option<Adding>) -> bool
     requires { theirs.old ≡ None }
     ensures cut { ForSome mine.old (λ old. MatchBool result

@@ -209,7 +209,7 @@ pub(crate) fn leave_held(held: &mut Option<Executing>) -> u32
 
 /// Splits the seat in `mine`, and puts the second part into `theirs`.
 ///
-/// Returns false, with nothing changed, if the executor can have no further owner, or if `mine` is empty.
+/// Returns false, with nothing changed, if the executor's `Arc` can't be cloned, or if `mine` is empty.
 pub(crate) fn cut_held(mine: &mut Option<Executing>, theirs: &mut Option<Executing>) -> bool
     requires { theirs.old ≡ None }
     ensures cut { ForSome mine.old (λ old. MatchBool result

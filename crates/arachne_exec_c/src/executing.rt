@@ -269,7 +269,7 @@ impl Executing {
         self.worker = 0;
     }
 
-    /// Splits the seat in two. Fails, with nothing changed, if the executor can have no further owner.
+    /// Splits the seat in two. Fails, with nothing changed, if the executor's `Arc` can't be cloned.
     pub(crate) fn split(&mut self) -> Result<Executing, AllocError>
         ensures ok { IfOk result (λ other. (self.new ≡ first_of self.old) × (other ≡ second_of self.old)) }
         ensures err { IfErr result (λ _. self.new ≡ self.old) }

@@ -89,7 +89,7 @@ impl Seated {
         self.locks.check(&mut self.seat, lock, who)
     }
 
-    /// Splits off another seat. Fails, with nothing changed, if the locks can have no further owner.
+    /// Splits off another seat. Fails, with nothing changed, if the locks' `Arc` can't be cloned.
     fn split(&mut self) -> Result<Seated, AllocError>
         ensures ok { IfOk result (λ other. (self.new ≡ first_of self.old) × (other ≡ second_of self.old)) }
         ensures err { IfErr result (λ _. self.new ≡ self.old) }
@@ -110,7 +110,7 @@ impl Seated {
 
 /// Splits the seat in `mine`, and puts the new seat into `theirs`.
 ///
-/// Returns false, with nothing changed, if the locks can have no further owner, or if `mine` is empty.
+/// Returns false, with nothing changed, if the locks' `Arc` can't be cloned, or if `mine` is empty.
 pub(crate) fn split_held(mine: &mut Option<Seated>, theirs: &mut Option<Seated>) -> bool
     requires { theirs.old ≡ None }
     ensures split { ForSome mine.old (λ old. MatchBool result
@@ -177,7 +177,7 @@ pub(crate) fn withdraw_held(held: &mut Option<Seated>, lock: usize, who: u64) ->
     }
 }
 
-/// Looks whether `who` holds a lock, through the seat that a handle holds.
+/// Checks whether `who` holds a lock, through the seat that a handle holds.
 pub(crate) fn check_held(held: &mut Option<Seated>, lock: usize, who: u64) -> ArachneLockTold
     ensures { IsCheckTold lock who held.old held.new result }
 {

@@ -5,7 +5,7 @@ ghost use Rattle.arachne_grants.specs.Claims.{before_alike, claim_of, gets_befor
 /// A client of the machine: its priority, and the cores that it reserves, asks for and holds.
 #[derive(Clone, Copy, Debug, PartialEq, Eq)]
 pub struct Client {
-    /// The client's priority, of which 0 goes first.
+    /// The client's priority; 0 goes first.
     pub priority: u8,
     /// The number of cores that the client gets before any client gets more than its reserve.
     pub reserved: u32,

@@ -22,8 +22,8 @@ const ASK: u32 = 4;
 /// A message of a client.
 #[derive(Clone, Copy, Debug, PartialEq, Eq)]
 pub enum ClientMessage {
-    /// A client's first message: its priority, of which 0 goes first, the cores that it reserves, and the most that it
-    /// may ask for.
+    /// A client's first message: its priority (0 goes first), the cores that it reserves, and the most that it may ask
+    /// for.
     Hello {
         priority: u8,
         reserved: u16,

@@ -30,7 +30,7 @@ pub enum ClientThread {
 pub(crate) struct Session {
     /// True if a client has this place.
     pub taken: bool,
-    /// The client's priority, of which 0 goes first.
+    /// The client's priority; 0 goes first.
     pub priority: u8,
     /// The number of cores that the client gets before any client gets more than its reserve.
     pub reserved: u32,

@@ -41,7 +41,7 @@ pub extern "C" fn arachne_arbiter_close(alloc: Global, arbiter: &mut ArachneArbi
     drop(arbiter.take(alloc));
 }
 
-/// Adds a client with its priority, of which 0 goes first, and the cores that it reserves and may ask for at most.
+/// Adds a client with its priority (0 goes first), and the cores that it reserves and may ask for at most.
 ///
 /// The client's number is from 0 to 63, and no other client's. Returns DONE or REFUSED. The caller must check that the
 /// client is entitled to this priority and these cores.

@@ -16,7 +16,7 @@ use arachne_core::{Rest, ThreadId};
 use arachne_program::{Class, Name, Program};
 use std::alloc::{AllocError, Global};
 
-/// The reason for which a job stops.
+/// The reason why a job stops.
 #[derive(Drop)]
 pub enum Slice<Child> {
     /// The job goes on.

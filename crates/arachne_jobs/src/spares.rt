@@ -6,7 +6,7 @@ use arachne_join::SpareCells;
 use arachne_machine::{DetachedOutcome, Spares as SpareThreads};
 use std::alloc::Global;
 
-/// The memory of threads that have ended, the ties of their jobs, and the join cells that nobody uses.
+/// The memory of threads that have ended, the ties of their jobs to other jobs, and the join cells that nobody uses.
 ///
 /// Each worker has its own store, so that most forks take memory only for a long name.
 #[derive(Drop)]

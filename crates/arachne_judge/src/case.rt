@@ -50,9 +50,9 @@ struct Case<'r> {
     owes: bool,
     /// The number of moves of threads that were not reported.
     untold: u64,
-    /// The threads that continued after a wait, and whose wake was not reported yet. There is room for one thread for
-    /// each other core, which may have woken that thread just now. Such a thread may have ended since, and its context
-    /// may have another thread.
+    /// The threads that continued after a wait, and whose wake was not reported yet. At most one thread for each other
+    /// core, which may have woken it and not reported that yet. Such a thread may have ended since, and its context may
+    /// have another thread.
     unwoken: Vec<Option<ThreadId>>,
     scans: Scans,
     counts: Counts,

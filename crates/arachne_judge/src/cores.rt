@@ -38,7 +38,7 @@ pub(crate) struct Core {
 }
 
 impl Core {
-    /// Returns a core of which nothing is known.
+    /// Returns a core about which nothing is known.
     pub(crate) fn new() -> Core {
         Core {
             next: 0,

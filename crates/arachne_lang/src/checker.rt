@@ -170,7 +170,7 @@ impl<'p> Scope<'p> {
         }
     }
 
-    /// Checks the nodes of an expression, of which the first has the number `node`. Returns the number of the node that
+    /// Checks the nodes of an expression whose first node has the number `node`. Returns the number of the node that
     /// follows these nodes.
     #[cycle(judging)]
     #[tactic(auto, using(crate::proofs::NodesJudged::judged_parts, crate::proofs::NodesJudged::some_faults))]
@@ -202,8 +202,7 @@ impl<'p> Scope<'p> {
         }
     }
 
-    /// Checks the nodes of two parts, like `check`: those of `a`, and then those of `b`, which stands in the scope
-    /// `last`.
+    /// Checks the nodes of two parts, like `check`: those of `a`, and then those of `b`, which is in the scope `last`.
     #[cycle(judging)]
     fn two(self, a: &Expr, last: Scope, b: &Expr, node: u64) -> Result<u64, CheckFault>
         requires nodes { node + node_count (tree_of a.now) + node_count (tree_of b.now) ≤ MOST_NODES }
@@ -218,7 +217,7 @@ impl<'p> Scope<'p> {
         last.check(b, second)
     }
 
-    /// Checks the nodes of three parts, like `check`, of which `c` stands in the scope `last`.
+    /// Checks the nodes of three parts, like `check`; `c` is in the scope `last`.
     #[cycle(judging)]
     fn three(self, a: &Expr, b: &Expr, last: Scope, c: &Expr, node: u64) -> Result<u64, CheckFault>
         requires nodes { node + node_count (tree_of a.now) + node_count (tree_of b.now) + node_count (tree_of c.now) ≤ MOST_NODES }
@@ -236,7 +235,7 @@ impl<'p> Scope<'p> {
         last.check(c, second)
     }
 
-    /// Checks the nodes of four parts, like `check`, of which `d` stands in the scope `last`.
+    /// Checks the nodes of four parts, like `check`; `d` is in the scope `last`.
     #[cycle(judging)]
     fn four(
         self,

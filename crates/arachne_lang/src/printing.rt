@@ -11,7 +11,7 @@ use arachne_program::{Class, Expr, Operation, Program, Reduction};
 use itoa::Buffer;
 use std::alloc::{AllocError, Global};
 
-/// Returns the text of a program, of which there is only one.
+/// Returns the text of a program; each program has exactly one.
 ///
 /// The time is linear in the bytes of the text. Memory is taken only for the text, as it grows.
 pub fn print(alloc: Global, program: &Program) -> Result<Vec<u8>, AllocError>

@@ -18,7 +18,7 @@ impl Model for Carriers {
 }
 
 impl Carriers {
-    /// Creates the carriers, of which the first one, 0, is given already.
+    /// Creates the carriers; the first one, 0, is in use already.
     pub fn new() -> Self
         ensures { result ≡ 0 }
     {

@@ -91,7 +91,7 @@ fn take_turn<'p>(
     }
 }
 
-/// Advances the newest thread by at most `budget` steps and answers its pause, unless it has ended.
+/// Advances the newest thread by at most `budget` steps and serves the request at which it pauses, unless it has ended.
 fn go_on<'p>(
     thread: &mut Thread<'p>,
     outcomes: &mut Vec<DetachedOutcome>,
@@ -136,7 +136,7 @@ fn go_on<'p>(
     }
 }
 
-/// Returns the meaning of a program, of which `outcome` is the root's outcome.
+/// Returns the meaning of the program whose root ended with `outcome`.
 fn meaning(alloc: Global, outcome: DetachedOutcome) -> Result<Meaning, AllocError>
     ensures means { IfOk result (λ meaning. meaning ≡ meaning_in outcome) }
     ensures of_its_name { IsOfItsName outcome }

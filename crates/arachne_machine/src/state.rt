@@ -12,7 +12,7 @@ use arachne_program::{Class, Expr, Name, Program, Sequence};
 use std::alloc::{AllocError, Global};
 use std::mem::replace;
 
-/// The data of which a thread's own line is made.
+/// The data from which a thread's own line is made.
 #[derive(Drop)]
 pub struct Own {
     pub name: Name,
@@ -194,7 +194,7 @@ impl<'p> State<'p> {
 
     /// Advances by at most `left` steps, until the thread pauses, and subtracts the steps that were made from `left`.
     ///
-    /// Returns the child if the thread pauses for a fork. If memory is refused, the thread stands before the step that
+    /// Returns the child if the thread pauses for a fork. If memory is refused, the thread is left before the step that
     /// was refused, which is not subtracted.
     pub fn advance<P: Placing>(
         &mut self,

@@ -137,7 +137,7 @@ impl<'p> Thread<'p> {
     /// Advances by at most `budget` steps. To begin a node of an expression is a step of its own, and each fork is a
     /// pause.
     ///
-    /// If memory is refused, the thread stands before the step that was refused, and the same call goes on from there.
+    /// If memory is refused, the thread is left before the step that was refused, and the same call goes on from there.
     pub fn advance(&mut self, budget: u32) -> Result<Pause<'p>, AllocError>
         requires not_paused { pending_in self.old ≡ None }
         requires some { 1 ≤ budget }
@@ -161,7 +161,7 @@ impl<'p> Thread<'p> {
     ///
     /// If there is no place for the child of a fork, the fork is no pause: the child runs in this thread's place, once
     /// it is awaited. Any other child begins with memory that ended threads have left. If memory is refused, the thread
-    /// stands before the step that was refused, as with `advance`.
+    /// is left before the step that was refused, as with `advance`.
     pub fn advance_within<P: Placing>(
         &mut self,
         left: &mut u32,
@@ -261,7 +261,7 @@ impl<'p> Thread<'p> {
         Ok(forked)
     }
 
-    /// Answers a fork whose child was given away. Takes no memory.
+    /// Replies to a fork pause whose child will run elsewhere. Takes no memory.
     pub fn forked(&mut self)
         requires { pending_in self.old ≡ Some pause.Forks }
         ensures whole { SameWhole self.old self.new }

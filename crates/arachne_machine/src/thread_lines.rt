@@ -87,7 +87,7 @@ impl ThreadLines {
 /// The lines that an iteration has not returned yet.
 #[derive(Drop)]
 pub struct LinesLeft<'a> {
-    /// The lists of which lines are left.
+    /// The lists that have lines left.
     lists: &'a [LineList],
     /// The number of lines of the first list that were returned.
     place: usize,

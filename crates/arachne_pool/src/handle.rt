@@ -20,7 +20,7 @@ impl<J: PoolJob> Model for Handle<J> {
 }
 
 impl<J: PoolJob> Handle<J> {
-    /// Returns the handle of the job whose result comes to this receiver.
+    /// Returns the handle of the job whose result this receiver gets.
     pub(crate) fn of(receiver: ResultReceiver<J>) -> Handle<J>
         ensures { result ≡ receiver.opening.key.job.value }
     {

@@ -14,7 +14,7 @@ pub enum Step<J, O> {
     /// job goes on at once.
     Waits,
     /// The job wants to rest until it is woken (`Pool::wake`) by the id that `sleeps_as` gave it. The job may go on
-    /// earlier, so it must look again whether what it sleeps for has come.
+    /// earlier, so it must check again whether what it sleeps for has come.
     Sleeps,
     /// The job wants this job to run beside it, as its newest child.
     Forks(J),

@@ -21,7 +21,7 @@ pub(crate) trait PoolDesk: Desk {
     /// Returns whether no job of the pool lives and it is not kept open.
     fn is_over(&self) -> bool;
 
-    /// Wakes all workers if a job has ended since the last call and the pool is over.
+    /// Wakes all workers if a job has ended since the last call and the pool has finished.
     fn wake_if_over(&mut self)
         ensures { self.new ≡ self.old };
 
@@ -64,7 +64,7 @@ pub(crate) fn run_once<H: Wait + Clock, D: PoolDesk>(
     Ok(found?)
 }
 
-/// Makes rounds until the pool is over or its workers are stopped.
+/// Makes rounds until the pool has finished or its workers are stopped.
 pub(crate) fn run<H: Wait + Clock, D: PoolDesk>(
     kernel: &mut CoreWorker<'_, H, D>,
 ) -> Result<(), PoolFault>

@@ -47,7 +47,7 @@ pub(crate) struct Seat<'a, H, J: PoolJob, C: Contexts<Spawned<J>>> {
     pub(crate) held: Option<Held<Spawned<J>, C::Hold>>,
     /// True if the job in hand is put back as blocked.
     pub(crate) blocks: bool,
-    /// True if a job was taken since the worker last looked whether others have too many.
+    /// True if a job was taken since the worker last checked whether others have too many.
     pub(crate) has_taken: bool,
     /// True if the last look at the core found it closed and empty, and this was not read since.
     pub(crate) is_drained: bool,
@@ -445,8 +445,8 @@ impl<'a, H: Wait, J: PoolJob, C: Contexts<Spawned<J>>> Seat<'a, H, J, C> {
         )
     }
 
-    /// Returns a place of another core at which a job may be ready, if that core's worker is awake and has not come to
-    /// it. In a `turn` only those cores count for which a kernel thread has called `work`. This worker may make the
+    /// Returns a place of another core at which a job may be ready, if that core's worker is awake and has not reached
+    /// it yet. In a `turn` only those cores count for which a kernel thread has called `work`. This worker may make the
     /// rounds of the other cores itself, and would move jobs to and fro between them.
     fn waiting_on(&self, core: u8) -> Option<Place> {
         if core == self.core || self.call == Call::Turn && !self.pool.live.is_worked(core) {

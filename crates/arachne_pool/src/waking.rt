@@ -76,7 +76,7 @@ impl<C: Seats> Pool<C> {
 
     /// Wakes the job of this id, and returns the answer of the table. `Woken`: the job was blocked, and its core's
     /// worker is signalled; or it is in a worker's hand, and won't rest then. `Already`: the job was woken before, or
-    /// goes on without a wake. `Gone`: the job of the id has ended; no other ever has the id again, but for jobs that
+    /// goes on without a wake. `Gone`: the job of the id has ended; no other job ever gets the id, except those that
     /// ran in the same place at the same time.
     pub fn wake<H: Wait, J: PoolJob>(
         &self,

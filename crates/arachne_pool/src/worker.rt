@@ -66,7 +66,7 @@ impl From<Halt> for PoolFault {
     }
 }
 
-/// A worker: a kernel thread's access to a pool. One kernel thread at a time has a worker, for one core.
+/// A worker: a kernel thread's access to a pool. A worker is used by one kernel thread at a time, for one core.
 ///
 /// Contracts see the worker's seat and its orders, if it has them (the orders by which cores come and go), its jobs
 /// that have no place, and their number. Contracts also see the worker's counts, the part of the counts that it has

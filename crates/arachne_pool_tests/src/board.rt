@@ -29,7 +29,7 @@ pub(crate) struct Board {
 }
 
 impl Board {
-    /// Returns a board of which no job has begun and no answer has come, or `None` if memory is refused.
+    /// Returns a board on which no job has begun and no answer has come, or `None` if memory is refused.
     pub(crate) fn new(alloc: Global) -> Option<Arc<Board>> {
         let board = Board {
             alloc,

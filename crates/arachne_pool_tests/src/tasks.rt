@@ -26,7 +26,7 @@ pub(crate) struct Sort {
     pub(crate) is_exclusive: bool,
     /// True if the job's first child is exclusive, even if the job itself is not.
     pub(crate) is_first_exclusive: bool,
-    /// True if the job's first step lasts until an answer has come, so that its kernel thread comes to no other job
+    /// True if the job's first step lasts until an answer has come, so that its kernel thread runs no other job
     /// meanwhile.
     pub(crate) is_held: bool,
 }

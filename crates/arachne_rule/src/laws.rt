@@ -69,8 +69,8 @@ pub fn a_release_is_release<T>()
 
 // ---- threads come and go
 
-/// A store of READY to the mark word of a claimed context makes the event `Post`. With this step the context's slot
-/// goes back to the table with a value.
+/// A store of READY to the mark word of a claimed context makes the event `Post`. With this step the context's slot is
+/// returned to the table with a value.
 pub fn a_post_is_post<T>()
     ensures { EachValue T (λ s c value. c.held ≡ false → c.named ≡ true → Steps s (event.Post s.seat c.context (s.tag_in value)) (after_post s c value)) }
 {}
@@ -82,7 +82,7 @@ pub fn a_take_is_take<T>()
 {}
 
 /// A store of a held context's number to the word of its place changes nothing in the World. The context's empty slot
-/// goes back to the table.
+/// is returned to the table.
 pub fn keeping_the_name_is_still<T>()
     ensures { EachCarried T (λ s c. c.held ≡ true → Steps s event.Still (after_keeping_name s c)) }
 {}
@@ -103,13 +103,13 @@ pub fn a_last_retire_is_retire<T>()
 // ---- rest and wake
 
 /// A store of READY to the mark word of a held context makes the event `Rest`, as ready. With this step the thread's
-/// value goes back to the table.
+/// value is returned to the table.
 pub fn resting_ready_is_rest<T>()
     ensures { EachHeld T (λ s c value. Steps s (event.Rest s.seat c.context rest.Ready) (after_rest_ready s c value)) }
 {}
 
-/// A compare-exchange from HELD to BLOCKED makes the event `Rest`, as blocked. With this step the thread's value goes
-/// back to the table.
+/// A compare-exchange from HELD to BLOCKED makes the event `Rest`, as blocked. With this step the thread's value is
+/// returned to the table.
 pub fn resting_blocked_is_rest<T>()
     ensures { EachHeld T (λ s c value. (mark_at s c.context).mark ≡ mark.Held → Steps s (event.Rest s.seat c.context rest.Blocked) (after_rest_blocked s c value)) }
 {}

@@ -1,4 +1,4 @@
-//! The audit of a run that is over.
+//! The audit of a run that has ended.
 ghost use Rattle.std.specs.Prelude.{◌≡◌, ◌⊎◌, ℕ, ◌<◌, ◌≤◌, false, true, Contains, IfErr, IfNone, IfOk, IfSome, Ok, OnOk, List, length, map, slice_index, slice_index_or};
 ghost use Rattle.arachne_sleep.specs.declared.event.LockEvent.TheVariants.{Grant};
 ghost use Rattle.arachne_sleep.specs.declared.who.Who.{Who};

@@ -81,7 +81,7 @@ pub fn work_together<H: Threads + Wait + Clock + Sync, S: Drop + Send, W: Team<S
     )
 }
 
-/// Parts off a share for one more kernel thread, and reserves room for that thread in `others`.
+/// Splits off a share for one more kernel thread, and reserves room for that thread in `others`.
 ///
 /// Returns the remaining share, and the new share unless memory is refused.
 fn part_off<H: Wait, S, W: Team<S>, O>(

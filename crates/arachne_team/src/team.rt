@@ -29,7 +29,7 @@ pub trait Team<S> {
     fn size(&self) -> u8
         ensures { result ≡ Self.size self.now };
 
-    /// Parts off a share for one more kernel thread.
+    /// Splits off a share for one more kernel thread.
     ///
     /// Returns what is left of `share`, and the new share, or `None` if memory is refused.
     fn part_off<R: Wait>(&self, rt: &R, share: S) -> (S, Option<S>)

@@ -28,8 +28,8 @@ type Row = (u8, &'static str, Way, u64, &'static str);
 /// Programs, with the texts of their outcomes.
 ///
 /// The threads with the tags 9 to 16, or 10 to 17, hold the lock once each, and are those that ask for it. A child that
-/// is given away has the tag 0, unless it begins in its parent's place immediately: then it has the tag that it gets
-/// there, which is 7.
+/// its fork hands out has the tag 0; one that begins in its parent's place immediately has the tag that it gets there,
+/// 7.
 const ROWS: &[Row] = &[
     (0, "(num 7)", Way::AtFork, 0, "7 [] []9-[]"),
     (

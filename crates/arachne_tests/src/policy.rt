@@ -35,7 +35,7 @@ const FAULT: OrderFault = OrderFault {
     kind: OrderFaultKind::NoSuchCore,
 };
 
-/// The first word picks entries 2 and 1, of which entry 1 has fewer threads. The second word picks entry 0 twice.
+/// The first word picks entries 2 and 1; entry 1 has fewer threads. The second word picks entry 0 twice.
 #[test]
 fn cores_are_chosen_and_ordered(rt: HostRuntime) {
     let chosen = (

@@ -161,7 +161,7 @@ fn are_right(world: &mut World, rows: &[Row]) -> bool {
     true
 }
 
-/// Returns whether each event of a run that begins with a new World gives its words.
+/// Returns whether each event of a run leads to the words of its row; the run begins with a new World.
 fn is_right_run(alloc: Global, run: &(u8, usize, usize, &[Row])) -> Result<bool, AllocError> {
     let &(cores, posts, retires, rows) = run;
     if cores == 0 || cores > 64 {

@@ -1,8 +1,8 @@
 //! The context table on atomic words.
 //!
 //! Each core has an occupancy word, each context a mark word and a slot for its thread's value, and each place a word
-//! that names its context. A seat changes these words by single atomic steps, without waiting and without memory.
-//! Between any two steps they show a state of the table in which no context and no place belongs to two threads.
+//! that names its context. A seat changes these words by single atomic steps, which neither wait nor allocate. Between
+//! any two steps they show a state of the table in which no context and no place belongs to two threads.
 #![tactic(auto)]
 
 mod call_seat;

@@ -1,4 +1,4 @@
-//! Takes of threads that are ready.
+//! Takes threads that are ready.
 ghost use Rattle.std.specs.Prelude.{◌≡◌, ◌↔◌, IsTrue, ◌<◌, ◌∷◌, Some, None, IfOk, IfErr};
 ghost use Rattle.atomic_table.specs.Table.{rest};
 ghost use Rattle.arachne_core.specs.declared.mark.Mark.TheVariants as Mark;

@@ -81,7 +81,7 @@ impl Agenda {
         self.scans = self.scans.saturating_add(1);
     }
 
-    /// Returns whether the next scan must be one of all occupied indexes, and counts scans anew if so.
+    /// Returns whether the next scan must be one of all occupied indexes, and restarts the count of scans if so.
     pub(crate) fn is_look_due(&mut self) -> bool
         ensures due { IsTrue result ↔ SCANS_BETWEEN_LOOKS ≤ self.old.scans }
         ensures counted { self.new ≡ record self.old { scans = if result then 0 else self.old.scans } }

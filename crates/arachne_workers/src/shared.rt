@@ -122,8 +122,8 @@ impl SharedWords {
         }
     }
 
-    /// Sleeps until a thread of the core may be ready, all workers stop, or `spell` is over. Only the core's own kernel
-    /// thread calls this.
+    /// Sleeps until a thread of the core may be ready, all workers stop, or `spell` has passed. Only the core's own
+    /// kernel thread calls this.
     pub(crate) fn sleep<H: Wait>(&self, rt: &H, core: u8, spell: Duration) {
         // The stop word is read last: a stop after that sees that the worker sleeps, and wakes it.
         if !self.hints.is_about_to_sleep(core) || self.is_stopped() {

@@ -40,10 +40,10 @@ pub struct Keeper {
     interval: u64,
     pub most: u8,
     held: u8,
-    /// What the sample of this interval begins with: the time, and the nanoseconds of work that were done by then.
+    /// The state at the start of this sample: the time, and the nanoseconds of work done by then.
     begun: u64,
     busy: u64,
-    /// The jobs that its scans saw, and the cores that they looked at.
+    /// The number of jobs that the scans saw, and of the cores scanned.
     runnable: u64,
     scans: u64,
     pub judged: Vec<Judged>,
@@ -69,8 +69,8 @@ impl Keeper {
         }
     }
 
-    /// Counts a scan of all cores that it has, at which this many jobs could run. Once the interval has ended, its sample
-    /// is judged, and the order that follows is returned, if there is one. `busy` is the nanoseconds of work by now.
+    /// Counts a scan of all cores of the server, which saw `runnable` jobs that could run. Once the interval has ended,
+    /// judges its sample and returns the order that follows, if there is one. `busy` is the nanoseconds of work by now.
     pub fn scan(&mut self, now: u64, runnable: u64, busy: u64) -> Option<CoreOrder>
         ensures most { self.new.most ≡ self.old.most }
         ensures order { IfSome result (λ order. AreInOrder (self.old.most + 1) (order ∷ [])) }

@@ -27,9 +27,9 @@ pub struct Report {
     pub answers: Vec<Answer>,
     /// The number of requests that were refused.
     pub refused: usize,
-    /// The nanoseconds that the work of those that were answered took.
+    /// The nanoseconds that the work of the answered requests took.
     busy: u64,
-    /// What was judged of the load.
+    /// The judgements of the load.
     pub judged: Vec<Judged>,
 }
 

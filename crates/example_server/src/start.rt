@@ -71,7 +71,7 @@ fn begin<C: Contexts<Spawned<Job>> + Drop>(
     Ok((server, share))
 }
 
-/// Closes the pool of a server that is over. Returns the report, if no request is left.
+/// Closes the pool of a server that has ended. Returns the report, if no request is left.
 fn end<C: Contexts<Spawned<Job>> + Drop, R: Wait>(
     rt: &R,
     alloc: Global,

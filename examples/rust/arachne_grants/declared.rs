@@ -134,8 +134,7 @@ unsafe extern "C" {
     /// Threads: safe beside calls with other handles; two at once with `arbiter` are undefined behaviour.
     pub fn arachne_arbiter_close(arbiter: *mut ArachneArbiter);
 
-    /// Adds a client with its priority, of which 0 goes first, and the cores that it reserves and may ask for at
-    /// most.
+    /// Adds a client with its priority (0 goes first), and the cores that it reserves and may ask for at most.
     ///
     /// The client's number is from 0 to 63, and no other client's. Returns DONE or REFUSED. The caller must check
     /// that the client is entitled to this priority and these cores.

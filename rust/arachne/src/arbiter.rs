@@ -34,7 +34,7 @@ const REFUSED: u32 = 8;
 /// The time after which a runtime looks again for an arbiter that isn't there, or asks one again that has refused.
 const AGAIN: Duration = Duration::from_secs(1);
 const REFUSED_AGAIN: Duration = Duration::from_secs(30);
-/// How long a worker sleeps before it asks for a core again, if it got none or can't use it yet.
+/// The time for which a worker sleeps before it asks for a core again, if it got none or can't use it yet.
 const SOON: Duration = Duration::from_millis(1);
 
 /// The path of the arbiter's socket, and the facts about a runtime that are sent to it.

@@ -32,7 +32,7 @@ pub(crate) enum Advice {
     Remove,
 }
 
-/// How the number of active cores follows the load; see `Builder::policy`.
+/// The settings by which the number of active cores follows the load; see `Builder::policy`.
 ///
 /// ```
 /// use std::time::Duration;
@@ -186,7 +186,7 @@ impl Judge {
         wants && sample.busy * 10 < sample.elapsed * sample.cores * 9
     }
 
-    /// Judges the load if the interval is over, and asks for a core or gives one back.
+    /// Judges the load if the interval has passed, and asks for a core or gives one back.
     pub(crate) fn judge(&mut self, shared: &'static Shared) {
         let now = now();
         let elapsed = now - self.at;

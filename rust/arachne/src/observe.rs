@@ -88,7 +88,7 @@ pub struct TaskInfo {
     pub about: About,
     /// The task's current state.
     pub doing: Doing,
-    /// How long the task has been in that state.
+    /// The time for which the task has been in that state.
     pub age: Duration,
 }
 

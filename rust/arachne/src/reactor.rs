@@ -84,7 +84,7 @@ pub(crate) struct Io {
     /// The last waker of the `poll_` functions, which replace it at each call.
     pub(crate) reader: Slot,
     pub(crate) writer: Slot,
-    /// The wakers of futures, of which any number may wait.
+    /// The wakers of the futures that wait, any number of them.
     pub(crate) readers: Waiters,
     pub(crate) writers: Waiters,
 }

@@ -10,7 +10,8 @@ use std::time::{Duration, Instant};
 const MS: Duration = Duration::from_millis(1);
 /// The length of the blocking poll, unless all tasks have begun before. No thread waits that long for a processor.
 const POLL: Duration = Duration::from_secs(2);
-/// The time by which each has begun if processors are free, even if the free workers sleep as the tasks become ready.
+/// The time within which each task begins if processors are free, even if the free workers sleep as the tasks become
+/// ready.
 const SOON: Duration = Duration::from_millis(5);
 /// A time that is longer than any delay on a busy machine.
 const LONG: Duration = Duration::from_secs(60);
@@ -42,7 +43,7 @@ impl Seen {
         Seen(Arc::new(Marks { behind, ..Marks::default() }))
     }
 
-    /// The first task that calls this blocks its worker, until all others have begun or `POLL` is over; the others
+    /// The first task that calls this blocks its worker, until all others have begun or `POLL` has passed; the others
     /// begin.
     fn begins(&self) {
         let now = Instant::now();
@@ -292,8 +293,8 @@ fn what_was_taken_of_a_worker_that_does_not_get_on_is_run() {
     }
 }
 
-/// A busy worker takes the tasks behind a long poll too, last the one that was to run next. There are two workers, of
-/// which one is never idle.
+/// A busy worker takes the tasks behind a long poll too, last the one that was to run next. There are two workers; one
+/// is never idle.
 #[test]
 fn what_is_behind_is_run_by_one_that_is_busy() {
     let runtime = Runtime::new(2);

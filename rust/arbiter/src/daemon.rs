@@ -68,9 +68,9 @@ struct Client {
     /// The last turn (a core's move from one client to another) in which the client got a core or gave one, or had no
     /// thread for one.
     turned: u64,
-    /// How many times the threads of the client's process must still be moved to the rest (the processors of threads
-    /// without a core). The threads are moved twice, since a thread that begins meanwhile begins in the set of its
-    /// parent.
+    /// The number of times that the threads of the client's process must still be moved to the rest (the processors of
+    /// threads without a core). The threads are moved twice, since a thread that begins meanwhile begins in the set of
+    /// its parent.
     arrives: u32,
     /// The thread at each of the client's places.
     threads: BTreeMap<u32, Thread>,

@@ -27,8 +27,8 @@ pub struct Host {
 }
 
 impl Host {
-    /// Returns an account of these processors, of which none is taken. ARBITER_STAT names another file than the
-    /// kernel's, for tests.
+    /// Returns an account of these processors, none of them taken. ARBITER_STAT names another file than the kernel's,
+    /// for tests.
     pub fn new(cpus: Vec<usize>) -> Host {
         let file = std::env::var_os("ARBITER_STAT").unwrap_or_else(|| "/proc/stat".into()).into();
         let processors = cpus.iter().map(|_| Processor { stolen: 0, all: 0, is_taken: false, calm: CALM }).collect();
@@ -40,7 +40,7 @@ impl Host {
         self.processors[nth].is_taken
     }
 
-    /// Looks at the account once `WINDOW` is over. Returns the places of the processors that are taken or given back
+    /// Looks at the account once `WINDOW` has passed. Returns the places of the processors that are taken or given back
     /// since the last look.
     pub fn look(&mut self) -> Vec<usize> {
         if self.looked.elapsed() < WINDOW {

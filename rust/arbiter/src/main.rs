@@ -9,8 +9,8 @@
 //! MILLISECONDS (by default 100; with 0 it stays). With a FOLDER of cpusets of version 1, granted cores are kept from
 //! all processes below it; with --sweep the processes in the folder itself are moved below it. With a GROUP of version
 //! 2, or several, granted cores are kept from the processes below these. Without FOLDER and GROUP only clients' threads
-//! are moved, by their affinity. --open lets every user connect. The daemon ends at SIGTERM, and puts all threads back.
-//! `docs/arbiter.md` and the page arachne-arbiter(8) say more.
+//! are moved, by their affinity. --open lets every user connect. The daemon ends at SIGTERM, and lets all threads run
+//! on all processors again. `docs/arbiter.md` and the page arachne-arbiter(8) say more.
 
 mod daemon;
 mod host;
@@ -55,7 +55,7 @@ fn main() {
     }))
 }
 
-/// Runs the daemon as a child of this process, which puts all threads back if the child dies.
+/// Runs the daemon as a child of this process, which lets all threads run on all processors again if the child dies.
 fn guard(options: &Options) {
     sys::hear_ends();
     if std::env::var_os("ARBITER_SERVES").is_some() {

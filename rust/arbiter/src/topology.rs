@@ -3,8 +3,9 @@
 use std::fs;
 use std::path::PathBuf;
 
-/// Returns the processors of each core; the cores are in the order of their first processors. A processor of which the
-/// kernel has no account is a core by itself. ARBITER_TOPOLOGY names another folder than the kernel's, for tests.
+/// Returns the processors of each core; the cores are in the order of their first processors. A processor whose
+/// siblings the kernel doesn't list is a core by itself. ARBITER_TOPOLOGY names another folder than the kernel's, for
+/// tests.
 pub fn by_core(cpus: &[usize]) -> Vec<Vec<usize>> {
     let folder = std::env::var_os("ARBITER_TOPOLOGY").unwrap_or_else(|| "/sys/devices/system/cpu".into());
     let mut cores: Vec<Vec<usize>> = Vec::new();

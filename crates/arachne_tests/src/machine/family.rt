@@ -1,4 +1,4 @@
-//! Runs all threads of a program: children are handed back to their parents, or are given away and joined.
+//! Runs all threads of a program: children are handed back to their parents, or run on their own and are joined.
 ghost use Rattle.std.specs.Prelude.{◌≡◌, Some, false, IsTrue};
 ghost use Rattle.arachne_lang.specs.Program.{source_of};
 ghost use Rattle.arachne_machine.specs.declared.pause.Pending.TheVariants as pause;
@@ -126,7 +126,7 @@ impl Round {
 
 /// The threads, children and outcomes of a run, with room for all.
 ///
-/// Each of `threads` but the last waits for a child, and the last runs. `children` were given away and have not begun.
+/// Each of `threads` but the last waits for a child, and the last runs. `children` were forked and have not begun.
 /// `outcomes` has the outcome that must be joined next.
 #[derive(Drop)]
 struct Family<'p> {
@@ -186,7 +186,7 @@ fn go_on_in_place(thread: &mut Thread, round: &mut Round) -> bool {
     }
 }
 
-/// Runs a thread to its next pause. A forked child is given away.
+/// Runs a thread to its next pause. A forked child is added to `children`.
 fn go_on_apart<'p>(
     alloc: Global,
     thread: &mut Thread<'p>,

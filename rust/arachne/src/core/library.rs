@@ -583,7 +583,7 @@ impl LockCore {
         }
     }
 
-    /// Asks for the lock, in a name that no other waiter or holder has.
+    /// Asks for the lock under the name `who`, which no other waiter or holder has.
     #[inline]
     pub(crate) fn ask(&self, who: u64) -> Asked {
         // SAFETY: a handle.

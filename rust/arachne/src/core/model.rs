@@ -349,7 +349,7 @@ impl LockCore {
         self.state.compare_exchange(FREE, HELD, SeqCst, SeqCst).is_ok().then_some(1)
     }
 
-    /// Asks for the lock, in a name that no other waiter or holder has: an even number.
+    /// Asks for the lock under the name `who`, an even number that no other waiter or holder has.
     #[inline]
     pub(crate) fn ask(&self, who: u64) -> Asked {
         let mut line = self.line.lock().unwrap();

@@ -125,7 +125,7 @@ impl TcpStream {
         self.0.socket.nodelay()
     }
 
-    /// Sets if small writes are sent at once, without waiting for the last ones to be confirmed (`TCP_NODELAY`).
+    /// Sets `TCP_NODELAY`: if true, small writes are sent at once, without waiting for the last ones to be confirmed.
     ///
     /// ```
     /// # fn main() -> std::io::Result<()> {

@@ -1,4 +1,4 @@
-//! How workers sleep: one waits in the epoll, a deputy polls it now and then, and the others wait for their bells.
+//! Sleeping workers: one waits in the epoll, a deputy polls it now and then, and the others wait for their bells.
 //!
 //! The deputy stands in while the worker of the epoll runs tasks or has no processor. The deputy wakes after 1, 2, 4 ..
 //! ms, each millisecond while tasks run, and takes the place of the worker of the epoll if that worker is stuck in a
@@ -110,7 +110,8 @@ impl Shared {
         self.ready(&context.hands, me) != 0 || self.lodgers(me).any(|other| self.ready(&context.hands, other) != 0)
     }
 
-    /// Asks the core if this worker may sleep: for its own numbers, and for those of the workers it looks after.
+    /// Asks the core if this worker may sleep: as the worker of its own shards, and of those of the workers it looks
+    /// after.
     fn may_park(&self, context: &Context) -> bool {
         std::iter::once(context.me).chain(self.lodgers(context.me)).all(|owner| {
             let parking = self.workers[owner].0.parking.lock().unwrap();
@@ -165,7 +166,7 @@ impl Shared {
         found
     }
 
-    /// Sleeps in the epoll until there is an event, `timeout` is over, or tasks of a stuck worker need this one.
+    /// Sleeps in the epoll until there is an event, `timeout` has passed, or tasks of a stuck worker need this one.
     fn wait_in_epoll(&self, context: &Context, turn: &mut Turn, timeout: i32) -> (Found, bool) {
         let most = self.asks(self.room(context, turn));
         if self.workers.len() == 1 {
@@ -185,7 +186,7 @@ impl Shared {
         }
     }
 
-    /// Sleeps as the deputy until it is woken, `timeout` is over, or there is something to do.
+    /// Sleeps as the deputy until it is woken, `timeout` has passed, or there is something to do.
     ///
     /// The deputy has something to do if tasks of a stuck worker need it, or if nobody waits in the epoll and a worker
     /// that is awake makes no progress. The deputy also has something to do if the epoll has events that the worker who

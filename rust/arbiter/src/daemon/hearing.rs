@@ -44,9 +44,9 @@ pub(super) struct Connection {
 }
 
 impl Arbiter {
-    /// Reads all messages that have come. Waits for at most `timeout` milliseconds until one comes.
+    /// Reads all messages that have arrived. Waits for at most `timeout` milliseconds until one comes.
     ///
-    /// The call goes on until nothing more has come, for at most four passes. Otherwise a request might be decided on
+    /// The call goes on until nothing more arrives, for at most four passes. Otherwise a request might be decided on
     /// before the daemon reads that threads joined or waited, although they did so first. Then cores would go to
     /// others, and be taken back at once.
     pub(super) fn hear(&mut self, timeout: i32) {
@@ -59,7 +59,7 @@ impl Arbiter {
         }
     }
 
-    /// Reads what has come, a few messages of each connection. Returns false if nothing has come within `timeout`
+    /// Reads what has come, a few messages of each connection. Returns false if nothing arrives within `timeout`
     /// milliseconds.
     fn pass(&mut self, timeout: i32) -> bool {
         self.bury();

@@ -138,7 +138,7 @@ fn client(port: u16, connections: u64, flight: usize, micros: u64, time: Duratio
     println!("{:.0} answers a second", ANSWERED.load(Relaxed) as f64 / start.elapsed().as_secs_f64());
 }
 
-/// Adds the latencies of the answers that have come to `times`: the nanoseconds since each request was due.
+/// Reads answers, and adds the latency of each to `times`: the nanoseconds since its request was due.
 fn receive(stream: &mut TcpStream, back: &mut Vec<u8>, start: Instant, times: &mut Vec<u64>) {
     let mut bytes = [0; 4096];
     match stream.read(&mut bytes) {
