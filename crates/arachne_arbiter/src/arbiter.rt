@@ -18,7 +18,7 @@ use std::sync::Wait;
 
 /// Applies core orders to a table, and moves threads away from the cores that these orders close.
 ///
-/// Only one kernel thread has the arbiter, and nobody else closes or opens cores as long as the arbiter exists.
+/// Only one kernel thread has the arbiter, and nobody else closes or opens cores as long as it exists.
 ///
 /// Contracts see the orders, the number of cores, and the number of orders that were applied.
 #[derive(Debug, Drop)]
@@ -40,7 +40,7 @@ impl Model for Arbiter {
 impl Arbiter {
     ghost use Rattle.arachne_arbiter.specs.Orders.{with_next, IsDue, IsNoneDue, HasAppliedDue};
 
-    /// Creates an arbiter for `cores` open cores, which has applied none of `orders` yet.
+    /// Creates an arbiter for `cores` open cores, which has applied none of the orders `orders` yet.
     ///
     /// The error is a refusal of memory.
     pub fn new(alloc: Global, orders: Vec<CoreOrder>, cores: u8) -> Result<Arbiter, AllocError>

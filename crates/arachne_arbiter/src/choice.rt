@@ -22,8 +22,8 @@ pub fn has_place(occupancy: OccWord, slots: u8) -> bool
     is_candidate(occupancy) && occupancy.lowest_free_below(slots).is_some()
 }
 
-/// Draws two cores by the random `word`, of those that take threads which share a core, and returns the less loaded of
-/// them.
+/// Draws two cores by the random `word` from those that take threads which share a core, and returns the core with
+/// fewer threads of the two.
 ///
 /// `occupancies` has the occupancy word (which places are occupied, as bits) of each core, from core 0 on. A core takes
 /// such threads if it is open and no thread has it exclusively. Returns `None` if there is no such core.

@@ -9,12 +9,12 @@ use arachne_core::Place;
 use std::alloc::{AllocError, Global};
 use std::sync::Wait;
 
-/// The closed cores that may still have threads, and the last of them from which threads were moved away.
+/// The closed cores that may still have threads, and the core among them from which threads were moved away last.
 #[derive(Debug, Drop)]
 pub(crate) struct Draining {
     waiting: Vec<bool>,
     last: u8,
-    // True only if no core is waiting. It may be false although none is.
+    // True only if no core must be drained. It may be false although none must be drained.
     settled: bool,
     ghost rests: { IsSettled settled waiting.items },
 }
@@ -41,7 +41,7 @@ impl Draining {
         self.settled = false;
     }
 
-    /// Removes a core that was opened, or on which nothing is left.
+    /// Removes a core that was opened, or on which no thread is left.
     pub(crate) fn stop(&mut self, core: u8)
         requires { core < vec_len self.old.waiting }
         ensures { self.new.waiting.items ≡ slice_set self.old.waiting.items core false }

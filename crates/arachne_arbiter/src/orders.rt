@@ -18,7 +18,7 @@ pub enum Effect {
     Nothing,
 }
 
-/// A list of core orders, the number of orders that were applied, and the cores that these have closed.
+/// A list of core orders, the number of orders that were applied, and the cores that the applied orders have closed.
 ///
 /// Contracts see the list, the number of cores, and the number of orders that were applied.
 #[derive(Debug, Drop)]
@@ -73,7 +73,7 @@ impl Orders {
         self.applied == self.list.len()
     }
 
-    /// Returns whether the orders that were applied have left this core closed.
+    /// Returns whether the applied orders have left this core closed.
     pub fn has_closed(&self, core: u8) -> bool
         requires { core < self.now.cores }
         ensures { result ≡ is_closed_after self.now.list self.now.applied core }

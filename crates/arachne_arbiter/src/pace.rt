@@ -1,4 +1,4 @@
-//! Waiting of a core's kernel thread until others have gone on.
+//! Waiting of a core's kernel thread until other kernel threads have gone on.
 ghost use Rattle.std.specs.Prelude.{◌≡◌, ◌-◌, ◌↔◌, ◌⊎◌, ℕ, IsTrue};
 ghost use Rattle.arachne_arbiter.specs.declared.pace.TheConstants.{ROUNDS_WITHOUT_YIELDS};
 
@@ -16,8 +16,8 @@ const ROUNDS_WITHOUT_YIELDS: u32 = 4096;
 /// Decides whether a kernel thread that waits may yield its processor.
 ///
 /// On an idle machine a yield returns immediately. If other processes want the processor, a yield gives away a whole
-/// time slice, which delays all who wait for what this kernel thread has. So each yield is timed. After one that took
-/// long, the next waits don't yield: they spin for a short time, and then sleep.
+/// time slice, which delays all who wait for what this kernel thread has. So each yield is timed. After a yield that
+/// took long, the next waits don't yield: they spin for a short time, and then sleep.
 ///
 /// Contracts see for how many rounds that find work no yield is allowed, but not the clock.
 #[derive(Drop)]

@@ -15,9 +15,9 @@ use std::sync::Wait;
 impl<'a, H: Wait, T: Tagged, C: Contexts<T>> Cores<'a, H, T, C> {
     /// Claims a place for a thread that shares its core with others.
     ///
-    /// Takes the place on the less loaded of two cores drawn at random, or else on the first other core that has one.
-    /// Returns `None` if no core has a place. The error is a refusal of memory for the thread that will be put at the
-    /// place. Draws exactly one word from `chooser` (a random generator), whatever the result.
+    /// Takes the place on the less loaded of two cores drawn at random, or else on the first other core with a free
+    /// place. Returns `None` if no core has a free place. The error is a refusal of memory for the thread that will be
+    /// put at the place. Draws exactly one word from `chooser` (a random generator), whatever the result.
     pub fn claim_normal<R: Rng>(
         &self,
         seat: &mut C::Seat,
@@ -42,7 +42,7 @@ impl<'a, H: Wait, T: Tagged, C: Contexts<T>> Cores<'a, H, T, C> {
     }
 
     /// Claims a place on the less loaded of two cores that `word` draws at random, or else on the first other core that
-    /// has a place.
+    /// has a free place.
     fn claim_on_chosen(&self, seat: &mut C::Seat, word: u64) -> Result<Option<C::Claim>, AllocError>
         requires { C.sits self.now.table.now seat.old }
         ensures seat { C.sits self.now.table.now seat.new }
@@ -82,8 +82,8 @@ impl<'a, H: Wait, T: Tagged, C: Contexts<T>> Cores<'a, H, T, C> {
 
     /// Returns whether a core seems to have a place for a thread that shares it.
     ///
-    /// Reads the cores' words without a seat, and stops at the first core that has a place. The result is a hint: only
-    /// a claim decides.
+    /// Reads the cores' occupancy words without a seat, and stops at the first core that has a free place. The result
+    /// is a hint: only a claim decides.
     pub(crate) fn is_any_free(&self) -> bool {
         for core in 0..self.count {
             let seen = OccWord::from_word(self.table.glance(self.rt, core));
@@ -108,9 +108,9 @@ impl<'a, H: Wait, T: Tagged, C: Contexts<T>> Cores<'a, H, T, C> {
         }
     }
 
-    /// Claims a place on the first core other than `tried` that has one.
+    /// Claims a place on the first core other than `tried` that has a free place.
     ///
-    /// A core that has no place by `occupancies` is skipped.
+    /// A core that has no free place by `occupancies` is skipped.
     fn claim_on_another(
         &self,
         seat: &mut C::Seat,
@@ -156,7 +156,7 @@ impl<'a, H: Wait, T: Tagged, C: Contexts<T>> Cores<'a, H, T, C> {
 
     /// Claims a whole core. Returns `None` if the core is not both open and empty.
     ///
-    /// Tries again if the core's word changed in the meantime.
+    /// Tries again if the core's occupancy word changed in the meantime.
     fn claim_whole(&self, seat: &mut C::Seat, core: u8) -> Result<Option<C::Claim>, AllocError>
         requires seat { C.sits self.now.table.now seat.old }
         requires core { core < self.now.count }

@@ -53,17 +53,18 @@ pub enum Taken<T, H> {
 #[derive(Clone, Copy, Debug, PartialEq, Eq)]
 pub enum Rested {
     AsAsked,
-    /// The thread is ready, although the caller asked for it to be blocked: it was woken while it was held.
+    /// The thread is ready, although the caller asked for it to be blocked: it was woken while a worker had it in hand.
     WokenMeanwhile,
 }
 
 /// The result of a wake.
 #[derive(Clone, Copy, Debug, PartialEq, Eq)]
 pub enum Woken {
-    /// The thread was woken: it was blocked and is ready now, or it is held and will be ready once it is put back.
+    /// The thread was woken. Either it was blocked and is ready now, or a worker has it in hand, and it will be ready
+    /// once that worker puts it back.
     Woken,
-    /// The thread is ready, or is held and was woken before. The number is the mark word (the packed state) of the
-    /// thread's context.
+    /// The thread is ready, or a worker has it in hand and it was woken since it was taken. The number is the mark word
+    /// (the packed state) of the thread's context.
     Already(u64),
     /// No thread has the id any more, or none ever had it.
     Gone,
@@ -95,7 +96,7 @@ pub enum Moved {
     NoRoom(u64),
     /// No thread has been put at the place.
     Unposted,
-    /// The thread is held: a seat has it in hand.
+    /// A worker has the thread in hand.
     Running,
     /// The thread's core is exclusive to it.
     Alone,

@@ -23,7 +23,7 @@ pub trait Contexts<T: Tagged>: Seats {
     /// A place that a seat has claimed.
     type Claim: Placed + Drop;
 
-    /// The handle of a thread that a seat holds, by which the table knows the thread.
+    /// The handle of a thread that a seat has in hand, by which the table knows the thread.
     type Hold: Identified + Drop;
 
     /// The claims and threads of the list, in any order, are those that the seat has claimed or taken and not yet
@@ -212,7 +212,7 @@ pub trait Contexts<T: Tagged>: Seats {
         ensures weight { Self.weight seat.new ≡ Self.weight seat.old }
         ensures out { KeepsOut (has self.now) seat.old seat.new };
 
-    /// Moves the thread at a place to the lowest free index of another core, if no seat holds the thread.
+    /// Moves the thread at a place to the lowest free index of another core, if no worker has the thread in hand.
     fn move_one<R: Wait>(&self, rt: &R, seat: &mut Self::Seat, place: Place, to: u8) -> Moved
         requires seat { Self.sits self.now seat.old }
         requires core { place.core < Self.core_count self.now }

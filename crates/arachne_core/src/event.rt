@@ -1,4 +1,4 @@
-//! The events of a context table. The *carrier* of an event is the number of the seat that makes it.
+//! The events of a context table. In each event `carrier` is the number of the seat that makes it.
 
 ghost use Rattle.std.specs.Prelude.{Some};
 ghost use Rattle.arachne_core.specs.ContextTable.{refusal_text};
@@ -13,57 +13,57 @@ use std::fmt;
 /// Each atomic step of a table is one of these events. A step that changes nothing is `Still`.
 #[derive(Clone, Copy, Debug, PartialEq, Eq)]
 pub enum Event {
-    /// The carrier claims a free context on a core that is neither closed nor exclusive.
+    /// The seat `carrier` claims a free context on a core that is neither closed nor exclusive.
     Claim {
         carrier: u32,
         context: u32,
     },
-    /// The carrier claims the context at index 0 of an empty core, which is exclusive from then on.
+    /// The seat `carrier` claims the context at index 0 of an empty core, which is exclusive from then on.
     Alone {
         carrier: u32,
         context: u32,
     },
-    /// The carrier puts a thread with this tag into a context that it has claimed.
+    /// The seat `carrier` puts the thread with this tag into a context that it has claimed.
     Post {
         carrier: u32,
         context: u32,
         tag: u64,
     },
-    /// The carrier takes a ready thread, to run it.
+    /// The seat `carrier` takes the ready thread of this context, to run it.
     Take {
         carrier: u32,
         context: u32,
     },
-    /// The carrier puts back a thread that it holds.
+    /// The seat `carrier` puts back, as ready or as blocked, the thread of this context that it has in hand.
     Rest {
         carrier: u32,
         context: u32,
         rest: Rest,
     },
-    /// A thread is woken.
+    /// A seat wakes the thread with this id.
     Wake {
         id: ThreadId,
     },
-    /// A thread that the carrier holds ends. The carrier keeps the context's place.
+    /// The seat `carrier` ends the thread of this context that it has in hand. The seat keeps the context's place.
     Retire {
         carrier: u32,
         context: u32,
     },
-    /// The carrier gives up a context that it has claimed.
+    /// The seat `carrier` gives up a context that it has claimed.
     Release {
         carrier: u32,
         context: u32,
     },
-    /// The core takes no more threads.
+    /// The core `core` is closed, and then takes no more threads.
     CloseCore {
         core: u8,
     },
-    /// The core takes threads again.
+    /// The core `core` is opened, and takes threads again.
     OpenCore {
         core: u8,
     },
-    /// The carrier moves a resting thread from `from` to the place of `to`, a context that it has claimed on another
-    /// core. The two contexts swap places.
+    /// The seat `carrier` moves the thread at rest in context `from` to the place of `to`, a context that the seat has
+    /// claimed on another core. The two contexts swap places.
     Move {
         carrier: u32,
         from: u32,

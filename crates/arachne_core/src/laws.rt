@@ -30,21 +30,21 @@ pub fn runs_keep_owned_once()
 {}
 
 /// If the World (the state of the table) is owned once (`OwnedOnce`), no two live threads share a context or a place,
-/// and none is held by two carriers.
+/// and no two seats have the same thread in hand.
 pub fn owned_once_shares_nothing()
     ensures { (w : World) → OwnedOnce w → SharesNothing w }
 {}
 
-/// A thread that is held by a carrier (a seat's number) stays held by it, whatever events follow, until that carrier
-/// puts it back or ends it.
+/// If a seat has a thread in hand, it keeps the thread, whatever events follow, until that seat puts the thread back or
+/// ends it.
 ///
-/// So no thread is held by two carriers at the same time: before a context is taken again, its first carrier has let go
-/// of it.
+/// So no two seats have a thread in hand at the same time: before a context is taken again, the seat that had its
+/// thread has put the thread back or ended it.
 pub fn holder_keeps_its_thread()
     ensures { (w : World) (es : List Event) (h x : ℕ) → IsHeldBy h (w.state x) → IsRun w es → NeverLetsGo h x es → IsHeldBy h ((after_all w es).state x) }
 {}
 
-/// A core that is closed and has no occupied place stays so, whatever events follow, until it is opened.
+/// A core that is closed and has no occupied place stays closed and empty, whatever events follow, until it is opened.
 pub fn drained_core_stays_drained()
     ensures { (w : World) (es : List Event) (c : ℕ) → IsDrained w c → IsRun w es → NeverOpens c es → IsDrained (after_all w es) c }
 {}
@@ -109,8 +109,7 @@ pub fn mark_words_read_as_packed()
     ensures { (bits : ℕ) (m : Marked) → m.place.index < 2 ^ 6 → m.place.core < 2 ^ bits → marked_of bits (mark_word bits m) ≡ m }
 {}
 
-/// A number is a mark word exactly if it has 64 bits, its mark is one of the six, and its index is one that a core can
-/// have.
+/// A number is a mark word exactly if it has 64 bits, its mark is one of the six marks, and its index is less than 56.
 ///
 /// Reading such a number and packing the result gives the same number.
 pub fn mark_words_pack_as_read()

@@ -1,4 +1,4 @@
-//! The mark of a context: its state, without the seat (carrier) that has it and without the thread's tag.
+//! The mark of a context: its state, without the number of the seat that has it and without the thread's tag.
 
 /// The state of a context, as its mark word (state, place and generation, packed) shows it.
 #[derive(Clone, Copy, Debug, PartialEq, Eq)]

@@ -65,8 +65,7 @@ impl MarkWord {
         }
     }
 
-    /// Reads a word. Returns `None` if the word's mark is not one of the six, or its index is not one that a core can
-    /// have.
+    /// Reads a word. Returns `None` if the word's mark is not one of the six marks, or its index is not less than 56.
     pub fn from_word(word: u64) -> Option<Self>
         ensures some { IsSome result ↔ IsMarkWord CORE_BITS word }
         ensures value { IfSome result (λ mark. mark ≡ marked_of CORE_BITS word) }
@@ -80,8 +79,8 @@ impl MarkWord {
 
     /// Reads a mark word of the older layout, in which the core had 4 bits and the generation 50.
     ///
-    /// Returns the word with the same fields, or `None` if the mark is not one of the six, the index not one of a
-    /// core's, or the generation past the last.
+    /// Returns the word with the same fields, or `None` if the mark is not one of the six marks, the index is not less
+    /// than 56, or the generation is past the last.
     pub fn from_first(word: u64) -> Option<Self>
         ensures some { IsSome result ↔ (IsMarkWord FIRST_CORE_BITS word × ((marked_of FIRST_CORE_BITS word).generation ≤ LAST_GENERATION)) }
         ensures value { IfSome result (λ mark. mark ≡ marked_of FIRST_CORE_BITS word) }
@@ -114,7 +113,7 @@ impl MarkWord {
         Mark::from_code(self.word & MARK_MASK)
     }
 
-    /// Returns the `alone` bit: whether the thread was put on a core that is exclusive to it.
+    /// Returns the `alone` bit, which is set if the thread was put on a core that is exclusive to it.
     pub fn is_alone(self) -> bool
         ensures { result ≡ self.alone }
     {

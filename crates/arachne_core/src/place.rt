@@ -25,7 +25,7 @@ impl Place {
         }
     }
 
-    /// Returns the context that stands here at first, if each core has `slots` places.
+    /// Returns the context that stands at this place at first, if each core has `slots` places.
     pub fn number(self, slots: u8) -> u32
         ensures { result ≡ number_of slots self }
     {

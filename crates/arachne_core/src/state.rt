@@ -6,30 +6,30 @@ use crate::place::Place;
 
 /// The state of a context.
 ///
-/// A carrier is whoever has claimed contexts or holds their threads: in a table, a seat. A tag is the number that was
-/// put into the table with the thread.
+/// The carrier is the seat (by its number) that has claimed the context, or has its thread in hand. A tag is the number
+/// that was put into the table with the thread.
 #[derive(Clone, Copy, Debug, PartialEq, Eq)]
 pub enum State {
     /// There is no thread, and nobody is about to post one.
     Free,
-    /// There is no thread yet. The carrier may post one.
+    /// There is no thread yet. The seat `carrier` has claimed the context, and may post a thread there.
     Claimed { carrier: u32 },
     /// The thread may be taken.
     Ready { tag: u64 },
     /// The thread waits to be woken.
     Blocked { tag: u64 },
-    /// The carrier runs the thread. `woken`: the thread was woken since it was taken.
+    /// The seat `carrier` has the thread in hand, and runs it. `woken`: the thread was woken since it was taken.
     Held { carrier: u32, woken: bool, tag: u64 },
     /// The thread of the last generation has ended. The context is never used again.
     Spent,
 }
 
-/// The ways in which a carrier puts a thread back.
+/// The ways in which a seat puts a thread back.
 #[derive(Clone, Copy, Debug, PartialEq, Eq)]
 pub enum Rest {
     /// The thread may be taken again.
     Ready,
-    /// The thread waits to be woken. If the thread was woken while it was held, it is ready instead.
+    /// The thread waits to be woken. If the thread was woken since it was taken, it is ready instead.
     Blocked,
 }
 
@@ -97,7 +97,7 @@ impl State {
         }
     }
 
-    /// Returns whether the thread is blocked, or held and not woken yet.
+    /// Returns whether the thread is blocked, or in a seat's hand and not woken yet.
     pub(crate) fn can_be_woken(self) -> bool
         ensures { IsTrue result ↔ CanBeWoken self }
     {
@@ -108,7 +108,7 @@ impl State {
         }
     }
 
-    /// Returns whether there is a thread: ready, blocked or held.
+    /// Returns whether there is a thread: ready, blocked or in a seat's hand.
     pub(crate) fn is_live(self) -> bool
         ensures { result ≡ is_live_state self }
     {
@@ -142,7 +142,7 @@ impl State {
         }
     }
 
-    /// Returns the state after the carrier has taken the thread.
+    /// Returns the state after the seat `carrier` has taken the thread.
     pub(crate) fn taken(self, carrier: u32) -> Self
         ensures { result ≡ taken carrier self }
     {
@@ -156,7 +156,7 @@ impl State {
         }
     }
 
-    /// Returns the state after the carrier has put the thread back.
+    /// Returns the state after the thread was put back by the seat that had it in hand.
     pub(crate) fn put_back(self, rest: Rest) -> Self
         ensures { result ≡ put_back rest self }
     {
@@ -193,7 +193,7 @@ impl State {
 impl Context {
     ghost use Rattle.std.specs.Prelude.{◌≡◌, ◌+◌, ◌<◌, ◌≤◌, nat_lt, if◌then◌else◌};
 
-    /// Returns the context after the thread that the carrier holds in it has ended.
+    /// Returns the context after the thread in it has ended in the hand of the seat `carrier`.
     pub(crate) fn retired(self, carrier: u32) -> Self
         requires { self.generation ≤ LAST_GENERATION }
         ensures state { result.state ≡ (if nat_lt self.generation LAST_GENERATION then State.Claimed carrier else State.Spent) }

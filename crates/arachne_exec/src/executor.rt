@@ -16,7 +16,8 @@ use std::marker::Model;
 /// An executor: the atomic words and slots of one table, which say at which place each job is.
 ///
 /// Contracts see which table it is, and the number of its shards.
-// In its methods a line `let _ = self.shards;` opens the table for the prover, which learns its sizes there.
+// In the methods of this type a line `let _ = self.shards;` opens the table for the prover, which learns its sizes
+// there.
 #[derive(Drop)]
 pub struct Executor {
     pub(crate) table: Table<u64, View, usize, Lawful, Global>,
@@ -96,8 +97,8 @@ impl Executor {
         self.table.shared.join_seat::<Halve>(&mut seat.seat, spent);
     }
 
-    /// Returns a seat for another thread, with half of this seat's weight and nothing else. If the weight is 1 or 0,
-    /// both seats then have weight 0.
+    /// Returns a seat for another thread, with half of `seat`'s weight and nothing else. If the weight is 1 or 0, both
+    /// seats then have weight 0.
     pub fn split(&self, seat: &mut ExecSeat) -> ExecSeat
         requires own { seat.old.table ≡ self.now.table }
         ensures first { seat.new ≡ record seat.old { weight = first_part seat.old.weight; known = splitting seat.old.known } }
@@ -114,8 +115,8 @@ impl Executor {
         }
     }
 
-    /// Joins `other` into `seat`, which gets its weight (at most the whole) and what it knows. `other` must have an
-    /// empty hand and no worker number.
+    /// Joins `other` into `seat`, which gets the weight of `other` (at most the whole) and what `other` knows. `other`
+    /// must have an empty hand and no worker number.
     pub fn join_seats(&self, seat: &mut ExecSeat, other: ExecSeat)
         requires own { (seat.old.table ≡ self.now.table) × (other.table ≡ self.now.table) }
         requires nothing_in_hand { other.known.hand ≡ [] }
@@ -131,7 +132,7 @@ impl Executor {
         seat.weight = seat.weight.join(added);
     }
 
-    /// Returns true if all other seats were joined into this one.
+    /// Returns true if all other seats were joined into `seat`.
     pub fn is_whole(&self, seat: &ExecSeat) -> bool
         ensures { IsTrue result ↔ (seat.now.weight ≡ whole) }
     {

@@ -104,8 +104,8 @@ pub fn jobs_are_conserved()
         → spawned_at place job b ≡ ended_at place job b + lives_at place job b }
 {}
 
-/// For each time that a place was blocked or retired, it was unblocked once, or is still blocked. So no step of any
-/// kind lets a job wait, or wakes one, without being counted.
+/// Each time that a place was blocked or retired, it was later unblocked once, or it is still blocked. So no step of
+/// any kind lets a job wait, or wakes one, without being counted.
 pub fn blocks_are_counted()
     ensures { (shards : ℕ) (b : Board) → IsLawful shards b → (place : ℕ) → place < 4096 * shards
         → blocks place b ≡ unblocks place b + is_blocked b.words place }

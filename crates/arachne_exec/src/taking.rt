@@ -35,7 +35,8 @@ fn lowest(word: u64, most: u32) -> u64
 
 impl Executor {
     /// Tries once to take up to `most` (at least one) ready jobs of a block into the seat's hand, in one step. Returns
-    /// the places of the jobs that were taken, a bit for each; the lowest place is the newest in the hand.
+    /// the places of the jobs that were taken, a bit for each. The job of the lowest place is the newest in the seat's
+    /// hand.
     pub fn take_many(&self, seat: &mut ExecSeat, block: usize, most: u32) -> u64
         requires own { seat.old.table ≡ self.now.table }
         requires block { block < 64 * self.now.shards }

@@ -3,7 +3,7 @@
 use arachne_weights::Token;
 use std::collections::LinkedList;
 
-/// A change of a worker's sleep by a step, with the worker's number.
+/// A change of a worker's sleep by a step. The number is the worker's.
 pub enum SleepDeed {
     /// The worker's seat has set the worker's idle bit, which was clear.
     LayDown(u64),

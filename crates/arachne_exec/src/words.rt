@@ -18,7 +18,7 @@ use crate::steps::{
 };
 
 impl Executor {
-    /// Loads a word, and notes the number that was found.
+    /// Loads a word. Returns the number in it, which the seat notes.
     pub(crate) fn look(&self, seat: &mut SeatInCall, word: usize) -> u64
         requires own { seat.old.table ≡ self.now.table }
         requires inside { word < words_of (64 * self.now.shards) }
@@ -59,8 +59,8 @@ impl Executor {
         found >> index as u32 & 1 == 1
     }
 
-    /// Clears the ready bits of several places of a block. Returns the bits that were set: their places are in the
-    /// seat's hand, the lowest as the newest.
+    /// Clears the ready bits of several places of a block. Returns the bits that were set. Their places are then in the
+    /// seat's hand, the lowest place as the newest.
     pub(crate) fn take_bits(&self, seat: &mut SeatInCall, block: usize, pick: u64) -> u64
         requires own { seat.old.table ≡ self.now.table }
         requires block { block < 64 * self.now.shards }
@@ -139,7 +139,7 @@ impl Executor {
         shared.fetch_or::<PutSpawned>(&mut seat.seat, ready_word(place / 64), bit(place % 64)) == 0
     }
 
-    /// Begins the new job at the seat's newest place, which stays in hand. Returns the mark of the place.
+    /// Begins the new job at the seat's newest place, which stays in the seat's hand. Returns the mark of the place.
     pub(crate) fn begin(&self, seat: &mut SeatInCall, place: usize, job: u64) -> u64
         requires own { seat.old.table ≡ self.now.table }
         requires place { place < 4096 * self.now.shards }

@@ -14,7 +14,7 @@ use std::alloc::Global;
 use std::marker::Model;
 use std::mem;
 
-/// A share of a set of ledgers, or nothing, in C's layout: one pointer, which is null if nothing is held.
+/// A share of a set of ledgers in C's layout: one pointer, which is null if there is no share.
 #[repr(C)]
 pub struct ArachneAdder {
     at: *mut u8,

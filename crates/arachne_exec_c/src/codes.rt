@@ -3,8 +3,8 @@
 /// The call succeeded.
 pub(crate) const DONE: u32 = 0;
 
-/// The handle holds nothing, or something although it must be empty; or its seat may not make this call now; or there
-/// is no such block, lock or ledger. Nothing has changed.
+/// The handle holds nothing, or it holds something although it must be empty; or the handle's seat may not make this
+/// call now; or there is no such block, lock or ledger. Nothing has changed.
 pub(crate) const REFUSED: u32 = 1;
 
 /// Memory was refused. Nothing has changed.
@@ -13,7 +13,7 @@ pub(crate) const NO_MEMORY: u32 = 2;
 /// Another thread was at the lock. Nothing has changed: try again.
 pub(crate) const CONTENDED: u32 = 3;
 
-/// Another thread was first. Nothing has changed: try again; for a worker's number, with another number.
+/// Another thread was first. Nothing has changed: try again, with another number if the call registers a worker.
 pub(crate) const LOST: u32 = 4;
 
 /// `who` holds the lock.
@@ -28,13 +28,13 @@ pub(crate) const ALREADY_IN: u32 = 7;
 /// The lock is free.
 pub(crate) const FREED: u32 = 8;
 
-/// The lock was handed on to the one that had waited longest: wake it.
+/// The lock was handed on to the task that had waited longest: wake that task.
 pub(crate) const HANDED_ON: u32 = 9;
 
 /// `who` doesn't hold the lock. As the answer to a withdrawal: `who` neither holds the lock nor waits for it.
 pub(crate) const NOT_HOLDER: u32 = 10;
 
-/// `who` waited for the lock, and waits no longer: the lock is not handed on to it any more.
+/// `who` waited for the lock, and waits no longer: the lock is not handed on to `who` any more.
 pub(crate) const LEFT: u32 = 11;
 
 /// No place of the block is free.
@@ -46,7 +46,7 @@ pub(crate) const RUN: u32 = 13;
 /// The worker has set its idle bit, and then found no block that may have ready jobs: sleep until you are unparked.
 pub(crate) const PARK: u32 = 14;
 
-/// No job was taken, or a block may have one: try again.
+/// No job was taken, or a block may have a job: try again.
 pub(crate) const AGAIN: u32 = 15;
 
 /// The job is ready.
@@ -55,8 +55,8 @@ pub(crate) const READY: u32 = 16;
 /// The job waits for a wake.
 pub(crate) const BLOCKED: u32 = 17;
 
-/// The job is ready or runs, and the wake is recorded. A take or a start uses up that record. If neither comes, the job
-/// is ready again when it would block next. A wake for the next job of a free place, by the name that this job will
+/// The job is ready or runs, and the wake is recorded. A take or a start uses up that record. If neither follows, the
+/// job is ready again when it would block next. A wake for the next job of a free place, by the name that this job will
 /// have, is recorded in the same way.
 pub(crate) const MARKED: u32 = 18;
 

@@ -43,8 +43,10 @@ pub extern "C" fn arachne_exec_new(alloc: Global, exec: &mut ArachneExec, shards
 
 /// Splits a seat in two, for another thread: `other` gets the second part, with no job in hand and no worker number.
 ///
-/// Returns DONE; REFUSED if `exec` holds nothing or `other` holds something; NO_MEMORY. A seat may be split 127 times
-/// in a row. A further split succeeds too, but then the executor can't be ended any more.
+/// Returns DONE; REFUSED if `exec` holds nothing or `other` holds something; NO_MEMORY.
+///
+/// After more than 127 splits in a row, each of a part of the one before, splits still succeed but the executor can't
+/// be ended any more.
 #[unsafe(no_mangle)]
 #[tactic(auto, using(crate::proofs::ExecCut::is_split))]
 pub extern "C" fn arachne_exec_split(
@@ -106,9 +108,9 @@ pub extern "C" fn arachne_exec_join(
 ///
 /// The jobs that are left were spawned and have not ended; jobs of number 0 are not written. A number that several jobs
 /// have is written once for each of these jobs. Returns DONE with the count of jobs written; REFUSED if the handle
-/// holds nothing or has a job in hand, or if not all other handles were joined into it; NO_MEMORY. Returns REFUSED also
-/// if `left` has less room than 4,096 jobs for each shard. Unless the code is DONE, the count is 0, and the executor
-/// and `left` are unchanged.
+/// holds nothing or has a job in hand, or if not all other handles were joined into this one; NO_MEMORY. Returns
+/// REFUSED also if `left` has less room than 4,096 jobs for each shard. Unless the code is DONE, the count is 0, and
+/// the executor and `left` are unchanged.
 #[unsafe(no_mangle)]
 pub extern "C" fn arachne_exec_end(
     alloc: Global,
@@ -125,7 +127,7 @@ pub extern "C" fn arachne_exec_end(
     told
 }
 
-/// Frees the seat that a handle holds, if it holds one, and the executor with the last of its handles.
+/// Frees the seat of a handle, if it has one, and the executor with the last of its handles.
 ///
 /// A job in hand stays at its place for ever, and the other handles can't end the executor any more.
 #[unsafe(no_mangle)]
@@ -185,7 +187,7 @@ pub extern "C" fn arachne_exec_spawn(
     told
 }
 
-/// Puts a job at a free place of a block and into the hand, so that nobody else can take it: one try.
+/// Tries once to put a job at a free place of a block and into the handle's hand, so that nobody else can take the job.
 ///
 /// Returns RUN with the job's name and number; FULL; LOST; REFUSED if the handle holds nothing or has a job in hand, or
 /// if there is no such block.
@@ -237,7 +239,7 @@ pub extern "C" fn arachne_exec_ready(alloc: Global, exec: &mut ArachneExec, bloc
     told
 }
 
-/// Takes a ready job of a block into the hand, whichever worker looks after the block: one try.
+/// Tries once to take a ready job of a block into the handle's hand. Any worker may look after the block.
 ///
 /// Returns RUN with the job's name and number; AGAIN; REFUSED if the handle holds nothing or has a job in hand, or if
 /// there is no such block.
@@ -257,12 +259,13 @@ pub extern "C" fn arachne_exec_take(
     told
 }
 
-/// Takes up to `most` ready jobs of a block into the hand, by one step; a `most` of 0 counts as 1.
+/// Takes up to `most` ready jobs of one block (64 places) in one atomic step. They are then in the handle's hand:
+/// nobody else can run them. A `most` of 0 counts as 1.
 ///
 /// Returns the places of the jobs that were taken, a bit for each of the block's 64 places. The job at the lowest place
 /// is the newest: calls on the job in hand concern this job, and then the job at the next place, once the newest rests
 /// or has ended. `arachne_exec_start` returns the newest job's name and number. Returns 0 if no job was taken, if the
-/// handle holds nothing or has a job in hand, or if there is no such block.
+/// handle is empty or has a job in hand already, or if there is no such block.
 #[unsafe(no_mangle)]
 pub extern "C" fn arachne_exec_take_many(
     alloc: Global,
@@ -280,7 +283,8 @@ pub extern "C" fn arachne_exec_take_many(
     told
 }
 
-/// Begins to run the newest job in hand, of several that were taken at once: uses up a wake that has come by now.
+/// Begins to run the newest job in hand, of several that were taken at once: uses up a wake that has come since the
+/// take.
 ///
 /// Returns RUN with the job's name and number, or REFUSED if the handle has no job in hand.
 #[unsafe(no_mangle)]
@@ -295,7 +299,7 @@ pub extern "C" fn arachne_exec_start(alloc: Global, exec: &mut ArachneExec) -> A
     told
 }
 
-/// Takes the next job of the worker's blocks into the hand.
+/// Takes the next job of the worker's blocks into the handle's hand.
 ///
 /// Returns RUN with the job's name and number; PARK; AGAIN; REFUSED if the handle holds nothing, if its seat is no
 /// worker, or if a job is in hand.
@@ -311,7 +315,7 @@ pub extern "C" fn arachne_exec_next(alloc: Global, exec: &mut ArachneExec) -> Ar
     told
 }
 
-/// Sets the worker's idle bit, and then looks if one of its blocks may have ready jobs: the last part of
+/// Sets the worker's idle bit, and then checks if a block of the worker may have ready jobs. This is the last part of
 /// `arachne_exec_next`.
 ///
 /// Returns PARK; AGAIN, with the bit cleared again; REFUSED if the handle holds nothing or its seat is no worker.
@@ -409,7 +413,7 @@ pub extern "C" fn arachne_exec_wake(
     told
 }
 
-/// Wakes the job of a name, and takes it into the hand if it was blocked: one try.
+/// Tries once to wake the job of a name, and to take the job into the handle's hand if it was blocked.
 ///
 /// Returns RUN with the job's name and number; MARKED; ALREADY_MARKED; GONE; LOST; REFUSED if the handle holds nothing
 /// or has a job in hand.

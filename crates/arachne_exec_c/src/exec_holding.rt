@@ -1,4 +1,4 @@
-//! The calls on an executor by the seat that a handle holds, if it holds one.
+//! The calls on an executor by the seat of a handle, if the handle has one.
 ghost use Rattle.std.specs.Prelude.{◌≡◌, ◌↔◌, ◌%◌, ◌^◌, MatchBool, IsTrue};
 ghost use Rattle.std.specs.Option.{ForSome, IsSomeAnd};
 ghost use Rattle.std.specs.declared.option.Option.TheVariants.{None, Some};
@@ -227,7 +227,7 @@ pub(crate) fn cut_held(mine: &mut Option<Executing>, theirs: &mut Option<Executi
     true
 }
 
-/// Ends the executor that is held, and writes the jobs that are left to the beginning of `room`.
+/// Ends the handle's executor, and writes the jobs that are left to the beginning of `room`.
 pub(crate) fn end_held(
     alloc: Global,
     held: &mut Option<Executing>,
@@ -254,7 +254,7 @@ pub(crate) fn end_held(
     }
 }
 
-/// Returns true if a seat is held that has no job in hand and is no worker.
+/// Returns true if the handle has a seat with no job in hand and no worker number.
 fn is_idle_held(held: &Option<Executing>) -> bool
     ensures { IsTrue result ↔ IsSomeAnd held.now IsIdle }
 {
@@ -264,8 +264,8 @@ fn is_idle_held(held: &Option<Executing>) -> bool
     }
 }
 
-/// Joins the seat in `theirs` into that in `mine`, if both are there, and the second has no job in hand and is no
-/// worker.
+/// Joins the seat in `theirs` into the seat in `mine`, if both are there and the seat in `theirs` has no job in hand
+/// and no worker number.
 #[tactic(auto, using(crate::proofs::ExecCut::not_joined))]
 pub(crate) fn join_held(mine: &mut Option<Executing>, theirs: &mut Option<Executing>) -> u32
     requires { (a b : Exec) → mine.old ≡ Some a → theirs.old ≡ Some b → b.executor ≡ a.executor }

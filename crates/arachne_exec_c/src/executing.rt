@@ -30,9 +30,9 @@ pub struct Executing {
     seat: ExecSeat,
     /// The place of the newest job in hand.
     hand: Option<usize>,
-    /// The other places of the same block that are in hand, a bit for each.
+    /// The other places of the same block whose jobs are in hand, a bit for each.
     more: u64,
-    /// One more than the number of the worker that the seat is; 0 if it is none.
+    /// One more than the seat's worker number; 0 if the seat is no worker.
     worker: usize,
     apart: [u64; 8],
 }
@@ -157,8 +157,8 @@ impl Executing {
         taken
     }
 
-    /// Takes up to `most` jobs of a block by one step. Returns the jobs' places, a bit for each; the job at the lowest
-    /// place is the newest.
+    /// Takes up to `most` jobs of a block by one step. Returns the jobs' places, a bit for each. The job at the lowest
+    /// place is the newest in hand.
     pub(crate) fn take_many(&mut self, block: usize, most: u32) -> u64
         requires { MayTake block self.old }
         ensures { TakesMany block most self.old self.new result }

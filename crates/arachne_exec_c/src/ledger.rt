@@ -92,8 +92,10 @@ pub extern "C" fn arachne_ledger_total(
 
 /// Splits a share in two, for another thread: `other` gets the second part, to which nothing was added.
 ///
-/// Returns DONE; REFUSED if `adder` holds nothing or `other` holds something; NO_MEMORY. A share may be split 127 times
-/// in a row. A further split succeeds too, but then no total can be read any more.
+/// Returns DONE; REFUSED if `adder` holds nothing or `other` holds something; NO_MEMORY.
+///
+/// After more than 127 splits in a row, each of a part of the one before, splits still succeed but no total can be
+/// read.
 #[unsafe(no_mangle)]
 #[tactic(auto, using(crate::proofs::AdderCut::is_split))]
 pub extern "C" fn arachne_ledger_split(
@@ -151,7 +153,7 @@ pub extern "C" fn arachne_ledger_join(
     is_joined
 }
 
-/// Frees the share that a handle holds, if it holds one, and the ledgers with the last of their handles.
+/// Frees the share of a handle, if it has one, and the ledgers with the last of their handles.
 ///
 /// The other handles can't read a total any more.
 #[unsafe(no_mangle)]

@@ -33,7 +33,7 @@ pub extern "C" fn arachne_locks_new(alloc: Global, locks: &mut ArachneLocks, cou
     DONE
 }
 
-/// Splits off another seat, for another thread, and puts it into `other`.
+/// Splits a seat in two, for another thread: `other` gets the new seat.
 ///
 /// Returns DONE; REFUSED if `locks` holds nothing or `other` holds something; NO_MEMORY.
 #[unsafe(no_mangle)]
@@ -92,7 +92,7 @@ pub extern "C" fn arachne_locks_join(
     code
 }
 
-/// Frees the seat that a handle holds, if it holds one, and the locks with the last of their handles.
+/// Frees the seat of a handle, if it has one, and the locks with the last of their handles.
 #[unsafe(no_mangle)]
 pub extern "C" fn arachne_locks_close(alloc: Global, locks: &mut ArachneLocks)
     ensures { held locks.new ≡ None }
@@ -100,7 +100,7 @@ pub extern "C" fn arachne_locks_close(alloc: Global, locks: &mut ArachneLocks)
     drop(locks.take(alloc));
 }
 
-/// Asks for a lock for `who`: one try.
+/// Tries once to ask for a lock for `who`.
 ///
 /// Returns GRANTED; QUEUED; ALREADY_IN; NO_MEMORY, only if `who` would have to wait; CONTENDED; REFUSED if the handle
 /// holds nothing or there is no such lock.
@@ -121,7 +121,7 @@ pub extern "C" fn arachne_lock_ask(
     told
 }
 
-/// Frees a lock that `who` holds: one try.
+/// Tries once to free a lock that `who` holds.
 ///
 /// Returns FREED; HANDED_ON, to `next`; NOT_HOLDER; CONTENDED; REFUSED if the handle holds nothing or there is no such
 /// lock.
@@ -142,10 +142,10 @@ pub extern "C" fn arachne_lock_free(
     told
 }
 
-/// Takes `who` out of the queue of a lock, such as when its future is dropped: one try.
+/// Tries once to take `who` out of the queue of a lock, such as when the future of `who` is dropped.
 ///
-/// Returns LEFT; GRANTED if `who` holds the lock by now, and must free it; NOT_HOLDER; CONTENDED; REFUSED if the handle
-/// holds nothing or there is no such lock.
+/// Returns LEFT; GRANTED if `who` was granted the lock meanwhile, and must free it; NOT_HOLDER; CONTENDED; REFUSED if
+/// the handle holds nothing or there is no such lock.
 #[unsafe(no_mangle)]
 pub extern "C" fn arachne_lock_withdraw(
     alloc: Global,
@@ -163,10 +163,10 @@ pub extern "C" fn arachne_lock_withdraw(
     told
 }
 
-/// Looks if `who` holds a lock: one try.
+/// Tries once to look if `who` holds a lock.
 ///
-/// Returns GRANTED with the number of its grant; NOT_HOLDER; CONTENDED; REFUSED if the handle holds nothing or there is
-/// no such lock.
+/// Returns GRANTED with the number of the grant to `who`; NOT_HOLDER; CONTENDED; REFUSED if the handle holds nothing or
+/// there is no such lock.
 #[unsafe(no_mangle)]
 pub extern "C" fn arachne_lock_check(
     alloc: Global,

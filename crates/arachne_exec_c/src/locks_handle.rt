@@ -14,7 +14,7 @@ use std::alloc::Global;
 use std::marker::Model;
 use std::mem;
 
-/// A seat at a set of locks, or nothing, in C's layout: one pointer, which is null if nothing is held.
+/// A seat at a set of locks in C's layout: one pointer, which is null if there is no seat.
 #[repr(C)]
 pub struct ArachneLocks {
     at: *mut u8,

@@ -30,7 +30,8 @@ pub struct ArachneSample {
     pub elapsed: u64,
 }
 
-/// Makes an estimator that has seen no sample. Returns false, with nothing changed, if `max` is greater than 64.
+/// Makes an estimator that no sample was given to yet. Returns false, with nothing changed, if `max` is greater than
+/// 64.
 #[unsafe(no_mangle)]
 pub extern "C" fn arachne_estimator_new(
     up: u64,
@@ -67,7 +68,7 @@ pub extern "C" fn arachne_estimator_judge(
     ensures judged { (result ≢ refused) ↔ MayJudge estimator.old sample.now }
     ensures bad { result ≡ refused → estimator.new ≡ estimator.old }
     ensures settings { (state_of estimator.new).settings ≡ (state_of estimator.old).settings }
-    // The answer is the advice after the samples so far; the estimator then stands for these and this one.
+    // The result is the advice after the earlier samples; `estimator` then stands for these samples and `sample`.
     ensures history { (past : List Past) → StandsFor (state_of estimator.old) past → MayJudge estimator.old sample.now
         → HasJudged past estimator.old sample.now result estimator.new }
 {

@@ -128,7 +128,7 @@ pub(crate) fn split_held(mine: &mut Option<Seated>, theirs: &mut Option<Seated>)
     true
 }
 
-/// Joins the seat in `theirs` into that in `mine`, if both are there.
+/// Joins the seat in `theirs` into the seat in `mine`, if both are there.
 pub(crate) fn join_held(mine: &mut Option<Seated>, theirs: &mut Option<Seated>) -> u32
     requires { (a b : Seating) → mine.old ≡ Some a → theirs.old ≡ Some b → b.locks ≡ a.locks }
     ensures { IsJoined mine.old theirs.old mine.new theirs.new result }
@@ -147,7 +147,7 @@ pub(crate) fn join_held(mine: &mut Option<Seated>, theirs: &mut Option<Seated>) 
     }
 }
 
-/// Asks for a lock for `who`, through the seat that a handle holds.
+/// Asks for a lock for `who`, by the seat of a handle.
 pub(crate) fn ask_held(held: &mut Option<Seated>, lock: usize, who: u64) -> ArachneLockTold
     ensures { IsAskTold lock who held.old held.new result }
 {
@@ -157,7 +157,7 @@ pub(crate) fn ask_held(held: &mut Option<Seated>, lock: usize, who: u64) -> Arac
     }
 }
 
-/// Frees a lock that `who` holds, through the seat that a handle holds.
+/// Frees a lock that `who` holds, by the seat of a handle.
 pub(crate) fn free_held(held: &mut Option<Seated>, lock: usize, who: u64) -> ArachneLockTold
     ensures { IsFreeTold lock who held.old held.new result }
 {
@@ -167,7 +167,7 @@ pub(crate) fn free_held(held: &mut Option<Seated>, lock: usize, who: u64) -> Ara
     }
 }
 
-/// Takes `who` out of the queue of a lock, through the seat that a handle holds.
+/// Takes `who` out of the queue of a lock, by the seat of a handle.
 pub(crate) fn withdraw_held(held: &mut Option<Seated>, lock: usize, who: u64) -> ArachneLockTold
     ensures { IsWithdrawTold lock who held.old held.new result }
 {
@@ -177,7 +177,7 @@ pub(crate) fn withdraw_held(held: &mut Option<Seated>, lock: usize, who: u64) ->
     }
 }
 
-/// Checks whether `who` holds a lock, through the seat that a handle holds.
+/// Checks whether `who` holds a lock, by the seat of a handle.
 pub(crate) fn check_held(held: &mut Option<Seated>, lock: usize, who: u64) -> ArachneLockTold
     ensures { IsCheckTold lock who held.old held.new result }
 {

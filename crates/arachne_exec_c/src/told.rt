@@ -12,7 +12,7 @@ use arachne_lock::{Admitted, AskRefusal, Attempt, NotOwner, Released, Withdrawn}
 #[repr(C)]
 #[derive(Clone, Copy)]
 pub struct ArachneLockTold {
-    /// The number of the event: of the grant, the ask, the free or the leave.
+    /// The number of the event: the grant, the ask, the free or the leave.
     pub at: u64,
     /// The waiter that holds the lock now, if a free handed it on. The number of that grant is `at` + 1.
     pub next: u64,

@@ -13,7 +13,7 @@ use std::alloc::Global;
 use std::marker::Model;
 use std::mem;
 
-/// An arbiter, or nothing, in C's layout: one pointer, which is null if nothing is held.
+/// An arbiter in C's layout: one pointer, which is null if there is no arbiter.
 #[repr(C)]
 pub struct ArachneArbiter {
     at: *mut u8,

@@ -1,4 +1,4 @@
-//! Finds which classes of threads a program forks.
+//! Finds which classes of threads a program forks: normal, exclusive.
 ghost use Rattle.std.specs.Prelude.{◌≡◌};
 ghost use Rattle.arachne_program.specs.Program.{tree_of};
 ghost use Rattle.arachne_jobs.specs.Classes.{forks_exclusive};

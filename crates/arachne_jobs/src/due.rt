@@ -1,4 +1,4 @@
-//! An amount that a worker's threads have tallied and that its ledger has not got yet.
+//! An amount that a worker's threads have tallied and that was not added to its ledger yet.
 ghost use Rattle.std.specs.Prelude.{◌≡◌, true, false};
 ghost use Rattle.arachne_machine.specs.Tallying.{GainsAt};
 ghost use Rattle.arachne_jobs.specs.Dues.{IsOfAnother, due_to};
@@ -28,7 +28,7 @@ impl Due {
 impl Tallying for Due {
     ghost due_to = { due_to };
 
-    /// Takes an amount, unless one for another ledger is due.
+    /// Takes an amount, unless an amount for another ledger is due.
     #[inline(always)]
     fn take(&mut self, ledger: u64, amount: u64) -> bool
         ensures taken { result ≡ true → GainsAt (due_to self.old) ledger amount (due_to self.new) }

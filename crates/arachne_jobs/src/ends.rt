@@ -11,12 +11,12 @@ pub enum End {
     Leaves(OutcomeSender),
     /// The thread gets a child's outcome here.
     Awaits(OutcomeReceiver),
-    /// The cell of a child that waits, which is in a list of its own.
+    /// The thread gets the outcome of a child that waits. The child's cell is in a list of its own.
     Waits,
 }
 
-/// The cell in which a child waits or has waited. The parent has no sending end; the child gets one when it is taken
-/// out of the cell.
+/// The cell in which a child waits or has waited. The parent has no sending end of this cell; the child gets the
+/// sending end when the child is taken out of the cell.
 #[derive(Drop)]
 pub struct WaitEnd<'p> {
     pub(crate) cell: WaitCell<'p>,

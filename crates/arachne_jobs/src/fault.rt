@@ -9,7 +9,7 @@ pub enum JobFault {
     /// Memory was refused.
     #[error("out of memory")]
     Memory,
-    /// The job got an outcome that isn't the awaited child's or isn't one of its program, or a call that its pause
+    /// The job got an outcome that isn't of the awaited child or isn't one of its program, or a call that its pause
     /// doesn't allow.
     #[error("the outcome of another thread")]
     Foreign,

@@ -42,7 +42,7 @@ pub struct Job<'p> {
     ties: Box<Ties>,
     /// The box into which the job's outcome is written.
     contents: Box<Contents>,
-    /// The cells in which children wait or have waited, one for each end of the kind `Waits`, in the order of these
+    /// The cells in which children wait or have waited: one for each end `End::Waits` in `ties`, in the order of these
     /// ends.
     waits: Vec<WaitEnd<'p>>,
 }
@@ -201,7 +201,7 @@ impl<'p> RunJob for Job<'p> {
             self.place(child)?;
             return Ok(None);
         }
-        // Room comes first: the child can't be taken back once its ticket is out.
+        // Room is reserved first: the child can't be taken back once its ticket is in the queue.
         if reserve_both(&mut self.ties.ends, &mut self.waits).is_err() {
             self.place(child)?;
             return Ok(None);
@@ -229,7 +229,8 @@ impl<'p> RunJob for Job<'p> {
         let mut waits = Vec::with_capacity(alloc, 1).ok()?;
         let mut ties = spares.ties.take(alloc, None).ok()?;
         let contents = spares.threads.take_contents().ok()?;
-        // The child is taken last: if memory is refused before, it waits on for its parent.
+        // The child is taken out of its cell last: if memory is refused before, the child goes on waiting for its
+        // parent.
         let Some((waiting, cell, end)) = ticket.take() else {
             spares.ties.keep(ties);
             spares.threads.keep_contents(contents);
@@ -297,7 +298,7 @@ impl<'p> JobOf<'p> for Job<'p> {
 }
 
 impl<'p> Job<'p> {
-    /// Returns the job of this thread, and the end of the cell from which its outcome is fetched.
+    /// Returns the job of this thread, and the end of the cell from which the thread's outcome is fetched.
     fn of(
         alloc: Global,
         thread: Thread<'p>,
@@ -383,7 +384,8 @@ impl<'p> Job<'p> {
         }
     }
 
-    /// Lets the child run in this thread's place: at once if the thread awaits the child, otherwise once it does.
+    /// Lets the child run in this thread's place: at once if the thread awaits the child, otherwise once it awaits the
+    /// child.
     fn place(&mut self, child: Thread<'p>) -> Result<(), JobFault>
         requires pending { IsPlacing (pause_of self.old.thread) }
         requires child { MayBePlaced self.old.thread child }
@@ -408,7 +410,7 @@ impl<'p> Job<'p> {
     }
 
     /// Joins the awaited child if the child has ended, or runs the child in this job's place if it still waits. Returns
-    /// false if the child neither has ended nor still waits: the job can't go on.
+    /// false if neither is so: then the job can't go on.
     fn join(&mut self, spares: &mut JobSpares<'p>) -> Result<bool, JobFault>
         requires { IsAwaiting self.old.thread }
         ensures tag { tag_of self.new.thread ≡ tag_of self.old.thread }
@@ -430,8 +432,7 @@ impl<'p> Job<'p> {
         }
     }
 
-    /// Takes the content of the awaited child's cell, after which the cell is used up. A cell that has no content
-    /// stays.
+    /// Takes the content of the awaited child's cell. The cell is then used up; if it had no content, it stays.
     fn find(&mut self, spares: &mut JobSpares<'p>) -> Result<Found<'p>, JobFault>
         ensures same { self.new ≡ self.old }
         ensures found { IfOk result (IsFoundOf (program_of self.old.thread)) }

@@ -33,8 +33,8 @@ impl<'p> Fits<Wanted> for LeftInCell<'p> {
 pub enum Found<'p> {
     /// The child has ended.
     Outcome(DetachedOutcome),
-    /// The child still waited, and no longer does.
+    /// The child still waited. It was taken out of its cell.
     Child(Thread<'p>),
-    /// The child is at a place of its own, or on the way to one.
+    /// The child is at a place of its own, or will be put at one.
     Nothing,
 }

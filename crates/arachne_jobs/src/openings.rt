@@ -1,5 +1,5 @@
-//! The data that a worker needs for the slices of its threads: the answers at their forks, and the amount that they
-//! tallied.
+//! The data that a worker needs for the slices of its threads: the answers at their forks, and the amount that the
+//! threads tallied.
 ghost use Rattle.std.specs.Prelude.{◌≡◌, ◌↔◌, ◌≤◌, ◌+◌, ◌%◌, ◌^◌, false, true, if◌then◌else◌, IsTrue};
 ghost use Rattle.arachne_jobs.specs.declared.openings.TheConstants.{LARGE};
 
@@ -10,12 +10,12 @@ use arachne_machine::Placing;
 use arachne_program::Class;
 
 /// The data that a worker needs for the slices of its threads: its tags, the number of forks without a pause for which
-/// the chooser's word must still be drawn, and the amount that is due to a ledger.
+/// the chooser's word must still be drawn, and the amount that must still be added to a ledger.
 #[derive(Drop)]
 pub struct Openings {
     pub tags: Tags,
     pub draws: u64,
-    /// True if the child that was forked last has much to do.
+    /// True if the child that was forked last is large: it has at least `LARGE` iterations of a sweep to make.
     pub is_large: bool,
     pub due: Due,
 }
@@ -24,7 +24,7 @@ pub struct Openings {
 const LARGE: u64 = 1024;
 
 impl Openings {
-    /// Returns openings without a tag, with no word left to draw and no amount due.
+    /// Returns openings without a tag, with no word left to draw and no amount to add to a ledger.
     pub fn new() -> Openings
         ensures { (result.tags.left ≡ 0) × (result.draws ≡ 0) × (result.is_large ≡ false) × (result.due.amount ≡ 0) }
     {
@@ -57,8 +57,8 @@ impl Openings {
     }
 }
 
-/// The answers to a thread at its forks: whether the forked child may get a place or wait for one, and otherwise a tag
-/// for the child.
+/// The answers to a thread at its forks: whether the forked child may get a place or wait for one; if not, a tag for
+/// the child.
 #[derive(Drop)]
 pub(crate) struct ForkPlacing<'a> {
     pub(crate) room: &'a Room,
@@ -66,7 +66,7 @@ pub(crate) struct ForkPlacing<'a> {
 }
 
 impl<'a> ForkPlacing<'a> {
-    /// Returns whether a child with this many turns to make may get a place or wait for one. If not, records that a
+    /// Returns whether a child with `turns` iterations to make may get a place or wait for one. If not, records that a
     /// word of the chooser must still be drawn for the fork.
     #[inline(always)]
     fn may_have_a_place(&mut self, class: Class, turns: u64) -> bool

@@ -46,7 +46,7 @@ pub fn next_ticket<R: Wait, K: Tagged + Drop>(
     Some(ticket)
 }
 
-/// The maximum number of tickets of children that still wait that are moved to the end of the queue while room is made.
+/// The most tickets of children that still wait that are moved to the end of the queue while room is made.
 const MOST_LIVE: u32 = 8;
 
 /// Makes room for a ticket, if room is wanted and the queue is full.
@@ -76,7 +76,7 @@ pub fn make_room<R: Wait, K: RunTicket>(
         };
         if ticket.still_waits() {
             live += 1;
-            // If others have filled the queue meanwhile, the child waits without a ticket, for its parent.
+            // If others have filled the queue meanwhile, the child has no ticket, and waits for its parent only.
             let _ = put_ticket(rt, tickets, room, pass, ticket);
         }
     }

@@ -1,4 +1,5 @@
-//! Words that all workers of a run share and read before each fork: free places, children that wait, tags.
+//! Words that all workers of a run share and read before each fork: counts of free places and waiting children, next
+//! tags.
 ghost use Rattle.std.specs.Prelude.{◌≡◌, ◌↔◌, ◌+◌, ◌<◌, ◌≤◌, ◌*◌, ◌%◌, ◌^◌, IsTrue};
 ghost use Rattle.arachne_jobs.specs.declared.tags.TheConstants.{BLOCK};
 
@@ -6,7 +7,7 @@ use crate::tags::BLOCK;
 use crossbeam_utils::CachePadded;
 use std::sync::atomic::{AtomicU64, Ordering};
 
-/// The numbers of free places, of children that wait for one, and of blocks of tags that are drawn.
+/// The numbers of free places, of children that wait for a place, and of blocks of tags that are drawn.
 ///
 /// The numbers of free places and of children that wait may be a little off. The numbers only say whether it is worth
 /// looking for a place at a fork: the table decides who gets a place, and a child's cell decides who runs the child.
@@ -21,8 +22,8 @@ pub struct Room {
 }
 
 impl Room {
-    /// Returns words that show all places of these cores as free, no child that waits (at most `most_waiting` may), and
-    /// no block of tags as drawn. The root's tag, 0, is in no block.
+    /// Returns words that show all places of these cores as free, no waiting child (`most_waiting` is the most), and no
+    /// block of tags as drawn. The root's tag, 0, is in no block.
     pub fn new(cores: u8, slots: u8, most_waiting: u64) -> Room
         ensures { result.most ≡ most_waiting }
     {
@@ -108,7 +109,7 @@ fn places_of(cores: u8, slots: u8) -> u64
     u64::from(cores) * u64::from(slots)
 }
 
-/// Reads a number, which is below 0 for a moment if something is taken before it was counted.
+/// Reads a number as 0 if it is below 0, as it is for a moment if something is taken before it was counted.
 #[inline(always)]
 fn seen(number: &AtomicU64) -> u64 {
     or_zero(number.load(Ordering::SeqCst))

@@ -38,12 +38,13 @@ pub enum Slice<Child> {
     Ends,
 }
 
-/// A thread that runs, as its workers see it: its name, whose turn it is, how it rests, and the reply to its pause.
+/// A thread that runs, as its workers see it: its name, the tag of the thread that goes on next, how it rests, and the
+/// reply to its pause.
 pub trait RunThread: Tagged + Drop {
     /// The numbers of the forks that lead to the thread from the root.
     ghost name_of: { Self → List ℕ };
 
-    /// The tag of the thread that goes on next: the job's own, or that of one that runs in its place.
+    /// The tag of the thread that goes on next: the job's own tag, or that of a thread that runs in its place.
     ghost running_tag_of: { Self → ℕ };
 
     /// The id under which the thread's parent runs. The root has no parent.
@@ -56,7 +57,7 @@ pub trait RunThread: Tagged + Drop {
     fn name(&self) -> &Name
         ensures { result.now ≡ name_of self.now };
 
-    /// Returns the tag of the thread that goes on next, which is the one that has paused.
+    /// Returns the tag of the thread that goes on next. If there is a pause, it is this thread's.
     fn running_tag(&self) -> u64
         ensures { result ≡ running_tag_of self.now };
 
@@ -65,7 +66,7 @@ pub trait RunThread: Tagged + Drop {
     fn rest(&self) -> Option<Rest>
         ensures { IfSome result (λ rest. MayRest rest (pause_of self.now)) };
 
-    /// Replies that the thread's request is done: it holds the lock, the lock is free, or the amount was added.
+    /// Replies that the thread's request is done: the thread holds the lock, the lock is free, or the amount was added.
     ///
     /// The error is `Foreign` if the thread asks for nothing.
     fn answer(&mut self) -> Result<(), JobFault>
@@ -81,7 +82,7 @@ pub trait RunTicket: Tagged + Drop {
     fn still_waits(&self) -> bool;
 }
 
-/// The memory of ended threads that a worker keeps for those that begin.
+/// The memory of ended threads that a worker keeps for new threads.
 pub trait RunSpares: Drop {
     /// Returns an empty store. Takes no memory.
     fn none(alloc: Global) -> Self;
@@ -98,13 +99,13 @@ pub trait RunJob: RunThread {
     /// The memory of ended threads that a worker keeps.
     type Spares: RunSpares;
 
-    /// The job forks this child, and has no reply yet.
+    /// The job forks this child, and has no reply to the fork yet.
     ghost forks: { Self → Self.Child → Type 0 };
 
-    /// Runs the job for at most `left` steps, and subtracts those that it made.
+    /// Runs the job for at most `left` steps, and subtracts the steps that were made from `left`.
     ///
-    /// A thread that waits makes no step. A child for which there is no place runs in this job's place. The amounts
-    /// that the job tallies are due then: they must still be added to their ledgers.
+    /// A thread that waits makes no step. A child for which there is no place runs in this job's place. Amounts that
+    /// the job tallies must still be added to their ledgers after the call.
     fn slice(
         &mut self,
         left: &mut u32,
@@ -118,7 +119,7 @@ pub trait RunJob: RunThread {
         ensures parent { Self.parent_of self.new ≡ Self.parent_of self.old }
         ensures left { IfOk result (λ slice. IsLeft forks Self.pause_of slice self.new) };
 
-    /// Makes the child a job of its own with this tag, whose parent runs under this id.
+    /// Makes the child a job of its own with this tag. The child's parent runs under the id `parent`.
     fn fork_off(
         &mut self,
         alloc: Global,

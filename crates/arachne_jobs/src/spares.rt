@@ -1,4 +1,4 @@
-//! The memory of ended threads that a worker keeps for those that begin.
+//! The memory of ended threads that a worker keeps for new threads.
 use crate::slice::RunSpares;
 use crate::ties::SpareTies;
 use crate::wanted::Wanted;
@@ -6,7 +6,7 @@ use arachne_join::SpareCells;
 use arachne_machine::{DetachedOutcome, Spares as SpareThreads};
 use std::alloc::Global;
 
-/// The memory of threads that have ended, the ties of their jobs to other jobs, and the join cells that nobody uses.
+/// The memory of threads that have ended, the ties of their jobs to other jobs, and join cells that are no longer used.
 ///
 /// Each worker has its own store, so that most forks take memory only for a long name.
 #[derive(Drop)]

@@ -1,4 +1,4 @@
-//! The tags that a worker gives to the threads which begin at it.
+//! The tags that a worker gives to the threads that begin on its core.
 ghost use Rattle.std.specs.Prelude.{◌≡◌, ◌+◌, ◌<◌, ◌%◌};
 
 use crate::room::Room;
@@ -6,7 +6,7 @@ use crate::room::Room;
 /// The number of tags that a worker draws at once: a block.
 pub const BLOCK: u64 = 64;
 
-/// The tags that a worker has drawn and not given yet, in a row from the next one on.
+/// The tags that a worker has drawn and not given yet: consecutive numbers from the next tag on.
 #[derive(Debug, Drop)]
 pub struct Tags {
     pub next: u64,
@@ -21,7 +21,7 @@ impl Tags {
         Tags { next: 0, left: 0 }
     }
 
-    /// Returns the next tag of the block, or the first of a new one if none is left.
+    /// Returns the next tag of the block. If none is left, draws a new block and returns its first tag.
     pub fn take(&mut self, room: &Room) -> u64
         ensures of_block { 0 < self.old.left → result ≡ self.old.next }
         ensures next { result < u64.MAX → self.new.next ≡ result + 1 }

@@ -13,7 +13,7 @@ pub struct Ties {
     pub(crate) parent: Option<ThreadId>,
 }
 
-/// The most ties that are kept.
+/// The most ties of ended jobs that are kept.
 const MOST: usize = 64;
 
 /// The ties of ended jobs, with the room of their lists, for jobs that begin.
@@ -67,7 +67,7 @@ impl SpareTies {
         Ok(ties)
     }
 
-    /// Keeps the ties of an ended job, unless there are enough.
+    /// Keeps the ties of an ended job, unless `MOST` are kept already.
     #[inline(always)]
     pub(crate) fn keep(&mut self, ties: Box<Ties>) {
         if self.ties.len() < MOST {

@@ -21,7 +21,7 @@ type Cell<'p> = JoinCell<LeftInCell<'p>, Wanted>;
 
 type CellEnd<'p> = SendingEnd<LeftInCell<'p>, Wanted>;
 
-/// One owner's share of the cell in which a child waits. Contracts see the cell: what it is for, and its table.
+/// One owner's share of the cell in which a child waits. Contracts see the purpose of the cell, and its table.
 #[derive(Drop)]
 pub struct WaitCell<'p> {
     cell: Arc<Cell<'p>>,
@@ -128,7 +128,7 @@ impl<'p> WaitCell<'p> {
         }
     }
 
-    /// Leaves the child's outcome in this cell, by the cell's sending end. Returns the receipt, which shows that the
+    /// Leaves the child's outcome in this cell, by the cell's sending end. Returns a receipt, which shows that the
     /// outcome was left.
     pub(crate) fn leave(self, end: CellEnd<'p>, outcome: DetachedOutcome) -> Receipt<Wanted>
         requires end { end ≡ self.table }

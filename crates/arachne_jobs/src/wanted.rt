@@ -12,7 +12,7 @@ use std::snapshot::Snapshot;
 /// The purpose of a cell: the outcome of the thread of this name in this program. A value of this type has no bytes.
 #[derive(Drop)]
 pub struct Wanted {
-    /// The program that the thread is of.
+    /// The thread's program.
     pub program: Snapshot<Program>,
     /// The thread's name.
     pub name: Snapshot<Name>,
@@ -23,7 +23,7 @@ pub struct Wanted {
 }
 
 impl Wanted {
-    /// Returns the purpose of a cell that is for the outcome of `thread`, which `parent` awaits.
+    /// Returns the purpose of the cell for the outcome of `thread`, which `parent` awaits.
     #[inline(always)]
     pub(crate) fn of(thread: &Thread<'_>, parent: Option<ThreadId>) -> Wanted
         ensures thread { IsFor thread.now result }

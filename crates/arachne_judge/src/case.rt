@@ -1,4 +1,4 @@
-//! Goes through the log of a run once, and judges each rule at the entries that concern it.
+//! Goes through the log of a run once, and checks each rule at the entries that concern it.
 //!
 //! An entry is written just before or just after the event that it reports. So another core may show the effect of an
 //! event first: that a thread was moved, that a core was closed or granted, or that a thread was woken. Core 0 has to
@@ -60,7 +60,7 @@ struct Case<'r> {
     steps: u64,
 }
 
-/// Returns the first rule of a run that its log breaks, and how often each rule was judged.
+/// Returns the first rule of a run that its log breaks, and how often each rule was checked.
 pub fn judge(alloc: Global, log: &Log, run: Run<'_>) -> Result<Verdict, AllocError> {
     let mut case = Case::new(alloc, run)?;
     for at in 0..log.count() as usize {
@@ -159,7 +159,7 @@ impl<'r> Case<'r> {
         }
     }
 
-    /// Counts that the rule was judged here, and records whether it is broken.
+    /// Counts one check of the rule, and records whether the rule is broken.
     fn judges(&mut self, rule: Rule, is_broken: bool)
         ensures { self.new ≡ record self.old { counts = self.new.counts; broken = broken_if is_broken self.old.broken (record { rule = rule; at = self.old.at }) } }
     {
@@ -234,7 +234,7 @@ impl<'r> Case<'r> {
         }
     }
 
-    /// Judges, when core 0 begins a slice, whether all orders that are due were applied.
+    /// Checks that all orders that are due were applied when core 0 begins a slice.
     fn look_due(&mut self) {
         let Some(order) = self.run.orders.get(self.applied) else {
             return;
@@ -311,7 +311,7 @@ impl<'r> Case<'r> {
         self.set_core(core, known);
     }
 
-    /// Judges a turn of a thread that had a turn before: the thread must have been on this core, or moved to it.
+    /// Checks the core of a thread's turn: the thread must have been on this core before, or moved to it.
     fn look_where(&mut self, known: &mut Core, core: u8, before: ThreadFacts) {
         if before.has_ended() || before.is_in_slice {
             self.breaks(Rule::InHand);
@@ -330,8 +330,8 @@ impl<'r> Case<'r> {
         }
     }
 
-    /// Judges whether a thread that has waited was woken before this turn. Returns the number of wakes of the thread
-    /// that are left once this turn has used up one.
+    /// Checks that a thread that has waited was woken before this turn. Returns the number of wakes of the thread that
+    /// are left once this turn has used up one.
     ///
     /// Another core may have woken the thread just now, and has to report it immediately. A wake may also be reported
     /// just before the turn in which it occurs.
@@ -358,7 +358,10 @@ impl<'r> Case<'r> {
         false
     }
 
-    /// Judges a turn of a thread by the scan (a pass over the core's indexes) to which the turn belongs.
+    /// Checks a thread's turn against the worker's scan: in one scan indexes rise, and no child may wait for a place
+    /// while one is free.
+    ///
+    /// `is_first`: this is the thread's first turn.
     fn scan(&mut self, id: ThreadId, is_first: bool) {
         let last = self.scans.last();
         let goes_on = match last.and_then(|last| *self.threads.get(last as usize)?) {
@@ -377,7 +380,7 @@ impl<'r> Case<'r> {
         }
     }
 
-    /// Judges the end of a slice, after `steps` steps. If the steps are more than the quantum, a rule is broken.
+    /// Checks a slice that ended after `steps` steps: they must not be more than the quantum.
     fn sliced(&mut self, core: u8, steps: u32, end: SliceEnd)
         ensures { self.old.run.quantum < steps → IsSome self.new.broken }
     {
@@ -419,8 +422,9 @@ impl<'r> Case<'r> {
         }
     }
 
-    /// Judges the move of a thread from the core `from` to `core`, by the worker of `core`. If `home` is given, the
-    /// thread keeps its place on that core, and the worker only runs the thread next.
+    /// Checks a move of a thread from the core `from` to `core`, by the worker of `core`.
+    ///
+    /// If `home` is given, the thread keeps its place on the core `home`, and the worker only runs the thread next.
     fn pulled(&mut self, core: u8, id: ThreadId, from: u8, home: Option<u8>)
         ensures { self.new.broken ≡ broken_by_pull self.old.run.has_exclusive (from == core) self.old.broken self.old.at }
     {
@@ -435,8 +439,9 @@ impl<'r> Case<'r> {
         }
     }
 
-    /// Judges a park of `core`. The core has found itself closed and empty at some time since the core's last entry.
-    /// After that the core may have been granted, closed again and given threads.
+    /// Checks a park of `core`: the core must have found itself closed and empty at some time since its last entry.
+    ///
+    /// After that time the core may have been granted, closed again and given threads.
     fn parks(&mut self, core: u8) {
         self.counts(Rule::Parks);
         let mut known = self.core(core);
@@ -463,7 +468,7 @@ impl<'r> Case<'r> {
         self.set_core(core, known);
     }
 
-    /// Judges the report that core 0 has applied orders, `orders` in all. If `core` is not 0, a rule is broken.
+    /// Checks the report that `orders` orders in all were applied. Only core 0 may report this.
     fn applied(&mut self, core: u8, orders: usize)
         ensures { core ≢ 0 → IsSome self.new.broken }
     {
@@ -490,8 +495,7 @@ impl<'r> Case<'r> {
         self.applied = orders;
     }
 
-    /// Judges the report that core 0 has moved threads away to the cores `receivers`. If `core` is not 0, a rule is
-    /// broken.
+    /// Checks the report that threads were moved away to the cores `receivers`. Only core 0 may report this.
     fn moved_away(&mut self, core: u8, receivers: u64)
         ensures { self.new.broken ≡ broken_if (not (core == 0)) self.old.broken (record { rule = CoreZero; at = self.old.at }) }
     {
@@ -508,7 +512,7 @@ impl<'r> Case<'r> {
     }
 }
 
-/// Returns whether the rule `InHand` is broken by a slice of this thread on this core.
+/// Returns whether a slice of this thread on this core breaks the rule `InHand`.
 fn is_out_of_hand(thread: &ThreadFacts, core: u8, is_second: bool) -> bool {
     breaks::is_not_in_hand(
         core,

@@ -1,5 +1,5 @@
-//! A judge of runs: a log of the events that were reported to a gate (the observer of a run), and the first rule of a
-//! run that the log breaks. Terms are in `docs/glossary.md`.
+//! A judge of runs: a log of the events that were reported to the run's observer (`Gate`), and the first rule of a run
+//! that the log breaks. Terms are in `docs/glossary.md`.
 #![tactic(auto)]
 
 mod breaks;

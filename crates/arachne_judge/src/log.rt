@@ -1,10 +1,10 @@
-//! The log of the events that were reported to a gate (the observer of a run), in one order for all cores.
+//! The log of the events that were reported to the observer of a run (`Gate`), in one order for all cores.
 use arachne_core::ThreadId;
 use arachne_workers::{Cause, SliceEnd, WorkerEvent};
 use std::alloc::{AllocError, Global};
 use std::sync::atomic::{AtomicU64, Ordering};
 
-/// An event of a core that is reported to a gate.
+/// An event of a core that is reported to the observer of a run (`Gate`).
 #[derive(Clone, Copy, Debug, PartialEq, Eq)]
 pub enum What {
     /// The core's slice of this number is about to begin.
@@ -54,7 +54,7 @@ struct EntryWords {
     second: AtomicU64,
 }
 
-/// A log of the events reported to a gate.
+/// A log of the events reported to the observer of a run (`Gate`).
 ///
 /// The kernel threads of all cores write to the log, each event immediately. Events for which there is no room are only
 /// counted.

@@ -22,7 +22,7 @@ pub struct Known {
 /// A share as the invariant of the ledgers' table sees it. Only contracts use this type: no value of it is made.
 pub type View = Token<Known>;
 
-/// A part of the right to all ledgers of one table, with the sums of what was added through it.
+/// A part of the right to all ledgers of one table. Contracts also see in it the sums of what was added by it.
 ///
 /// A share must be used and joined with the ledgers that it came from. If a share is dropped, its weight is lost, and
 /// no share can have the whole weight any more.

@@ -2,7 +2,7 @@
 use std::alloc::AllocError;
 use thiserror::Error;
 
-/// The result of asking for a lock, if that is not refused.
+/// The result of asking for a lock, if the lock does not refuse the ask.
 ///
 /// The events of each lock are numbered from 0, modulo 2^64.
 #[derive(Clone, Copy, Debug, PartialEq, Eq)]
@@ -51,10 +51,9 @@ impl From<AllocError> for AskRefusal {
 /// The result of a free by the owner.
 #[derive(Clone, Copy, Debug, PartialEq, Eq)]
 pub struct Released {
-    /// The number of the task that holds the lock now and must be woken: the one that had waited longest, if any
-    /// waited.
+    /// The number of the task that holds the lock now and must be woken, if any task waited. It had waited longest.
     pub next: Option<u64>,
-    /// The number of the free. The grant to `next` has the next number.
+    /// The number of this free. The grant to `next` has the next number.
     pub at: u64,
 }
 
@@ -71,7 +70,7 @@ pub enum Withdrawn {
         /// The number of the event by which the task leaves the queue.
         at: u64,
     },
-    /// The task holds the lock, and still must free it.
+    /// The task holds the lock, and must still free it.
     Holds {
         /// The number of the grant.
         at: u64,

@@ -8,9 +8,9 @@ pub enum QueueEvent {
     Ask(u64),
     /// The task at the front of the queue becomes the lock's owner.
     Grant(u64),
-    /// The owner leaves the lock.
+    /// The owner frees the lock.
     Free(u64),
-    /// A task that waits leaves the queue.
+    /// A waiting task leaves the queue without the lock.
     Leave(u64),
 }
 

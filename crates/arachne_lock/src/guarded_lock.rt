@@ -10,9 +10,9 @@ use crossbeam_utils::CachePadded;
 use std::alloc::Global;
 use std::marker::Model;
 
-/// A lock's state, on cache lines of its own, and the effect of the last call.
+/// A lock's state, on cache lines of its own, and the effect of the last call on the lock.
 ///
-/// The effect, 24 bytes, is only for proofs: the step that gives the guard back reads it here.
+/// The effect, 24 bytes, is only for proofs: the step that gives the guard back reads the effect here.
 #[derive(Drop)]
 pub struct GuardedLock {
     state: CachePadded<LockEntry>,

@@ -21,8 +21,8 @@ pub fn one_that_left_is_not_granted()
 
 /// The law that, between any two steps, each lock has had one holder at a time.
 ///
-/// The lock was also granted to no task that had left the queue. Both statements of this law are about the one history
-/// that all seats have made.
+/// The lock was also granted to no task that had left the queue. Both statements are about the one history of the lock,
+/// made by all seats together.
 pub fn locks_have_one_holder()
     ensures { (locks : ℕ) (board : Board) → (rule : IsKept locks board) → (lock : ℕ) → IsHeldWell (rule.histories lock) }
 {}

@@ -15,7 +15,7 @@ pub struct Holder {
 
 /// The state of one lock.
 ///
-/// Each call takes constant time, except for growth of the memory, and for `withdraw`, which walks the queue.
+/// Each call takes constant time, except that memory may grow, and that `withdraw` walks the queue.
 #[derive(Debug, Drop)]
 pub(crate) struct LockEntry {
     owner: Option<Holder>,
@@ -105,7 +105,7 @@ impl LockEntry {
         Withdrawn::Left { at }
     }
 
-    /// Returns the number of the grant by which the task holds the lock, if it does.
+    /// Returns the number of the grant by which the task holds the lock, or `None` if the task doesn't hold the lock.
     pub(crate) fn check(&self, who: u64) -> Option<u64>
         ensures { IsChecked self.now self.now who result }
     {

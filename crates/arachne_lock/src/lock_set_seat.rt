@@ -4,7 +4,8 @@ use crate::view::KnownLocks;
 use atomic_table::Seat;
 use std::marker::Model;
 
-/// The right of one kernel thread to use a set of locks, with what was done through it. A seat has no bytes.
+/// One kernel thread's right to use a set of locks. Contracts also see in it a log of what was done by it. A seat has
+/// no bytes.
 ///
 /// A seat must be used, split and joined with the locks that it came from.
 #[derive(Drop)]
@@ -12,7 +13,7 @@ pub struct LockSetSeat {
     pub(crate) seat: Seat<GuardedLock, KnownLocks>,
 }
 
-// Contracts see the table that it came from and its log.
+// Contracts see the table that the seat came from, and the seat's log.
 impl Model for LockSetSeat {
     ghost use Rattle.std.specs.Prelude.{◌≡◌};
     ghost use Rattle.arachne_lock.specs.Views.{SeatView};

@@ -151,7 +151,7 @@ impl Locks {
 
     /// Leaves the queue of a lock, for example if a future that waits is dropped.
     ///
-    /// Returns `Holds` if the task was granted the lock meanwhile: it must then free it.
+    /// Returns `Holds` if the task was granted the lock meanwhile: the task must then free the lock.
     pub fn withdraw(&self, seat: &mut LockSetSeat, lock: usize, who: u64) -> Attempt<Withdrawn>
         requires { IsLockAt self.now seat.old.table lock }
         ensures own { IsSeatOf self.now seat.new }
@@ -166,7 +166,7 @@ impl Locks {
         Attempt::Answered(answer)
     }
 
-    /// Returns the number of the grant by which the task holds a lock, or `None` if it doesn't.
+    /// Returns the number of the grant by which the task holds a lock, or `None` if the task doesn't hold the lock.
     pub fn check(&self, seat: &mut LockSetSeat, lock: usize, who: u64) -> Attempt<Option<u64>>
         requires { IsLockAt self.now seat.old.table lock }
         ensures own { IsSeatOf self.now seat.new }

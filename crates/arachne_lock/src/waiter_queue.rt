@@ -8,7 +8,7 @@ use std::marker::Model;
 
 /// A queue that has no task twice.
 ///
-/// A set of its members is kept beside it, so the cost of `contains` doesn't grow with the queue.
+/// A set of the queue's tasks is kept beside the queue, so the cost of `contains` doesn't grow with the queue.
 #[derive(Debug, Drop)]
 pub(crate) struct WaiterQueue {
     order: VecDeque<u64>,

@@ -1,9 +1,9 @@
-//! The carriers: the numbers by which a table knows its seats.
+//! The numbers by which a table knows its seats. In the code such a number is a *carrier*.
 ghost use Rattle.std.specs.Prelude.{◌≡◌, ◌≢◌, ◌+◌, ◌<◌};
 
 use std::marker::Model;
 
-/// Gives each seat its carrier, a number. Contracts see the last carrier that was given.
+/// Gives each seat its number, the carrier. Contracts see the last number that was given.
 #[derive(Debug, Drop)]
 pub struct Carriers {
     last: u32,
@@ -18,17 +18,17 @@ impl Model for Carriers {
 }
 
 impl Carriers {
-    /// Creates the carriers; the first one, 0, is in use already.
+    /// Creates the numbers of seats; the first number, 0, is in use already.
     pub fn new() -> Self
         ensures { result ≡ 0 }
     {
         Carriers { last: 0 }
     }
 
-    /// Returns a carrier for a seat that is split off the seat of carrier `other`.
+    /// Returns a number (carrier) for a seat that is split off the seat with the number `other`.
     ///
-    /// The carrier is greater than all before, until the numbers of 32 bits are used up. After that carriers begin at 0
-    /// again, and still two seats that are split from each other have different carriers.
+    /// The result is greater than all numbers before, until the numbers of 32 bits are used up. After that the numbers
+    /// begin at 0 again, and still two seats that are split from each other have different numbers.
     pub fn next(&mut self, other: u32) -> u32
         ensures last { self.new ≡ result }
         ensures apart { result ≢ other }

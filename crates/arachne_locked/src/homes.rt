@@ -1,4 +1,4 @@
-//! The state of a table (a World), and the values of the threads that no seat holds.
+//! The state of a table (a World), and the values of the threads that no seat has in hand.
 ghost use Rattle.std.specs.Prelude.{◌≡◌, ◌<◌, ◌≤◌, ◌*◌, ℕ, IfOk, OnOk, OnErr, IfErr, IfSome, IfNone, None, Some, replicate, slice_set, Ok, Err, IsTrue, ◌↔◌};
 ghost use Rattle.arachne_core.specs.ContextTable.{world_of, Answers};
 ghost use Rattle.arachne_core.specs.World.{Allowed, HoldsIn, IsContext};
@@ -16,7 +16,7 @@ use arachne_core::{
 use std::alloc::{AllocError, Global};
 use std::marker::Model;
 
-/// The state of a table (a World), and for each context the value of its thread, if no seat holds that thread.
+/// The state of a table (a World), and for each context the value of its thread, if no seat has that thread in hand.
 ///
 /// The value of a thread is *at home* while the table has the value. A seat that has taken a thread has the thread's
 /// value.
@@ -102,7 +102,7 @@ impl<T: Tagged + Drop> Homes<T> {
         self.world.reserve(posts, retires)
     }
 
-    /// Applies an event that leaves the values as they are.
+    /// Applies an event that leaves the threads' values in place.
     pub fn apply(&mut self, event: Event) -> Result<(), NotApplied>
         requires { LeavesValues event }
         ensures answer { Answers event self.old.table self.new.table result }
@@ -126,9 +126,9 @@ impl<T: Tagged + Drop> Homes<T> {
         }
     }
 
-    /// Posts a thread: puts it, ready to run, into a context that the carrier (a seat) has claimed.
+    /// Posts a thread: puts it, ready to run, into a context that the seat `carrier` has claimed.
     ///
-    /// Returns the value with the error if the thread is not posted there.
+    /// Returns the value with the error if the thread is not posted.
     pub fn post(&mut self, carrier: u32, context: u32, value: T) -> Result<(), (NotApplied, T)>
         ensures made { OnOk result (Answers (event.Post carrier context (T.tag_of value)) self.old.table self.new.table (Ok tt)) }
         ensures home { OnOk result (self.new.values ≡ slice_set self.old.values context (Some value)) }
@@ -168,7 +168,7 @@ impl<T: Tagged + Drop> Homes<T> {
         }
     }
 
-    /// Returns whether the carrier (a seat) holds the thread of this id and tag.
+    /// Returns whether the seat `carrier` has the thread of this id and tag in hand.
     pub fn holds(&self, carrier: u32, id: ThreadId, tag: u64) -> bool
         ensures { IsTrue result ↔ HoldsThread (world_of self.now.table) carrier id tag }
     {
@@ -185,7 +185,7 @@ impl<T: Tagged + Drop> Homes<T> {
         }
     }
 
-    /// Puts back a thread that the carrier (a seat) holds.
+    /// Puts back a thread that the seat `carrier` has in hand.
     pub fn put_back(&mut self, carrier: u32, id: ThreadId, value: T, rest: Rest)
         requires { HoldsThread (world_of self.old.table) carrier id (T.tag_of value) }
         ensures made { Answers (event.Rest carrier id.context rest) self.old.table self.new.table (Ok tt) }
@@ -205,7 +205,7 @@ impl<T: Tagged + Drop> Homes<T> {
 }
 
 impl<T: Tagged + Drop> Homes<T> {
-    /// Returns the threads that no seat holds, in the order of the contexts.
+    /// Returns the threads that no seat has in hand, in the order of the contexts.
     ///
     /// If memory is refused, the table is returned unchanged.
     pub fn close(self, alloc: Global) -> Result<Vec<(ThreadId, T)>, Self>

@@ -5,8 +5,7 @@ ghost use Rattle.arachne_locked.specs.Seats.{one_more, one_fewer};
 use arachne_weights::Weight;
 use std::marker::Model;
 
-/// One thread's right to call a table whose state is behind a lock. The state behind the lock knows the seat by its
-/// carrier, a number.
+/// One thread's right to call a table whose state is behind a lock. The state knows the seat by a number, its carrier.
 ///
 /// Contracts see the seat's carrier (its number), its weight, and how many claims and threads it has not spent. A count
 /// that has reached 2^32 - 1 no longer changes.

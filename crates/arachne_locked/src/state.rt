@@ -73,7 +73,7 @@ impl<T: Tagged + Drop> TableState<T> {
     }
 
     /// Does nothing. The contract is a law: no two threads share a context or a place, and the table has a thread's
-    /// value exactly if no seat holds the thread.
+    /// value exactly if no seat has the thread in hand.
     pub fn is_owned_once(&self)
         ensures owned_once { OwnedOnce (world_of self.now.table) }
         ensures home { IsHome T.tag_of (world_of self.now.table) self.now.values }
@@ -315,7 +315,7 @@ impl<T: Tagged + Drop> TableState<T> {
         Ok(held.value)
     }
 
-    /// Ends the thread that the carrier (a seat) holds in a context.
+    /// Ends the thread of a context that the seat `carrier` has in hand.
     fn end(&mut self, carrier: u32, context: u32)
         requires { HoldsIn (world_of self.old.table) carrier context }
         ensures events { Takes (world_of self.old.table) (ends (world_of self.old.table) carrier context) (world_of self.new.table) }
@@ -474,7 +474,7 @@ impl<T: Tagged + Drop> TableState<T> {
     }
 }
 
-/// Returns the result of putting back a thread, if `state` is the state in which it was held.
+/// Returns the result of putting back a thread, if `state` was its context's state before.
 fn rested(rest: Rest, state: State) -> Rested
     ensures { result ≡ rests_as rest state }
 {

@@ -1,4 +1,4 @@
-//! The estimator, which advises when to ask for one core more, and when to give one back.
+//! The estimator, which advises when to ask for one core more, and when to give a core back.
 ghost use Rattle.std.specs.Prelude.{◌≡◌, ◌≢◌, ◌+◌, ◌-◌, ◌≤◌, true, List, [], ◌∷◌, is_ok, IfOk, OnErr, Ok};
 ghost use Rattle.arachne_policy.specs.declared.samples.Sample.{Sample};
 ghost use Rattle.arachne_policy.specs.Sample.{utilisation_of, is_good};
@@ -36,10 +36,10 @@ impl Model for Estimator {
 }
 
 impl Estimator {
-    /// Creates an estimator that has seen no sample.
+    /// Creates an estimator that no sample was given to yet.
     ///
     /// A load over `up` thousandths of a thread per scan (look at one core) asks for a core, up to `max` cores. A
-    /// utilisation below the threshold by more than `hysteresis` thousandths of a core gives one back.
+    /// utilisation below the threshold by more than `hysteresis` thousandths of a core gives a core back.
     pub fn new(up: u64, hysteresis: u64, max: u8) -> Self
         requires { max ≤ most_cores }
         ensures settings { result.settings ≡ record { up = up; hysteresis = hysteresis; max = max } }
@@ -59,8 +59,8 @@ impl Estimator {
         }
     }
 
-    /// Creates an estimator that goes on with the thresholds of another one. The threshold of n cores is at index n -
-    /// 1.
+    /// Creates an estimator that goes on with the thresholds of another estimator. The threshold of n cores is at index
+    /// n - 1.
     pub fn resume(up: u64, hysteresis: u64, max: u8, thresholds: &[u64; MAX_CORES]) -> Self
         requires { max ≤ most_cores }
         ensures settings { result.settings ≡ record { up = up; hysteresis = hysteresis; max = max } }
@@ -91,7 +91,8 @@ impl Estimator {
         ensures after { IfOk result (λ a. self.new ≡ after self.old sample a) }
         ensures bad { OnErr result (self.new ≡ self.old) }
 
-        // If the thresholds were those of some past samples, they are now those of these with this sample added.
+        // If the thresholds were those of some past samples, they are now the thresholds of these samples with `sample`
+        // added.
         ensures history { (past : List Sample) → StandsFor self.old past
             → IfOk result (λ a. (a ≡ advice self.old.settings past sample) × StandsFor self.new (sample ∷ past)) }
 

@@ -12,7 +12,7 @@ ghost use Rattle.arachne_policy.specs.Advice.{Settings, threshold, advice, advic
 /// The law that a threshold is recorded by the last `Add`.
 ///
 /// The threshold of `cores + 1` cores is the utilisation of the last sample of `cores` cores whose advice was `Add`. If
-/// there was none, the threshold is the utilisation of `cores` busy cores.
+/// there was no such sample, the threshold is the utilisation of `cores` busy cores.
 pub fn threshold_is_of_last_add()
     ensures recorded { (settings : Settings) (past : List Sample) (added : Sample)
         → RecordStands settings past added
@@ -24,9 +24,8 @@ pub fn threshold_is_of_last_add()
 
 /// The law that samples are judged one after another.
 ///
-/// A list of samples gets one answer for each: the advice on that sample, after all samples before it. An estimator
-/// that has judged a list, and then one more sample by the thresholds that it has, has judged the list with that sample
-/// added.
+/// A list of samples gets one advice for each: the advice on that sample, after all samples before it. If an estimator
+/// has judged a list and then judges one more sample by its thresholds, it has judged the list with that sample added.
 pub fn advices_are_in_turn()
     ensures each_once { (settings : Settings) (samples : List Sample)
         → length (advices settings samples) ≡ length samples }

@@ -42,7 +42,7 @@ impl fmt::Display for Advice {
 }
 
 impl Advice {
-    /// Returns the word that the advice is displayed as.
+    /// Returns the word for the advice.
     fn word(&self) -> &'static str
         ensures { result.now ≡ advice_text self.now }
     {
@@ -56,14 +56,14 @@ impl Advice {
 
 /// The error of a sample that cannot have been measured.
 ///
-/// Such a sample has no core or too many, an empty period, more busy time than its cores could have, or a count over
-/// `MAX_COUNT`.
+/// Such a sample has no core or too many cores, an empty period, more busy time than its cores could have, or a count
+/// over `MAX_COUNT`.
 #[derive(Clone, Copy, Debug, PartialEq, Eq, Error)]
 #[error("the sample cannot have been measured")]
 pub struct BadSample;
 
 impl Sample {
-    /// Returns whether the sample can be judged if at most `max` cores may be had.
+    /// Returns whether the sample can be judged, if `max` is the most cores that may be had.
     pub(crate) fn is_good(&self, max: u8) -> bool
         ensures { result ≡ is_good max self.now }
     {

@@ -11,7 +11,7 @@ use std::marker::Model;
 use std::snapshot::Snapshot;
 use std::sync::Wait;
 
-/// The answer of a table to a wake. Only a call of the table makes a value of this type.
+/// The answer of a table to a wake. Only a call of the table returns a value of this type.
 ///
 /// Contracts see the id that the table was called with, and the answer.
 #[derive(Drop)]
@@ -33,7 +33,8 @@ impl Model for WakeAnswer {
 }
 
 impl WakeAnswer {
-    /// Tries once to wake the thread of an id. Returns `None` if the try was lost, and has to be made again.
+    /// Tries once to wake the thread of an id. Returns `None` if another thread was faster: then the caller must try
+    /// again.
     pub(crate) fn of_try<H: Wait, J: PoolJob, C: Contexts<Spawned<J>>>(
         rt: &H,
         table: &C,

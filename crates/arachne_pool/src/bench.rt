@@ -31,16 +31,16 @@ pub(crate) struct Bench<J: PoolJob> {
     /// Statistics that were not reported to the pool yet.
     pub(crate) done: Statistics,
     pub(crate) orders: PoolOrders,
-    /// True if memory was refused, and no call has returned that yet.
+    /// True if memory was refused, and no call has reported this yet.
     pub(crate) is_short: bool,
-    /// True if a job has ended since this was last read.
+    /// True if a job has ended since this field was last read.
     pub(crate) has_ended: bool,
 }
 
 impl<J: PoolJob> Bench<J> {
     ghost use Rattle.arachne_pool.specs.Jobs.{count_near};
 
-    /// Returns the data of a worker without jobs, whose random choices go by this seed.
+    /// Returns the data of a worker without jobs. `seed` begins its random choices.
     pub(crate) fn new(alloc: Global, seed: u64) -> Bench<J>
         ensures tally { (result.tally.spawned ≡ 0) × (result.tally.ended ≡ 0) × (result.told ≡ result.tally) }
         ensures near { (result.near.items ≡ []) × (deque_len result.near ≡ 0) }
@@ -60,8 +60,8 @@ impl<J: PoolJob> Bench<J> {
         }
     }
 
-    /// Begins a job, and makes room for it among the jobs that wait. Returns the receiver of the job's result, and the
-    /// job. If memory is refused, the job is returned as an error.
+    /// Begins a job, and makes room for it among the jobs that wait for a place. Returns the receiver of the job's
+    /// result, and the job. If memory is refused, the job is returned as an error.
     pub(crate) fn begin(&mut self, job: J) -> Result<(ResultReceiver<J>, Spawned<J>), J>
         requires fresh { J.awaits job [] }
         ensures receiver { IfOk result (λ begun. begun.0.opening.key.job.value ≡ job) }
@@ -86,9 +86,9 @@ impl<J: PoolJob> Bench<J> {
         }
     }
 
-    /// Releases the children that were not joined before their parent (this job or one in its place) ended. Children
-    /// that have not begun then wait for places of their own, and none is lost. Returns false if memory was refused,
-    /// which is noted; then a child is left that has not begun.
+    /// Releases the children that were not joined before their parent (this job or a job in its place) ended. Children
+    /// that have not begun then wait for places of their own, and none is lost. Returns false, and notes this, if
+    /// memory was refused; then a child that has not begun is left.
     #[tactic(auto, using(crate::proofs::Counts::count_near_push))]
     pub(crate) fn let_go(&mut self, job: &mut Spawned<J>) -> bool
         ensures same { self.new ≡ record self.old { near = self.new.near; is_short = if result then self.old.is_short else true } }
@@ -101,7 +101,7 @@ impl<J: PoolJob> Bench<J> {
                     self.is_short = true;
                     return false;
                 }
-                // Those that are left have begun elsewhere, and take no room.
+                // The children that are left have begun elsewhere, and take no room.
                 let None = job.let_go(self.alloc, false) else {
                     unreachable!()
                 };
@@ -114,7 +114,7 @@ impl<J: PoolJob> Bench<J> {
         true
     }
 
-    /// Takes the statistics since the last report, with this number of slices and of rounds that found nothing.
+    /// Takes the statistics since the last report, with `slices` slices and `rests` rounds that found nothing.
     pub(crate) fn take_done(&mut self, slices: u64, rests: u64) -> Statistics
         ensures done { result ≡ record self.old.done { slices = slices; rests = rests } }
         ensures same { self.new ≡ record self.old { done = nothing_done } }

@@ -26,12 +26,12 @@ impl<C: Seats> Pool<C> {
     ghost use Rattle.arachne_pool.specs.Workers.{IsArbiterFor, IsIdleAt, IsWorkerOf, WorksFor};
     ghost use Rattle.arachne_pool.specs.declared.worker.PoolFault.TheVariants.{Token};
 
-    /// Spawns a job and returns its handle. The job gets a place if a core has one, and waits with the worker
+    /// Spawns a job and returns its handle. The job gets a place if a core has a free one, and waits with the worker
     /// otherwise.
     ///
     /// The job is returned if memory is refused or the worker has no seat. The job is also returned if no core has a
-    /// place and the worker has worked for no core: such a worker keeps no job (`try_spawn`), since it may never make a
-    /// round.
+    /// free place and the worker has worked for no core: such a worker keeps no job (`try_spawn`), since it may never
+    /// make a round.
     pub fn spawn<H: Wait, J: PoolJob>(
         &self,
         rt: &H,
@@ -81,12 +81,12 @@ impl<C: Seats> Pool<C> {
         }
     }
 
-    /// Makes one round on a core: orders that are due are applied, each job that is ready there has a slice, and a job
-    /// of the worker that waits for a place gets one. Returns whether there was anything to do.
+    /// Makes one round on a core: orders that are due are applied, each job that is ready on the core has a slice, and
+    /// a job of the worker that waits for a place gets one. Returns whether there was anything to do.
     ///
-    /// If no job is ready, a job is moved here from another core, on which it is ready and was not reached yet by that
-    /// core's worker (a kernel thread that has called `work`). If the round only moved a job to the core, a second one
-    /// follows, in which that job has a slice.
+    /// If no job is ready, a job is moved to this core from another core, on which it is ready and was not reached yet
+    /// by that core's worker (a kernel thread that has called `work`). If the round only moved a job to the core, a
+    /// second round follows, in which that job has a slice.
     pub fn turn<'a, H: Wait + Clock, J: PoolJob>(
         &'a self,
         rt: &'a H,
@@ -209,7 +209,7 @@ impl<C: Seats> Pool<C> {
     {
         let before = replace(&mut worker.core, core);
         if before != core && before < self.cores {
-            // What the worker has noted of that core is lost: its next worker must look at every place.
+            // What the worker has noted of the core `before` is lost: the next worker there must look at every place.
             self.shared.hint_cores(1 << u32::from(before));
         }
         let seat = worker.seat.take()?;
@@ -266,7 +266,7 @@ impl<C: Seats> Pool<C> {
     }
 
     /// Ends a call: the worker gets back the seat and the data with which it began. Returns whether the worker has a
-    /// seat: it has none if its seat still has something in hand. `kernel` is lent, since the checker covers no call
+    /// seat: it has none if its seat still has a job or a place. `kernel` is lent, since the checker covers no call
     /// that takes it by value.
     fn leave<'a, H: Wait + Clock, J: PoolJob>(
         &'a self,

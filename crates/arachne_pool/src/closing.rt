@@ -20,7 +20,7 @@ use std::alloc::{AllocError, Global};
 use std::collections::VecDeque;
 use std::sync::Wait;
 
-/// The jobs of a pool that have not ended, each with those that run or wait in its place.
+/// The jobs of a pool that have not ended, each with the jobs that run or wait in its place.
 #[derive(Drop)]
 pub struct Left<J: PoolJob> {
     /// The jobs that had a place, by context, with the id under which each ran.
@@ -43,18 +43,19 @@ impl<J: PoolJob> Left<J> {
 /// The reason why a pool was not closed.
 #[derive(Drop)]
 pub enum NotClosed<C: Seats, J: PoolJob> {
-    /// Another worker or a waker has a part of the seat, or this worker has none. Pool and worker are returned.
+    /// Another worker or a waker has a part of the seat, or this worker has no seat. Pool and worker are returned.
     NotWhole(Pool<C>, Worker<C::Seat, J>),
     /// Memory was refused. The table, its seat and the jobs that had no place are returned.
     Memory(C, C::Seat, VecDeque<Spawned<J>>),
-    /// The counts don't agree: the jobs that were spawned are not those that ended and those that are left.
+    /// The counts don't agree: the number of jobs that were spawned is not the number of those that ended and those
+    /// that are left.
     Lost(Left<J>),
 }
 
 impl<C: Seats + Drop> Pool<C> {
     ghost use Rattle.arachne_pool.specs.Workers.{HasNoCore, IsWorkerOf};
 
-    /// Returns a pool without jobs, and its one worker, which has worked for no core. The orders take cores back and
+    /// Returns a pool without jobs, and its one worker, which has worked for no core. `orders` take cores back and
     /// grant them again while the pool works.
     pub fn new<J: PoolJob>(
         alloc: Global,
@@ -90,9 +91,9 @@ impl<C: Seats> Pool<C> {
     ghost use Rattle.arachne_pool.specs.NotClosed.{ComesBack};
     ghost use Rattle.arachne_pool.specs.Workers.{ComeLast};
 
-    /// Replaces the orders of the pool, as a policy of the caller's does between two rounds. Old orders that are left
-    /// are forgotten. A core that old orders have closed stays closed until a new order grants it. All orders of a pool
-    /// must be given to the same worker. If memory is refused, the worker keeps its orders.
+    /// Replaces the orders of the pool, as a caller's policy does between two rounds. Old orders that are not applied
+    /// yet are forgotten. A core that old orders have closed stays closed until a new order grants it. All orders of a
+    /// pool must be given to the same worker. If memory is refused, the worker keeps its orders.
     pub fn order<H: Wait, J: PoolJob>(
         &self,
         rt: &H,
@@ -131,9 +132,9 @@ impl<C: Seats> Pool<C> {
         }
     }
 
-    /// Closes the pool. Returns the jobs that were spawned and have not ended; with the jobs that ended, they are as
-    /// many as were spawned. The result of a job that has ended can be taken by the job's handle. `worker` must be the
-    /// only worker that is left.
+    /// Closes the pool. Returns the jobs that were spawned and have not ended: their number and the number of jobs that
+    /// ended add up to the number of jobs that were spawned. The result of a job that has ended can be taken by the
+    /// job's handle. `worker` must be the only worker that is left.
     pub fn close<H: Wait, J: PoolJob>(
         self,
         rt: &H,
@@ -166,7 +167,7 @@ impl<C: Seats> Pool<C> {
         }
     }
 
-    /// Returns whether a worker has its seat, and no other has a part of it.
+    /// Returns whether a worker has its seat, and no other worker has a part of the seat.
     fn is_whole<J: PoolJob>(&self, worker: &Worker<C::Seat, J>) -> bool
         ensures { IsTrue result ↔ IsWhole C.weight worker.now.seat }
     {
@@ -191,7 +192,7 @@ fn closes_at_once(core: u8) -> CoreOrder
 impl Tally {
     ghost use Rattle.arachne_pool.specs.Leftover.{count_of};
 
-    /// Returns whether the jobs that ended and those that are left are together as many as were spawned.
+    /// Returns whether the number of jobs that ended and of those in `left` is the number of jobs that were spawned.
     fn is_over<J: PoolJob>(self, left: &Left<J>) -> bool
         ensures { IsTrue result ↔ (self.spawned ≡ self.ended + count_of left.now) }
     {

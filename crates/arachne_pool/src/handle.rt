@@ -5,7 +5,7 @@ use crate::job::PoolJob;
 use crate::outcome::ResultReceiver;
 use std::marker::Model;
 
-/// The handle of a job. A handle gives the result once, is used up by that, and can't be copied.
+/// The handle of a job. A handle gives the job's result once, is used up by that, and can't be copied.
 ///
 /// Contracts see the job, as it was spawned.
 #[derive(Drop)]

@@ -14,15 +14,15 @@ pub enum Step<J, O> {
     /// job goes on at once.
     Waits,
     /// The job wants to rest until it is woken (`Pool::wake`) by the id that `sleeps_as` gave it. The job may go on
-    /// earlier, so it must check again whether what it sleeps for has come.
+    /// earlier, so it must check again whether what it waits for has happened.
     Sleeps,
-    /// The job wants this job to run beside it, as its newest child.
+    /// The job wants this job, its newest child, to run beside it.
     Forks(J),
     /// The job has ended, with this result.
     Done(O),
 }
 
-/// A job: it goes on by steps, which any worker makes, one after the other.
+/// A job. It goes on by steps, one after the other, each of which any worker may make.
 pub trait PoolJob: Tagged + Drop {
     /// The type of the job's result.
     type Output: Drop;
@@ -30,9 +30,9 @@ pub trait PoolJob: Tagged + Drop {
     /// True if this is a result of the job. A handle gives no other result.
     ghost is_result: { Self → Self.Output → Type 0 };
 
-    /// True if these are the children that the job has forked and not joined, the newest first, each as it was forked.
-    /// If `awaits` is true of any list, a job knows of a value that it joins only that the value is a result of some
-    /// job.
+    /// True if the list is the children that the job has forked and not joined, the newest first, each as it was
+    /// forked. If `awaits` is true of any list, a job knows of a value that it joins only that the value is a result of
+    /// some job.
     ghost awaits: { Self → List Self → Type 0 };
 
     /// Makes one step. A job that has ended makes none.

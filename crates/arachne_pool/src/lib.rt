@@ -1,7 +1,8 @@
-//! A pool: jobs of the caller's own, by kernel threads of the caller's own, over any context table.
+//! A pool: jobs of the caller's own, run by kernel threads of the caller's own, over any context table.
 //!
-//! A job is a value with a step. A worker, one for each core, gives each job on its core a slice in turn; a job forks
-//! children, waits for their results, and ends with a result, which its handle gives to whoever spawned it.
+//! A job is a value with a method `step`. A worker, one for each core, gives each job on its core a slice in turn. A
+//! job forks children, waits for their results, and ends with a result, which the job's handle gives to whoever spawned
+//! the job.
 #![tactic(auto)]
 
 mod answer;

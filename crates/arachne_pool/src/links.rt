@@ -10,10 +10,11 @@ use std::collections::VecDeque;
 use std::marker::Model;
 use std::snapshot::Snapshot;
 
-/// The children of jobs in one place that were forked and not joined. Each child that has begun elsewhere has a cell to
-/// which its result comes. The children that have not begun are kept here, and are newer than those that have.
+/// The children of jobs in one place that were forked and not joined. Each child that has begun elsewhere has a cell
+/// for its result. The children that have not begun are kept in this value, and are newer than those that have begun.
 ///
-/// Contracts see all these children, each as it was forked, the newest first, and how many have not begun.
+/// Contracts see all these children, each as it was forked, the newest first, and the number of those that have not
+/// begun.
 #[derive(Drop)]
 pub(crate) struct Links<J: PoolJob> {
     begun: Vec<ResultReceiver<J>>,
@@ -71,8 +72,8 @@ impl<J: PoolJob> Links<J> {
         self.aside.pop_back()
     }
 
-    /// Takes the result of the newest child, if it has come. If the result has come, the child is joined, and the
-    /// child's cell is kept for the next child.
+    /// Takes the result of the newest child, if the result is in its cell. If so, the child is joined, and the child's
+    /// cell is kept for the next child.
     pub(crate) fn fetch_newest(&mut self, cells: &mut Cells<J>) -> Option<J::Output>
         requires { self.old.aside ≡ 0 }
         ensures { MatchOption result (self.new ≡ self.old) (λ output. (child : J) × (self.old.all ≡ child ∷ self.new.all) × (self.new.aside ≡ 0) × J.is_result child output) }
@@ -90,8 +91,8 @@ impl<J: PoolJob> Links<J> {
         }
     }
 
-    /// Takes the oldest child that has not begun, to begin elsewhere, with the sending end of the cell for its result.
-    /// Returns `None` if there is no such child or memory is refused.
+    /// Takes the oldest child that has not begun, to begin elsewhere, with the sending end of the cell for the child's
+    /// result. Returns `None` if there is no such child or memory is refused.
     pub(crate) fn part_oldest(
         &mut self,
         alloc: Global,
@@ -114,7 +115,7 @@ impl<J: PoolJob> Links<J> {
         Some((child, sender))
     }
 
-    /// Drops the newest child from those that are awaited. If the child had not begun, it is returned.
+    /// Drops the newest child from the children that are awaited. If the child had not begun, it is returned.
     pub(crate) fn forget_newest(&mut self) -> Option<J>
         ensures forgotten { MatchOption result (LosesBegun self.old self.new) (λ child. LosesAside child self.old self.new) }
         ensures fresh { IfSome result (λ child. J.awaits child []) }

@@ -35,8 +35,8 @@ impl CoreCounts {
     }
 }
 
-/// The counts of all workers: for each core on a cache line of its own, and behind these the counts of workers that
-/// work for no core.
+/// The counts of all workers. The counts of each core are on a cache line of their own. Behind these are the counts of
+/// workers that work for no core.
 #[derive(Drop)]
 pub(crate) struct Live {
     told: Vec<CachePadded<CoreCounts>>,
@@ -52,11 +52,11 @@ impl Live {
         Ok(Live { told })
     }
 
-    /// Adds the jobs that a worker of this core has spawned and ended; if there is no such core, the worker works for
+    /// Adds the jobs that a worker of `core` has spawned and ended. If there is no such core, the worker works for
     /// none. A job must be added before another worker can run it.
     pub(crate) fn add(&self, core: u8, news: Tally) {
         if let Some(told) = self.told.get(usize::from(core)).or(self.told.last()) {
-            // Spawns first: `count` must not see the end of a job whose spawn it misses.
+            // Spawns are added first: `count` must not see the end of a job whose spawn it misses.
             if news.spawned != 0 {
                 told.spawned.fetch_add(news.spawned, Ordering::SeqCst);
             }
@@ -99,7 +99,8 @@ impl Live {
         }
     }
 
-    /// Counts a sleep of this core's worker that timed out though something was there that nobody had signalled.
+    /// Counts a sleep of this core's worker that timed out although there was something to do that nobody had
+    /// signalled.
     pub(crate) fn add_overslept(&self, core: u8) {
         if let Some(told) = self.told.get(usize::from(core)) {
             told.overslept.fetch_add(1, Ordering::SeqCst);
@@ -122,7 +123,8 @@ impl Live {
 
     /// Returns how many jobs were spawned and have not ended.
     pub(crate) fn count(&self) -> u64 {
-        // Ends first: a job that is spawned or ends between the two looks counts as living, so 0 is never too early.
+        // Ends are read first: a job that is spawned or ends between the two reads counts as living, so 0 is never too
+        // early.
         let ended = self.told.iter().fold(
             0u64,
             |sum, told| sum.wrapping_add(told.ended.load(Ordering::SeqCst)),

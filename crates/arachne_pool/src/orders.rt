@@ -1,4 +1,4 @@
-//! The orders by which the cores of a pool come and go. One of the pool's workers has these orders.
+//! The orders by which the cores of a pool are closed and opened. One of the pool's workers has these orders.
 ghost use Rattle.std.specs.Option.{option_or};
 ghost use Rattle.std.specs.Prelude.{◌≡◌, ℕ, ◌<◌, ◌≤◌, ◌↔◌, IfOk, IsTrue, None, Some};
 ghost use Rattle.arachne_contexts.specs.Out.{KeepsOut};
@@ -14,7 +14,7 @@ use std::alloc::{AllocError, Global};
 use std::marker::Model;
 use std::sync::Wait;
 
-/// The orders of a pool, if a worker has them. Contracts see how far the orders are applied.
+/// The orders of a pool, if a worker has them. Contracts see how many of the orders are applied.
 #[derive(Drop)]
 pub(crate) struct PoolOrders {
     arbiter: Option<Arbiter>,
@@ -45,7 +45,7 @@ impl PoolOrders {
         }
     }
 
-    /// Returns these orders for this number of cores, none of them applied yet.
+    /// Returns `list` as orders for this number of cores, none of them applied yet.
     pub(crate) fn new(
         alloc: Global,
         orders: Vec<CoreOrder>,
@@ -63,7 +63,7 @@ impl PoolOrders {
         })
     }
 
-    /// Returns these orders, or `other` if these are none.
+    /// Returns these orders, or `other` if these are no orders.
     pub(crate) fn or(self, other: PoolOrders) -> PoolOrders
         ensures kept { result ≡ option_or self other }
         ensures cores { (cores : ℕ) → IsArbiterFor cores self → IsArbiterFor cores other → IsArbiterFor cores result }
@@ -97,7 +97,7 @@ impl PoolOrders {
     }
 
     /// Applies the orders that are due, and moves jobs away from a closed core. Returns the number of orders applied in
-    /// all, if this call has applied one, and the cores to which jobs were moved, a bit for each.
+    /// all, if this call has applied an order, and the cores to which jobs were moved, a bit for each.
     pub(crate) fn tend<H: Wait, T: Tagged, C: Contexts<T>>(
         &mut self,
         cores: &Cores<'_, H, T, C>,

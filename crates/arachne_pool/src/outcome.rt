@@ -1,4 +1,4 @@
-//! Join cells of jobs: the content that is left in a cell, and the key that says what a cell is for.
+//! Join cells of jobs: the content that is left in a cell, and the key that says which result a cell is for.
 ghost use Rattle.std.specs.Prelude.{◌≡◌, IfSome};
 
 use crate::job::PoolJob;
@@ -12,7 +12,7 @@ pub struct JobOutcome<J: PoolJob> {
     pub output: J::Output,
 }
 
-/// The content that a cell is for: a result of this job, as it was spawned. The key has no bytes.
+/// The key of a cell: it is for a result of this job, as the job was spawned. The key has no bytes.
 #[derive(Drop)]
 pub struct WantedResult<J> {
     pub job: Snapshot<J>,
@@ -22,16 +22,16 @@ impl<J: PoolJob> Fits<WantedResult<J>> for JobOutcome<J> {
     ghost fits = { λ wanted outcome. J.is_result wanted.job.value outcome.output };
 }
 
-/// The end of a cell at which a job leaves its result.
+/// The end of a cell at which a job leaves its result, the sending end.
 pub(crate) type ResultSender<J> = Sender<JobOutcome<J>, WantedResult<J>>;
 
 /// The end of a cell at which a job's result arrives.
 pub(crate) type ResultReceiver<J> = Receiver<JobOutcome<J>, WantedResult<J>>;
 
-/// Cells that a worker keeps for the next jobs.
+/// Join cells that a worker keeps for the next jobs.
 pub(crate) type Cells<J> = SpareCells<JobOutcome<J>, WantedResult<J>>;
 
-/// Shows that a result was left, or dropped if nobody wants it. Only `leave_at` makes a value of this type.
+/// Shows that a result was left, or dropped if nobody wants it. Only `leave_at` returns a value of this type.
 ///
 /// Contracts see the result.
 #[derive(Drop)]

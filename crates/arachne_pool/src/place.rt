@@ -40,7 +40,7 @@ pub(crate) fn claim<H: Wait, J: PoolJob, C: Contexts<Spawned<J>>>(
     }
 }
 
-/// Claims a place that the job shares with others on its core. If no core had a place, notes that in the pool.
+/// Claims a place that the job shares with others on its core. If no core had a free place, notes this in the pool.
 fn claim_normal<H: Wait, J: PoolJob, C: Contexts<Spawned<J>>>(
     rt: &H,
     pool: &Pool<C>,
@@ -59,8 +59,8 @@ fn claim_normal<H: Wait, J: PoolJob, C: Contexts<Spawned<J>>>(
     place.ok()?
 }
 
-/// Puts a job at a free place. If no place is free, the job is put among the jobs of the worker that wait for one;
-/// there is room for it.
+/// Puts a job at a free place. If no place is free, puts the job among the worker's jobs that wait for a place, where
+/// there must be room.
 pub(crate) fn place<H: Wait, J: PoolJob, C: Contexts<Spawned<J>>>(
     rt: &H,
     pool: &Pool<C>,
@@ -86,7 +86,7 @@ pub(crate) fn place<H: Wait, J: PoolJob, C: Contexts<Spawned<J>>>(
     Ok(Some(post))
 }
 
-/// Gives a place to the oldest job that waits for one, if there is a place for it.
+/// Gives a place to the worker's oldest job that waits for one, if a place is free.
 pub(crate) fn place_oldest<H: Wait, J: PoolJob, C: Contexts<Spawned<J>>>(
     rt: &H,
     pool: &Pool<C>,
@@ -115,8 +115,8 @@ pub(crate) fn place_oldest<H: Wait, J: PoolJob, C: Contexts<Spawned<J>>>(
     Ok(Some(post))
 }
 
-/// Makes the oldest child that waits with the job in hand a job of its own, and puts it at a place, if a core has one
-/// for it. If memory is refused, the refusal is noted, and the child goes on waiting.
+/// Makes the oldest child that waits with the job in hand a job of its own, and puts it at a place, if a core has a
+/// free place. If memory is refused, the refusal is noted, and the child goes on waiting.
 #[inline(always)]
 pub(crate) fn post_oldest<H: Wait, J: PoolJob, C: Contexts<Spawned<J>>>(
     rt: &H,
@@ -157,8 +157,8 @@ pub(crate) fn post_oldest<H: Wait, J: PoolJob, C: Contexts<Spawned<J>>>(
     Ok(Some(post))
 }
 
-/// Ends a job with all that ran in its place: frees the place, and leaves the result. The result is left even if the
-/// table doesn't know the place.
+/// Ends a job with all jobs that ran in its place: frees the place, and leaves the result. The result is left even if
+/// the table doesn't know the place.
 #[inline(always)]
 pub(crate) fn end<H: Wait, J: PoolJob, C: Contexts<Spawned<J>>>(
     rt: &H,

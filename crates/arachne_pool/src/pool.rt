@@ -74,7 +74,7 @@ impl<C: Seats + Drop> Pool<C> {
 
 impl<C: Seats> Pool<C> {
     /// Returns how many jobs were spawned or forked and have not ended, as reported by the workers. If the number is 0,
-    /// no job makes another step, the result of each job has come, and each job's place is free.
+    /// no job makes another step, the result of each job is in its cell, and each job's place is free.
     pub fn live(&self) -> u64 {
         self.live.count()
     }
@@ -96,13 +96,13 @@ impl<C: Seats> Pool<C> {
         all
     }
 
-    /// Returns whether the worker of a core sleeps, or has slept its time out and not looked since. Whoever has work
-    /// for that worker must wake it. A worker that is parked doesn't sleep.
+    /// Returns whether the worker of a core sleeps, or its sleep has timed out and it has not looked since. Whoever has
+    /// work for that worker must wake it. A worker that is parked doesn't sleep.
     pub fn is_asleep(&self, core: u8) -> bool {
         self.shared.hints().is_asleep(core)
     }
 
-    /// Stops all workers after their slices, also those that sleep or are parked.
+    /// Stops all workers after their current slices, also the workers that sleep or are parked.
     pub fn stop(&self) {
         self.shared.stop();
     }
@@ -112,25 +112,26 @@ impl<C: Seats> Pool<C> {
         self.shared.is_stopped()
     }
 
-    /// Keeps the pool open, as for a server: from now on `work` goes on without any job, until `finish` is called.
+    /// Keeps the pool open, as a server does: from now on `work` goes on even without any job, until `finish` is
+    /// called.
     pub fn keep_open(&self) {
         self.open.store(1, Ordering::SeqCst);
     }
 
-    /// Ends `keep_open`: no more jobs come, and `work` returns once none lives.
+    /// Ends `keep_open`: no more jobs are spawned, and `work` returns once all jobs have ended.
     pub fn finish(&self) {
         self.open.store(0, Ordering::SeqCst);
         // The last job may have ended long ago, and then nobody else wakes the workers.
         self.wake_if_over();
     }
 
-    /// Returns whether no job lives and the pool is not kept open.
+    /// Returns whether all jobs have ended and the pool is not kept open.
     pub(crate) fn is_over(&self) -> bool {
-        // `open` first: a job that came before `finish` is then among those that are counted.
+        // `open` is read first: a job that was spawned before `finish` is then counted.
         self.open.load(Ordering::SeqCst) == 0 && self.live.count() == 0
     }
 
-    /// Wakes all workers, sleeping and parked, if no job lives and the pool is not kept open.
+    /// Wakes all workers, sleeping and parked, if all jobs have ended and the pool is not kept open.
     pub(crate) fn wake_if_over(&self) {
         if self.is_over() {
             for core in 0..self.cores {
@@ -146,7 +147,7 @@ impl<C: Seats> Pool<C> {
         self.room.load(Ordering::SeqCst) != 0
     }
 
-    /// Notes that a place is free, or was a moment ago.
+    /// Notes that a place is free, or was free a moment ago.
     #[inline(always)]
     pub(crate) fn room_was_seen(&self) {
         if !self.has_room() {
@@ -154,8 +155,8 @@ impl<C: Seats> Pool<C> {
         }
     }
 
-    /// Notes that no core had a place. The next worker that leaves a place, or that sees a free one while it looks for
-    /// work, notes that there is one.
+    /// Notes that no core had a free place. The next worker that frees a place, or that sees a free place while it
+    /// looks for work, notes that a place may be free again.
     pub(crate) fn no_room_was_seen(&self) {
         self.room.store(0, Ordering::SeqCst);
     }
@@ -172,7 +173,7 @@ impl<C: Seats> Pool<C> {
         self.exclusive.load(Ordering::SeqCst) != 0
     }
 
-    /// Returns the cores of the table, for a kernel thread that makes steps at them.
+    /// Returns the cores of the table, for a kernel thread that uses them.
     pub(crate) fn cores<'a, H, T>(&'a self, rt: &'a H) -> Cores<'a, H, T, C>
         ensures table { result.table.now ≡ self.now.table }
         ensures count { result.count ≡ self.now.cores }

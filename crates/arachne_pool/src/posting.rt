@@ -14,12 +14,12 @@ use std::marker::Model;
 use std::snapshot::Snapshot;
 use std::sync::Wait;
 
-/// The error that the table didn't know a place or a job that a worker had got from it.
+/// The error that the table didn't know a place or a job that it had given to a worker.
 #[derive(Clone, Copy, Debug, PartialEq, Eq)]
 pub(crate) struct Disowned;
 
-/// A job that was put at a place, with that place. Only `post` makes a value of this type, for a job that it has given
-/// to the table. The type is not `Drop`, so that the caller must signal the worker of the job's core.
+/// A job that was put at a place, with that place. Only `post` returns a value of this type, for a job that it has
+/// given to the table. The type is not `Drop`, so that the caller must signal the worker of the job's core.
 ///
 /// Contracts see the job.
 pub(crate) struct Posted<J: PoolJob> {
@@ -58,7 +58,7 @@ impl<J: PoolJob> Posted<J> {
     }
 }
 
-/// Posts a job: puts it at a claimed place, ready to run. The pool has counted the job as spawned before.
+/// Posts a job: puts it at a claimed place, ready to run. The caller must have counted the job as spawned before.
 #[inline(always)]
 pub(crate) fn post<H: Wait, J: PoolJob, C: Contexts<Spawned<J>>>(
     rt: &H,

@@ -1,4 +1,5 @@
-//! The rounds of a call: one, or as many as it takes until all jobs, or the job of a handle, have ended.
+//! The rounds of a worker in a call: one round, or as many as it takes until all jobs, or the job of a handle, have
+//! ended.
 //!
 //! Like the worker's loop, the rounds are written over a trait, and not over tables and jobs.
 ghost use Rattle.std.specs.Prelude.{◌≡◌, IfErr, IfOk};
@@ -13,12 +14,12 @@ use std::time::Clock;
 /// The number of slices after which a worker reports its statistics at the latest.
 const MOST_UNTOLD: u64 = 1024;
 
-/// A worker's desk (its access to the table and to the job in hand), as rounds use it beside the worker's loop. No call
-/// changes the pool to which the seat belongs.
+/// A worker's desk (its access to the table and to the job in hand), as the rounds use it in addition to the worker's
+/// loop. No call changes the pool to which the worker's seat belongs.
 ///
-/// The trait has no types of its own, so that the functions over it are proved in a fraction of the time.
+/// The trait has no associated types, so that the functions over it are proved in a fraction of the time.
 pub(crate) trait PoolDesk: Desk {
-    /// Returns whether no job of the pool lives and it is not kept open.
+    /// Returns whether all jobs of the pool have ended and the pool is not kept open.
     fn is_over(&self) -> bool;
 
     /// Wakes all workers if a job has ended since the last call and the pool has finished.
@@ -34,13 +35,13 @@ pub(crate) trait PoolDesk: Desk {
         ensures { self.new ≡ self.old };
 
     /// Adds to the pool's statistics of the core: `slices` slices, `rests` rounds that found nothing, and what else was
-    /// counted.
+    /// counted since the last report.
     fn report(&mut self, slices: u64, rests: u64)
         ensures { self.new ≡ self.old };
 }
 
 /// Makes one round, and a second one if the first only moved a job to this core. Returns whether the last round found
-/// anything.
+/// anything to do.
 pub(crate) fn run_once<H: Wait + Clock, D: PoolDesk>(
     kernel: &mut CoreWorker<'_, H, D>,
 ) -> Result<bool, PoolFault>
@@ -48,7 +49,7 @@ pub(crate) fn run_once<H: Wait + Clock, D: PoolDesk>(
 {
     kernel.tend();
     let mut found = kernel.round(0);
-    // The job that was moved here or got a place has had no slice yet.
+    // The job that was moved to this core or got a place has had no slice yet.
     if kernel.slices == 0
         && let Ok(true) = found
         && let Err(halt) = kernel.round(0)
@@ -56,7 +57,7 @@ pub(crate) fn run_once<H: Wait + Clock, D: PoolDesk>(
         found = Err(halt);
     }
     let is_short = kernel.desk.take_short();
-    // Even if the round failed: a job may have ended in it.
+    // Even if the round failed: a job may have ended in the round.
     kernel.desk.wake_if_over();
     if is_short {
         return Err(PoolFault::Memory);
@@ -76,14 +77,14 @@ pub(crate) fn run<H: Wait + Clock, D: PoolDesk>(
     for _ in kernel.rt.forever() {
         if kernel.shared.is_stopped() || may_be_over && kernel.desk.is_over() {
             if idle > 0 && kernel.shared.hints().is_asleep(kernel.core) {
-                // It slept its time out: nobody has woken it at the end.
+                // The worker's sleep timed out: nobody has woken the worker at the end.
                 kernel.desk.told(WorkerEvent::Overslept);
             }
             return Ok(());
         }
         let found = round(kernel, idle)?;
         idle = if found { 0 } else { idle.saturating_add(1) };
-        // A round that parked has found something, and the worker may have been unparked because all is over.
+        // A round that parked has found something, and the worker may have been unparked because all jobs have ended.
         let was_drained = kernel.desk.take_drained();
         may_be_over = !found || was_drained;
     }

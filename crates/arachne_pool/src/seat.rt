@@ -26,30 +26,30 @@ use std::sync::atomic::Ordering;
 pub(crate) enum Call {
     /// One round, in which each job has one slice. The worker doesn't wait.
     Turn,
-    /// Rounds until no job lives. The worker parks if its core is closed.
+    /// Rounds until all jobs have ended. The worker parks if its core is closed.
     Work,
-    /// Rounds until a job has ended; nobody signals that end.
+    /// Rounds until one job has ended. Nobody signals that end.
     Join,
 }
 
-/// A worker's desk at the table. Contracts see the pool to which it belongs; its invariant says what the seat has in
-/// hand.
+/// A worker's desk at the table. Contracts see the pool to which the desk belongs; its invariant says which job the
+/// seat has in hand.
 #[derive(Drop)]
 pub(crate) struct Seat<'a, H, J: PoolJob, C: Contexts<Spawned<J>>> {
     pub(crate) rt: &'a H,
     pub(crate) pool: &'a Pool<C>,
     pub(crate) core: u8,
     pub(crate) call: Call,
-    /// True if the table did not know a place or a job of the worker's. If true, the seat may still have something in
-    /// hand, and the worker is at its end.
+    /// True if the table did not know a place or a job of the worker's. If true, the seat may still have a place or a
+    /// job, and the worker must stop.
     pub(crate) is_broken: bool,
     pub(crate) seat: C::Seat,
     pub(crate) held: Option<Held<Spawned<J>, C::Hold>>,
-    /// True if the job in hand is put back as blocked.
+    /// True if the job in hand must be put back as blocked.
     pub(crate) blocks: bool,
-    /// True if a job was taken since the worker last checked whether others have too many.
+    /// True if a job was taken since the worker last checked whether others have too many jobs.
     pub(crate) has_taken: bool,
-    /// True if the last look at the core found it closed and empty, and this was not read since.
+    /// True if the last look at the core found the core closed and empty, and no call has read this field since.
     pub(crate) is_drained: bool,
     pub(crate) bench: Bench<J>,
 }
@@ -111,16 +111,16 @@ impl<'a, H: Wait, J: PoolJob, C: Contexts<Spawned<J>>> Desk for Seat<'a, H, J, C
             stop = self.fall_asleep(left);
         }
         if stop == JobStop::Short {
-            // The next slice tries again.
+            // Subtracts all: the next slice tries again.
             *left = 0;
             self.bench.is_short = true;
         }
         if stop == JobStop::Ends {
-            // Its end is counted in `end`, once the place is free and the result is left.
+            // The job's end is counted in `end`, once the place is free and the result is left.
             return Ok(ThreadStop::Ends);
         }
         self.blocks = stop.blocks();
-        // Before a child is posted: its end must not be counted before it is.
+        // Before a child is posted: the child's end must not be counted before the child is.
         self.pool.live.add(self.core, self.bench.news());
         match stop {
             JobStop::Waits | JobStop::Sleeps => Ok(ThreadStop::Blocks),
@@ -224,7 +224,7 @@ impl<'a, H: Wait, J: PoolJob, C: Contexts<Spawned<J>>> Desk for Seat<'a, H, J, C
     #[inline(always)]
     fn may_take_ticket(&mut self) -> bool {
         if self.held.is_some() && (self.call == Call::Turn || self.bench.is_short) {
-            // The job has had its slice: others must go on.
+            // The job has had its slice: others must run.
             return true;
         }
         if !self.bench.near.is_empty() && self.pool.has_room() {
@@ -329,8 +329,8 @@ impl<'a, H: Wait, J: PoolJob, C: Contexts<Spawned<J>>> Seat<'a, H, J, C> {
             .slice(&mut bench.cells, &mut bench.tally, left, may_post)
     }
 
-    /// Counts the jobs that began and ended until the job in hand ended. Returns the parent of that job, if it has to
-    /// be woken.
+    /// Counts the jobs that began and ended until the job in hand ended. Returns the parent of that job, if the parent
+    /// has to be woken.
     #[inline(always)]
     fn count_end(&mut self, ended: Ended<J>) -> Option<ThreadId>
         ensures desk { self.new ≡ self.old }
@@ -371,8 +371,8 @@ impl<'a, H: Wait, J: PoolJob, C: Contexts<Spawned<J>>> Seat<'a, H, J, C> {
         }
     }
 
-    /// Prepares the job in hand to sleep, and gives it its id. While a child waits in the job's place, the job goes on
-    /// instead, once in each slice, so that the child gets the first place that is free.
+    /// Prepares the job in hand to sleep, and gives the job its id. While a child waits in the job's place, the job
+    /// goes on instead, once in each slice, so that the child gets the first place that is free.
     fn fall_asleep(&self, left: &mut u32) -> JobStop
         ensures { left.new ≤ left.old }
     {
@@ -397,7 +397,7 @@ impl<'a, H: Wait, J: PoolJob, C: Contexts<Spawned<J>>> Seat<'a, H, J, C> {
         false
     }
 
-    /// Moves a job that waits on another core to this one. Returns whether there was such a job.
+    /// Moves a job that waits on another core to the worker's own core. Returns whether there was such a job.
     fn fetch(&mut self) -> bool
         ensures { self.new ≡ self.old }
     {
@@ -427,8 +427,8 @@ impl<'a, H: Wait, J: PoolJob, C: Contexts<Spawned<J>>> Seat<'a, H, J, C> {
         was_moved
     }
 
-    /// Moves the job at a place of another core here, unless it runs or has its core to itself. Returns whether the job
-    /// was moved.
+    /// Moves the job at a place of another core to the worker's own core, unless the job runs or has its core to
+    /// itself. Returns whether the job was moved.
     fn move_here(&mut self, place: Place) -> bool
         ensures { self.new ≡ self.old }
     {
@@ -446,15 +446,15 @@ impl<'a, H: Wait, J: PoolJob, C: Contexts<Spawned<J>>> Seat<'a, H, J, C> {
     }
 
     /// Returns a place of another core at which a job may be ready, if that core's worker is awake and has not reached
-    /// it yet. In a `turn` only those cores count for which a kernel thread has called `work`. This worker may make the
-    /// rounds of the other cores itself, and would move jobs to and fro between them.
+    /// the place yet. In a `turn` only those cores count for which a kernel thread has called `work`. This worker may
+    /// make the rounds of the other cores itself, and would move jobs to and fro between them.
     fn waiting_on(&self, core: u8) -> Option<Place> {
         if core == self.core || self.call == Call::Turn && !self.pool.live.is_worked(core) {
             return None;
         }
         let word = self.pool.shared.hints().word(core)?;
         let seen = word.load(Ordering::SeqCst);
-        // The lowest bit says that the worker sleeps. The others are of the indexes.
+        // The lowest bit says that the worker sleeps. The other bits are for the indexes.
         let waiting = seen >> 1 & self.occupied(core);
         if seen & 1 != 0 || waiting == 0 {
             return None;
@@ -474,7 +474,7 @@ impl<'a, H: Wait, J: PoolJob, C: Contexts<Spawned<J>>> Seat<'a, H, J, C> {
         }
     }
 
-    /// Releases the children that were not joined before their parent (the job in hand or one in its place) ended.
+    /// Releases the children that were not joined before their parent (the job in hand or a job in its place) ended.
     /// Returns false if memory was refused.
     fn let_go(&mut self) -> bool
         ensures { self.new ≡ self.old }
@@ -486,7 +486,7 @@ impl<'a, H: Wait, J: PoolJob, C: Contexts<Spawned<J>>> Seat<'a, H, J, C> {
     }
 }
 
-/// Returns the seat of a worker whose rounds are over, unless the seat still has something in hand.
+/// Returns the seat of a worker whose rounds are over, unless the seat still has a place or a job.
 pub(crate) fn idle_seat<J: PoolJob, C: Contexts<Spawned<J>>>(
     pool: &Pool<C>,
     seat: C::Seat,

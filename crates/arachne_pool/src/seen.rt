@@ -1,10 +1,10 @@
-//! Cores that were asked for a place and have none.
+//! Cores that were asked for a place and have no free one.
 ghost use Rattle.std.specs.Prelude.{◌≡◌, ◌+◌, ◌<◌};
 ghost use Rattle.arachne_contexts.specs.Words.{ShowsClosed, ShowsFull};
 
-/// The cores that one call has asked for a place, in ascending order, and that had none: the number that were full or
-/// exclusive to one job, and the number that were closed. A core is counted only with its occupancy word, which shows
-/// that none of its places is free.
+/// The cores that one call has asked for a place, in ascending order, and that had no free one: the number that were
+/// full or exclusive to one job, and the number that were closed. A core is counted only with its occupancy word, which
+/// shows that none of its places is free.
 #[derive(Clone, Copy, Debug, PartialEq, Eq)]
 pub struct NoPlaces {
     /// The core that was asked first.
@@ -45,7 +45,7 @@ impl NoPlaces {
         }
     }
 
-    /// Counts the next core, whose word shows that it is full, or exclusive to one job.
+    /// Counts the next core, whose occupancy word shows that the core is full, or exclusive to one job.
     pub(crate) fn with_full(self, core: u8, word: u64) -> NoPlaces
         requires next { IsNext core self }
         requires below { core < u8.MAX }
@@ -59,7 +59,7 @@ impl NoPlaces {
         }
     }
 
-    /// Counts the next core, whose word shows that it is closed.
+    /// Counts the next core, whose occupancy word shows that the core is closed.
     pub(crate) fn with_closed(self, core: u8, word: u64) -> NoPlaces
         requires next { IsNext core self }
         requires below { core < u8.MAX }

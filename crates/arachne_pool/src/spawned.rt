@@ -1,4 +1,4 @@
-//! A job in a pool, with those that run in its place, and the sending end of the cell in which it leaves its result.
+//! A job in a pool, with the jobs that run in its place, and the sending end of the cell for its result.
 ghost use Rattle.std.specs.Prelude.{◌≡◌, ◌+◌, ◌<◌, ◌≤◌, [], IfSome, IsSome, MatchOption, Some, None, length, true};
 ghost use Rattle.arachne_pool.specs.Frames.{CountsEach};
 
@@ -14,12 +14,12 @@ use std::marker::Model;
 use std::snapshot::Snapshot;
 
 /// A job that was spawned and has not ended. A job is moved and never copied, and only its owner makes its steps. A
-/// child that the job has forked while no place was free waits here, and runs in the job's place once the job awaits
-/// it.
+/// child that the job has forked while no place was free waits in this value, and runs in the job's place once the job
+/// awaits the child.
 ///
 /// Contracts see the job's tag; the job as it was spawned; and the id under which its parent runs, if the parent has to
 /// be woken. Contracts also see the jobs that have not ended and run or wait in the job's place, as they are now, and
-/// their number.
+/// the number of these jobs.
 #[derive(Drop)]
 pub struct Spawned<J: PoolJob> {
     tag: u64,
@@ -50,7 +50,7 @@ impl<J: PoolJob> Tagged for Spawned<J> {
 impl<J: PoolJob> Spawned<J> {
     ghost use Rattle.arachne_pool.specs.Jobs.{one};
 
-    /// Begins a job, which leaves its result at the end `sender`, if there is one.
+    /// Begins a job, which leaves its result at the end `sender` of a cell, if there is one.
     pub(crate) fn begin(
         alloc: Global,
         job: J,
@@ -84,12 +84,12 @@ impl<J: PoolJob> Spawned<J> {
         self.stack.sleeps_as(id);
     }
 
-    /// Returns whether a child waits here to begin.
+    /// Returns whether a child waits in this job's place to begin.
     pub(crate) fn has_aside(&self) -> bool {
         self.stack.has_aside()
     }
 
-    /// Returns whether the oldest child that waits here wants a core for itself.
+    /// Returns whether the oldest child that waits in this job's place wants a core for itself.
     pub(crate) fn is_oldest_exclusive(&self) -> bool {
         self.stack.is_oldest_exclusive()
     }
@@ -118,7 +118,7 @@ impl<J: PoolJob> Spawned<J> {
         self.stack.slice(cells, tally, left, may_post)
     }
 
-    /// Returns how many children were not joined before their parent, a job in this place, has ended.
+    /// Returns how many children were not joined before their parent, a job in this place, ended.
     pub(crate) fn orphans(&self) -> usize {
         self.stack.orphans()
     }
@@ -135,8 +135,8 @@ impl<J: PoolJob> Spawned<J> {
         Some(Spawned::begin(alloc, job, None, None))
     }
 
-    /// Makes the oldest child that waits here a job of its own, whose parent runs under `me`. Returns `None` if no
-    /// child waits or memory is refused; then nothing has changed, not even the order of these jobs.
+    /// Makes the oldest child that waits in this place a job of its own, whose parent runs under `me`. Returns `None`
+    /// if no child waits or memory is refused; then nothing has changed, not even the order of these jobs.
     pub(crate) fn part_oldest(
         &mut self,
         alloc: Global,
@@ -171,8 +171,8 @@ impl<J: PoolJob> Spawned<J> {
         Ended { left, job, parent }
     }
 
-    /// Returns the jobs of this place that have not ended, as they are now: this one, and those that run or wait in its
-    /// place. Unless the job has ended, it leaves no result.
+    /// Returns the jobs of this place that have not ended, as they are now: this job, and the jobs that run or wait in
+    /// its place. Unless this job has ended, it leaves no result.
     pub fn into_jobs(self) -> Jobs<J>
         ensures { (result ≡ self.jobs) × (length result ≡ self.many) }
     {
@@ -185,7 +185,7 @@ impl<J: PoolJob> Spawned<J> {
     }
 }
 
-/// A job that has ended and whose result was left. Only `Spawned::leave` makes a value of this type.
+/// A job that has ended and whose result was left. Only `Spawned::leave` returns a value of this type.
 ///
 /// Contracts see the job as it ended.
 pub(crate) struct Ended<J: PoolJob> {

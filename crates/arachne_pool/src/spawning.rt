@@ -1,4 +1,4 @@
-//! Spawns that keep no job: a job for which no core has a place is returned at once.
+//! Spawns that keep no job: a job for which no core has a free place is returned at once.
 ghost use Rattle.std.specs.Prelude.{◌≡◌, ◌<◌, [], ◌∷◌, IfErr, IfOk, OnErr};
 ghost use Rattle.arachne_contexts.specs.Out.{Claim, KeepsOut};
 ghost use Rattle.arachne_pool.specs.Grounds.{AddsOut};
@@ -22,7 +22,7 @@ use thiserror::Error;
 /// The reason why a job was not spawned.
 #[derive(Clone, Copy, Debug, PartialEq, Eq, Error)]
 pub enum Refusal {
-    /// Each core that the job may be on was asked in this call, and none had a place.
+    /// Each core on which the job may be was asked in this call, and none had a free place.
     #[error("no core has a place")]
     NoPlace(NoPlaces),
     #[error("out of memory")]
@@ -52,8 +52,8 @@ impl<C: Seats> Pool<C> {
     ghost use Rattle.arachne_pool.specs.Workers.{IsWorkerOf};
 
     /// Spawns a job on the core that `claim_normal` of `arachne_arbiter` chooses, and returns its handle. If no core
-    /// has a place, the job is returned, and nothing has changed. So there are at most as many jobs as places, beside
-    /// children that run or wait in their parents' places.
+    /// has a free place, the job is returned, and nothing has changed. So there are at most as many jobs as places, not
+    /// counting children that run or wait in their parents' places.
     pub fn try_spawn<H: Wait, J: PoolJob>(
         &self,
         rt: &H,
@@ -82,7 +82,7 @@ impl<C: Seats> Pool<C> {
         }
     }
 
-    /// Spawns a job on this core, if that has a place. Returns the job's handle and the place.
+    /// Spawns a job on this core, if the core has a free place. Returns the job's handle and the place.
     pub fn try_spawn_on<H: Wait, J: PoolJob>(
         &self,
         rt: &H,
@@ -160,8 +160,8 @@ impl<C: Seats> Pool<C> {
         }
     }
 
-    /// Posts a job, which the worker has counted, at a place that its seat has claimed. Signals the worker of that
-    /// place's core.
+    /// Posts a job, which the worker has counted, at a place that the worker's seat has claimed. Signals the worker of
+    /// that place's core.
     fn post_at<H: Wait, J: PoolJob>(
         &self,
         rt: &H,
@@ -177,7 +177,7 @@ impl<C: Seats> Pool<C> {
         ensures worker { IsWorkerOf C.sits C.idle self.now.table self.now.cores worker.new }
         ensures kept { worker.new ≡ record worker.old { seat = worker.new.seat; told = worker.old.tally } }
     {
-        // Before the job is posted: its end must not be counted before its spawn.
+        // Before the job is posted: the job's end must not be counted before its spawn.
         self.live.add(worker.core, worker.bench.news());
         let mut seat = seat;
         match post::<H, J, C>(rt, self, &mut seat, claim, job) {
@@ -190,8 +190,8 @@ impl<C: Seats> Pool<C> {
     }
 }
 
-/// Claims a place for a job: on a core drawn at random, or else on the first core that has one. If no place was found,
-/// each core was asked.
+/// Claims a place for a job: on a core drawn at random, or else on the first core that has a free place. If no place
+/// was found, each core was asked.
 fn claim_any<H: Wait, J: PoolJob, C: Contexts<Spawned<J>>>(
     rt: &H,
     pool: &Pool<C>,
@@ -218,8 +218,8 @@ fn claim_any<H: Wait, J: PoolJob, C: Contexts<Spawned<J>>>(
     Err(Refusal::NoPlace(seen))
 }
 
-/// Claims a place on this core, if one is free. If no place is free, adds the core to `seen`, the cores that had none.
-/// Tries again if another kernel thread took the place meanwhile.
+/// Claims a place on this core, if one is free. If none is free, adds the core to `seen`, the cores that had no free
+/// place. Tries again if another kernel thread took the place meanwhile.
 fn claim_on<H: Wait, J: PoolJob, C: Contexts<Spawned<J>>>(
     rt: &H,
     pool: &Pool<C>,

@@ -1,4 +1,4 @@
-//! A job and those that run in its place.
+//! A job and the jobs that run in its place.
 ghost use Rattle.std.specs.Prelude.{◌≡◌, ◌+◌, ◌<◌, ◌≤◌, [], ◌∷◌, List, None, IfSome, IsSome, MatchOption, length, false, true};
 ghost use Rattle.arachne_pool.specs.Frames.{CountsEach, IsServed, KeepsMany, count_none, unless_ended};
 ghost use Rattle.arachne_pool.specs.Jobs.{children_of};
@@ -16,7 +16,7 @@ use std::mem::replace;
 use std::snapshot::Snapshot;
 
 /// A job in a place: as it was forked, as it is now, and the number of its children that were forked and not joined,
-/// without one that runs in the job's place.
+/// except for a child that runs in the job's place.
 #[derive(Drop)]
 struct JobFrame<J: PoolJob> {
     /// The job as it was forked. The field has no bytes.
@@ -46,12 +46,12 @@ impl<J: PoolJob> JobFrame<J> {
     }
 }
 
-/// A job and those that run in its place. Each job above the first was forked by the job below it, which awaits it and
-/// found no place for it. Only the topmost job makes steps.
+/// A job and the jobs that run in its place. Each job above the first was forked by the job below it, which awaits it
+/// and found no place for it. Only the topmost job makes steps.
 ///
 /// Contracts see the first job, as it was spawned, and the jobs that have not ended, as they are now, also those that
-/// wait here to begin, and the number of these jobs. Contracts also see what the topmost job has forked just now, or
-/// has ended with, and whether it has asked for the result of its newest child.
+/// wait in this place to begin, and the number of these jobs. Contracts also see what the topmost job has forked just
+/// now, or has ended with, and whether it has asked for the result of its newest child.
 #[derive(Drop)]
 pub(crate) struct Stack<J: PoolJob> {
     /// The first job as it was spawned. The field has no bytes.
@@ -59,9 +59,9 @@ pub(crate) struct Stack<J: PoolJob> {
     top: JobFrame<J>,
     /// The jobs below the topmost one, the first job first.
     below: Vec<JobFrame<J>>,
-    /// The children of all jobs here, without those that run here.
+    /// The children of all jobs in this place, except for children that run in this place.
     links: Links<J>,
-    /// A child that the topmost job has forked, and that has to wait here.
+    /// A child that the topmost job has forked, and that has to wait in this place.
     child: Option<J>,
     /// The result of the topmost job, if it has ended.
     ended: Option<J::Output>,
@@ -121,18 +121,18 @@ impl<J: PoolJob> Stack<J> {
         self.top.job.sleeps_as(id);
     }
 
-    /// Returns whether a child waits here to begin.
+    /// Returns whether a child waits in this place to begin.
     pub(crate) fn has_aside(&self) -> bool {
         self.links.aside() > 0
     }
 
-    /// Returns whether the oldest child that waits here wants a core for itself.
+    /// Returns whether the oldest child that waits in this place wants a core for itself.
     pub(crate) fn is_oldest_exclusive(&self) -> bool {
         self.links.is_oldest_exclusive()
     }
 
-    /// Subtracts the number of jobs here that have not ended from `count`. Returns `None` if that number is more than
-    /// `count`.
+    /// Subtracts the number of jobs in this place that have not ended from `count`. Returns `None` if that number is
+    /// more than `count`.
     pub(crate) fn taken_from(&self, count: u64) -> Option<u64>
         ensures { MatchOption result (count < self.now.many) (λ rest. rest + self.now.many ≡ count) }
     {
@@ -157,7 +157,7 @@ impl<J: PoolJob> Stack<J> {
         ensures left { left.new ≤ left.old }
         ensures counts { CountsEach tally.old tally.new self.old.many self.new.many }
     {
-        // Before each step there may be a join, and after the last one an end.
+        // Before each step there may be a join, and after the last step an end.
         for _ in 0..left.saturating_mul(2).saturating_add(1) {
             if *left == 0 && self.ended.is_none() {
                 break;
@@ -170,7 +170,7 @@ impl<J: PoolJob> Stack<J> {
         JobStop::Goes
     }
 
-    /// Makes a step, or does what has to be done before the next one.
+    /// Makes a step, or does what has to be done before the next step.
     fn go_on(
         &mut self,
         cells: &mut Cells<J>,
@@ -221,7 +221,7 @@ impl<J: PoolJob> Stack<J> {
         }
     }
 
-    /// Lets the child that was just forked wait here to begin.
+    /// Lets the child that was just forked wait in this place to begin.
     fn put_aside(&mut self, may_post: bool) -> JobStop
         requires { self.old.ended ≡ None }
         ensures { KeepsMany self.old self.new }
@@ -248,8 +248,8 @@ impl<J: PoolJob> Stack<J> {
         }
     }
 
-    /// Gives the topmost job the result of its newest child, if the child has ended. If the child has not begun, it
-    /// begins here.
+    /// Gives the topmost job the result of its newest child, if the child has ended. If the child has not begun, begins
+    /// it in this place.
     fn receive(&mut self, cells: &mut Cells<J>) -> JobStop
         requires running { (self.old.ended ≡ None) × (self.old.child ≡ None) × (self.old.waits ≡ true) }
         ensures same { KeepsMany self.old self.new }
@@ -273,7 +273,7 @@ impl<J: PoolJob> Stack<J> {
         }
     }
 
-    /// Begins the newest child here, above the job that awaits it.
+    /// Begins the newest child in this place, above the job that awaits the child.
     fn enter(&mut self) -> JobStop
         requires running { (self.old.ended ≡ None) × (self.old.child ≡ None) × (self.old.waits ≡ true) }
         ensures same { KeepsMany self.old self.new }
@@ -295,7 +295,8 @@ impl<J: PoolJob> Stack<J> {
         JobStop::Goes
     }
 
-    /// Gives the result of the topmost job to the one below it, which goes on. The result of the first job stays here.
+    /// Gives the result of the topmost job to the job below it, which goes on. The result of the first job stays in
+    /// this value.
     fn pass_on(&mut self) -> JobStop
         requires { IsSome self.old.ended }
         ensures same { KeepsMany self.old self.new }
@@ -317,7 +318,7 @@ impl<J: PoolJob> Stack<J> {
         JobStop::Goes
     }
 
-    /// Returns how many children were not joined before their parent, the topmost job, has ended.
+    /// Returns how many children were not joined before their parent, the topmost job, ended.
     pub(crate) fn orphans(&self) -> usize {
         if self.ended.is_some() {
             self.top.awaited
@@ -341,8 +342,8 @@ impl<J: PoolJob> Stack<J> {
         self.links.forget_newest()
     }
 
-    /// Takes the oldest child that waits here, to begin elsewhere, with the sending end of the cell for its result.
-    /// Returns `None` if no child waits or memory is refused.
+    /// Takes the oldest child that waits in this place, to begin elsewhere, with the sending end of the cell for the
+    /// child's result. Returns `None` if no child waits or memory is refused.
     pub(crate) fn part_oldest(
         &mut self,
         alloc: Global,
@@ -355,7 +356,7 @@ impl<J: PoolJob> Stack<J> {
         self.links.part_oldest(alloc, cells)
     }
 
-    /// Returns the result of the first job, if it has ended. The first job has ended if no job is left here.
+    /// Returns the result of the first job, if it has ended. The first job has ended if no job is left in this place.
     pub(crate) fn into_output(self) -> Option<J::Output>
         ensures result { IfSome result (J.is_result self.asked) }
         ensures over { self.many ≡ 0 → IsSome result }
@@ -401,8 +402,8 @@ fn unless_ended<J: PoolJob>(ended: &Option<J::Output>, job: J) -> Option<J>
     }
 }
 
-/// The jobs of a `Stack` that was taken apart, without those that have ended. These jobs make no more steps here; those
-/// that had not begun may be spawned.
+/// The jobs of a `Stack` that was taken apart, without the jobs that have ended. These jobs make no more steps in the
+/// pool; those that had not begun may be spawned.
 ///
 /// Contracts see the jobs that are left, in the order in which `take` returns them.
 #[derive(Drop)]
@@ -423,7 +424,8 @@ impl<J: PoolJob> Model for Jobs<J> {
 }
 
 impl<J: PoolJob> Jobs<J> {
-    /// Takes the next job: first those that had not begun, then those that had; in both groups the newest comes first.
+    /// Takes the next job: first the jobs that had not begun, then those that had; in both groups the newest comes
+    /// first.
     pub fn take(&mut self) -> Option<J>
         ensures { MatchOption result ((self.old ≡ []) × (self.new ≡ [])) (λ job. self.old ≡ job ∷ self.new) }
     {

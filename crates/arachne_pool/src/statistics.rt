@@ -10,14 +10,15 @@ pub struct Statistics {
     pub slices: u64,
     /// The number of steps of jobs, also of those that run in the place of others.
     pub steps: u64,
-    /// The number of times that a job was woken: by a worker of this core as a child of the job ended, or by
+    /// The number of times that a job was woken: by a worker of this core because a child of the job ended, or by
     /// `Pool::wake` while the job was on this core. A wake by `Pool::wake` is counted at once.
     pub wakes: u64,
     /// The number of rounds that found nothing to do, after which the worker waited.
     pub rests: u64,
-    /// The number of times that the worker's sleep timed out though there was something that nobody had signalled, or
-    /// all jobs had ended. Each such sleep is counted at once. Workers with jobs for which no core has a place cause a
-    /// few of them, since a place that becomes free is not signalled. Many such sleeps show that a signal is missing.
+    /// The number of times that the worker's sleep timed out although there was something to do that nobody had
+    /// signalled, or all jobs had ended. Each such sleep is counted at once. Workers with jobs for which no core has a
+    /// free place cause a few of them, since a place that becomes free is not signalled. Many such sleeps show that a
+    /// signal is missing.
     pub overslept: u64,
 }
 
@@ -35,7 +36,7 @@ impl Statistics {
         }
     }
 
-    /// Returns the sum of these and the statistics of another core.
+    /// Returns the sum of these statistics and `other`.
     pub(crate) fn with(self, other: Statistics) -> Statistics {
         Statistics {
             slices: self.slices.wrapping_add(other.slices),

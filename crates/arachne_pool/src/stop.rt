@@ -1,4 +1,4 @@
-//! The end of a slice of a job, and how the job rests then.
+//! The end of a slice of a job, and how the job rests after it.
 ghost use Rattle.std.specs.Prelude.{◌≡◌, if◌then◌else◌};
 ghost use Rattle.arachne_pool.specs.Stops.{blocks_after, rests_as};
 
@@ -16,7 +16,7 @@ pub(crate) enum JobStop {
     Sleeps,
     /// The job goes on, and has forked a child while a place may be free.
     Forks,
-    /// A job has ended without joining all of its children, which must be let go.
+    /// A job has ended without joining all of its children, which must be released.
     LetsGo,
     /// The job has ended.
     Ends,

@@ -1,7 +1,7 @@
 //! Counts of jobs that were spawned and have ended.
 ghost use Rattle.std.specs.Prelude.{◌≡◌, ◌+◌, ◌≤◌, min};
 
-/// The numbers of jobs that a worker has spawned, and that have ended with it. Each count stays at 2^64 - 1.
+/// The number of jobs that a worker has spawned, and of jobs that have ended on its core. Each count stays at 2^64 - 1.
 #[derive(Clone, Copy, Debug, PartialEq, Eq)]
 pub struct Tally {
     pub spawned: u64,

@@ -1,4 +1,4 @@
-//! Jobs that sleep are woken, by any kernel thread that has a seat.
+//! Wakes of sleeping jobs, by any kernel thread that has a seat.
 ghost use Rattle.std.specs.Prelude.{◌≡◌, IfSome};
 ghost use Rattle.arachne_contexts.specs.Out.{KeepsOut};
 ghost use Rattle.arachne_pool.specs.Waking.{Answers};
@@ -55,7 +55,7 @@ impl<C: Seats> Pool<C> {
         }
     }
 
-    /// Gives a worker the weight of a waker's seat back. Nothing else of the worker changes.
+    /// Gives the weight of a waker's seat back to a worker. Nothing else of the worker changes.
     pub fn join_waker<H: Wait, J: PoolJob>(
         &self,
         rt: &H,
@@ -74,10 +74,10 @@ impl<C: Seats> Pool<C> {
         worker
     }
 
-    /// Wakes the job of this id, and returns the answer of the table. `Woken`: the job was blocked, and its core's
-    /// worker is signalled; or it is in a worker's hand, and won't rest then. `Already`: the job was woken before, or
-    /// goes on without a wake. `Gone`: the job of the id has ended; no other job ever gets the id, except those that
-    /// ran in the same place at the same time.
+    /// Wakes the job of this id, and returns the answer of the table. `Woken`: either the job was blocked, and its
+    /// core's worker is signalled; or a worker has the job in hand, and the job won't rest then. `Already`: the job was
+    /// woken before, or goes on without a wake. `Gone`: the job of the id has ended. No other job ever gets the id,
+    /// except for jobs that ran in the same place at the same time.
     pub fn wake<H: Wait, J: PoolJob>(
         &self,
         rt: &H,

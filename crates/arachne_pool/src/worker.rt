@@ -1,4 +1,4 @@
-//! Workers of a pool: the part that each has of it, how one is split in two, and how two are joined.
+//! Workers of a pool: the part that each worker has of the pool, how a worker is split in two, and how two are joined.
 ghost use Rattle.std.specs.Option.{option_or};
 ghost use Rattle.std.specs.Prelude.{◌≡◌, ◌+◌, ◌≤◌, [], IfErr, IfOk, None};
 ghost use Rattle.arachne_pool.specs.Workers.{HasNoCore};
@@ -24,8 +24,8 @@ pub enum PoolFault {
     /// Memory was refused. All jobs are as before, and the worker may go on.
     #[error("out of memory")]
     Memory,
-    /// The table didn't know a place or a job that the worker had got from it. The worker is at its end, and has no
-    /// seat.
+    /// The table didn't know a place or a job that it had given to the worker. The worker has no seat any more and must
+    /// stop.
     #[error("the table knows no such token")]
     Token,
     /// The pool was stopped.
@@ -68,7 +68,7 @@ impl From<Halt> for PoolFault {
 
 /// A worker: a kernel thread's access to a pool. A worker is used by one kernel thread at a time, for one core.
 ///
-/// Contracts see the worker's seat and its orders, if it has them (the orders by which cores come and go), its jobs
+/// Contracts see the worker's seat; the orders by which cores are closed and opened, if the worker has them; its jobs
 /// that have no place, and their number. Contracts also see the worker's counts, the part of the counts that it has
 /// reported, and the core for which it was last called.
 #[derive(Drop)]
@@ -99,15 +99,15 @@ impl<S, J: PoolJob> Model for Worker<S, J> {
 }
 
 impl<S, J: PoolJob> Worker<S, J> {
-    /// Returns how many jobs the worker has spawned, with those that jobs of its core have forked, and how many have
-    /// ended with it.
+    /// Returns how many jobs the worker has spawned, including the jobs that jobs on its core have forked, and how many
+    /// have ended on its core.
     pub fn tally(&self) -> Tally
         ensures { result ≡ self.now.tally }
     {
         self.bench.tally
     }
 
-    /// Returns a worker with this seat, no jobs and no orders, for no core, whose choices go by this seed.
+    /// Returns a worker with this seat, no jobs and no orders, for no core. `seed` begins its random choices.
     pub(crate) fn new(alloc: Global, seat: Option<S>, seed: u64) -> Worker<S, J>
         ensures seat { result.seat ≡ seat }
         ensures nothing { (result.tally.spawned ≡ 0) × (result.tally.ended ≡ 0) × (result.near ≡ 0) }
@@ -130,8 +130,8 @@ impl<C: Seats> Pool<C> {
     ghost use Rattle.arachne_pool.specs.Leftover.{HalvesWeight, JoinsWeights};
     ghost use Rattle.arachne_pool.specs.Workers.{IsIdleAt, IsWorkerOf};
 
-    /// Splits a worker in two. The first keeps the jobs, the counts, the orders and the core of `worker`. The second
-    /// has half of the weight of the seat of `worker`, if there is one, and has worked for no core.
+    /// Splits a worker in two. The first worker keeps the jobs, the counts, the orders and the core of `worker`. The
+    /// second worker has half of the weight of the seat of `worker`, if there is one, and has worked for no core.
     pub fn split<H: Wait, J: PoolJob>(
         &self,
         rt: &H,
@@ -156,8 +156,8 @@ impl<C: Seats> Pool<C> {
     }
 
     /// Joins two workers into one, with the core of the first, and the orders of the first or else of the second. The
-    /// joined worker has a seat if both have one. If memory for the jobs of both is refused, both workers are returned;
-    /// this can't happen if the second has no jobs.
+    /// joined worker has a seat if both workers have one. If memory for the jobs of both is refused, both workers are
+    /// returned; this can't happen if the second worker has no jobs.
     pub fn join_workers<H: Wait, J: PoolJob>(
         &self,
         rt: &H,

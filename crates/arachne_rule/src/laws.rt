@@ -34,14 +34,14 @@ use arachne_core::SLOTS;
 
 // ---- loads
 
-/// A load of an occupancy word or a mark word changes nothing in the World (the table's state): the steps that a seat
-/// notes are no part of the World.
+/// A load of an occupancy word or a mark word by any seat is the event `Still`: it changes nothing in the World (the
+/// table's state).
 pub fn a_look_is_still<T>()
     ensures { EachNoting T (λ s noting. Steps s event.Still (after_look s noting)) }
 {}
 
-/// If a seat carries a context (has claimed it, or holds its thread), a load of the word of the context's place finds
-/// the context's number.
+/// If a seat has claimed a context, or has its thread in hand, a load of the word of the context's place finds the
+/// context's number.
 ///
 /// The context's empty slot is then with the seat, and not in the table.
 pub fn learning_is_still<T>()
@@ -50,106 +50,110 @@ pub fn learning_is_still<T>()
 
 // ---- claims
 
-/// A compare-exchange that adds a free index to the occupancy word of an open core makes the event `Claim`: the context
-/// that stands at that index is claimed.
+/// A compare-exchange that adds a free index to the occupancy word of an open core is the event `Claim` of the context
+/// that stands at that index.
 pub fn a_claim_is_claim<T>()
     ensures { EachFreePlace T (λ s p. (x : ℕ) × (s.world.at x ≡ p) × Steps s (event.Claim s.seat x) (after_claim s p x)) }
 {}
 
-/// A compare-exchange of a core's occupancy word from 0 makes the event `Alone`: the whole core is claimed, with the
+/// A compare-exchange of a core's occupancy word from 0 is the event `Alone`: the seat claims the whole core, with the
 /// context at index 0.
 pub fn a_claim_of_a_core_is_alone<T>()
     ensures { EachEmptyCore T (λ s core. (x : ℕ) × (s.world.at x ≡ record { core = core; index = 0 }) × Steps s (event.Alone s.seat x) (after_alone s core x)) }
 {}
 
-/// Subtracting from a core's occupancy word what a claim of the seat had added makes the event `Release`.
+/// A subtraction from a core's occupancy word of what a claim of the seat had added to it is the event `Release`.
 pub fn a_release_is_release<T>()
     ensures { EachCarried T (λ s c. c.held ≡ false → c.named ≡ true → c.away ≡ false → Steps s (event.Release s.seat c.context) (after_release s c)) }
 {}
 
 // ---- threads come and go
 
-/// A store of READY to the mark word of a claimed context makes the event `Post`. With this step the context's slot is
-/// returned to the table with a value.
+/// A store of READY to the mark word of a context that the seat has claimed is the event `Post`. With this step the
+/// context's slot is returned to the table with a value.
 pub fn a_post_is_post<T>()
     ensures { EachValue T (λ s c value. c.held ≡ false → c.named ≡ true → Steps s (event.Post s.seat c.context (s.tag_in value)) (after_post s c value)) }
 {}
 
-/// A compare-exchange from READY to HELD makes the event `Take`. The slot with the value goes from the table to the
-/// seat.
+/// A compare-exchange of a context's mark word from READY to HELD is the event `Take` of the thread in that context.
+/// The slot with the thread's value goes from the table to the seat.
 pub fn a_take_is_take<T>()
     ensures { EachMarked T mark.Ready (λ s x. (value : T) × HasAtHome s x (Some value) × Steps s (event.Take s.seat x) (after_take s x value)) }
 {}
 
-/// A store of a held context's number to the word of its place changes nothing in the World. The context's empty slot
-/// is returned to the table.
+/// If the seat has a context's thread in hand, a store of the context's number to the word of its place changes nothing
+/// in the World. The context's empty slot is returned to the table.
 pub fn keeping_the_name_is_still<T>()
     ensures { EachCarried T (λ s c. c.held ≡ true → Steps s event.Still (after_keeping_name s c)) }
 {}
 
-/// A swap of a held context's mark word to FREE, with the next generation, makes the event `Retire`, if the generation
-/// is not the last.
+/// If the seat has a context's thread in hand, a swap of the context's mark word to FREE is the event `Retire`: the
+/// thread ends.
 ///
-/// The place stays claimed.
+/// The swap puts the next generation into the word, so the generation must not be the last. The place stays claimed.
 pub fn a_retire_is_retire<T>()
     ensures { EachCarried T (λ s c. c.held ≡ true → c.named ≡ true → c.generation < s.world.last → Steps s (event.Retire s.seat c.context) (after_retire s c)) }
 {}
 
-/// A swap of a held context's mark word to SPENT makes the event `Retire`, if the generation is the last.
+/// If the seat has a context's thread in hand and the generation is the last, a swap of the context's mark word to
+/// SPENT is the event `Retire`.
 pub fn a_last_retire_is_retire<T>()
     ensures { EachCarried T (λ s c. c.held ≡ true → c.generation ≡ s.world.last → Steps s (event.Retire s.seat c.context) (after_last_retire s c)) }
 {}
 
 // ---- rest and wake
 
-/// A store of READY to the mark word of a held context makes the event `Rest`, as ready. With this step the thread's
-/// value is returned to the table.
+/// If the seat has a context's thread in hand, a store of READY to the context's mark word is the event `Rest`, as
+/// ready. With this step the thread's value is returned to the table.
 pub fn resting_ready_is_rest<T>()
     ensures { EachHeld T (λ s c value. Steps s (event.Rest s.seat c.context rest.Ready) (after_rest_ready s c value)) }
 {}
 
-/// A compare-exchange from HELD to BLOCKED makes the event `Rest`, as blocked. With this step the thread's value is
-/// returned to the table.
+/// A compare-exchange of a context's mark word from HELD to BLOCKED, by the seat that has its thread in hand, is the
+/// event `Rest`, as blocked. With this step the thread's value is returned to the table.
 pub fn resting_blocked_is_rest<T>()
     ensures { EachHeld T (λ s c value. (mark_at s c.context).mark ≡ mark.Held → Steps s (event.Rest s.seat c.context rest.Blocked) (after_rest_blocked s c value)) }
 {}
 
-/// A compare-exchange from BLOCKED to READY, by any seat, makes the event `Wake` for the thread of that generation.
+/// A compare-exchange of a context's mark word from BLOCKED to READY, by any seat, is the event `Wake` of the thread in
+/// that context.
 pub fn a_wake_is_wake<T>()
     ensures { EachMarked T mark.Blocked (λ s x. Steps s (event.Wake (thread_at s x)) (after_wake mark.Ready s x)) }
 {}
 
-/// A compare-exchange from HELD to WOKEN, by any seat, makes the event `Wake` too.
+/// A compare-exchange of a context's mark word from HELD to WOKEN, by any seat, is also the event `Wake` of the thread
+/// in that context.
 pub fn marking_woken_is_wake<T>()
     ensures { EachMarked T mark.Held (λ s x. Steps s (event.Wake (thread_at s x)) (after_wake mark.Woken s x)) }
 {}
 
 // ---- cores
 
-/// Setting the closed bit of a core's word makes the event `CloseCore`.
+/// An `or` that sets the closed bit of a core's occupancy word is the event `CloseCore`.
 pub fn a_close_is_close_core<T>()
     ensures { EachCore T (λ tag_in bits w d b core. StepsTo tag_in bits w (event.CloseCore core) d (with_word b core (bit_or (b.occ core) (2 ^ 62)))) }
 {}
 
-/// Clearing the closed bit of a core's word makes the event `OpenCore`.
+/// An `and` that clears the closed bit of a core's occupancy word is the event `OpenCore`.
 pub fn an_open_is_open_core<T>()
     ensures { EachCore T (λ tag_in bits w d b core. StepsTo tag_in bits w (event.OpenCore core) d (with_word b core (bit_and (b.occ core) (2 ^ 64 - 1 - 2 ^ 62)))) }
 {}
 
 // ---- a move
 
-/// A compare-exchange that gives the mark word of a thread that no seat holds another place makes the event `Move`.
+/// A compare-exchange that changes only the place in the mark word of a thread that no seat has in hand is the event
+/// `Move`.
 ///
 /// The new place is that of a context that the seat has claimed on another core, and neither core may be exclusive. The
-/// thread's value stays in the table, and the word changes only in its place.
+/// thread's value stays in the table.
 pub fn a_move_is_move<T>()
     ensures { EachTarget T (λ s x c. c.alone ≡ false → (mark_at s x).place.core ≢ c.place.core → Steps s (event.Move s.seat x c.context) (after_move s x c)) }
 {}
 
-/// After a seat's move, a compare-exchange of a place word that still names the displaced context changes nothing in
-/// the World.
+/// After a move, the seat's compare-exchange of a place word from the displaced context's number to another context's
+/// changes nothing in the World.
 ///
-/// This holds for any place word that names that context, and for any other context that the word names afterwards.
+/// The displaced context is the one that stood at the thread's new place. Any place word and any other context will do.
 pub fn naming_the_target_is_still<T>()
     ensures { EachUnnamed T (λ s p x. Steps s event.Still (after_naming_target s p x)) }
 {}
@@ -173,7 +177,7 @@ pub fn a_split_is_still<T>()
     ensures { EachSeat T (λ s. Steps s event.Still (after_split s)) }
 {}
 
-/// A join of a seat that carries no context into another seat changes nothing in the World.
+/// A join of a seat that has no claim and no thread in hand into another seat changes nothing in the World.
 pub fn a_join_is_still<T>()
     ensures { EachOtherSeat T (λ s other added o. o.carried ≡ [] → Steps s event.Still (after_join s other added o)) }
 {}
@@ -218,8 +222,8 @@ pub fn a_record_is_a_step<T>()
     ensures each { EachKnown T (λ t h k. (at : ℕ) (r : Record) → get_elem? k.records at ≡ slot.some r → IsStepIn t h r) }
 {}
 
-/// Two seats that carry (have claimed, or hold the thread of) the same context, or contexts at the same place, are the
-/// same seat.
+/// Two seats that have the same context (claimed, or its thread in hand), or contexts at the same place, are the same
+/// seat.
 ///
 /// So no context and no place belongs to two seats.
 pub fn a_context_has_one_carrier<T>()
@@ -244,8 +248,8 @@ pub fn a_drained_word_shows_a_drained_core<T>()
     ensures { EachCore T (λ tag_in bits w d b core. is_closed (b.occ core) ≡ true → HasNoOccupied w.slots (b.occ core) → IsDrained w core) }
 {}
 
-/// If one seat has the whole weight and carries no context, each thread that was put into the table has either ended or
-/// its value is in a slot of the table.
+/// If one seat has the whole weight, no claim and no thread in hand, each thread that was put into the table has ended,
+/// or its value is in a slot of the table.
 pub fn what_was_posted_has_ended_or_is_left<T>()
     ensures { EachWhole T (λ t k slots. IsSettled t.tag_in k (left_from t.bits 0 t.table.words slots)) }
 {}

@@ -4,7 +4,7 @@ use arachne_core::{Place, ThreadId};
 use arachne_weights::Token;
 use std::collections::LinkedList;
 
-/// A context that a seat carries: the seat has claimed the context, or holds its thread.
+/// A context that a seat carries: the seat has claimed the context, or has its thread in hand.
 pub struct Carried {
     pub context: u32,
     /// The place at which the context stands.
@@ -12,9 +12,9 @@ pub struct Carried {
     /// The place that the context's mark word shows.
     pub shown: Place,
     pub generation: u64,
-    /// True if the context's thread is held, false if the context is claimed.
+    /// True if the seat has the context's thread in hand, false if it has claimed the context.
     pub held: bool,
-    /// The tag of the thread that is held.
+    /// The tag of the thread, if the seat has one in hand.
     pub tag: u64,
     /// True if the context's core is exclusive.
     pub alone: bool,
@@ -43,17 +43,19 @@ pub enum Kind {
     /// A store of a place word: the place of a taken context names that context, and the context's empty slot goes to
     /// the table.
     KeepName,
-    /// A swap of a mark word: a held thread has ended.
+    /// A swap of a mark word: a thread that the seat has in hand has ended.
     Retire,
     /// A subtraction from an occupancy word: an index is free again.
     Release,
-    /// A store of a mark word: a held thread is put back as ready, and its value goes to the table.
+    /// A store of a mark word: a thread that the seat has in hand is put back as ready, and its value goes to the
+    /// table.
     RestReady,
-    /// An exchange of a mark word: a held thread is put back as blocked, and its value goes to the table.
+    /// An exchange of a mark word: a thread that the seat has in hand is put back as blocked, and its value goes to the
+    /// table.
     RestBlocked,
     /// An exchange of a mark word: a blocked thread becomes ready.
     Wake,
-    /// An exchange of a mark word: a held thread is marked as woken.
+    /// An exchange of a mark word: a thread that a seat has in hand is marked as woken.
     MarkWoken,
     /// The closed bit of an occupancy word is set.
     Close,
@@ -80,7 +82,7 @@ pub struct Record {
 
 /// The knowledge of a seat: what it has in hand, and what it has done.
 pub struct Known {
-    /// The contexts that the seat has claimed or holds.
+    /// The contexts that the seat has claimed, and those whose threads it has in hand.
     pub carried: LinkedList<Carried>,
     /// The threads that the seat has put into the table, with their tags.
     pub given: LinkedList<(ThreadId, u64)>,

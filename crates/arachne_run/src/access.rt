@@ -1,4 +1,5 @@
-//! A worker's calls on the locks and the ledgers. A lock is tried again while another kernel thread is at it.
+//! A worker's calls on the locks and the ledgers. A call on a lock is repeated while another kernel thread is at the
+//! lock.
 ghost use Rattle.std.specs.Prelude.{◌≡◌, ◌<◌, ◌≤◌, false, Err, None, Ok, MatchOption, IfErr, IfOk, IfSome, IsOk, OnOk, length};
 ghost use Rattle.arachne_ledger.specs.Sums.{raised};
 ghost use Rattle.arachne_ledger.specs.Views.{IsShareOf};
@@ -29,7 +30,7 @@ use std::time::Clock;
 pub(crate) enum Want {
     /// The thread asks for this lock.
     Asks(u64),
-    /// The thread has asked for this lock before, and is not answered yet.
+    /// The thread has asked for this lock before, and was not answered yet.
     Awaits(u64),
     /// The thread frees this lock.
     Frees(u64),
@@ -49,8 +50,8 @@ pub(crate) enum Served {
     Added,
 }
 
-/// The locks and the ledgers, and what a worker has of them. Contracts see the locks, the ledgers, and what its share
-/// has added to each.
+/// A worker's access to the locks and the ledgers. Contracts see the locks, the ledgers, and what the worker's share
+/// has added to each ledger.
 #[derive(Drop)]
 pub(crate) struct Access<'a> {
     resources: &'a Resources,
@@ -82,7 +83,7 @@ impl<'a> Model for Access<'a> {
 }
 
 impl<'a> Access<'a> {
-    /// Creates a worker's access to these locks and ledgers, with its holdings of them.
+    /// Creates a worker's access to these locks and ledgers, with the worker's share and seats of them.
     pub(crate) fn new(resources: &'a Resources, holdings: Holdings) -> Access<'a>
         requires { AreHoldingsOf resources.now holdings }
         ensures { result ≡ record { resources = resources.now; sums = holdings.share.sums } }
@@ -99,8 +100,8 @@ impl<'a> Access<'a> {
         self.holdings
     }
 
-    /// Does what the thread of this id asks for, and replies to its pause unless it must wait. The locks know the
-    /// thread by the tag of the one that runs in its place. Sets `has_lock`.
+    /// Does what the thread of this id asks for, and replies to its pause unless it must wait. Sets `has_lock`. The
+    /// locks know the thread by the tag of the thread that runs in its place.
     pub(crate) fn serve<H: Wait + Clock, T: RunThread>(
         &mut self,
         rt: &H,
@@ -238,7 +239,7 @@ impl<'a> Access<'a> {
         )
     }
 
-    /// Adds the amount that is due to the amount's ledger. Afterwards nothing is due.
+    /// Adds the due amount to its ledger. Afterwards nothing is due.
     #[inline(always)]
     pub(crate) fn settle(&mut self, due: &mut Due) -> Result<(), WorkerFault>
         ensures same { self.new.resources ≡ self.old.resources }
@@ -258,7 +259,7 @@ impl<'a> Access<'a> {
     }
 }
 
-/// Returns how a thread stops that has freed a lock: it goes on, and the lock's next holder is woken.
+/// Returns how a thread that has freed a lock stops: it goes on, and the lock's next holder is woken.
 #[inline(always)]
 fn stop_after(freed: Freed) -> ThreadStop
     ensures next { MatchOption freed.next (result ≡ stopped.Goes) (λ next. result ≡ stopped.Wakes next.id) }
@@ -301,7 +302,7 @@ fn add_to(ledgers: &Ledgers, share: &mut Share, ledger: u64, amount: u64) -> Res
     Ok(())
 }
 
-/// Adds the amount that is due, if one is, to the share's sum for its ledger. Afterwards nothing is due.
+/// Adds the due amount, if there is one, to the share's sum for its ledger. Afterwards nothing is due.
 #[inline(always)]
 fn settle_at(ledgers: &Ledgers, share: &mut Share, due: &mut Due) -> Result<(), WorkerFault>
     requires { IsShareOf ledgers.now share.old }

@@ -31,8 +31,8 @@ pub(crate) fn audit(
     }
 }
 
-/// Returns the marks of the threads' tags, if no two are the same and none is 2^64 - 1: a byte for each tag up to the
-/// greatest, and at least one for each thread.
+/// Returns marks for the tags of the threads, if no two tags are equal and none is 2^64 - 1. The marks are a byte for
+/// each tag up to the greatest, and at least one for each thread.
 fn marks_of(alloc: Global, threads: &ThreadLines) -> Result<Option<Vec<bool>>, AllocError>
     ensures distinct { IfOk result (λ found. IfSome found (λ marks. AreDistinct (map (λ line. line.tag) threads.now))) }
     ensures marks { IfOk result (λ found. IfSome found (λ marks. AreMarksOf (map (λ line. line.tag) threads.now) marks.items)) }
@@ -64,8 +64,8 @@ fn place_of(line: &LineView<'_>) -> usize
     line.tag() as usize
 }
 
-/// Returns whether each lock was granted to each thread as often as it held the lock, and to no other. `marks` has a
-/// mark for the tag of each thread.
+/// Returns whether each lock was granted to each thread as often as it held the lock, and to no other thread. `marks`
+/// has a mark for the tag of each thread.
 fn are_grants_holds(
     alloc: Global,
     threads: &ThreadLines,

@@ -1,11 +1,11 @@
-//! Decides which of two faults at a run's end is reported.
+//! Decides which of two faults is reported at a run's end.
 ghost use Rattle.std.specs.Prelude.{◌≡◌, ◌⊎◌, Err, IfErr, IfOk, IfSome, None, Ok, Some};
 ghost use Rattle.arachne_run.specs.declared.fault.WorkerFault.TheVariants.{Token};
 
 use crate::fault::WorkerFault;
 
-/// Returns both values, if neither is a fault. A missing token (a seat, pass or share that was not returned) is
-/// reported before any other fault.
+/// Returns both values, if neither is a fault. If a token (a seat, pass or share) was not returned, reports that
+/// instead of any other fault.
 pub(crate) fn both<A: Drop, B: Drop>(
     one: Result<A, WorkerFault>,
     other: Result<B, WorkerFault>,
@@ -22,7 +22,7 @@ pub(crate) fn both<A: Drop, B: Drop>(
     }
 }
 
-/// Returns the tokens, if there was no fault. The first fault is reported before missing tokens.
+/// Returns the tokens, if there was no fault. The first fault is reported instead of missing tokens.
 pub(crate) fn first_of<T: Drop>(
     first: Option<WorkerFault>,
     tokens: Option<T>,

@@ -25,23 +25,24 @@ pub enum RunFault {
     /// The first core order at fault.
     #[error("{0}")]
     Orders(OrderFault),
-    /// The fault that a worker met, or that was found once all had ended.
+    /// The fault that a worker met, or that was found after all workers had ended.
     #[error("{0}")]
     Worker(WorkerFault),
 }
 
-/// A fault that a worker met, or that was found in what the workers left: each fault of a run but those of its setup.
+/// A fault that a worker met, or that was found after all workers had ended: each fault of a run but those of its
+/// setup.
 #[derive(Clone, Copy, Debug, PartialEq, Eq, Error)]
 pub enum WorkerFault {
     /// Memory was refused.
     #[error("out of memory")]
     Memory,
-    /// A thread got an outcome that isn't the awaited child's or isn't one of its program, or it named a ledger or a
-    /// lock that doesn't exist.
+    /// A thread got an outcome that isn't of the awaited child or isn't one of its program, or the thread named a
+    /// ledger or a lock that doesn't exist.
     #[error("the outcome of another thread")]
     Foreign,
-    /// Two threads have one tag, a thread asked for a lock that it had or freed one that it didn't have, or a lock's
-    /// grants are not the threads' holds.
+    /// Two threads have the same tag, a thread asked for a lock that it had or freed a lock that it didn't have, or the
+    /// grants of a lock don't match the threads' holds.
     #[error("two threads have one tag, or a lock's grants are not the holds")]
     Threads,
     /// The word of a ledger differs from the sum in the root's outcome.

@@ -1,6 +1,6 @@
-//! Gives threads their places: the child of a fork gets a place, waits for one, or runs in its parent's.
+//! Gives threads their places: the child of a fork gets a place, waits for one, or runs in its parent's place.
 //!
-//! This module may touch the table, by the seat that it is given, and the queue of tickets.
+//! This module may use the table, by the seat that it is given, and the queue of tickets.
 ghost use Rattle.std.specs.Prelude.{◌≡◌, ◌↔◌, ◌<◌, ◌≤◌, [], ◌∷◌, false, IfOk, IfSome, IsOk, IsSome, IsTrue, OnOk, map};
 ghost use Rattle.rand_core.specs.Stream.{next_u64};
 ghost use Rattle.arachne_arbiter.specs.Placed.{GetsPlace, IsAtStartOfSome};
@@ -34,8 +34,8 @@ pub(crate) struct ForkSupplies<R, P> {
     pub(crate) spares: P,
 }
 
-/// Runs the thread in hand for at most `left` steps, adds what it has tallied to the ledgers, and does what it asks
-/// for.
+/// Runs the thread in hand for at most `left` steps, adds what the thread has tallied to the ledgers, and does what the
+/// thread asks for.
 #[inline(always)]
 pub(crate) fn go_on<H: Wait + Clock, T: RunJob, C: Contexts<T>, R: Rng>(
     rt: &H,
@@ -65,7 +65,7 @@ pub(crate) fn go_on<H: Wait + Clock, T: RunJob, C: Contexts<T>, R: Rng>(
     let slice = held
         .value
         .slice(left, &mut forks.spares, room, &mut forks.openings)?;
-    // Forks that were no pause drew no word: the chooser must go on as if they had.
+    // Forks without a pause drew no word: the chooser must go on as if they had.
     draw(&mut forks.chooser, forks.openings.draws);
     forks.openings.draws = 0;
     access.settle(&mut forks.openings.due)?;
@@ -144,8 +144,8 @@ fn answer_fork<H: Wait, T: RunJob, C: Contexts<T>, R: Rng>(
     Ok(ThreadStop::Goes)
 }
 
-/// Claims a place for a child of this class: for a normal one on a core that is chosen by a word of the chooser, for an
-/// exclusive one on an empty core.
+/// Claims a place for a child of this class: on a core that is chosen by a word of the chooser if the child is normal,
+/// on an empty core if it is exclusive.
 #[inline(always)]
 fn claim_for<H: Wait, T: RunJob, C: Contexts<T>, R: Rng>(
     cores: &Cores<'_, H, T, C>,
@@ -174,7 +174,7 @@ fn may_wait(class: Class, has_room: bool) -> bool
     class == Class::Normal && has_room
 }
 
-/// Returns whether room is made in the queue for a child: it has much to do, and may wait.
+/// Returns whether room is made in the queue for a child: the child must be large, and may wait.
 fn is_worth_room(class: Class, is_large: bool) -> bool
     ensures { IsTrue result ↔ (class ≡ Class.Normal) × IsTrue is_large }
 {
@@ -246,7 +246,7 @@ fn post_at<H: Wait, T: RunJob, C: Contexts<T>>(
     }
 }
 
-/// Puts the root, or a child that has waited, at a place, or gives the place back if there is no job. Returns the job's
+/// Puts the root, or a child that has waited, at a place. If there is no job, gives the place back. Returns the job's
 /// id and place, if there was a job.
 pub(crate) fn post_waiting<H: Wait, T: RunJob, C: Contexts<T>>(
     rt: &H,

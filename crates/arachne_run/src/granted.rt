@@ -20,10 +20,10 @@ pub(crate) enum LockCall {
     Check,
 }
 
-/// Shows that the thread in hand holds the lock that it asked for, by this pass. The value has no bytes.
+/// Shows that the thread in hand holds the lock that it asked for, by the pass in this value. The value has no bytes.
 ///
-/// Only [`ask`] and [`check`] return such a value, for a pass that the lock gave in that call. After an ask a thread
-/// goes on only with such a value.
+/// Only [`ask`] and [`check`] return such a value, for a pass that the lock gave in that call. After asking for a lock,
+/// a thread goes on only if its worker has such a value.
 #[derive(Drop)]
 pub(crate) struct Granted {
     pass: Snapshot<Pass>,

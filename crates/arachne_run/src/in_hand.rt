@@ -36,7 +36,7 @@ pub(crate) fn has_lock<T, H>(in_hand: &Option<InHand<T, H>>) -> bool
     }
 }
 
-/// Returns the state of a thread that was put back as `asked`: if it was woken meanwhile, it is ready.
+/// Returns the state of a thread that was put back as `asked`: ready if the thread was woken meanwhile, else `asked`.
 #[inline(always)]
 pub(crate) fn rests_so(rested: Rested, asked: Rest) -> Rest
     ensures as_asked { rested ≡ Rested.AsAsked → result ≡ asked }

@@ -46,7 +46,7 @@ pub(crate) struct Machine<C, K: Tagged + Drop> {
     pub(crate) quantum: u32,
     /// The number of orders.
     pub(crate) orders: usize,
-    /// True if workers may keep places.
+    /// True if workers may keep places for later children.
     pub(crate) may_keep: bool,
     /// True if workers may move threads to their own cores. Workers may not move threads if a thread may want a whole
     /// core, since a move takes a place on the worker's core while it is made.
@@ -54,8 +54,8 @@ pub(crate) struct Machine<C, K: Tagged + Drop> {
 }
 
 impl<C: Seats, K: Tagged + Drop> Machine<C, K> {
-    /// Returns whether a worker keeps the place that a thread leaves, for a later child: workers of this run may keep
-    /// places, and the core was full before (`before` is its word then).
+    /// Returns whether a worker keeps the place that a thread leaves, for a later child. This requires that workers of
+    /// this run may keep places, and that the core was full before (`before` is the core's occupancy word then).
     #[inline(always)]
     pub(crate) fn keeps_place(&self, before: OccWord) -> bool
         ensures { IsTrue result ↔ (self.now.may_keep ≡ true) × (self.now.slots ≤ count_of before.occupied)
@@ -64,7 +64,7 @@ impl<C: Seats, K: Tagged + Drop> Machine<C, K> {
         self.may_keep && keeps_place(before, self.slots)
     }
 
-    /// Returns the cores of the table.
+    /// Returns the cores of the machine's table.
     pub(crate) fn cores<'a, H, T>(&'a self, rt: &'a H) -> Cores<'a, H, T, C>
         requires { IsSetUp C.core_count C.slot_count self.now }
         ensures table { result.table.now ≡ self.now.table }
@@ -81,7 +81,7 @@ impl<C: Seats, K: Tagged + Drop> Machine<C, K> {
 }
 
 impl<C: Seats + Drop, K: Tagged + Drop> Machine<C, K> {
-    /// Returns a machine on which nothing runs, and all of its tokens (its seats, passes and shares).
+    /// Returns a machine on which nothing runs, and all of the machine's tokens (its seats, passes and shares).
     pub(crate) fn new(
         alloc: Global,
         cores: u8,
@@ -127,8 +127,8 @@ impl<C: Seats + Drop, K: Tagged + Drop> Machine<C, K> {
         Ok((machine, tokens))
     }
 
-    /// Returns what is left once all workers have ended, and how many orders were applied. The error is the first
-    /// fault, if there was one.
+    /// Returns what is left once all workers have ended, and how many orders were applied. If there was a fault, the
+    /// error is the first.
     pub(crate) fn close<H: Wait, T>(
         self,
         rt: &H,
@@ -224,7 +224,7 @@ fn close_table<H: Wait, T: Tagged + Drop, C: Contexts<T> + Drop, K: Tagged + Dro
     end_table(rt, alloc, table, seat)
 }
 
-/// Closes the table with the seat that has the whole weight. The error is `Token` if a thread is left in it.
+/// Closes the table with the seat that has the whole weight. The error is `Token` if a thread is left in the table.
 fn end_table<H: Wait, T: Tagged + Drop, C: Contexts<T> + Drop>(
     rt: &H,
     alloc: Global,
@@ -248,7 +248,7 @@ fn end_table<H: Wait, T: Tagged + Drop, C: Contexts<T> + Drop>(
     }
 }
 
-/// Empties the queue of tickets. The error is `Token` if not all of its passes were returned.
+/// Empties the queue of tickets. The error is `Token` if not all of the queue's passes were returned.
 fn close_queue<H: Wait, K: Tagged + Drop>(
     rt: &H,
     tickets: &SpillQueue<K>,

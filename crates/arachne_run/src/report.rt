@@ -24,15 +24,15 @@ pub struct Report {
     pub totals: Sequence<u64>,
     /// The program's threads, the root first.
     pub threads: ThreadLines,
-    /// For each lock all that was asked, granted and freed, oldest first.
+    /// For each lock the history of its asks, grants and frees, oldest first.
     pub histories: Vec<History>,
     /// The number of orders that were applied.
     pub applied: usize,
 }
 
 impl Report {
-    /// Returns the report of the root's outcome. The sums of the outcome must be the words of the ledgers, no two
-    /// threads may have one tag, and the grants of the locks must be the threads' holds.
+    /// Returns the report of the root's outcome. The sums of the outcome must be equal to the words of the ledgers, no
+    /// two threads may have the same tag, and the grants of the locks must match the threads' holds.
     pub(crate) fn of(
         alloc: Global,
         outcome: DetachedOutcome,

@@ -1,4 +1,4 @@
-//! The ledgers and the locks of a run, and what a worker has of them.
+//! The ledgers and the locks of a run, and a worker's share and seats of them.
 ghost use Rattle.std.specs.Prelude.{◌≡◌, ◌%◌, ◌^◌, All, Err, IfErr, IfOk, IsOk, length, map};
 ghost use Rattle.arachne_ledger.specs.Views.{IsShareOf, IsWhole as IsWholeShare};
 ghost use Rattle.arachne_sleep.specs.History.{IsSound};
@@ -38,7 +38,7 @@ pub(crate) struct Remains {
 }
 
 impl Resources {
-    /// Returns `ledgers` ledgers and `locks` locks, and the holdings of all of them.
+    /// Returns `ledgers` ledgers and `locks` locks, and the holdings with the whole weight of each.
     pub(crate) fn new(
         alloc: Global,
         ledgers: u8,
@@ -90,7 +90,7 @@ impl Resources {
         }
     }
 
-    /// Returns what is left once all holdings are joined. The error is `Token` if some holdings were not joined.
+    /// Returns what is left once all holdings are joined into `holdings`. The error is `Token` if some were not joined.
     pub(crate) fn close(self, alloc: Global, holdings: Holdings) -> Result<Remains, WorkerFault>
         requires { AreHoldingsOf self holdings }
         ensures count { IfOk result (λ remains. length remains.histories.items ≡ length self.locks) }
@@ -133,8 +133,8 @@ fn closed_locks(
     }
 }
 
-/// Returns the numbers in the words of the ledgers, which are the sums of the share. The error is `Token` if not all
-/// other shares were joined into this one.
+/// Returns the numbers in the words of the ledgers, which are equal to the sums of `share`. The error is `Token` if not
+/// all other shares were joined into `share`.
 fn closed_words(alloc: Global, ledgers: Ledgers, share: Share) -> Result<Vec<u64>, WorkerFault>
     requires { IsShareOf ledgers share }
     ensures missing { (IsWholeShare share → ⊥) → result ≡ Err Token }

@@ -24,10 +24,10 @@ use std::thread::Threads;
 use std::time::Clock;
 
 /// Runs a program on one kernel thread for each core, over a table of the type `C`. Each core draws from its own
-/// chooser. The orders take cores back and grant them again while the program runs; orders that are not reached before
-/// its end are not applied.
+/// chooser (random generator). The orders take cores back and grant them again while the program runs. Orders that are
+/// not reached before the program's end are not applied.
 ///
-/// The program is unchanged. After an error nothing of the run is left.
+/// The program is unchanged. After an error nothing of the run is left in memory.
 pub fn run<
     'p,
     H: Threads + Wait + Clock + Sync,

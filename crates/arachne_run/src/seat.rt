@@ -1,4 +1,4 @@
-//! A worker's seats at the table, and the thread and the places that it has through them.
+//! A worker's two seats at the table, and the thread and the places that the worker has through them.
 //!
 //! Only this module and `forking` call the table while threads run. Between two calls, one seat has the thread in hand,
 //! the other has the places that the worker keeps for later children, and neither has anything else.
@@ -40,13 +40,13 @@ pub(crate) struct RunSeat<'a, H, T: RunJob, C: Contexts<T>, R, G> {
     pub(crate) alloc: Global,
     pub(crate) machine: &'a Machine<C, T::Ticket>,
     pub(crate) core: u8,
-    /// Set if the table did not know a place or a thread of the worker's: then something else may be claimed or taken
+    /// Set if the table did not know a place or a thread of the worker. Then something else may be claimed or taken
     /// through the seats, and the worker ends.
     pub(crate) is_broken: bool,
-    /// The seat through which the thread in hand was taken.
+    /// The seat by which the worker took the thread in hand.
     pub(crate) seat: C::Seat,
     pub(crate) held: Option<InHand<T, C::Hold>>,
-    /// The seat through which the places were claimed that the worker keeps for later children.
+    /// The seat by which the worker claimed the places that it keeps for later children.
     pub(crate) spare: C::Seat,
     pub(crate) kept: Stack<C::Claim>,
     pub(crate) pass: SpillPass<T::Ticket>,
@@ -73,7 +73,8 @@ impl<'a, H, T: RunJob, C: Contexts<T>, R, G> Model for RunSeat<'a, H, T, C, R, G
 }
 
 impl<'a, H: Wait, T: RunJob, C: Contexts<T>, R: Rng + Drop, G: Gate> RunSeat<'a, H, T, C, R, G> {
-    /// Creates a worker's two seats, which have nothing in hand, with what else the worker needs of the machine.
+    /// Creates a worker's two seats, with no place and no thread in hand, and what else the worker needs of the
+    /// machine.
     pub(crate) fn open(
         rt: &'a H,
         alloc: Global,
@@ -117,8 +118,8 @@ impl<'a, H: Wait, T: RunJob, C: Contexts<T>, R: Rng + Drop, G: Gate> RunSeat<'a,
         }
     }
 
-    /// Puts the root thread at a place, if it begins here. Returns the index of the root's place: an empty table has
-    /// one.
+    /// Puts the root thread at a place, if the root begins at this worker. Returns the index of the root's place: an
+    /// empty table has a free place.
     pub(crate) fn post_root(&mut self, root: Option<T>) -> Result<Option<u8>, WorkerFault>
         ensures same { self.new ≡ self.old }
         ensures index { IfOk result (λ index. IsSome index ↔ IsSome root) }
@@ -141,8 +142,8 @@ impl<'a, H: Wait, T: RunJob, C: Contexts<T>, R: Rng + Drop, G: Gate> RunSeat<'a,
         Ok(Some(index))
     }
 
-    /// Claims a place to keep for a later child, instead of the one that a thread has left, if the core was full before
-    /// (`before` is its word then). If no place is claimed, counts the place that was left as free.
+    /// Claims a place to keep for a later child, in return for the place that a thread has left, if the core was full
+    /// before (`before` is its occupancy word then). If no place is claimed, counts the place that was left as free.
     fn keep_or_count(&mut self, before: OccWord) -> Result<(), Halt>
         ensures { self.new ≡ self.old }
     {
@@ -264,8 +265,9 @@ impl<'a, H: Wait + Clock, T: RunJob, C: Contexts<T>, R: Rng + Drop, G: Gate> Des
         let table = &self.machine.table;
         match table.finish(self.rt, &mut self.seat, held) {
             Ok(job) => {
-                // The place is free before the outcome is left, as only `finish` returns the job, and is kept or counted
-                // before the parent is woken: then others would already go for it.
+                // The place is freed before the outcome is left in the cell, as only `finish` returns the job. The
+                // place is kept or counted before the parent is woken: otherwise other workers could claim the place
+                // first.
                 let parent = job.leave(&mut self.forks.spares);
                 self.keep_or_count(before)?;
                 match parent {
@@ -423,7 +425,7 @@ impl<'a, H: Wait + Clock, T: RunJob, C: Contexts<T>, R: Rng + Drop, G: Gate> Des
 }
 
 /// Applies the orders that are due, and moves threads away ([`Arbiter::tend`]). Returns the number of orders applied in
-/// all, if this call has applied one, and the cores to which threads were moved.
+/// all, if this call has applied an order, and the cores to which threads were moved.
 #[inline(always)]
 fn tend_by<H: Wait, T: Tagged, C: Contexts<T>>(
     arbiter: &mut Arbiter,
@@ -486,7 +488,7 @@ fn post_child<H: Wait, T: RunJob, C: Contexts<T>>(
     Ok(of_ticket(posted))
 }
 
-/// Returns the result of taking a ticket whose child was put at a place, or was gone.
+/// Returns the result of taking a ticket whose child was put at a place, or no longer waited.
 #[inline(always)]
 fn of_ticket(posted: Option<PostedThread>) -> TicketResult
     ensures { MatchOption posted (result ≡ TicketResult.Gone) (λ post. result ≡ TicketResult.Posted post) }

@@ -11,7 +11,7 @@ use std::marker::Model;
 use std::snapshot::Snapshot;
 use std::sync::{Mutex, Wait};
 
-/// The words by which workers signal one another, those that are read before each fork, and the first fault.
+/// The words by which workers signal one another, the words that are read before each fork, and the first fault.
 #[derive(Drop)]
 pub(crate) struct SharedState {
     room: Room,
@@ -19,8 +19,8 @@ pub(crate) struct SharedState {
     workers: SharedWords,
 }
 
-/// Evidence that [`SharedState::fail`] has stopped all workers for a fault. A worker that ends without its tokens
-/// returns this value, which has no bytes.
+/// Evidence that [`SharedState::fail`] has stopped all workers for a fault. A worker that ends without returning its
+/// tokens returns this value, which has no bytes.
 #[derive(Drop)]
 pub(crate) struct Failed {
     fault: Snapshot<WorkerFault>,
@@ -77,7 +77,7 @@ impl SharedState {
         }
     }
 
-    /// Stops all workers for the error that ended the loop of one.
+    /// Stops all workers for the error that ended the loop of one worker.
     pub(crate) fn halt<H: Wait>(&self, rt: &H, halted: Halted) -> Failed
         ensures { result.fault.value ≡ numbered halted.why }
     {

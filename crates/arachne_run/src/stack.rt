@@ -28,7 +28,7 @@ impl<T> Stack<T> {
         }
     }
 
-    /// Returns a stack from which these values are taken in their order.
+    /// Returns a stack from which `items` are taken in their order.
     pub(crate) fn of(items: Vec<T>) -> Stack<T>
         ensures { result ≡ items.items }
     {

@@ -1,4 +1,5 @@
-//! The tokens by which a worker makes its steps, and which it returns in the end.
+//! What a worker needs to work in a run: its seat at the table, its pass of the ticket queue, its shares of ledgers and
+//! locks. It returns all of it at the end.
 ghost use Rattle.std.specs.Prelude.{◌≡◌, ◌≤◌, None, IfOk, IfErr};
 ghost use Rattle.arachne_run.specs.Tokens.{AreIdle};
 
@@ -10,8 +11,8 @@ use arachne_spill::SpillPass;
 use std::alloc::Global;
 use std::sync::Wait;
 
-/// A worker's tokens: its seat at the table, its pass (right to use) of the queue of tickets, its holdings of the
-/// ledgers and locks, and for one of the workers the arbiter.
+/// The tokens of a worker: its seat at the table, its pass (right to use) of the ticket queue, its shares of ledgers
+/// and locks, and for one of the workers the arbiter.
 #[derive(Drop)]
 pub(crate) struct Tokens<S, K> {
     pub(crate) seat: S,
@@ -21,8 +22,8 @@ pub(crate) struct Tokens<S, K> {
 }
 
 impl<S, K: Tagged + Drop> Tokens<S, K> {
-    /// Splits the tokens into two halves. The first half keeps the arbiter. Returns the tokens whole if memory is
-    /// refused.
+    /// Splits the tokens into two halves. The first half keeps the arbiter. If memory is refused, returns the tokens
+    /// unsplit.
     pub(crate) fn split<H: Wait, C: Seats<Seat = S>>(
         self,
         rt: &H,

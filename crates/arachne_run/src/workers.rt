@@ -187,8 +187,8 @@ where
 }
 
 /// Runs the worker of a core until all workers stop, beginning with the root thread if there is one. Returns the
-/// worker's tokens. After a fault the worker stops all others and returns no tokens, since its seats may still have
-/// something in hand. A missing chooser (random generator) is a fault.
+/// worker's tokens. After a fault the worker stops all others and returns no tokens, since its seats may still have a
+/// thread or places. A missing chooser (random generator) is a fault.
 fn work_on<H: Wait + Clock, T: RunJob, C: Contexts<T>, R: Rng + Drop, G: Gate>(
     rt: &H,
     alloc: Global,
@@ -221,7 +221,7 @@ fn work_on<H: Wait + Clock, T: RunJob, C: Contexts<T>, R: Rng + Drop, G: Gate>(
     into_tokens(machine, desk)
 }
 
-/// Returns the worker of a core, which has had no slice.
+/// Returns the worker of a core, which has run no slice yet.
 #[inline(always)]
 fn worker_on<'a, H, D, C, K: Tagged + Drop>(
     rt: &'a H,
@@ -247,8 +247,8 @@ fn worker_on<'a, H, D, C, K: Tagged + Drop>(
     }
 }
 
-/// Returns the tokens of a worker that has ended. The result is a fault if the worker's seats still have something in
-/// hand.
+/// Returns the tokens of a worker that has ended. The result is a fault if the worker's seats still have a thread or
+/// places.
 fn into_tokens<'a, H: Wait, T: RunJob, C: Contexts<T>, R: Rng + Drop, G: Gate>(
     machine: &Machine<C, T::Ticket>,
     desk: RunSeat<'a, H, T, C, R, G>,

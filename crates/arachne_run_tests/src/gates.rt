@@ -1,4 +1,4 @@
-//! A gate (an observer of a run) that records which cores run, or holds cores up.
+//! An observer of a run (`Gate`) that records which cores run, or delays cores until an event.
 use arachne_core::{CORES, ThreadId};
 use arachne_judge::Log;
 use arachne_lang::Name;
@@ -7,10 +7,10 @@ use std::hint::spin_loop;
 use std::sync::atomic::{AtomicU64, Ordering};
 use std::thread::yield_now;
 
-/// The number of polls for an event of another core after which a gate gives up.
+/// The number of polls for an event of another core after which the observer gives up.
 const POLLS: u32 = 5_000_000;
 
-/// The number of polls for which a core is held so that an event which must not happen could happen.
+/// The number of polls for which a core waits, so that an event which must not happen could happen.
 const PAUSE: u32 = 500;
 
 /// The number of looks, without a pause, that show that a slice does not begin.
@@ -22,9 +22,9 @@ const REST: u32 = 1_000_000;
 /// The number of yields after which `is_still` looks whether a slice has begun.
 const LOOKS: u32 = 100;
 
-/// The behaviour of a gate.
+/// The behaviour of an observer (`Gate`).
 ///
-/// A core that is *held* in a slice has entered the slice, and has not made the slice's first step. If an event occurs
+/// A core that *waits* in a slice has entered the slice, and has not made the slice's first step. If an event occurs
 /// that must not, `is_over` is false.
 #[derive(Clone, Copy)]
 pub enum Watching {
@@ -32,57 +32,56 @@ pub enum Watching {
     Nothing,
     /// Records which cores have entered a slice, and the number of slices entered.
     Cores,
-    /// `(a, b)`: core 1 is held in its first slice until core 0 has entered slice a, and core 0 in slice a until core 1
-    /// has entered slice b.
+    /// `(a, b)`: core 1 waits in its first slice until core 0 has entered slice a, and core 0 waits in slice a until
+    /// core 1 has entered slice b.
     Meeting(u64, u64),
-    /// `(n)`: core 0 is held in slice n - 1 until core 1 has entered slice 0. Core 1 is held at the end of slice 0
-    /// until core 0 has entered slice n. No order may be applied before core 0 has entered slice n.
+    /// `(n)`: core 0 waits in slice n - 1 until core 1 has entered slice 0. Core 1 waits at the end of slice 0 until
+    /// core 0 has entered slice n. No order may be applied before core 0 has entered slice n.
     Holding(u64),
-    /// `(n)`: core 1 is held in slice 0 until core 0 has entered n slices.
+    /// `(n)`: core 1 waits in slice 0 until core 0 has entered n slices.
     Lead(u64),
-    /// Core 0 is held in slice 0 for a while, in which core 1 must not enter a slice.
+    /// Core 0 waits in slice 0 for a while, in which core 1 must not enter a slice.
     First,
-    /// `(n)`: core 1 is held in slice n until orders were applied.
+    /// `(n)`: core 1 waits in slice n until orders were applied.
     Applying(u64),
-    /// `(a, b)`: core 0 is held in slice a until core 1 is about to park, and in slice b until core 1 has entered slice
+    /// `(a, b)`: core 0 waits in slice a until core 1 is about to park, and in slice b until core 1 has entered slice
     /// 0.
     Granting(u64, u64),
-    /// `(n)`: core 0 is held in slice n until core 1 has ended a slice and had time to fall asleep. Then core 0 is held
-    /// in slice n + 4 until core 1 is about to park.
+    /// `(n)`: core 0 waits in slice n until core 1 has ended a slice and had time to fall asleep. Then core 0 waits in
+    /// slice n + 4 until core 1 is about to park.
     ///
-    /// A sleep that times out is counted only if core 0 was already held when core 1 parked. Before core 1 is notified
-    /// of the order, its worker may also notice at the end of a sleep that the core was taken back.
+    /// A sleep that times out is counted only if core 0 already waited when core 1 parked. Before core 1 is notified of
+    /// the order, its worker may also notice at the end of a sleep that the core was taken back.
     Parking(u64),
-    /// `(core, n)`: core 0 is held in slice n until `core` is about to park.
+    /// `(core, n)`: core 0 waits in slice n until `core` is about to park.
     Parked(u8, u64),
     /// Counts the children that wait for a place with a ticket.
     Spills,
     /// Records whether a thread was woken because its child had ended, and whether a thread was woken because it got
     /// its lock.
     Wakes,
-    /// `(n)`: core 0 is held in slice n until core 1 has entered slice 0, and core 1 in that slice until an order is
-    /// applied. Core 1 must take a thread before each of its later slices.
+    /// `(n)`: core 0 waits in slice n until core 1 has entered slice 0, and core 1 waits in that slice until an order
+    /// is applied. Core 1 must take a thread before each of its later slices.
     Anew(u64),
-    /// `(a, b)`: core 0 is held in slice a until a thread of core 1 awaits a child. In slice b core 1 gets time to
-    /// park, but must not park before a thread has ended on core 1.
+    /// `(a, b)`: core 0 waits in slice a until a thread of core 1 awaits a child. In slice b core 1 gets time to park,
+    /// but must not park before a thread has ended on core 1.
     ParksLast(u64, u64),
-    /// Core 1 is held in slice 0 until threads were moved away. Records the cores to which they were moved.
+    /// Core 1 waits in slice 0 until threads were moved away. Records the cores to which they were moved.
     Moving,
-    /// `(core, n)`: core 0 is held in slice n until a thread of `core` has ended, waits or was moved away. If the
-    /// thread waits, core 0 yields in each slice until the thread was moved. Then core 0 is held until `core` is about
-    /// to park.
+    /// `(core, n)`: core 0 waits in slice n until a thread of `core` has ended, waits or was moved away. If the thread
+    /// waits, core 0 yields in each slice until the thread was moved. Then core 0 waits until `core` is about to park.
     Emptied(u8, u64),
-    /// `(n)`: core 0 is held in slice 0 until a core is about to park, and core 2 in slice 0 until core 1 has entered
-    /// slice n. Core 1 is held in slice n until the parked core is unparked, which shows that the run was stopped. In
-    /// earlier slices core 1 is held until core 0's slice 0 has ended. Core 1 must not enter a slice after slice n.
+    /// `(n)`: core 0 waits in slice 0 until a core is about to park, and core 2 in slice 0 until core 1 has entered
+    /// slice n. Core 1 waits in slice n until the parked core is unparked, which shows that the run was stopped. In
+    /// earlier slices core 1 waits until core 0's slice 0 has ended. Core 1 must not enter a slice after slice n.
     Stopping(u64),
 }
 
-/// A gate that behaves as its `Watching` says.
+/// An observer (`Gate`) that behaves as its `Watching` says.
 #[derive(Drop)]
 pub struct Watch {
     watching: Watching,
-    /// The events reported to the gate, if they are judged.
+    /// The events reported to the observer, if they are judged.
     pub log: Option<Log>,
     /// The number of the root's only exclusive fork, if the log is judged.
     pub exclusive: Option<u64>,
@@ -94,7 +93,7 @@ pub struct Watch {
     pub oversleeps: AtomicU64,
     zero: AtomicU64,
     one: AtomicU64,
-    /// Set by the first event for which a core is held, such as the end of a slice or a park.
+    /// Set by the first event for which a core waits, such as the end of a slice or a park.
     ended: AtomicU64,
     failed: AtomicU64,
 }
@@ -115,7 +114,7 @@ impl Watch {
         }
     }
 
-    /// Returns whether all events for which a core was held have occurred, and no event that must not occur has.
+    /// Returns whether all events for which a core waited have occurred, and no event that must not occur has.
     pub fn is_over(&self) -> bool {
         let (zero, one) = match self.watching {
             Watching::Nothing | Watching::Cores | Watching::Spills => (0, 0),
@@ -204,8 +203,8 @@ impl Watch {
         }
     }
 
-    /// Holds core 0 until another core is empty and parks. `is_first` is true in the first slice in which core 0 is
-    /// held.
+    /// Lets core 0 wait until another core is empty and parks. `is_first` is true in the first slice in which core 0
+    /// waits.
     fn empties(&self, is_first: bool) {
         if is_first {
             self.wait(&self.ended, 1);

@@ -1,5 +1,5 @@
-//! Tests of whole runs: the report of a program, and that a run uses the table, the choosers and the gate that it is
-//! given. No proof depends on these tests. Terms are in `docs/glossary.md`.
+//! Tests of whole runs: the report of a program, and that a run uses the table, the choosers and the observer (`Gate`)
+//! that it is given. No proof depends on these tests. Terms are in `docs/glossary.md`.
 #![tactic(auto)]
 
 #[cfg(test)]

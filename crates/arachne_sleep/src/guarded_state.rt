@@ -12,9 +12,10 @@ use crossbeam_utils::CachePadded;
 use std::alloc::Global;
 use std::marker::Model;
 
-/// A lock's state, on cache lines of its own, and the index in the history of the pass that the last call got.
+/// A lock's state, on cache lines of its own, and the index (in the lock's history) of the grant that the last call
+/// reported.
 ///
-/// The index is only for proofs: the step that gives the guard back reads it here.
+/// The index is only for proofs: the step that gives the guard back reads the index here.
 #[derive(Drop)]
 pub struct GuardedState {
     state: CachePadded<LockState>,

@@ -2,8 +2,8 @@
 //!
 //! [`LockState`] is the state of a sleep lock: its owner, the threads that wait for it, in order, and the history of
 //! all asks, grants and frees. [`SleepLock`] is a sleep lock that kernel threads share. Each kernel thread calls the
-//! lock through a [`LockSeat`], which keeps what was done through the seat. [`SleepLocks`] are several such locks, used
-//! through [`LockSeats`]. No call waits.
+//! lock through a [`LockSeat`], in which contracts see a log of what was done by it. [`SleepLocks`] are several such
+//! locks, used through [`LockSeats`]. No call waits.
 #![tactic(auto)]
 
 mod answer;

@@ -8,7 +8,7 @@ use arachne_weights::Weight;
 use atomic_table::Seat;
 use std::marker::Model;
 
-/// A part of the right to use one sleep lock, with what was done through it.
+/// A part of the right to use one sleep lock. Contracts also see in it a log of what was done by it.
 ///
 /// A seat must be used, split and joined with the lock that it came from. If a seat is dropped, its weight is lost, and
 /// no seat can have the whole weight any more.
@@ -18,7 +18,7 @@ pub struct LockSeat {
     pub(crate) weight: Weight,
 }
 
-// Contracts see the table that it came from, its weight and its log.
+// Contracts see the table that the seat came from, the seat's weight and its log.
 impl Model for LockSeat {
     ghost use Rattle.std.specs.Prelude.{◌≡◌};
     ghost use Rattle.arachne_sleep.specs.Views.{SeatView};

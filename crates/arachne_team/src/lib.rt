@@ -1,4 +1,4 @@
-//! A team of kernel threads: each works with a share of what all have together, and returns it at its end.
+//! A team of kernel threads. Each works with a part of one share, and returns its part at its end.
 #![tactic(auto)]
 
 mod start;

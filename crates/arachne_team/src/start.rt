@@ -9,7 +9,7 @@ use std::sync::Wait;
 use std::thread::{self, Promise, PromisedHandle, Threads};
 use std::time::Clock;
 
-/// The promise that the share which a kernel thread returns is one of this team.
+/// The promise that the share that a kernel thread returns belongs to this team.
 #[derive(Drop)]
 struct Returns<W> {
     team: Snapshot<W>,
@@ -29,10 +29,10 @@ impl<S, W: Team<S>> Promise<Option<S>> for Returns<W> {
     ghost kept_by = { λ promise share. IfSome share (W.has promise.team.value) };
 }
 
-/// Runs all kernel threads of a team, each with a part of `share`, and returns the share of all together.
+/// Runs all kernel threads of a team, each with a part of `share`, and returns all parts joined.
 ///
-/// The calling kernel thread has number 0, and new ones have the other numbers. The call returns after all have ended,
-/// and returns `None` if a share is lost.
+/// The calling kernel thread has number 0, and new kernel threads have the other numbers. The call returns after all
+/// have ended, and returns `None` if a part of the share is lost.
 ///
 /// If memory or a kernel thread is refused, `Team::fail` is called, and the kernel threads that have begun work without
 /// the others. The idea is that of a team of threads in OpenMP.
@@ -102,7 +102,7 @@ fn part_off<H: Wait, S, W: Team<S>, O>(
     team.part_off(rt, share)
 }
 
-/// Joins the other kernel threads, and returns the share of all together, if each returned its own.
+/// Joins the other kernel threads, and returns all parts of the share joined, if each kernel thread returned its own.
 fn join_all<H: Threads + Wait, S: Drop, W: Team<S>>(
     rt: &H,
     team: &W,

@@ -13,13 +13,13 @@ pub enum TeamFault {
     KernelThread,
 }
 
-/// The work of a team's kernel threads, each with a share of type `S`. The threads are numbered from 0, the number of
-/// the one that starts the others.
+/// The work of a team's kernel threads, each with a share of type `S`. The threads are numbered from 0, which is the
+/// thread that starts the others.
 ///
 /// Kernel threads are started only through this trait, whatever their shares are: see
 /// [`work_together`](crate::work_together).
 pub trait Team<S> {
-    /// True if the share is one of this team.
+    /// True if the share belongs to this team.
     ghost has: { Self → S → Type 0 };
 
     /// The number of kernel threads.

@@ -17,7 +17,8 @@ use arachne_core::{COUNT_ONE, EXCLUSIVE, OccWord, Place, SLOTS};
 /// The occupancy word of a core that a single claim has taken as a whole.
 const WHOLE_CORE: u64 = EXCLUSIVE + COUNT_ONE + 1;
 
-/// Returns the number that a claim adds to its core's occupancy word, and the release of the claim subtracts from it.
+/// Returns the number that a claim adds to its core's occupancy word, and that the release of the claim subtracts
+/// again.
 ///
 /// The number has the index's bit, one in the count, and the exclusive bit if the whole core was claimed.
 fn claim_sum(index: u8, alone: bool) -> u64
@@ -65,7 +66,7 @@ impl<T: Tagged + Drop> WordContexts<T> {
         Ok(())
     }
 
-    /// Claims the lowest free index of a core: reads the core's word once, and tries once.
+    /// Claims the lowest free index of a core: reads the core's occupancy word once, and tries once.
     pub fn claim(&self, seat: &mut WordSeat<T>, core: u8) -> Claimed<WordClaim>
         requires own { seat.old.table ≡ self.now.table }
         requires core { core < self.now.shape.cores }
@@ -93,7 +94,7 @@ impl<T: Tagged + Drop> WordContexts<T> {
         }
     }
 
-    /// Tries once to claim a whole core, whose word was 0.
+    /// Tries once to claim a whole core, whose occupancy word was 0.
     fn try_claim_alone(&self, seat: &mut CallSeat<T>, core: u8) -> Result<(), u64>
         requires own { seat.old.table ≡ self.now.table }
         requires core { core < self.now.shape.cores }
@@ -109,7 +110,7 @@ impl<T: Tagged + Drop> WordContexts<T> {
         Ok(())
     }
 
-    /// Claims an empty core for one thread, at index 0: reads the core's word once, and tries once.
+    /// Claims an empty core for one thread, at index 0: reads the core's occupancy word once, and tries once.
     pub fn claim_alone(&self, seat: &mut WordSeat<T>, core: u8) -> Claimed<WordClaim>
         requires own { seat.old.table ≡ self.now.table }
         requires core { core < self.now.shape.cores }
@@ -136,8 +137,8 @@ impl<T: Tagged + Drop> WordContexts<T> {
         }
     }
 
-    /// Frees a place: in one step subtracts the place's bit and 1 of the count from the core's word, and the exclusive
-    /// bit if `alone` is true.
+    /// Frees a place: in one step subtracts the place's bit and 1 of the count from the core's occupancy word, and the
+    /// exclusive bit if `alone` is true.
     pub(crate) fn release(&self, seat: &mut CallSeat<T>, place: Place, alone: bool)
         requires own { seat.old.table ≡ self.now.table }
         requires claim { HasClaim self.now seat.old.known (record { place = place; alone = alone }) }

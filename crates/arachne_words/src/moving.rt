@@ -29,9 +29,9 @@ fn stands_at(seen: MarkWord, place: Place) -> bool
     at.core == place.core && at.index == place.index
 }
 
-/// Returns the reason why the thread of a mark word can't be moved, if there is one.
+/// Returns the reason why the thread of a mark word can't be moved, if there is a reason.
 ///
-/// The reasons are: there is no thread, its core is exclusive, or a seat holds it.
+/// The reasons are: there is no thread, its core is exclusive, or a seat has the thread in hand.
 fn obstacle(seen: MarkWord) -> Option<Moved>
     ensures some { IfSome result (IsObstacle seen) }
     ensures none { IfNone result (IsRestMark seen.mark × (seen.alone ≡ false)) }
@@ -45,7 +45,7 @@ fn obstacle(seen: MarkWord) -> Option<Moved>
 }
 
 impl<T: Tagged + Drop> WordContexts<T> {
-    /// Tries once to move a thread that no seat holds to a place on another core, at which the seat has claimed a
+    /// Tries once to move a thread that no seat has in hand to a place on another core, at which the seat has claimed a
     /// context.
     fn try_move(
         &self,
@@ -102,7 +102,7 @@ impl<T: Tagged + Drop> WordContexts<T> {
         shared.store::<Replace>(&mut seat.seat, context, free.word());
     }
 
-    /// Stores, in the word of the place that a move left, the number of the context that stands there now.
+    /// Stores, in the word of the place `source` that a move left, the number of the context that stands there now.
     fn name_source(&self, seat: &mut CallSeat<T>, source: Place, context: usize)
         requires own { seat.old.table ≡ self.now.table }
         requires place { IsPlaceIn self.now.shape source }
@@ -138,7 +138,7 @@ impl<T: Tagged + Drop> WordContexts<T> {
         self.release(seat, source, false);
     }
 
-    /// Moves a thread that no seat holds to a place that the seat has claimed on another core.
+    /// Moves a thread that no seat has in hand to a place that the seat has claimed on another core.
     ///
     /// If the thread's mark word has changed, the place is freed again.
     fn move_to(
@@ -176,8 +176,8 @@ impl<T: Tagged + Drop> WordContexts<T> {
         Moved::Moved
     }
 
-    /// Claims a place on the target core for a thread that no seat held when its mark word was read, and moves the
-    /// thread there.
+    /// Claims a place on the target core for a thread that no seat had in hand when its mark word was read, and moves
+    /// the thread there.
     fn move_seen(
         &self,
         seat: &mut CallSeat<T>,
@@ -209,9 +209,10 @@ impl<T: Tagged + Drop> WordContexts<T> {
         self.move_to(seat, moving, seen, source, target)
     }
 
-    /// Moves the thread at a place to the lowest free index of another core, if no seat holds the thread. Tries once.
+    /// Moves the thread at a place to the lowest free index of another core, if no seat has the thread in hand. Tries
+    /// once.
     ///
-    /// The thread's value stays in its slot, and of its mark word only the place changes.
+    /// The thread's value stays in its slot, and only the place in its mark word changes.
     pub fn move_one(&self, seat: &mut WordSeat<T>, place: Place, to: u8) -> Moved
         requires own { seat.old.table ≡ self.now.table }
         requires place { IsPlaceIn self.now.shape place }

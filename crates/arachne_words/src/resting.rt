@@ -27,7 +27,7 @@ impl<T: Tagged + Drop> WordContexts<T> {
         shared.store::<RestReady>(&mut seat.seat, context, ready.word());
     }
 
-    /// Tries once to put a held thread back as blocked. Fails if the thread was woken.
+    /// Tries once to put back, as blocked, a thread that the seat has in hand. Fails if the thread was woken.
     fn try_rest_blocked(
         &self,
         seat: &mut CallSeat<T>,
@@ -49,7 +49,7 @@ impl<T: Tagged + Drop> WordContexts<T> {
         Ok(())
     }
 
-    /// Puts the value of a held thread into its slot, and puts the thread back.
+    /// Puts the value of a thread that the seat has in hand into its slot, and puts the thread back.
     fn rest_thread(
         &self,
         seat: &mut CallSeat<T>,
@@ -79,9 +79,9 @@ impl<T: Tagged + Drop> WordContexts<T> {
         Rested::AsAsked
     }
 
-    /// Puts a held thread back as ready or as blocked.
+    /// Puts back a thread that the seat has in hand, as ready or as blocked.
     ///
-    /// A thread that was to be blocked is ready if it was woken while it was held.
+    /// A thread that was to be blocked is ready if it was woken since it was taken.
     pub fn put_back(&self, seat: &mut WordSeat<T>, thread: Held<T, WordHold>, rest: Rest) -> Rested
         requires own { seat.old.table ≡ self.now.table }
         requires thread { HasThread self.now seat.old.known thread.hold (T.tag_of thread.value) }

@@ -1,4 +1,4 @@
-//! The seats of the table, and their claims and holds.
+//! The seats of the table, their claims, and the handles of the threads that they have in hand.
 ghost use Rattle.std.specs.Prelude.{◌≡◌};
 
 use crate::call_seat::CallSeat;
@@ -7,10 +7,11 @@ use arachne_core::{Place, ThreadId};
 use arachne_weights::Weight;
 use std::marker::Model;
 
-/// A seat at a table, through which a kernel thread calls it. The seat has a part of the table's whole weight.
+/// A seat at a table, through which a kernel thread calls the table. The seat has a part of the table's whole weight.
 ///
-/// Contracts see the identity of the seat's table, the seat's weight, and what the seat knows: the claims and held
-/// threads that it has not spent, the threads that it has posted and ended, and the steps that it has made.
+/// Contracts see the identity of the seat's table, the seat's weight, and what the seat knows: the claims that it has
+/// not spent, the threads that it has in hand, the threads that it has posted and ended, and the steps that it has
+/// made.
 #[derive(Drop)]
 pub struct WordSeat<T> {
     pub(crate) at: CallSeat<T>,
@@ -52,7 +53,7 @@ impl Placed for WordClaim {
     }
 }
 
-/// The handle of a thread that a seat holds.
+/// The handle of a thread that a seat has in hand.
 #[derive(Drop)]
 pub struct WordHold {
     pub(crate) id: ThreadId,

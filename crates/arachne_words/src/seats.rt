@@ -148,7 +148,7 @@ impl<T: Tagged + Drop> WordContexts<T> {
         seat.weight.is_whole()
     }
 
-    /// Returns the number of claims and held threads that the seat has not spent.
+    /// Returns the number of claims that the seat has not spent and of threads that it has in hand.
     pub fn out(&self, seat: &WordSeat<T>) -> u32
         ensures { result ≡ length seat.now.known.carried }
     {

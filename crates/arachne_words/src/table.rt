@@ -23,8 +23,8 @@ use std::marker::Model;
 /// A context table on atomic words. A kernel thread that has a seat may call the table, and no call waits.
 ///
 /// Contracts see the identity of the table, and its shape.
-// In its methods a line `let _ = &self.places_per_core;` opens the table for the prover, which learns its sizes there
-// (`IsSized`).
+// In the methods of this type a line `let _ = &self.places_per_core;` opens the table for the prover, which learns its
+// sizes there (`IsSized`).
 #[derive(Drop)]
 pub struct WordContexts<T: Tagged + Drop> {
     pub(crate) table: Table<Option<T>, View, Shape, ContextRule, Global>,

@@ -1,4 +1,4 @@
-//! The calls by which a worker uses its table and the thread in hand, and their results.
+//! The calls by which a worker uses its table and the thread that it has in hand, and their results.
 //!
 //! The worker's loop is written over this trait, and not over tables and jobs.
 ghost use Rattle.std.specs.Prelude.{◌≡◌, ◌≤◌, OnOk};
@@ -10,7 +10,7 @@ use arachne_contexts::Woken;
 use arachne_core::{MarkWord, OccWord, Place, Rest, SLOTS, ThreadId};
 use std::marker::Model;
 
-/// An error that ends a worker. The desk has a number for each cause.
+/// An error that ends a worker. Each implementation of `Desk` has a number for each cause.
 #[derive(Clone, Copy, Debug, PartialEq, Eq)]
 pub struct Halt {
     pub why: u8,
@@ -51,10 +51,10 @@ impl Halted {
 
 /// A worker's access to its table and to the thread in hand.
 ///
-/// No call changes the table to which the worker's seat belongs. The trait has no types of its own: over the types of a
+/// No call changes the table to which the worker's seat belongs. The trait has no associated types: over the types of a
 /// table and a job each proof of the loop takes far longer.
 pub trait Desk {
-    /// Takes the thread at a place, if it is ready and no thread is in hand yet, and reports that.
+    /// Takes the thread at a place, if it is ready and no thread is in hand yet, and reports that it was taken.
     fn take(&mut self, place: Place) -> Grip
         ensures { self.new ≡ self.old };
 
@@ -63,8 +63,8 @@ pub trait Desk {
 
     /// Runs the thread in hand for at most `left` steps, and serves its requests.
     ///
-    /// The steps that it makes are subtracted from `left`. While another kernel thread has what a request needs, this
-    /// kernel thread waits by `pace` (`stand_by`).
+    /// The steps that the thread makes are subtracted from `left`. While another kernel thread has what a request
+    /// needs, this kernel thread waits by `pace` (`stand_by`).
     fn advance(&mut self, pace: &mut Pace, left: &mut u32) -> Result<ThreadStop, Halt>
         requires { 1 ≤ left.old }
         ensures desk { self.new ≡ self.old }
@@ -73,24 +73,24 @@ pub trait Desk {
     /// Returns whether the thread in hand has acquired a lock since it was taken, and released none since.
     fn holds(&self) -> bool;
 
-    /// Puts the thread in hand back: ready or blocked, as the reason for which it stopped demands.
+    /// Puts the thread in hand back: ready or blocked, depending on why it stopped.
     ///
-    /// Returns the state in which the thread was put back: it is ready also if it was woken in the meantime.
+    /// Returns the state in which the thread was put back: the thread is ready also if it was woken in the meantime.
     fn rest(&mut self) -> Result<Rest, Halt>
         ensures { self.new ≡ self.old };
 
     /// Ends the thread in hand, which leaves its outcome. Returns the id of the thread that awaits the ended one, if
     /// there is one.
     ///
-    /// The worker keeps the thread's place, for a later child, if the core was full before (`before` is the core's word
-    /// then); otherwise the place is free. If the thread was the last one, all workers are stopped.
+    /// The worker keeps the thread's place, for a later child, if the core was full before (`before` is the core's
+    /// occupancy word then); otherwise the place is free. If the thread was the last one, all workers are stopped.
     fn end(&mut self, before: OccWord) -> Result<Option<ThreadId>, Halt>
         ensures { self.new ≡ self.old };
 
-    /// Returns the number of places that the worker keeps for later children.
+    /// Returns the number of places that the worker keeps for later children (the kept places).
     fn kept(&self) -> usize;
 
-    /// Gives back the newest place that is kept. Returns whether there was such a place.
+    /// Gives back the newest kept place. Returns whether there was such a place.
     fn give_one_back(&mut self) -> Result<bool, Halt>
         ensures { self.new ≡ self.old };
 
@@ -106,8 +106,8 @@ pub trait Desk {
     fn try_wake(&mut self, id: ThreadId) -> Woken
         ensures { self.new ≡ self.old };
 
-    /// Moves the thread at a place of another core to this one, if workers may move threads. Returns whether the thread
-    /// was moved.
+    /// Moves the thread at a place of another core to this worker's core, if workers may move threads. Returns whether
+    /// the thread was moved.
     fn pull(&mut self, place: Place) -> bool
         ensures { self.new ≡ self.old };
 
@@ -116,18 +116,18 @@ pub trait Desk {
         ensures { self.new ≡ self.old };
 
     /// Takes the ticket of a thread that waits for a place, and puts the thread at a place if it still waits and there
-    /// is one.
+    /// is a free place.
     fn take_ticket(&mut self) -> Result<TicketResult, Halt>
         ensures { self.new ≡ self.old };
 
-    /// Applies the orders that are due, and moves threads away from closed cores, if this worker has the orders.
+    /// Applies the orders that are due, and moves threads away from closed cores, if this worker applies orders.
     ///
-    /// Returns the number of orders that are applied in all, if one was applied by this call, and the cores to which
+    /// Returns the number of orders that were applied in all, if this call applied an order, and the cores to which
     /// threads were moved, a bit for each.
     fn tend(&mut self) -> (Option<usize>, u64)
         ensures { self.new ≡ self.old };
 
-    /// Returns whether there are orders. `tend` is called only if there are orders.
+    /// Returns whether the run has orders. `tend` is called only if there are orders.
     fn has_orders(&self) -> bool;
 
     /// Returns whether others may wait for this worker: it has orders that are not applied yet, or threads that wait
@@ -138,14 +138,14 @@ pub trait Desk {
     fn is_drained(&mut self) -> bool
         ensures { self.new ≡ self.old };
 
-    /// Reports that a slice of the thread in hand begins, the worker's `nth` from 0 on.
+    /// Reports that a slice of the thread in hand begins: the worker's slice number `nth`, counted from 0.
     fn begins(&self, nth: u64);
 
     /// Reports what the worker has just done, or is about to do.
     fn told(&self, event: WorkerEvent);
 }
 
-/// The reason why the thread in hand stops.
+/// The reason why the thread in hand stops making steps.
 #[derive(Clone, Copy)]
 pub enum ThreadStop {
     /// The thread goes on.
@@ -154,8 +154,8 @@ pub enum ThreadStop {
     Posted(PostedThread),
     /// The thread goes on, and has forked a child that waits with a ticket.
     Spilled,
-    /// The thread goes on, and has released a lock, which the thread of this id has now. The thread that has the lock
-    /// now runs before all others.
+    /// The thread goes on, and has released a lock, which the thread of this id has now. The thread of this id runs
+    /// before all others.
     Wakes(ThreadId),
     /// The thread awaits a child that has not ended.
     Blocks,
@@ -169,7 +169,7 @@ pub enum ThreadStop {
 #[derive(Clone, Copy)]
 pub enum Grip {
     Taken,
-    /// No thread is ready there.
+    /// No thread is ready at the place.
     None,
     /// The place changed during the attempt, which must be repeated.
     Lost,
@@ -180,7 +180,7 @@ pub enum Grip {
 pub enum TicketResult {
     /// No thread waits for a place.
     None,
-    /// The thread no longer waits, or there was no place.
+    /// The thread no longer waits, or there was no free place.
     Gone,
     Posted(PostedThread),
 }
@@ -198,19 +198,19 @@ pub enum WorkerEvent {
     Helps(ThreadId, u8),
     /// A child got no place and waits for one, with a ticket.
     Spilled,
-    /// A ticket was taken. The value is true if the ticket's child got a place here. If the value is false, the child's
-    /// parent runs the child, or there was no place.
+    /// A ticket was taken. The value is true if the ticket's child got a place on this core. If false, the child's
+    /// parent runs the child, or there was no free place.
     Ticket(bool),
     /// The core is closed and empty, and the worker is about to park.
     Parks,
     /// The worker was unparked.
     Unparked,
-    /// The worker's sleep timed out, and then it found something that nobody had signalled. Threads and tickets that
-    /// are not signalled at once cause a few such events; many of them show that a signal is missing.
+    /// The worker's sleep timed out, and then the worker found something that nobody had signalled. Threads and tickets
+    /// that are not signalled at once cause a few such events; many of them show that a signal is missing.
     Overslept,
-    /// The worker that has the orders has applied one: this many in all are applied now.
+    /// The worker that applies orders has applied an order: this is the number of all applied orders now.
     Applied(usize),
-    /// The worker that has the orders has moved threads away from a closed core to these cores, a bit for each.
+    /// The worker that applies orders has moved threads away from a closed core to these cores, a bit for each.
     MovedAway(u64),
 }
 
@@ -232,11 +232,11 @@ pub enum SliceEnd {
 pub enum Cause {
     /// The thread's child has ended.
     ChildEnded,
-    /// The thread has the lock for which it waited, and for which others may wait.
+    /// The thread got the lock for which it waited. Others may wait for the same lock.
     IsServed,
 }
 
-/// Gives back all kept places.
+/// Gives back all places that the worker keeps for later children.
 pub fn give_all_back<D: Desk>(desk: &mut D) -> Result<(), Halt>
     ensures { desk.new ≡ desk.old }
 {
@@ -248,7 +248,7 @@ pub fn give_all_back<D: Desk>(desk: &mut D) -> Result<(), Halt>
     Ok(())
 }
 
-/// Gives back all kept places if the core, of `slots` places, has few threads.
+/// Gives back all places that the worker keeps for later children if the core, of `slots` places, has few threads.
 #[inline(always)]
 pub(crate) fn thin_out<D: Desk>(desk: &mut D, slots: u8) -> Result<(), Halt>
     ensures { desk.new ≡ desk.old }

@@ -1,7 +1,7 @@
 //! A word for each core that says at which indexes threads may be ready, and whether the core's worker sleeps.
 //!
-//! The module uses only atomics, so any host may call it: each call returns which worker to wake, and the caller wakes
-//! it.
+//! The module uses only atomics, so any host may call it: each call returns which worker to wake, and the caller must
+//! wake that worker.
 ghost use Rattle.std.specs.Prelude.{◌≡◌, ◌↔◌, ◌<◌, ◌≤◌, ◌*◌, ◌/◌, ◌%◌, ◌^◌, IfOk, IsSome, IsTrue};
 ghost use Rattle.arachne_core.specs.declared.layout.TheConstants.{SLOTS};
 
@@ -12,7 +12,7 @@ use std::marker::Model;
 use std::sync::atomic::{AtomicU64, Ordering};
 
 /// The bit of a core's word that says that the core's worker sleeps. A sleeping worker waits on the low 32 bits of the
-/// word, so the bit is one of them.
+/// word, so this bit is one of them.
 pub(crate) const SLEEPS: u64 = 1;
 
 const INDEX_SHIFT: u32 = 1;
@@ -57,7 +57,7 @@ fn says_sleeps(word: u64) -> bool
 ///
 /// Each word has a bit for each index at which a thread may be ready, and a bit that says that the core's worker
 /// sleeps. The bit of an index is a hint: only the table says which threads are ready, and a pass over all occupied
-/// indexes finds also those that have no bit.
+/// indexes also finds ready threads at indexes without a bit.
 #[derive(Drop)]
 pub struct Hints {
     words: Vec<CachePadded<AtomicU64>>,
@@ -110,7 +110,7 @@ impl Hints {
         }
     }
 
-    /// Returns whether the core's word has any bit.
+    /// Returns whether any bit of the core's word is set.
     pub fn is_any(&self, core: u8) -> bool {
         self.now(core) != 0
     }
@@ -130,7 +130,8 @@ impl Hints {
     /// Records that the core's worker is about to sleep. Returns false, and records nothing, if there is a hint.
     pub fn is_about_to_sleep(&self, core: u8) -> bool {
         match self.word(core) {
-            // One exchange: a hint before it keeps the worker awake, and whoever hints after it sees that it sleeps.
+            // One exchange: a hint before the exchange keeps the worker awake, and whoever hints after it sees that the
+            // worker sleeps.
             Some(word) => word
                 .compare_exchange(0, SLEEPS, Ordering::SeqCst, Ordering::SeqCst)
                 .is_ok(),
@@ -141,7 +142,7 @@ impl Hints {
     /// Wakes the core's worker, if there is one.
     pub(crate) fn end_sleep(&self, core: u8) {
         if let Some(word) = self.word(core) {
-            // Before the wake: a worker that is only about to sleep finds the word changed, and does not.
+            // Before the wake: a worker that is only about to sleep finds the word changed, and does not sleep.
             word.fetch_and(!SLEEPS, Ordering::SeqCst);
             word.wake_one();
         }

@@ -1,4 +1,4 @@
-//! Every number and every choice of the scheduler.
+//! Every constant and every choice of the scheduler.
 //!
 //! Pure functions: their results change when and where threads run, and how fast, and never what a run computes. Each
 //! contract says the exact result, so no function has a test of its own.
@@ -18,31 +18,33 @@ pub(crate) const MOST_ALONE: u32 = 64;
 /// After this many passes over the hinted indexes only, a worker looks at all occupied indexes of its core once.
 pub(crate) const SCANS_BETWEEN_LOOKS: u32 = 64;
 
-/// The most steps that a thread makes in its slice after it has released a lock whose next holder runs here.
+/// The most steps that a thread makes in its slice after it has released a lock whose next holder runs on the same
+/// core.
 pub(crate) const STEPS_PAST_FREE: u32 = 50;
 
 /// The grace of a turn: the most steps of the further slices that a thread gets because it holds a lock.
 pub(crate) const STEPS_TO_FREE: u32 = 500;
 
-/// The most threads that a worker has put on other cores without signalling those cores yet.
+/// The most threads put on other cores for which a worker delays the signal.
 pub(crate) const MOST_KEPT_BACK: usize = 8;
 
-/// The number of steps for which a worker keeps a signal back.
+/// The number of steps for which a worker delays a signal.
 pub(crate) const PATIENCE: u32 = 500;
 
-/// A worker signals its first posts on other cores immediately, up to this number; later ones it may keep back.
+/// A worker signals its first posts on other cores immediately, up to this number. It may delay the signals of later
+/// posts.
 ///
 /// When a run begins, the other cores have no work, so the first threads put there are signalled without delay.
 pub(crate) const TOLD_AT_ONCE: u32 = 32;
 
-/// Returns whether a worker that has put this many threads on other cores keeps the next signal back.
+/// Returns whether a worker that has put `posted` threads on other cores delays its next signal.
 pub(crate) fn keeps_back(posted: u32) -> bool
     ensures { IsTrue result ↔ TOLD_AT_ONCE ≤ posted }
 {
     posted >= TOLD_AT_ONCE
 }
 
-/// Returns whether places may be kept at all.
+/// Returns whether workers may keep places for later children at all.
 ///
 /// Places may not be kept if a thread may want a whole core, if orders may close a core, or if a thread that holds a
 /// lock may be moved to another core.
@@ -52,15 +54,16 @@ pub fn may_keep_places(has_exclusive: bool, orders: usize, locks: u8, cores: u8)
     !has_exclusive && orders == 0 && (locks == 0 || cores <= 1)
 }
 
-/// Returns whether the worker keeps a place that a thread leaves, for a later child: so if the core was full before
-/// (`before` is its word then).
+/// Returns whether the worker keeps the place that a thread leaves, for a later child: it does if the core was full
+/// before (`before` is the core's occupancy word then).
 pub fn keeps_place(before: OccWord, slots: u8) -> bool
     ensures { IsTrue result ↔ (slots ≤ count_of before.occupied) × (before.closed ≡ false) × (before.exclusive ≡ false) }
 {
     before.count() >= slots && !before.is_closed() && !before.is_exclusive()
 }
 
-/// Returns whether the kept places are given back: at most an eighth of the core's places have a thread.
+/// Returns whether the worker gives back the places that it keeps: it does if at most an eighth of the core's places
+/// have a thread.
 pub(crate) fn gives_back(now: OccWord, kept: usize, slots: u8) -> bool
     ensures { IsTrue result ↔ (count_of now.occupied - kept) * 8 ≤ slots }
 {
@@ -68,8 +71,8 @@ pub(crate) fn gives_back(now: OccWord, kept: usize, slots: u8) -> bool
     threads * 8 <= usize::from(slots)
 }
 
-/// Returns whether a ticket may be taken on a core: it is open, no thread has it exclusively, and a place is free or
-/// kept.
+/// Returns whether a ticket may be taken on a core: the core is open, no thread has it exclusively, and a place is free
+/// or kept by the worker.
 pub fn may_take_ticket(now: OccWord, kept: usize, slots: u8) -> bool
     ensures { IsTrue result ↔ (now.closed ≡ false) × (now.exclusive ≡ false) × ((0 < kept) ⊎ (count_of now.occupied < slots)) }
 {
@@ -105,24 +108,25 @@ pub(crate) fn left_past_free(left: u32, goes_next: bool) -> u32
     }
 }
 
-/// Returns the steps of a further slice of a turn: a quantum, but at most `left` (what is left of the grace) if the
-/// thread holds a lock.
+/// Returns the number of steps of a further slice of a turn: a quantum, but at most `left` (what is left of the grace)
+/// if the thread holds a lock.
 pub(crate) fn most_steps(quantum: u32, holds: bool, left: u32) -> u32
     ensures { result ≡ (if holds then min quantum left else quantum) }
 {
     if holds { quantum.min(left) } else { quantum }
 }
 
-/// Up to this round a worker that finds nothing spins, twice as long in each.
+/// The last round in which a worker that finds nothing spins. It spins twice as long in each round as in the one
+/// before.
 const LAST_SPIN: u32 = 6;
 
-/// Up to this round a worker that may not yield spins.
+/// The last round in which a worker that may not yield spins.
 const LAST_SPIN_ALONE: u32 = 10;
 
 /// The most times that the length of a spin doubles.
 pub(crate) const MOST_SPINS: u32 = LAST_SPIN_ALONE;
 
-/// Up to this round a worker that no longer spins yields, if it may. After this round the worker sleeps.
+/// The last round in which a worker that no longer spins yields, if it may. After this round the worker sleeps.
 const LAST_YIELD: u32 = 40;
 
 /// Returns the last round in which a worker spins.
@@ -155,7 +159,7 @@ pub(crate) fn spins(round: u32, may_yield: bool) -> bool
     round <= last_spin(may_yield)
 }
 
-/// Returns how often a worker looks while it spins in this round.
+/// Returns how often a spinning worker looks at its core's word in this round.
 #[inline(always)]
 pub(crate) fn spins_of(round: u32) -> u32
     ensures { result ≡ 2 ^ min round MOST_SPINS }
@@ -171,8 +175,8 @@ pub(crate) fn sleeps(idle: u32, may_yield: bool) -> bool
     idle > last_awake(may_yield)
 }
 
-/// Returns whether a round that finds nothing also scans all occupied indexes. The first of several rounds that find
-/// nothing scans them, and so does each such round before a sleep.
+/// Returns whether a round that found nothing also scans all occupied indexes. The first of several rounds that find
+/// nothing does, and so does each such round before a sleep.
 #[inline(always)]
 pub(crate) fn looks_at_all(idle: u32, sleeps: bool) -> bool
     ensures { IsTrue result ↔ (idle ≡ 0) ⊎ (sleeps ≡ true) }
@@ -180,8 +184,8 @@ pub(crate) fn looks_at_all(idle: u32, sleeps: bool) -> bool
     idle == 0 || sleeps
 }
 
-/// Returns whether a thread that holds a lock has used up the further steps that it gets for that (the grace of its
-/// turn).
+/// Returns whether a thread that holds a lock has used up its grace: the further steps that it gets since it holds a
+/// lock.
 #[inline(always)]
 pub(crate) fn is_grace_over(holds: bool, grace: u32) -> bool
     ensures { IsTrue result ↔ (holds ≡ true) × (grace ≡ 0) }
@@ -202,9 +206,9 @@ pub(crate) fn grace_left(holds: bool, grace: u32, most: u32) -> u32
     }
 }
 
-/// The microseconds that a worker sleeps if it may not yield and another kernel thread has what it needs.
+/// The microseconds that a worker sleeps if it may not yield and another kernel thread has what the worker needs.
 ///
-/// The worker sleeps since that kernel thread has lost its processor.
+/// The worker sleeps since the other kernel thread has lost its processor.
 pub(crate) const STAND_BY: u64 = 50;
 
 /// The longest sleep, in microseconds, of a worker that others may wait for, or that has orders to apply.

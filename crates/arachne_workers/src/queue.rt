@@ -24,24 +24,26 @@ pub struct PostedThread {
 /// A worker's notes.
 #[derive(Drop)]
 pub struct Agenda {
-    /// The indexes at which the current scan (pass over the core's indexes) has still to look, a bit for each.
+    /// The indexes that the current scan (pass over the core's indexes) has not reached yet, a bit for each.
     scan: u64,
     /// The indexes at which a thread may be ready, for the next scan.
     ready: u64,
-    /// The place, maybe of another core, whose thread goes before all others.
+    /// The place, maybe on another core, whose thread runs before all others.
     next: Option<Place>,
-    /// The threads put on other cores whose workers were not signalled yet, the newest last.
+    /// The posts whose signal is delayed: threads put on other cores whose workers were not signalled yet, the newest
+    /// last.
     posts: Vec<PostedThread>,
-    /// The number of steps after which all signals for `posts` are sent.
+    /// The number of steps after which all signals for `posts` must be sent.
     patience: u32,
     /// The number of threads that the worker has put on other cores.
     posted: u32,
-    /// The number of scans that have begun since the last one of all occupied indexes.
+    /// The number of scans that have begun since the last scan of all occupied indexes.
     scans: u32,
 }
 
 impl Agenda {
-    /// Creates an agenda that has only the index of the root thread, if the root thread begins here. Takes no memory.
+    /// Creates an agenda that has only the index of the root thread, if the root thread begins on this core. Takes no
+    /// memory.
     pub fn new(alloc: Global, root: Option<u8>) -> Agenda
         ensures root { IfSome root (λ index. index < SLOTS → result.ready ≡ 2 ^ index) }
         ensures rootless { root ≡ None → result.ready ≡ 0 }
@@ -70,7 +72,7 @@ impl Agenda {
         self.ready |= bit_of(index);
     }
 
-    /// Begins a scan of these indexes and those that were noted.
+    /// Begins a scan of `indexes` and of those that were noted.
     pub(crate) fn begin_scan(&mut self, indexes: u64)
         ensures begun { (self.new.scan ≡ bit_or self.old.ready indexes) × (self.new.ready ≡ 0) }
         ensures counted { self.new.scans ≡ min (self.old.scans + 1) u32.MAX }
@@ -81,7 +83,7 @@ impl Agenda {
         self.scans = self.scans.saturating_add(1);
     }
 
-    /// Returns whether the next scan must be one of all occupied indexes, and restarts the count of scans if so.
+    /// Returns whether the next scan must look at all occupied indexes. If so, restarts the count of scans.
     pub(crate) fn is_look_due(&mut self) -> bool
         ensures due { IsTrue result ↔ SCANS_BETWEEN_LOOKS ≤ self.old.scans }
         ensures counted { self.new ≡ record self.old { scans = if result then 0 else self.old.scans } }
@@ -114,8 +116,8 @@ impl Agenda {
         self.scan | self.ready != 0 || self.next.is_some()
     }
 
-    /// Makes the thread at a place go before all others, unless another thread already does. Returns whether the thread
-    /// goes before all others now.
+    /// Makes the thread at a place run before all others, unless another thread already does. Returns whether the
+    /// thread at `place` runs before all others now.
     pub(crate) fn goes_next(&mut self, place: Place) -> bool
         ensures will { IsTrue result ↔ (self.old.next ≡ None) }
         ensures next { self.new ≡ record self.old { next = if result then Some place else self.old.next } }
@@ -127,14 +129,14 @@ impl Agenda {
         true
     }
 
-    /// Returns whether a thread goes before all others.
+    /// Returns whether there is a thread that must run before all others.
     pub(crate) fn has_next(&self) -> bool
         ensures { IsTrue result ↔ IsSome self.now.next }
     {
         self.next.is_some()
     }
 
-    /// Takes the place whose thread goes before all others.
+    /// Takes the place of the thread that must run before all others.
     pub(crate) fn take_next(&mut self) -> Option<Place>
         ensures taken { MatchOption result (self.old.next ≡ None) (λ place. self.old.next ≡ Some place) }
         ensures others { self.new ≡ record self.old { next = None } }
@@ -142,9 +144,9 @@ impl Agenda {
         self.next.take()
     }
 
-    /// Keeps back the signal of a post on another core, or returns the post to signal now.
+    /// Delays the signal of a post on another core, or returns the post to signal now.
     ///
-    /// The post to signal is this one, or the oldest that was kept back.
+    /// The post to signal is `post`, or the oldest whose signal was delayed.
     pub(crate) fn keep_back(&mut self, post: PostedThread) -> Option<PostedThread>
         ensures kept { IsKeptBack self.old.posted self.old.posts.items post result self.new.posts.items }
         ensures few { length self.old.posts.items ≤ MOST_KEPT_BACK → length self.new.posts.items ≤ MOST_KEPT_BACK }
@@ -163,7 +165,7 @@ impl Agenda {
         None
     }
 
-    /// Takes the newest post that was kept back.
+    /// Takes the newest post whose signal was delayed.
     pub(crate) fn take_newest(&mut self) -> Option<PostedThread>
         ensures newest { MatchOption result ((self.old.posts.items ≡ []) × (self.new.posts.items ≡ [])) (λ newest. self.old.posts.items ≡ self.new.posts.items ++ newest ∷ []) }
         ensures others { self.new ≡ record self.old { posts = self.new.posts } }
@@ -171,7 +173,7 @@ impl Agenda {
         self.posts.pop()
     }
 
-    /// Begins a slice. If nothing is kept back, the next post can be kept back for the full number of steps.
+    /// Begins a slice. If no signal is delayed, the next signal can be delayed for the full number of steps.
     pub(crate) fn begin_slice(&mut self)
         ensures empty { self.old.posts.items ≡ [] → self.new ≡ record self.old { patience = PATIENCE } }
         ensures kept_back { self.old.posts.items ≢ [] → self.new ≡ self.old }
@@ -182,7 +184,7 @@ impl Agenda {
         }
     }
 
-    /// Returns how many of the `left` steps of a slice may be made before a signal that is kept back may be due.
+    /// Returns how many of the `left` steps of a slice may be made before a delayed signal may be due.
     #[inline(always)]
     pub(crate) fn stretch(&self, left: u32) -> u32
         ensures { result ≡ min left (max 1 self.now.patience) }
@@ -190,7 +192,7 @@ impl Agenda {
         left.min(self.patience.max(1))
     }
 
-    /// Counts steps that were made. Returns whether all signals that are kept back must be sent now.
+    /// Counts steps that were made. Returns whether all delayed signals must be sent now.
     pub(crate) fn spend(&mut self, steps: u32) -> bool
         ensures due { IsTrue result ↔ self.old.patience ≤ steps }
         ensures left { self.new ≡ record self.old { patience = if result then PATIENCE else self.old.patience - steps } }
@@ -205,7 +207,7 @@ impl Agenda {
     }
 }
 
-/// Puts a post behind those that are kept back, and takes the oldest of all.
+/// Adds a post behind those whose signals are delayed, and takes the oldest of all.
 fn for_oldest(posts: &mut Vec<PostedThread>, post: PostedThread) -> PostedThread
     ensures all { result ∷ posts.new.items ≡ posts.old.items ++ post ∷ [] }
     ensures many { length posts.new.items ≡ length posts.old.items }

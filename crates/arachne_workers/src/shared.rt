@@ -62,7 +62,7 @@ impl SharedWords {
         &self.parking
     }
 
-    /// Returns the counts of the slices.
+    /// Returns the counts of ended slices, one for each core.
     pub fn slices(&self) -> &SliceCounts
         ensures { counted_cores result.now ≡ self.now }
     {
@@ -91,7 +91,7 @@ impl SharedWords {
         }
     }
 
-    /// Signals that threads of a core may be ready at these indexes. Wakes the core's worker if that sleeps.
+    /// Signals that threads of a core may be ready at these indexes. Wakes the core's worker if it sleeps.
     #[inline(always)]
     fn hint_indexes(&self, core: u8, indexes: u64) {
         if self.hints.hint(core, indexes) {
@@ -101,7 +101,7 @@ impl SharedWords {
 
     /// Stops all workers, including those that sleep or are parked.
     pub fn stop(&self) {
-        // Before the wakes: a worker that wakes up reads the word, and nobody wakes it for this again.
+        // Before the wakes: a worker that wakes up reads the word, and nobody wakes it for this stop again.
         self.stop.store(1, Ordering::SeqCst);
         for core in 0..CORES {
             self.hints.end_sleep(core);
@@ -125,7 +125,7 @@ impl SharedWords {
     /// Sleeps until a thread of the core may be ready, all workers stop, or `spell` has passed. Only the core's own
     /// kernel thread calls this.
     pub(crate) fn sleep<H: Wait>(&self, rt: &H, core: u8, spell: Duration) {
-        // The stop word is read last: a stop after that sees that the worker sleeps, and wakes it.
+        // The stop word is read last: whoever sets it later sees that the worker sleeps, and wakes it.
         if !self.hints.is_about_to_sleep(core) || self.is_stopped() {
             return;
         }

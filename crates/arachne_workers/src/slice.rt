@@ -1,4 +1,4 @@
-//! The turn of a thread in hand: its slices, and its end.
+//! The turn of the thread in hand: its slices, and its end.
 ghost use Rattle.std.specs.Prelude.{◌≡◌, ◌≤◌, ◌<◌, ◌+◌, true, min, IfOk, IsTrue};
 
 use crate::desk::{Cause, Desk, Halt, SliceEnd, ThreadStop, WorkerEvent, thin_out};
@@ -10,9 +10,8 @@ use std::sync::Wait;
 use std::time::Clock;
 
 impl<'a, H: Wait + Clock, D: Desk> CoreWorker<'a, H, D> {
-    /// Gives the thread in hand, which was taken at this place, a slice, and more slices while it holds a lock or
-    /// nothing else is ready. At the end of the turn puts the thread back or ends it. Returns whether the thread is
-    /// blocked.
+    /// Gives the thread in hand, which was taken at `place`, a slice, and more slices while it holds a lock or nothing
+    /// else is ready. At the end of the turn puts the thread back or ends it. Returns whether the thread is blocked.
     pub(crate) fn turn(&mut self, place: Place) -> Result<bool, Halt>
         ensures desk { self.new.desk ≡ self.old.desk }
         ensures scan { self.new.agenda.scan ≡ self.old.agenda.scan }
@@ -35,7 +34,7 @@ impl<'a, H: Wait + Clock, D: Desk> CoreWorker<'a, H, D> {
         ensures scan { self.new.agenda.scan ≡ self.old.agenda.scan }
     {
         let quantum = self.desk.quantum();
-        // The further steps that the thread may make in this turn because it holds a lock.
+        // The number of further steps that the thread may make in this turn because it holds a lock.
         let mut grace = policy::STEPS_TO_FREE;
         let mut end = self.slice(quantum)?;
         for _ in 1..policy::MOST_ALONE {
@@ -53,8 +52,8 @@ impl<'a, H: Wait + Clock, D: Desk> CoreWorker<'a, H, D> {
     }
 
     /// Returns whether the thread in hand gets another slice at once. The thread gets one if the core is open, the
-    /// workers do not stop, and either the thread holds a lock and has grace left, or nothing else is ready here and no
-    /// ticket can be taken.
+    /// workers do not stop, and one of two things holds: the thread holds a lock and has grace left; or nothing else is
+    /// ready on this core and no ticket can be taken.
     fn goes_on(&mut self, holds: bool, grace: u32) -> bool
         ensures desk { self.new.desk ≡ self.old.desk }
         ensures same { (self.new.agenda ≡ self.old.agenda) × (self.new.slices ≡ self.old.slices) }
@@ -82,13 +81,13 @@ impl<'a, H: Wait + Clock, D: Desk> CoreWorker<'a, H, D> {
         self.desk.begins(nth);
         let (made, end) = self.spend(most)?;
         self.desk.told(WorkerEvent::Sliced(made, end));
-        // Counted once it was reported: an order that is due by this count is reported later.
+        // The slice is counted after it was reported: an order that is due by this count is reported later.
         self.shared.count_slice(self.core);
         Ok(end)
     }
 
-    /// Makes the steps of a slice. Returns the number of steps, and how the slice ends. If all steps are used up, every
-    /// post that was kept back is signalled.
+    /// Makes the steps of a slice. Returns the number of steps, and how the slice ends. If all steps are used up, sends
+    /// all delayed signals.
     fn spend(&mut self, most: u32) -> Result<(u32, SliceEnd), Halt>
         ensures desk { self.new.desk ≡ self.old.desk }
         ensures steps { IfOk result (λ spent. spent.0 ≤ most) }
@@ -107,7 +106,8 @@ impl<'a, H: Wait + Clock, D: Desk> CoreWorker<'a, H, D> {
             let steps = stretch - rest;
             left -= steps;
             made += steps;
-            // Before the stop is handled: a child that was posted by these steps is kept back for its full time.
+            // Before the stop is handled: the signal of a child that was posted by these steps is delayed for its full
+            // time.
             if self.agenda.spend(steps) {
                 tell_all(&mut self.agenda, self.shared);
             }
@@ -135,7 +135,7 @@ impl<'a, H: Wait + Clock, D: Desk> CoreWorker<'a, H, D> {
         ensures desk { self.new.desk ≡ self.old.desk }
         ensures others { (self.new.slices ≡ self.old.slices) × (self.new.agenda.scan ≡ self.old.agenda.scan) × (self.new.agenda.posts ≡ self.old.agenda.posts) }
     {
-        // Read while the thread has its place: the desk keeps that if the core is full with it.
+        // Read while the thread has its place: the desk keeps the place for a later child if the core is full with it.
         let before = self.desk.look();
         if let Some(parent) = self.desk.end(before)? {
             self.wake(parent, Cause::ChildEnded);

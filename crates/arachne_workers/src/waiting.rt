@@ -23,7 +23,7 @@ pub(crate) fn stay_awake<H: Clock>(rt: &H, pace: &mut Pace, hints: &Hints, core:
     }
 }
 
-/// Waits while another kernel thread has what this one needs, after `tries` attempts.
+/// Waits while another kernel thread has something that the calling thread needs, after `tries` attempts.
 ///
 /// After each of the first attempts the calling thread spins, longer each time. Later the thread yields the processor
 /// if yields return immediately. If yields take long, the thread sleeps: the other kernel thread has lost its

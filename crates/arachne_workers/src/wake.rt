@@ -18,9 +18,9 @@ use std::time::Clock;
 impl<'a, H: Wait + Clock, D: Desk> CoreWorker<'a, H, D> {
     /// Wakes a thread, if it is blocked.
     ///
-    /// If the thread has a lock now, it runs next here, at its place on its own core, since others may wait for the
-    /// lock. If the worker of its own core sleeps, the thread is moved here, since a move is cheaper than waking a
-    /// kernel thread.
+    /// If the thread has a lock now, it runs next on this worker, at its place on its own core, since others may wait
+    /// for the lock. If the worker of its own core sleeps, the thread is moved to this worker's core, since a move is
+    /// cheaper than waking a kernel thread.
     pub(crate) fn wake(&mut self, id: ThreadId, cause: Cause)
         ensures desk { self.new.desk ≡ self.old.desk }
         ensures others { (self.new.agenda ≡ record self.old.agenda { ready = self.new.agenda.ready; next = self.new.agenda.next }) × (self.new.slices ≡ self.old.slices) }
@@ -48,7 +48,7 @@ impl<'a, H: Wait + Clock, D: Desk> CoreWorker<'a, H, D> {
         self.note(place);
     }
 
-    /// Notes that the thread at a place may be ready, or signals the core of the place if that is another one.
+    /// Notes that the thread at a place may be ready, or signals the core of the place if it is another core.
     pub(crate) fn note(&mut self, place: Place)
         ensures desk { self.new.desk ≡ self.old.desk }
         ensures others { (self.new.agenda ≡ record self.old.agenda { ready = self.new.agenda.ready }) × (self.new.slices ≡ self.old.slices) }
@@ -73,7 +73,8 @@ impl<'a, H: Wait + Clock, D: Desk> CoreWorker<'a, H, D> {
         unreachable!()
     }
 
-    /// Moves a thread from another core to this one, if workers may. Returns the thread's place after the move.
+    /// Moves a thread from another core to this worker's core, if workers may. Returns the thread's place after the
+    /// move.
     #[inline(always)]
     fn pull(&mut self, id: ThreadId, from: Place) -> Place
         ensures desk { self.new.desk ≡ self.old.desk }
@@ -95,8 +96,8 @@ impl<'a, H: Wait + Clock, D: Desk> CoreWorker<'a, H, D> {
     /// Returns the place of the thread that runs next, if one is known.
     ///
     /// The thread is one that was handed a lock, maybe on another core. Otherwise, if the thread in hand blocked and
-    /// nothing else is ready here, it is the newest thread with a kept-back signal that can be moved here from another
-    /// core. Posts that can't be moved are signalled.
+    /// nothing else is ready on this core, it is the newest thread whose signal is delayed and that can be moved here
+    /// from another core. Posts that can't be moved are signalled.
     pub(crate) fn next(&mut self, waits: bool) -> Option<Place>
         ensures desk { self.new.desk ≡ self.old.desk }
         ensures next { IsSome self.old.agenda.next → HasGivenNext result self.old.agenda self.new.agenda }
@@ -111,7 +112,7 @@ impl<'a, H: Wait + Clock, D: Desk> CoreWorker<'a, H, D> {
         }
         for _ in 0..policy::MOST_KEPT_BACK {
             let id = self.agenda.take_newest()?.id;
-            // One that was taken in the meantime needs no signal.
+            // A post whose thread was taken in the meantime needs no signal.
             let Some(place) = ready_place(self.desk.mark_of(id.context), id) else {
                 continue;
             };
@@ -139,8 +140,8 @@ fn ready_place(mark: Option<MarkWord>, id: ThreadId) -> Option<Place>
     Some(mark.place())
 }
 
-/// Notes a thread that the worker of this core has put at a place here. Signals a thread that the worker has put on
-/// another core, or keeps that signal back.
+/// Handles a post by the worker of `core`. Notes a thread that was put at a place of `core`. Signals a thread that was
+/// put on another core, or delays that signal.
 pub(crate) fn posted(agenda: &mut Agenda, shared: &SharedWords, core: u8, post: PostedThread)
     ensures others { (agenda.new.scan ≡ agenda.old.scan) × (agenda.new.next ≡ agenda.old.next) }
     ensures here { post.place.core ≡ core → agenda.new ≡ record agenda.old { ready = agenda.new.ready } }
@@ -156,7 +157,7 @@ pub(crate) fn posted(agenda: &mut Agenda, shared: &SharedWords, core: u8, post: 
     }
 }
 
-/// Sends all signals that were kept back.
+/// Sends all delayed signals.
 pub(crate) fn tell_all(agenda: &mut Agenda, shared: &SharedWords)
     ensures others { agenda.new ≡ record agenda.old { posts = agenda.new.posts } }
     ensures all { length agenda.old.posts.items ≤ MOST_KEPT_BACK → agenda.new.posts.items ≡ [] }

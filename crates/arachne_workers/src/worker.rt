@@ -128,7 +128,8 @@ impl<'a, H: Wait + Clock, D: Desk> CoreWorker<'a, H, D> {
         if self.run_each()? {
             return Ok(true);
         }
-        // Before each wait: others can't use a kept place, and nobody else signals a post that was kept back.
+        // Before each wait: others can't use a place that this worker keeps, and nobody else signals a post whose
+        // signal is delayed.
         give_all_back(&mut self.desk)?;
         tell_all(&mut self.agenda, self.shared);
         if self.desk.is_waited_for() || !self.desk.is_drained() {
@@ -155,7 +156,7 @@ impl<'a, H: Wait + Clock, D: Desk> CoreWorker<'a, H, D> {
     }
 
     /// Gives a turn to the thread at an index, if it is ready. Before the scan goes on, also gives a turn to each
-    /// thread that `next` then returns. Returns whether any of these threads was ready.
+    /// thread that `next` returns after that. Returns whether any of these threads was ready.
     fn run_at(&mut self, index: u8) -> Result<bool, Halt>
         ensures desk { self.new.desk ≡ self.old.desk }
         ensures scan { self.new.agenda.scan ≡ self.old.agenda.scan }
@@ -169,7 +170,7 @@ impl<'a, H: Wait + Clock, D: Desk> CoreWorker<'a, H, D> {
             if self.shared.is_stopped() {
                 break;
             }
-            // Before each slice: by the slice that has just ended an order may be due.
+            // Before each slice: an order may be due since the last slice ended.
             self.tend();
             let mut waits = false;
             match self.desk.take(place) {
@@ -186,7 +187,7 @@ impl<'a, H: Wait + Clock, D: Desk> CoreWorker<'a, H, D> {
                 None => return Ok(found),
             }
         }
-        // Its thread got no turn.
+        // The thread at `place` got no turn.
         self.note(place);
         Ok(found)
     }
@@ -224,7 +225,7 @@ impl<'a, H: Wait + Clock, D: Desk> CoreWorker<'a, H, D> {
         }
     }
 
-    /// Applies the orders that are due, and wakes the workers that must learn of them.
+    /// Applies the orders that are due, and wakes the workers that they concern.
     fn apply_orders(&mut self)
         ensures desk { self.new.desk ≡ self.old.desk }
         ensures same { (self.new.agenda ≡ self.old.agenda) × (self.new.slices ≡ self.old.slices) }
@@ -232,7 +233,7 @@ impl<'a, H: Wait + Clock, D: Desk> CoreWorker<'a, H, D> {
         let (applied, receivers) = self.desk.tend();
         if let Some(count) = applied {
             self.desk.told(WorkerEvent::Applied(count));
-            // The worker of a core that was closed may sleep, and has to look.
+            // The worker of a core that was closed may sleep, and must look at its core.
             self.shared.hint_cores(u64::MAX);
         }
         if receivers != 0 {

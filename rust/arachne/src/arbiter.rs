@@ -1,10 +1,10 @@
 //! The client of an arbiter, the daemon of `rust/arbiter`, which grants whole processors to processes.
 //!
 //! Worker 0 floats: it runs with a core of its own or without one. Each other worker waits for a core on a connection
-//! of its own, and gives it back by waiting again. The number of cores that the runtime may have stands on a page that
-//! the arbiter writes. Each worker compares that number with `active` (the number of active workers) at its looks;
+//! of its own, and gives the core back by waiting again. The number of cores that the runtime may have stands on a page
+//! that the arbiter writes. Each worker compares that number with `active` (the number of active workers) at its looks;
 //! while all workers sleep, the kernel thread that reads the control connection is notified. Without an arbiter, or
-//! once the arbiter has gone, the policy decides as ever.
+//! once the arbiter has gone, the policy decides.
 
 use crate::shared::{Context, Shared};
 use crate::sync::atomic::{AtomicBool, AtomicPtr, AtomicU32, AtomicUsize, Ordering::*};
@@ -54,7 +54,7 @@ pub(crate) struct Client {
     up: AtomicBool,
     /// The number of cores that was last asked for.
     asked: AtomicUsize,
-    /// Held by whoever changes how many workers are active.
+    /// Locked by whoever changes how many workers are active.
     order: Mutex<()>,
     state: Mutex<State>,
     changed: Condvar,
@@ -64,16 +64,16 @@ pub(crate) struct Client {
 struct State {
     closed: bool,
     refused: bool,
-    /// The control connection, and behind it one of each worker.
+    /// The control connection, and after it a connection of each worker.
     streams: Vec<Arc<UnixStream>>,
     /// For each worker the kernel's number of its thread, or 0 until that thread runs.
     threads: Vec<u32>,
-    /// The event that calls the worker that covers for the first while it waits for a core.
+    /// The event that wakes the second worker, which covers for the first, while the second waits for a core.
     call: Option<File>,
     /// Processors that this process had before an arbiter moved threads.
     cpus: Vec<usize>,
-    /// True if the arbiter keeps threads on their cores by affinity. With cpusets, a thread that set its affinity would
-    /// be kept on these processors even when its set has others.
+    /// True if the arbiter keeps threads on their cores by affinity. With cpusets it doesn't: a thread that set its
+    /// affinity would be kept on these processors even when its cpuset has others.
     pins: bool,
 }
 
@@ -109,7 +109,7 @@ impl Client {
         Ok(())
     }
 
-    /// Waits for a message on this connection, or for a call, for at most `nanos`.
+    /// Waits for a message on this connection, or for the event `call`, for at most `nanos`.
     fn waits(&self, stream: &UnixStream, nanos: u64) -> Ends {
         let call = self.state.lock().unwrap().call.as_ref().map_or(-1, |call| call.as_raw_fd());
         match sys::readable([stream.as_raw_fd(), call], nanos) {
@@ -122,7 +122,7 @@ impl Client {
         }
     }
 
-    /// Calls the worker that covers for the first, if it waits for a core.
+    /// Wakes the worker that covers for the first, if that worker waits for a core.
     pub(crate) fn call(&self) {
         if let Some(call) = &self.state.lock().unwrap().call {
             sys::raise(call.as_raw_fd());
@@ -160,20 +160,20 @@ impl Client {
         }
     }
 
-    /// Asks for this many cores; returns true if the number has changed.
+    /// Asks for this number of cores. Returns true if the number has changed.
     fn ask(&self, cores: usize) -> bool {
         if self.asked.swap(cores, SeqCst) == cores {
             return false;
         }
         let control = self.state.lock().unwrap().streams.first().cloned();
         if !control.map_or(false, |control| send(&control, [ASK, cores as u32, 0, 0]).is_ok()) {
-            // It is full, or gone: who reads there sees the latter.
+            // The connection is full, or the arbiter is gone, which the thread that reads the connection finds out.
             self.asked.store(usize::MAX, SeqCst);
         }
         true
     }
 
-    /// Connects to the arbiter, and keeps the connection, so that `close` and `hang_up` end what waits there.
+    /// Connects to the arbiter, and keeps the connection, so that `close` and `hang_up` end each wait on it.
     fn connect(&self, wish: &Wish) -> io::Result<Arc<UnixStream>> {
         let stream = Arc::new(UnixStream::connect(&wish.path)?);
         let mut state = self.state.lock().unwrap();
@@ -191,7 +191,7 @@ impl Client {
         state.streams.iter().for_each(|stream| drop(stream.shutdown(Shutdown::Both)));
     }
 
-    /// Ends all waits for a core, as the runtime ends.
+    /// Ends all waits for a core, since the runtime ends.
     pub(crate) fn close(&self) {
         self.state.lock().unwrap().closed = true;
         self.hang_up(false);
@@ -200,10 +200,10 @@ impl Client {
 }
 
 impl Shared {
-    /// Asks for the number of cores that the policy wants, and gives back those beyond. Returns true if the number of
-    /// cores asked for or held has changed.
+    /// Asks for the number of cores that the policy wants, and gives back the cores beyond that number. Returns true if
+    /// the number of cores that the runtime asks for or has changed.
     pub(crate) fn want(&self, cores: usize) -> bool {
-        // Whoever has it changes the same.
+        // Whoever has the lock changes the same number.
         let _order = match self.arbiter.order.try_lock() {
             Ok(order) => order,
             Err(_) => return false,
@@ -217,19 +217,19 @@ impl Shared {
         asks
     }
 
-    /// Gives back cores, so that the runtime has no more than the arbiter allows: those of the last workers, but never
-    /// the first worker's.
+    /// Gives back cores, so that the runtime has no more than the arbiter allows: the cores of the last workers, but
+    /// never the first worker's.
     fn obey(&self, _order: &MutexGuard<()>, allowed: usize) {
         if self.arbiter.is_up() && allowed.max(1) < self.active.0.load(SeqCst) {
             self.set_active(allowed.max(1));
         }
     }
 
-    /// Gives back the cores that the arbiter wants back; returns true if this worker's is one of them.
+    /// Gives back the cores that the arbiter wants back. Returns true if this worker's core is one of them.
     pub(crate) fn is_asked_back(&self, me: usize) -> bool {
         let active = self.active.0.load(Relaxed);
         if active > 1 && self.arbiter.limit() < active {
-            // Whoever has it looks at the page too, or this worker does at its next look.
+            // Whoever has the lock looks at the page too, or this worker looks at it the next time.
             if let Ok(order) = self.arbiter.order.try_lock() {
                 self.obey(&order, self.arbiter.limit());
             }
@@ -237,8 +237,8 @@ impl Shared {
         me >= self.active.0.load(Relaxed)
     }
 
-    /// Gives this worker's core back, and waits until one is granted to it, or there is no arbiter any more. The caller
-    /// must check which of the two has happened.
+    /// Gives this worker's core back, and waits until a core is granted to the worker, or there is no arbiter any more.
+    /// The caller must check which of the two has happened.
     #[cold]
     pub(crate) fn wait_for_core(&self, context: &Context, turn: &mut Turn) {
         let me = context.me;
@@ -253,7 +253,7 @@ impl Shared {
             receive(&stream)
         });
         if !matches!(heard, Ok([GRANT, ..])) {
-            // Of a thread that the arbiter doesn't know any more it is no use to be its client.
+            // If the arbiter doesn't know the thread any more, it is of no use to stay its client.
             self.arbiter.hang_up(matches!(heard, Ok([REFUSED, ..])));
             return thread::sleep(SOON);
         }
@@ -262,8 +262,8 @@ impl Shared {
         if me == active && me < self.arbiter.limit() {
             self.set_active(me + 1);
         } else if me >= active {
-            // It was asked back since; or a worker before this one has lost its core and is yet in a poll, and only the
-            // first workers are active.
+            // The core was asked back since. Or a worker before this one has lost its core and is still in a poll, and
+            // only the first workers may be active.
             drop(order);
             thread::sleep(SOON);
         }
@@ -278,8 +278,8 @@ impl Shared {
             let met = self.meet(&wish, first.take());
             if let Ok(control) = &met {
                 while let Ok([ALLOWED, allowed, ..]) = receive(control) {
-                    // Not the page's number, which may be greater by now: a worker that was in a poll meanwhile may
-                    // have lost its core, and has to wait for one.
+                    // Not the number on the page, which may have grown meanwhile: a worker that was in a poll meanwhile
+                    // may have lost its core, and has to wait for one.
                     let order = self.arbiter.order.lock().unwrap();
                     self.obey(&order, allowed as usize);
                 }
@@ -296,8 +296,8 @@ impl Shared {
         }
     }
 
-    /// Connects to the arbiter: once for the runtime, and once for each of its workers. Asks for `first` cores, or for
-    /// as many as there are now.
+    /// Connects to the arbiter: once for the runtime, and once for each of its workers. Asks for `first` cores or, if
+    /// it is None, for as many as are active now.
     fn meet(&self, wish: &Wish, first: Option<usize>) -> io::Result<Arc<UnixStream>> {
         let client = &self.arbiter;
         let state = client.state.lock().unwrap();
@@ -327,7 +327,7 @@ impl Shared {
         Ok(control)
     }
 
-    /// Goes on without an arbiter: the policy decides from here on, or else each worker has a core. Threads that were
+    /// Goes on without an arbiter: from now on the policy decides, or else each worker has a core. Threads that were
     /// kept on their cores by affinity may run everywhere again. Returns true if the arbiter has refused a thread.
     fn part(&self, follows: bool) -> bool {
         let _order = self.arbiter.order.lock().unwrap();
@@ -335,16 +335,16 @@ impl Shared {
         let mut state = self.arbiter.state.lock().unwrap();
         state.streams.drain(..).for_each(|stream| drop(stream.shutdown(Shutdown::Both)));
         let refused = std::mem::take(&mut state.refused);
-        // Workers end only once this is closed: until then their numbers are no other threads'.
+        // Workers end only once `closed` is set: until then their numbers are no other threads' numbers.
         if was_up && !state.closed && state.pins {
             for &thread in &state.threads {
-                // Where the system refuses it, it stays where it was.
+                // If the system refuses this, the thread stays on its processor.
                 let _ = sys::set_affinity(thread, &state.cpus);
             }
         }
         drop(state);
         if was_up && !self.stop.load(SeqCst) {
-            // Those that go on waiting do so for the policy.
+            // Workers that go on waiting do so because of the policy.
             let active = if follows { self.active.0.load(SeqCst) } else { self.workers.len() };
             self.set_active(active);
         }

@@ -39,7 +39,7 @@ pub(crate) fn forget_parker() {
 
 /// Runs a future on the calling thread, which sleeps while the future waits.
 ///
-/// Within a task it blocks the worker; use `await` there.
+/// Within a task the call blocks the worker; use `await` there.
 ///
 /// ```
 /// let (sender, receiver) = arachne::channel(1);
@@ -69,8 +69,8 @@ pub fn block_on<F: Future>(future: F) -> F::Output {
 /// Nanoseconds after which a waiting `block_on` fires the timers of its thread itself.
 const LATE: u64 = 2_000_000;
 
-/// Parks until this thread is unparked, or its timers are late: the worker that looks after them is in a long poll, or
-/// is this thread.
+/// Parks until this thread is unparked, or its timers are late because the worker that looks after them is in a long
+/// poll, or is this thread.
 fn park() {
     let timers = timer::of_this_thread();
     let due = timers.map_or(u64::MAX, |timers| timers.next().saturating_add(LATE));

@@ -44,7 +44,7 @@ const NO_WAKER: RawWakerVTable =
 
 /// A waker that wakes nobody.
 pub(crate) fn no_waker() -> Waker {
-    // SAFETY: its functions do nothing.
+    // SAFETY: the functions of the table do nothing.
     unsafe { Waker::from_raw(RawWaker::new(std::ptr::null(), &NO_WAKER)) }
 }
 
@@ -58,7 +58,7 @@ impl Pool {
         let mut state = self.state.lock().unwrap();
         if state.stop {
             drop(state);
-            // SAFETY: nobody else has it, and it was not begun.
+            // SAFETY: nobody else has the task, and it was not begun.
             return unsafe { task::end(raw) };
         }
         state.work.push_back(raw);
@@ -90,7 +90,7 @@ impl Pool {
             if let Some(raw) = state.work.pop_front() {
                 drop(state);
                 let cx = &mut Context::from_waker(&waker);
-                // SAFETY: `raw` is from `new`, and nobody else has it. It ends in its one poll.
+                // SAFETY: `raw` is from `new`, and nobody else has it. The task ends in its only poll.
                 let ended = entered(shared, || unsafe { task::run(raw, 0, crate::waker::NOBODY, cx) });
                 debug_assert!(ended);
                 state = self.state.lock().unwrap();
@@ -124,7 +124,7 @@ impl Pool {
         let left = std::mem::take(&mut state.work);
         self.changed.notify_all();
         drop(state);
-        // SAFETY: nobody else has them, and none was begun.
+        // SAFETY: nobody else has these tasks, and none was begun.
         left.into_iter().for_each(|raw| unsafe { task::end(raw) });
     }
 

@@ -1,4 +1,4 @@
-//! A bounded channel whose sender waits while it is full. Both ends of the channel may be cloned.
+//! A bounded channel: a sender waits while the channel is full. Both ends of the channel may be cloned.
 
 use crate::reactor::Slot;
 use crate::shared::here;
@@ -44,7 +44,7 @@ impl<T> State<T> {
     }
 }
 
-/// Takes the first of a line, whose turn it is now.
+/// Takes the first node out of a line, since its turn has come.
 fn call(line: &mut VecDeque<Arc<Node>>) -> Option<Arc<Node>> {
     let node = line.pop_front()?;
     node.called.store(true, SeqCst);
@@ -398,7 +398,7 @@ impl<T> Drop for Receiver<T> {
         state.receivers -= 1;
         let last = state.receivers == 0;
         let all = if last { std::mem::take(&mut state.sending) } else { VecDeque::new() };
-        // Nobody can receive these values. Dropping them wakes those who wait for a reply through one of them.
+        // Nobody can receive these values. Dropping a value wakes whoever waits for a reply through it.
         let values = if last { std::mem::take(&mut state.values) } else { VecDeque::new() };
         drop(state);
         all.iter().for_each(|node| node.called.store(true, SeqCst));

@@ -2,7 +2,7 @@
 //!
 //! The load is the average over time of the number of tasks that were ready at a worker's looks. The load is judged at
 //! each interval of the policy, and sooner after a request for a core. A worker that gives its core back waits; another
-//! one looks after its blocks and timers. While only the first worker has a core, the second one covers for it
+//! worker looks after its blocks and timers. While only the first worker has a core, the second one covers for it
 //! (`worker/sleepers.rs`). The limit is read each second while there is a policy.
 
 use crate::core::Estimator;
@@ -45,8 +45,8 @@ pub(crate) enum Advice {
 pub struct Policy {
     /// A core is asked for if the ready tasks per look exceed this on average, in thousandths of a task.
     pub load: u64,
-    /// A core is given back once the use has fallen by this below that at which it was asked for, in thousandths of a
-    /// core.
+    /// A core is given back once the use has fallen, by this many thousandths of a core, below the use at which the
+    /// core was asked for.
     pub hysteresis: u64,
     /// The time between two judgements.
     pub every: Duration,
@@ -72,7 +72,7 @@ impl Default for Policy {
 #[must_use]
 pub fn available_cores() -> usize {
     if cfg!(feature = "explore") {
-        // One runs at a time, as if on many.
+        // Under the explorer one thread runs at a time, as if on many processors.
         return 64;
     }
     let mask = sys::affinity().len().max(1);
@@ -83,7 +83,7 @@ fn whole(thousandths: usize) -> usize {
     (thousandths + 999) / 1000
 }
 
-/// Returns the least quota of this process's control group and those above it, in thousandths of a processor.
+/// Returns the least quota of this process's control group and of the groups above it, in thousandths of a processor.
 fn quota() -> Option<usize> {
     let groups = fs::read_to_string("/proc/self/cgroup").ok()?;
     let mut least = None;
@@ -114,12 +114,14 @@ fn quota_of(group: &str) -> Option<usize> {
     Some(words.next()?? * 1000 / words.next()??.max(1))
 }
 
-/// After a request for a core, this many judgements are made at the usual interval divided by this number.
+/// After a request for a core, this many judgements are made at shorter intervals: the usual interval divided by this
+/// number.
 const SOON: u32 = 4;
 
 /// The least and the most nanoseconds between two judgements under an arbiter.
 const WITH_ARBITER: (u64, u64) = (2_000_000, 5_000_000);
-/// For these nanoseconds after asking an arbiter for a core, none is given back: it would go to another process.
+/// For these nanoseconds after a core was asked for from an arbiter, none is given back: it would go to another
+/// process.
 const CALM: u64 = 50_000_000;
 
 /// The state of the policy, which the first worker applies for all.
@@ -139,7 +141,7 @@ pub(crate) struct Judge {
     begins: bool,
 }
 
-/// A worker's counts, and the nanoseconds in which it had no work, or waited for a processor.
+/// A worker's counts, the nanoseconds in which it had no work, and those in which it waited for a processor.
 #[derive(Clone, Copy, Default)]
 struct Totals {
     runnable: u64,
@@ -198,13 +200,13 @@ impl Judge {
         if now - self.looked > 1_000_000_000 {
             self.looked = now;
             let all = shared.workers.len();
-            // An arbiter keeps this worker on one processor, and says how many others there are.
+            // An arbiter keeps this worker on one processor, and decides how many others there are.
             let most = if up { quota().map_or(all, whole) } else { available_cores() };
             self.most = most.clamp(1, all);
         }
         let active = shared.active.0.load(Relaxed);
         shared.counts.core_time.fetch_add(elapsed * active as u64, Relaxed);
-        // Only the workers that were active all the time: an arbiter may grant a core in the middle of a sample.
+        // Only the workers that were active all of the time: an arbiter may grant a core in the middle of a sample.
         let sample = sample(&self.last, &totals(shared, active.min(self.last.len()), now), elapsed);
         self.begins = !self.begins && self.is_begin(sample);
         if self.begins {
@@ -252,8 +254,8 @@ fn waited(account: &crate::sync::Mutex<Option<fs::File>>) -> u64 {
 
 /// Returns the load and the use of these workers since `last`.
 ///
-/// A worker's looks count the tasks that were ready while it was busy; while it had no work, none was. The time in
-/// which it waited for a processor counts neither as use of a core nor as load.
+/// A worker's looks count the tasks that were ready while it was busy; while it had no work, no task was ready. The
+/// time in which the worker waited for a processor counts neither as use of a core nor as load.
 fn sample(last: &[Totals], totals: &[Totals], elapsed: u64) -> Sample {
     let cores = totals.len() as u64;
     let mut sample = Sample { cores, runnable: 0, scans: (elapsed * cores).max(1), busy: 0, elapsed };
@@ -269,15 +271,16 @@ fn sample(last: &[Totals], totals: &[Totals], elapsed: u64) -> Sample {
 }
 
 impl Shared {
-    /// Gives this worker's core back: lays down all jobs in its hand, and waits until the core is asked for again.
+    /// Gives this worker's core back: makes all jobs in its hand ready, and waits until the core is asked for again.
     ///
-    /// Meanwhile the second worker covers for the first, which is the only one with a core then.
+    /// Meanwhile, if only the first worker has a core, the second covers for it.
     pub(crate) fn give_back(&self, context: &Context, turn: &mut Turn) {
         self.lay_down(context, turn);
         let worker = context.worker;
         let (gate, waits) = &worker.given_back;
         worker.away.store(true, SeqCst);
-        // After all is laid down: the keeper, which may be about to sleep, looks at this worker's blocks and timers.
+        // After all jobs are laid down: the keeper, which may be about to sleep, looks at this worker's blocks and
+        // timers.
         self.ring(self.keeper(context.me));
         if self.arbiter.is_up() {
             self.wait_for_core(context, turn);
@@ -304,9 +307,10 @@ impl Shared {
         self.goes_on();
     }
 
-    /// Sets the number of active workers, and wakes all.
+    /// Sets the number of active workers, and wakes all workers.
     pub(crate) fn set_active(&self, active: usize) {
-        // Under the lock of each, so that a worker that is about to wait sees it, and an arbiter that came up before.
+        // Under the lock of each worker, so that a worker that is about to wait sees the number, and so does an arbiter
+        // that came up before.
         for (number, line) in self.workers.iter().enumerate() {
             *line.0.given_back.0.lock().unwrap() = number >= active;
         }

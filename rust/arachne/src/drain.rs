@@ -73,12 +73,12 @@ pub struct Stopping {
     shared: Option<&'static Shared>,
     /// The key and the waker by which the future waits.
     waits: Option<(u64, Waker)>,
-    /// The number of polls, since the end began, in which the task polled this future before it had tried a socket.
+    /// The number of polls since the end began in which the task polled this future before it had tried a socket.
     blind: u32,
 }
 
-/// Once the end has begun the future stays pending for at most this many polls, so that a `select!` in random order
-/// most likely tries its socket first in one of them.
+/// Once the end has begun the future stays pending for at most this many polls. So in one of these polls a `select!` in
+/// random order most likely tries its socket first.
 const BLIND: u32 = 4;
 
 /// Waits until `Runtime::shutdown_within` is called, so that an idle connection can end; see `Stopping::or`.
@@ -102,7 +102,7 @@ pub fn stopping() -> Stopping {
 }
 
 impl Stopping {
-    /// Waits for a future's output; returns None if the end has begun and the future is not ready.
+    /// Waits for a future's output. Returns None if the runtime's end has begun and the future is not ready.
     ///
     /// The future is polled first. A `Stopping` may be used again and again, for each read of a connection.
     ///
@@ -120,7 +120,7 @@ impl Stopping {
     /// ```
     pub async fn or<F: Future>(&mut self, mut future: F) -> Option<F::Output> {
         poll_fn(|cx| {
-            // SAFETY: the future is in this function's frame until it is dropped, and nothing else has a name for it.
+            // SAFETY: the future is in this function's frame until it is dropped, and nothing else refers to it.
             match unsafe { Pin::new_unchecked(&mut future) }.poll(cx) {
                 Poll::Ready(output) => Poll::Ready(Some(output)),
                 Poll::Pending => Pin::new(&mut *self).poll(cx).map(|()| None),
@@ -144,7 +144,7 @@ impl Future for Stopping {
             None => return Poll::Pending,
         };
         self.shared = Some(shared);
-        // A read that was put off comes first: there may be data.
+        // A read that was put off comes first: there may be data to read.
         let reads_later = in_own_poll(cx.waker(), |worker| worker.put_off.get());
         if shared.draining.has_begun() {
             let is_blind = self.waits.is_some() && in_own_poll(cx.waker(), |worker| worker.reads.get() == 0);
@@ -165,7 +165,7 @@ impl Future for Stopping {
             waiting.1.insert(key, cx.waker().clone());
             self.waits = Some((key, cx.waker().clone()));
         }
-        // Checked again with the waker in place: `begin` sets the flag before it takes the wakers.
+        // Checked again after the waker is registered: `begin` sets the flag before it takes the wakers.
         if !shared.draining.has_begun() {
             return Poll::Pending;
         }
@@ -213,13 +213,13 @@ impl Runtime {
         self.shared().live()
     }
 
-    /// Ends the runtime in order: lets its tasks finish, and drops those that have not by the deadline.
+    /// Ends the runtime in order: lets its tasks finish, and drops those that have not finished by the deadline.
     ///
     /// From this call on, `stopping` is ready, and `accept` of a listener fails once all connections that had arrived
     /// are accepted. Tasks of `spawn_background` are not waited for. A poll in progress at the deadline is waited for.
     /// Blocking work that still runs at the deadline goes on without the runtime, and tasks that it then spawns are
-    /// cancelled; `aborted` doesn't count such work. `Duration::MAX` is no deadline. A task that calls this function is
-    /// itself waited for, until the deadline, and counted.
+    /// cancelled; `aborted` doesn't count such work. `Duration::MAX` is no deadline. If a task calls this function, the
+    /// call waits for that task too, until the deadline, and counts it.
     ///
     /// ```
     /// use std::time::Duration;
@@ -273,8 +273,8 @@ impl Signal {
     /// Catches the signal of this number from now on; 15 is SIGTERM, 2 is SIGINT.
     ///
     /// The signal stays caught after this value is dropped. If an earlier `Signal` caught the same signal, only the new
-    /// one hears it from then on. Fails for a number that is no signal's, or that can't be caught, such as 9; so do 4,
-    /// 7, 8 and 11 (SIGILL, SIGBUS, SIGFPE, SIGSEGV), since a real fault must end the process.
+    /// one hears it from then on. Fails if `number` is no signal, or a signal that can't be caught, such as 9. Also
+    /// fails for 4, 7, 8 and 11 (SIGILL, SIGBUS, SIGFPE, SIGSEGV), since a real fault must end the process.
     ///
     /// ```
     /// # fn main() -> std::io::Result<()> {
@@ -291,9 +291,9 @@ impl Signal {
         Ok(Signal(Async::new(Event(event))?))
     }
 
-    /// Waits until the signal comes, or returns at once if it has come since the last wait.
+    /// Waits until the signal comes, or returns at once if the signal has come since the last wait.
     ///
-    /// `recv` is the form for tasks; `wait` blocks its thread, and in `spawn_blocking` would hold up the runtime's end.
+    /// `recv` is the form for tasks; `wait` blocks its thread, and in `spawn_blocking` would delay the runtime's end.
     /// If several tasks wait, one of them gets the signal. Like a socket, a `Signal` belongs to the runtime in which it
     /// first waits; for a later runtime make a new one.
     ///
@@ -314,7 +314,7 @@ impl Signal {
         self.0.read_with(take).await
     }
 
-    /// Blocks the calling thread until the signal comes, or returns at once if it has come since the last wait.
+    /// Blocks the calling thread until the signal comes, or returns at once if the signal has come since the last wait.
     ///
     /// Returns true, or false if the wait fails. In a task use `recv`. See the example at `heard`.
     pub fn wait(&self) -> bool {
@@ -361,7 +361,7 @@ impl Limit {
         Limit(Arc::new((AtomicUsize::new(0), most)))
     }
 
-    /// Takes a place, or returns None if all are taken.
+    /// Takes a place under the limit, or returns None if all places are taken.
     ///
     /// ```
     /// let limit = arachne::Limit::new(100);

@@ -3,16 +3,16 @@
 use crate::core::Job;
 use crate::sync::atomic::{AtomicU64, Ordering::*};
 
-/// The most stolen jobs in a hand.
+/// The most stolen jobs in a worker's hand.
 pub(crate) const FIRST: usize = 8;
-/// The length of the line, a power of two.
+/// The length of the line (the hand's queue of its own jobs), a power of two.
 pub(crate) const LINE: usize = 64;
 
 /// The jobs in a worker's hand. Only the worker itself puts jobs into its hand.
 #[derive(Default)]
 pub(crate) struct Hand {
     pub(crate) next: Next,
-    /// Stolen jobs. Stolen jobs run before all others that are ready.
+    /// Stolen jobs. They run before all others that are ready.
     pub(crate) first: Jobs<FIRST>,
     /// Jobs that run after those that were ready before them.
     pub(crate) line: Jobs<LINE>,
@@ -24,12 +24,12 @@ impl Hand {
         self.next.is_empty() && self.waits() == 0
     }
 
-    /// Returns the number of jobs in hand behind the one that runs next.
+    /// Returns the number of jobs in hand behind the job that runs next.
     pub(crate) fn waits(&self) -> usize {
         self.first.len() + self.line.len()
     }
 
-    /// Takes the first of the jobs behind the one that runs next. If there is none and `next` is true, takes the one
+    /// Takes the first of the jobs behind the job that runs next. If there is none and `next` is true, takes the job
     /// that runs next.
     pub(crate) fn take(&self, next: bool) -> Option<Job> {
         let behind = self.first.take(false).or_else(|| self.line.take(false));
@@ -59,7 +59,7 @@ impl Slot {
     }
 }
 
-/// Takes the job of a slot by advancing `count` from `seen`. Returns the current count if another thread was quicker.
+/// Takes the job of a slot by advancing `count` from `seen`. Returns the current count if another thread was faster.
 ///
 /// If `alone` is true, no other thread ever takes a job, and a plain store suffices.
 ///
@@ -76,10 +76,10 @@ fn take(count: &AtomicU64, seen: u64, slot: &Slot, alone: bool) -> Result<Job, u
     count.compare_exchange(seen, seen + 1, AcqRel, Acquire).map(|_| job)
 }
 
-/// The slot of the job that runs next. The hand's worker puts the job into the slot, and any thread takes it.
+/// The slot of the job that runs next on a worker. The worker puts the job into the slot, and any thread takes it.
 ///
-/// The slot is on cache lines of its own: the hand's worker writes there at each wake, while others read the rest of
-/// the hand.
+/// The slot is on cache lines of its own: the worker writes there at each wake, while other threads read its other
+/// queues.
 #[derive(Default)]
 #[repr(align(128))]
 pub(crate) struct Next {
@@ -94,7 +94,7 @@ impl Next {
         self.steps.load(Acquire) % 2 == 0
     }
 
-    /// Puts a job here. Returns false, and does nothing, if a job is here already.
+    /// Puts a job into the slot. Returns false, and does nothing, if the slot has a job already.
     #[inline]
     pub(crate) fn put(&self, job: Job) -> bool {
         let steps = self.steps.load(Acquire);
@@ -115,7 +115,7 @@ impl Next {
     }
 }
 
-/// A queue of jobs. The hand's worker puts jobs into the queue, and any thread takes them.
+/// A queue of jobs of a worker. The worker puts jobs into the queue, and any thread takes them.
 pub(crate) struct Jobs<const ROOM: usize> {
     taken: AtomicU64,
     put: AtomicU64,

@@ -10,15 +10,15 @@ use std::fmt;
 use std::future::Future;
 use std::panic::Location;
 
-/// Each call in progress raises the door's word by this number. The bits from `TURN` on count how often the door was
-/// opened or closed.
+/// The amount that each call in progress adds to the word of a `Door`. The bits from `TURN` on count how often the door
+/// was opened or closed.
 const CALL: u64 = 1;
 const TURN: u64 = 1 << 32;
 
 /// Lets calls of handles in only while their runtime exists.
 ///
 /// The state that a runtime's threads share is used again by a later runtime, which old handles must not reach. So a
-/// handle keeps the count of turns (how often the door was opened or closed) at which it was made.
+/// handle keeps the count of turns (how often this door was opened or closed) at which it was made.
 #[derive(Default)]
 pub(crate) struct Door(AtomicU64);
 
@@ -27,7 +27,7 @@ impl Door {
         self.0.fetch_add(TURN, SeqCst);
     }
 
-    /// Closes the door, and waits for the calls in progress.
+    /// Closes the door for new calls, and waits for the calls in progress.
     pub(crate) fn close(&self) {
         self.0.fetch_add(TURN, SeqCst);
         while self.0.load(SeqCst) % TURN != 0 {
@@ -35,16 +35,18 @@ impl Door {
         }
     }
 
-    /// Returns how often the door was opened or closed. So the runtimes that use one state, one after another, have
+    /// Returns how often the door was opened or closed. So runtimes that use the same state one after another have
     /// different counts.
     pub(crate) fn turns(&self) -> u64 {
         self.0.load(SeqCst) / TURN
     }
 
-    /// Makes a call, if the door is open and `turns` is its current count. The count is odd while the door is open.
+    /// Makes a call, if the door is open and `turns` is its current count.
     ///
-    /// The call must be counted before the turns are compared: `close` changes the turns first, and then waits for the
-    /// calls.
+    /// `turns` counts how often the door was opened or closed, so it is odd while the door is open.
+    ///
+    /// The call must be counted before the counts are compared: `close` changes the door's count first, and then waits
+    /// for the calls in progress.
     fn within<T>(&self, turns: u64, call: impl FnOnce() -> T) -> Option<T> {
         struct Leave<'a>(&'a AtomicU64);
         impl Drop for Leave<'_> {
@@ -154,7 +156,7 @@ impl Handle {
         }
     }
 
-    /// Spawns a task, or hands the future back if no place is free, if tasks already wait for one, or if the runtime
+    /// Spawns a task. Hands the future back if no place is free, if tasks already wait for a place, or if the runtime
     /// has ended.
     ///
     /// ```
@@ -195,7 +197,7 @@ impl Handle {
         }
     }
 
-    /// Returns the counts of the workers until now, as `Runtime::stats` does; all zero once the runtime has ended.
+    /// Returns the counts of the workers until now, as `Runtime::stats` does. All are zero once the runtime has ended.
     ///
     /// ```
     /// let runtime = arachne::Runtime::new(2);
@@ -217,7 +219,7 @@ where
     F::Output: Send + 'static,
 {
     let (raw, handle) = task::new(future, about);
-    // SAFETY: from `new`, and nobody else has it.
+    // SAFETY: the task is from `new`, and nobody else has it.
     unsafe { task::end(raw) };
     handle
 }

@@ -14,12 +14,12 @@ const LATE: Duration = Duration::from_millis(5);
 /// Used in place of a time beyond the clock's range: thirty years, for which no process waits.
 const NEVER: Duration = Duration::from_secs(30 * 365 * 86_400);
 
-/// Returns the moment a period after another one.
+/// Returns the time that is `period` after `moment`.
 fn later(moment: Instant, period: Duration) -> Instant {
     moment.checked_add(period).unwrap_or_else(|| moment + NEVER)
 }
 
-/// When the ticks after a missed one come; see `Interval::set_missed_tick_behavior`.
+/// When the ticks that follow a missed tick come; see `Interval::set_missed_tick_behavior`.
 ///
 /// ```
 /// use arachne::MissedTickBehavior;
@@ -40,9 +40,9 @@ pub enum MissedTickBehavior {
     /// The missed ticks come at once, one after another.
     #[default]
     Burst,
-    /// The next tick comes a period after the late one.
+    /// The next tick comes a period after the late tick.
     Delay,
-    /// The missed ticks are left out; the next comes at its original time.
+    /// The missed ticks are left out. The next tick comes at its original time.
     Skip,
 }
 
@@ -168,7 +168,7 @@ impl Interval {
         self.period
     }
 
-    /// Sets when the ticks after a missed one come: `Burst` by default. See the example at `MissedTickBehavior`.
+    /// Sets when the ticks that follow a missed tick come: `Burst` by default. See the example at `MissedTickBehavior`.
     pub fn set_missed_tick_behavior(&mut self, behavior: MissedTickBehavior) {
         self.missed = behavior;
     }

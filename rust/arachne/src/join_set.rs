@@ -11,13 +11,13 @@ use std::fmt;
 use std::future::Future;
 use std::task::{Context, Poll, Wake, Waker};
 
-/// The numbers of the tasks that have ended, and the waker of the task that waits for one.
+/// The numbers of the tasks that have ended, and the waker of the task that waits in `join_next`.
 struct Ended {
     numbers: Mutex<VecDeque<u64>>,
     waits: Slot,
 }
 
-/// The waker in a task's handle: it records that the task has ended.
+/// The waker in the handle of a task: it records that the task has ended.
 struct Tells {
     number: u64,
     ended: Arc<Ended>,
@@ -148,7 +148,7 @@ impl<T> JoinSet<T> {
             return Poll::Ready(None);
         }
         self.ended.waits.set(cx.waker());
-        // Checked again with the waker in place: a task may have ended before it could see it.
+        // Checked again after the waker is registered: a task may have ended before it could see the waker.
         match self.try_join_next() {
             Some(output) => Poll::Ready(Some(output)),
             None => Poll::Pending,

@@ -36,7 +36,7 @@
 //! decides which thread uses which seat, and is only tested. `docs/rust.md` lists the rules that the crate must keep
 //! for the proofs to apply to a program.
 //!
-//! Most names are tokio's, or std's. Outside of a runtime `spawn` and a sleep panic, and a socket that has to wait
+//! Most names are tokio's, or std's. Outside of a runtime `spawn` and `sleep` panic, and a socket that has to wait
 //! returns an error: use them in a task, or in `Runtime::block_on`. Linux, 64 bits, rustc 1.63 or later.
 //!
 //! | Feature | Meaning |

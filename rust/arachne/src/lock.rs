@@ -1,4 +1,4 @@
-//! A lock for tasks and threads. The core decides who holds the lock, and who is next: the one that waits longest.
+//! A lock for tasks and threads. The core decides who holds the lock, and who gets it next: whoever has waited longest.
 
 use crate::core::{Asked, Freed, LockCore};
 use crate::reactor::Slot;
@@ -72,7 +72,7 @@ impl<T: ?Sized> fmt::Debug for Lock<T> {
 }
 
 impl<T: ?Sized> Lock<T> {
-    /// Waits for the lock, in line. A future that is dropped while it waits leaves the line.
+    /// Waits for the lock, in line. A future that is dropped while it waits leaves the line of waiters.
     ///
     /// ```
     /// let lock = arachne::Lock::new(1);
@@ -95,7 +95,7 @@ impl<T: ?Sized> Lock<T> {
         self.core.try_ask().map(|who| Guard { lock: self, who, _node: None })
     }
 
-    /// Returns the value without taking the lock, which nobody else has a reference to.
+    /// Returns the value without taking the lock: nobody else has a reference to it.
     ///
     /// ```
     /// let mut lock = arachne::Lock::new(1);
@@ -109,7 +109,7 @@ impl<T: ?Sized> Lock<T> {
     fn free(&self, who: u64) {
         if let Freed::HandedOn(next) = self.core.free(who) {
             if next % 2 == 1 {
-                // A `try_ask` that is withdrawing: it is about to see that it holds the lock.
+                // The waiter is a `try_ask` that is withdrawing: it is about to see that it holds the lock.
                 return;
             }
             // SAFETY: a waiter leaves a count of its node with the core, for the holder that hands the lock on to it.
@@ -166,7 +166,7 @@ impl<'a, T: ?Sized> Future for Locking<'a, T> {
                 Poll::Pending
             }
             Asked::Granted => {
-                // SAFETY: the count that was left above; the core has not kept it, as nobody had to wait.
+                // SAFETY: the count that was left above. The core has not kept it, as nobody had to wait.
                 drop(unsafe { Arc::from_raw(who) });
                 Poll::Ready(Guard { lock, who: who as usize as u64, _node: Some(node) })
             }
@@ -182,14 +182,14 @@ impl<T: ?Sized> Drop for Locking<'_, T> {
                 // SAFETY: the count that the core's queue had; the waiter has left the queue.
                 drop(unsafe { Arc::from_raw(who) });
             } else {
-                // The lock was handed to it meanwhile, so it must be freed.
+                // The lock was handed to this waiter meanwhile, so it must be freed.
                 self.lock.free(who as usize as u64);
             }
         }
     }
 }
 
-/// Access to the value of a lock, which is held until the guard is dropped.
+/// Access to the value of a lock, which stays locked until the guard is dropped.
 ///
 /// ```
 /// let lock = arachne::Lock::new(1);
@@ -204,9 +204,9 @@ pub struct Guard<'a, T: ?Sized> {
     /// Keeps the node's address, which is the holder's name in the core, from being used by another node.
     _node: Option<Arc<Node>>,
 }
-// SAFETY: it is the value's one holder, on whatever thread.
+// SAFETY: the guard is the only access to the value, on whatever thread.
 unsafe impl<T: ?Sized + Send> Send for Guard<'_, T> {}
-// SAFETY: a shared guard gives shared access to the value alone.
+// SAFETY: a shared guard gives only shared access to the value.
 unsafe impl<T: ?Sized + Sync> Sync for Guard<'_, T> {}
 
 impl<T: ?Sized + fmt::Debug> fmt::Debug for Guard<'_, T> {
@@ -218,13 +218,13 @@ impl<T: ?Sized + fmt::Debug> fmt::Debug for Guard<'_, T> {
 impl<T: ?Sized> Deref for Guard<'_, T> {
     type Target = T;
     fn deref(&self) -> &T {
-        // SAFETY: the lock is held.
+        // SAFETY: the guard's lock is locked.
         unsafe { &*self.lock.value.get() }
     }
 }
 impl<T: ?Sized> DerefMut for Guard<'_, T> {
     fn deref_mut(&mut self) -> &mut T {
-        // SAFETY: the lock is held, and the guard is not shared.
+        // SAFETY: the guard's lock is locked, and the guard is not shared.
         unsafe { &mut *self.lock.value.get() }
     }
 }

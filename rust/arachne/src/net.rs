@@ -51,8 +51,8 @@ pub use unix::{UnixListener, UnixStream};
 #[derive(Clone)]
 struct Registered {
     shared: &'static Shared,
-    /// The count of the runtime's `Door`: how often it was opened or closed. A later runtime that uses the same state
-    /// has another count.
+    /// The count of the runtime's `Door` (which lets calls in only while the runtime exists): how often it was opened
+    /// or closed. A later runtime that uses the same state has another count.
     turns: u64,
     io: Arc<Io>,
     key: Key,
@@ -115,7 +115,7 @@ mod once {
 
     pub(super) struct Once<T>(AtomicPtr<T>);
 
-    // SAFETY: as for a `Box<T>` that is shared once it is written.
+    // SAFETY: as for a `Box<T>` that is shared once it was written.
     unsafe impl<T: Send + Sync> Sync for Once<T> {}
     // SAFETY: the same.
     unsafe impl<T: Send> Send for Once<T> {}
@@ -127,7 +127,7 @@ mod once {
 
         #[inline]
         pub(super) fn get(&self) -> Option<&T> {
-            // SAFETY: what was written stays until the drop.
+            // SAFETY: the value that was written stays until the drop.
             unsafe { self.0.load(Acquire).as_ref() }
         }
 
@@ -152,7 +152,7 @@ mod once {
     }
 }
 
-/// Returns true if the current poll may read now; if not, the task yields to its worker first.
+/// Returns true if the current poll may read now. If not, the task must first yield to its worker.
 ///
 /// A poll may always make one read, and more until its worker's next look is due. Under a waker that isn't the task's
 /// own, as in a `block_on`, no read is put off: such a poll doesn't return to the worker.
@@ -175,7 +175,7 @@ impl<S: AsRawFd> Source<S> {
         self.socket
     }
 
-    /// Returns the entry in the reactor; makes it at the first call, in the current runtime.
+    /// Returns the socket's entry in the reactor. The first call makes the entry, in the current runtime.
     fn registered(&self) -> io::Result<&Registered> {
         let Registration { at, registering, .. } = &self.of;
         if let Some(at) = at.get() {
@@ -214,8 +214,8 @@ impl<S: AsRawFd> Source<S> {
         })
     }
 
-    /// Polls the operation; see `attempt`. Of several tasks that poll one direction (reading or writing) only the last
-    /// one is woken.
+    /// Polls the operation; see `attempt`. If several tasks poll one direction (reading or writing), only the last of
+    /// them is woken.
     #[inline]
     fn poll<T>(
         &self,
@@ -261,7 +261,7 @@ impl<S: AsRawFd> Source<S> {
         let mut untold = false;
         loop {
             if state & (ready | closed) == 0 {
-                // Before the state is read again: an event changes the state, and then wakes who is registered.
+                // Before the state is read again: an event changes the state, and then wakes whoever is registered.
                 register(io, cx.waker());
                 state = io.state.load(SeqCst);
                 if state & (ready | closed) == 0 {
@@ -331,19 +331,19 @@ fn poll_accept<S: AsRawFd, T>(
             return polled;
         }
         if in_own_poll(cx.waker(), |worker| worker.put_off.get()) {
-            // The attempt was put off, and comes in the next poll.
+            // The attempt was put off, and is made in the next poll.
             cx.waker().wake_by_ref();
             return Poll::Pending;
         }
         if was_stopping {
-            // All who had connected before are accepted.
+            // All connections that had arrived before are accepted.
             return Poll::Ready(Err(io::Error::new(io::ErrorKind::Other, "the runtime is about to end")));
         }
         // The end began during the attempt.
     }
 }
 
-/// Waits for a connection; is also woken when the runtime's end begins.
+/// Waits for a connection. The task is also woken when the runtime's end begins.
 async fn accept<S: AsRawFd, T>(listener: &Source<S>, accept: impl Fn(&S) -> io::Result<T>) -> io::Result<T> {
     let (mut stopping, mut waiting) = (crate::drain::stopping(), listener.waiting());
     poll_fn(|cx: &mut Context<'_>| {
@@ -356,7 +356,7 @@ async fn accept<S: AsRawFd, T>(listener: &Source<S>, accept: impl Fn(&S) -> io::
     .await
 }
 
-/// Any descriptor that epoll can watch: a pipe, an eventfd, a socket of a kind that has no type here.
+/// Any descriptor that epoll can watch: a pipe, an eventfd, or a kind of socket that has no type in this crate.
 ///
 /// Reads and writes are calls of `S` that return `WouldBlock` instead of waiting.
 ///
@@ -506,8 +506,8 @@ macro_rules! socket {
             }
         }
 
-        /// Gives access to options that have no method here. Don't read or write by the descriptor: the runtime would
-        /// not see it.
+        /// Gives access to options that have no method of this type. Don't read or write by the descriptor: the runtime
+        /// would not see it.
         impl AsRawFd for $name {
             fn as_raw_fd(&self) -> RawFd {
                 self.0.socket.as_raw_fd()
@@ -585,7 +585,8 @@ macro_rules! stream {
                 self.0.poll(cx, false, len, |mut socket| socket.write_vectored(bytes), |&n| n)
             }
 
-            /// Reads at most `buffer.len()` bytes, once there are some. Returns the number of bytes read, 0 at the end.
+            /// Reads at most `buffer.len()` bytes, once there are some. Returns the number of bytes read; 0 at the
+            /// connection's end.
             ///
             /// ```
             /// # fn main() -> std::io::Result<()> {
@@ -602,7 +603,7 @@ macro_rules! stream {
                 self.0.wait::<true, _>(len, |mut socket| socket.read(buffer), |&n| n).await
             }
 
-            /// Fills the buffer. Fails with `UnexpectedEof` if the connection ends before.
+            /// Fills the buffer. Fails with `UnexpectedEof` if the connection ends before the buffer is full.
             ///
             /// ```
             /// # fn main() -> std::io::Result<()> {

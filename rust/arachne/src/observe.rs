@@ -1,6 +1,6 @@
 //! Observing a runtime: the states of its tasks, hooks, and a histogram of the time for which ready tasks waited.
 //!
-//! A runtime built without `Builder::observed` records none of this; it pays one test per step.
+//! A runtime built without `Builder::observed` records none of this, and only makes one test per step.
 
 use crate::core::Job;
 use crate::shared::Shared;
@@ -36,7 +36,7 @@ pub trait Hooks: Send + Sync {
     fn spawned(&self, _about: &About) {}
     /// A poll of this task begins.
     fn poll_begins(&self, _id: u64, _about: &About) {}
-    /// The poll ends. If the task has ended, `ended` follows.
+    /// The poll ends. If the task has ended, a call of `ended` follows.
     fn poll_ends(&self, _id: u64) {}
     /// The task that waits at this place was made ready.
     fn woken(&self, _place: usize) {}
@@ -51,11 +51,13 @@ pub(crate) const HISTOGRAM: usize = 24;
 struct Record {
     spawned: AtomicPtr<Location<'static>>,
     label: AtomicPtr<Label>,
-    /// The task's name plus one, or 0 if there is no task. The other three words are one for each state: the time since
-    /// which the task is in that state, or 0 if it isn't.
+    /// The task's name plus one, or 0 if there is no task.
     name: AtomicU64,
+    /// The time since which the task waits, or 0 if it doesn't.
     waits_since: AtomicU64,
+    /// The time since which the task is ready, or 0 if it isn't.
     ready_since: AtomicU64,
+    /// The time since which the task runs, or 0 if it doesn't.
     runs_since: AtomicU64,
 }
 
@@ -193,7 +195,7 @@ impl Observer {
 impl Record {
     fn info(&self, now: u64) -> Option<TaskInfo> {
         let id = self.name.load(Acquire).checked_sub(1)?;
-        // SAFETY: what was stored there lives for ever.
+        // SAFETY: a reference that was stored there lives for ever.
         let spawned: &'static Location<'static> = unsafe { self.spawned.load(Relaxed).as_ref()? };
         // SAFETY: the same.
         let name: Option<&'static Label> = unsafe { self.label.load(Relaxed).as_ref() };
@@ -216,7 +218,7 @@ impl Shared {
     pub(crate) fn running(&self, worker: usize) -> Option<(u64, About)> {
         let worker = &self.workers[worker].0;
         let name = worker.running.load(Relaxed);
-        // SAFETY: what was stored there lives for ever.
+        // SAFETY: a reference that was stored there lives for ever.
         let spawned: &'static Location<'static> = unsafe { worker.site.load(Relaxed).as_ref()? };
         // SAFETY: the same.
         let label: Option<&'static Label> = unsafe { worker.label.load(Relaxed).as_ref() };

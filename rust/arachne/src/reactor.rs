@@ -3,9 +3,10 @@
 //! One worker at a time waits in the epoll. The tasks that these events wake go, in the events' order, to the hand of
 //! the worker that waited (its list of jobs to run next). So a worker asks only for as many events as have room in its
 //! hand (`asks` in worker.rs): at most 8, and fewer if 8 polls take more than about 100 us. A worker that is the only
-//! active one asks for more. The other events stay with the kernel for whoever looks next, so that they don't wait for
-//! a worker that loses its processor; if there may be more, a sleeping worker is woken. A worker that has ready jobs of
-//! its own looks too; the tasks that it wakes then become ready in their blocks, unless it is the only active worker.
+//! active one asks for more. The other events stay with the kernel for the next worker that looks, so that they don't
+//! wait for a worker that loses its processor; if there may be more, a sleeping worker is woken. A worker that has
+//! ready jobs of its own looks too; the tasks that it wakes then become ready in their blocks, unless it is the only
+//! active worker.
 
 use crate::sync::atomic::{AtomicU64, AtomicUsize, Ordering::*};
 use crate::sync::{Arc, Condvar, Mutex};
@@ -21,15 +22,15 @@ pub(crate) const WRITE: u64 = 2;
 pub(crate) const READ_CLOSED: u64 = 4;
 pub(crate) const WRITE_CLOSED: u64 = 8;
 const TICK: u64 = 256;
-/// Used in place of a name, if a waker is not that of a task of this runtime.
+/// Used in place of a name, if a waker doesn't belong to a task of this runtime.
 const OTHER: u64 = NOBODY - 1;
 /// The key of the eventfd that ends a wait.
 const WOKEN: u64 = 0;
 /// The most events of one look.
 pub(crate) const EVENTS: usize = 64;
 
-/// A waker that is registered for one event. The waker of a task of this runtime is kept in one word, without a lock;
-/// other wakers take a lock.
+/// A waker that is registered for one event. If it belongs to a task of this runtime, it is kept in one word, without a
+/// lock. Other wakers take a lock.
 pub(crate) struct Slot {
     table: usize,
     name: AtomicU64,
@@ -77,15 +78,17 @@ impl Slot {
 
 /// The readiness of a descriptor, and the wakers of the tasks that wait for it.
 ///
-/// The bits above the lowest eight count the events, so that a bit is cleared only if there was no event since it was
-/// read.
+/// The bits above the lowest eight count the events, so that a bit is cleared only if there was no event since the bit
+/// was read.
 pub(crate) struct Io {
     pub(crate) state: AtomicU64,
-    /// The last waker of the `poll_` functions, which replace it at each call.
+    /// The last waker of the `poll_` functions that read, which replace it at each call.
     pub(crate) reader: Slot,
+    /// The last waker of the `poll_` functions that write, which replace it at each call.
     pub(crate) writer: Slot,
-    /// The wakers of the futures that wait, any number of them.
+    /// The wakers of the futures that wait to read, any number of them.
     pub(crate) readers: Waiters,
+    /// The wakers of the futures that wait to write, any number of them.
     pub(crate) writers: Waiters,
 }
 
@@ -94,8 +97,9 @@ pub(crate) struct Waiters {
     table: usize,
     /// The name of one task of this runtime, which needs no lock. The future of that task may be gone.
     first: AtomicU64,
-    /// The number of the other wakers, and these wakers by key.
+    /// The number of the other wakers.
     count: AtomicUsize,
+    /// The next key, and the other wakers by key.
     others: Mutex<(u64, Vec<(u64, Waker)>)>,
 }
 

@@ -50,7 +50,9 @@ impl fmt::Debug for Semaphore {
 /// ```
 /// let permits = arachne::Semaphore::new(0);
 /// permits.close();
-/// assert_eq!(arachne::block_on(permits.acquire()).unwrap_err().to_string(), "the semaphore is closed");
+/// let error = arachne::block_on(permits.acquire()).unwrap_err();
+/// assert_eq!(error.to_string(), "the semaphore is closed");
+/// assert_eq!(std::io::Error::from(error).kind(), std::io::ErrorKind::Other);     // so `?` serves in I/O code, too
 /// ```
 #[derive(Clone, Copy, PartialEq, Eq, Debug)]
 #[non_exhaustive]
@@ -62,6 +64,12 @@ impl fmt::Display for AcquireError {
     }
 }
 impl std::error::Error for AcquireError {}
+
+impl From<AcquireError> for std::io::Error {
+    fn from(error: AcquireError) -> std::io::Error {
+        std::io::Error::new(std::io::ErrorKind::Other, error)
+    }
+}
 
 /// The error of `Semaphore::try_acquire`.
 ///

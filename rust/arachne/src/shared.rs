@@ -46,14 +46,15 @@ pub(crate) struct Shared {
     pub(crate) root: Mutex<Root>,
     pub(crate) workers: Box<[Line<Worker>]>,
     pub(crate) reactor: Reactor,
-    /// The worker that waits in the epoll, and its deputy, which polls the epoll now and then while that worker runs
-    /// tasks.
+    /// The worker that waits in the epoll.
     pub(crate) waits: Line<AtomicUsize>,
+    /// The deputy: the worker that polls the epoll now and then while the worker `waits` runs tasks.
     pub(crate) deputy: Line<AtomicUsize>,
     /// The time of the last look at the epoll by a worker that runs tasks.
     pub(crate) looked: Line<AtomicU64>,
-    /// Milliseconds between two looks at the other workers, by the deputy and by the worker that waits in the epoll.
+    /// Milliseconds between two looks of the deputy at the other workers.
     pub(crate) rests: AtomicI32,
+    /// Milliseconds between two looks at the other workers by the worker that waits in the epoll.
     pub(crate) pauses: AtomicI32,
     /// Nanoseconds between two looks of the worker that covers for the first one, if only the first has a core; else 0.
     pub(crate) covers: Line<AtomicU64>,
@@ -61,13 +62,15 @@ pub(crate) struct Shared {
     pub(crate) roomy: Box<[Line<AtomicU64>]>,
     /// For each place, the name of the last task that waited there, so that it can be ended with the runtime.
     pub(crate) names: Box<[AtomicU64]>,
-    /// The workers that sleep, as bits, and the number that search for work. These numbers only decide which worker it
-    /// is worth waking.
+    /// The workers that sleep, as bits. They only decide which worker it is worth waking.
     pub(crate) sleepers: Line<AtomicU64>,
+    /// The number of workers that search for work. It only decides whether it is worth waking another.
     pub(crate) searching: Line<AtomicUsize>,
+    /// The number of active workers.
     pub(crate) active: Line<AtomicUsize>,
     /// Tasks that wait for a free place, and have not begun.
     pub(crate) queue: Mutex<VecDeque<Raw>>,
+    /// The number of tasks in `queue`.
     pub(crate) queued: Line<AtomicUsize>,
     /// True if no queued task can get a place until a task ends.
     pub(crate) clogged: AtomicBool,
@@ -124,17 +127,21 @@ pub(crate) struct Worker {
     pub(crate) takes: AtomicU64,
     pub(crate) wakes: AtomicU64,
     pub(crate) parks: AtomicU64,
-    /// Looks counted for the policy, and the sum of the ready jobs at them.
+    /// The number of looks at the ready jobs that were counted for the policy.
     pub(crate) scans: AtomicU64,
+    /// The sum of the numbers of ready jobs at these looks.
     pub(crate) runnable: AtomicU64,
-    /// Nanoseconds without work, and the time since which there is none (0: there is work).
+    /// Nanoseconds that the worker was without work.
     pub(crate) idle: AtomicU64,
+    /// The time since which the worker is without work; 0 if it has work.
     pub(crate) idle_since: AtomicU64,
     /// The thread's `/proc` file `schedstat`: the time it ran, and the time it waited for a processor.
     pub(crate) account: Mutex<Option<File>>,
-    /// For the watcher: the name of the task that is polled now, where it was spawned, and its label.
+    /// For the watcher: the name of the task that is polled now.
     pub(crate) running: AtomicU64,
+    /// For the watcher: where that task was spawned.
     pub(crate) site: AtomicPtr<Location<'static>>,
+    /// For the watcher: the label of that task.
     pub(crate) label: AtomicPtr<Label>,
 }
 
@@ -395,17 +402,20 @@ pub(crate) struct Context {
     pub(crate) worker: &'static Worker,
     /// True if no other thread ever takes jobs out of this worker's hand.
     pub(crate) alone: bool,
-    /// The name of the task that runs here, and whether it woke itself.
+    /// The name of the task that runs on this worker.
     pub(crate) current: Cell<u64>,
+    /// True if the task that runs on this worker woke itself.
     pub(crate) woken: Cell<bool>,
-    /// The number of reads of sockets in this poll, and true if another was put off. The time at which the worker last
-    /// looked out or was idle.
+    /// The number of reads of sockets in this poll.
     pub(crate) reads: Cell<u32>,
+    /// True if a read of a socket was put off in this poll.
     pub(crate) put_off: Cell<bool>,
+    /// The time at which this worker last looked for sockets, timers and other workers' tasks, or was idle.
     pub(crate) looked: Cell<u64>,
-    /// True if a job that is woken runs next here. If false, the first `room` woken jobs go into this worker's line, in
-    /// order; the others become ready in their blocks, and no worker is woken to help.
+    /// True if a job that is woken on this worker runs next on it. If false, `room` decides where a woken job goes.
     pub(crate) keeps: Cell<bool>,
+    /// If `keeps` is false: the number of woken jobs that still go into this worker's line (its local queue), in order.
+    /// The others become ready in their blocks, and no worker is woken to help.
     pub(crate) room: Cell<usize>,
     random: Cell<u64>,
 }

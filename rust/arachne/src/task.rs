@@ -180,6 +180,7 @@ struct VTable {
     poll: unsafe fn(*mut Header, &mut Context<'_>) -> bool,
     /// Drops the future, and stores an error as its output.
     cancel: unsafe fn(*mut Header, JoinError),
+    /// Moves the output to the given pointer.
     take_output: unsafe fn(*mut Header, *mut ()),
     /// Drops the output, unless it was taken.
     drop_output: unsafe fn(*mut Header),
@@ -188,8 +189,9 @@ struct VTable {
 
 pub(crate) struct Header {
     state: AtomicU32,
-    /// The runtime's number. The number and `name`, the task's name in that runtime, are written before the first poll.
+    /// The runtime's number. It is written before the first poll.
     table: AtomicU32,
+    /// The task's name in that runtime. It is written before the first poll.
     name: AtomicU64,
     vtable: &'static VTable,
     join_waker: UnsafeCell<Option<Waker>>,

@@ -76,34 +76,39 @@ const CROWD: u32 = 128;
 
 /// A worker's position in its rounds, and the progress that it has seen of the other workers.
 pub(crate) struct Turn {
-    /// Stolen jobs left to run, and jobs of the line to run before the next sweep. Other workers may have taken some of
-    /// these jobs.
+    /// The number of stolen jobs left to run. Other workers may have taken some of these jobs.
     first: usize,
+    /// The number of jobs of the line (the local queue) to run before the next sweep. Other workers may have taken some
+    /// of these jobs.
     line_left: usize,
-    /// The block that is being swept, those of its places that were ready when the sweep began and are still to come,
-    /// and the number of the next block.
+    /// The block that is being swept.
     block: usize,
+    /// The places of `block` that were ready when the sweep began and were not swept yet, as bits.
     wanted: u64,
+    /// The number of the block to sweep next.
     next: usize,
     /// The number of looks at blocks that were empty, though the summary still shows them.
     stale: u32,
     chain: u32,
-    /// Polls since the last look or idle time, and the number of polls that take about `LOOK_TIME`.
+    /// The number of polls since the last look or idle time.
     polls: u32,
+    /// The number of polls that take about `LOOK_TIME`.
     most: u32,
     /// True if each look counts the ready jobs for the policy, and checks if the arbiter wants the core back.
     counts: bool,
-    /// For each worker, its polls at the last look, the looks in a row without progress (modulo `LONG`), and since
-    /// when.
+    /// For each worker, the number of its polls at the last look at it.
     seen: Vec<u64>,
+    /// For each worker, the number of looks in a row at which it had made no progress, modulo `LONG`.
     stood: Vec<u32>,
+    /// For each worker, the time since which it has made no progress.
     since: Vec<u64>,
-    /// For each worker, its polls at the last look before a sleep; and the time of that look.
+    /// For each worker, the number of its polls at the last look before this worker slept.
     met: Vec<u64>,
+    /// The time of the last look before this worker slept.
     looked: u64,
-    /// Milliseconds between the worker's looks at the others while it sleeps, and the polls of all workers at the last
-    /// look.
+    /// Milliseconds between this worker's looks at the others while it sleeps.
     rests: i32,
+    /// The number of polls of all workers at the last of these looks.
     watched: u64,
     /// True if the last look left the worker with stolen jobs to run.
     helps: bool,

@@ -213,6 +213,8 @@ fn a_closed_semaphore_gives_nothing() {
     assert_eq!(permits.available_permits(), 1);
     let messages = [refused.to_string(), TryAcquireError::NoPermits.to_string()];
     assert_eq!(messages, ["the semaphore is closed", "there are not so many permits"]);
+    let failed = std::io::Error::from(refused);
+    assert_eq!((failed.kind(), failed.to_string()), (std::io::ErrorKind::Other, "the semaphore is closed".to_string()));
 }
 
 #[test]

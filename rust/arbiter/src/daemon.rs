@@ -26,7 +26,7 @@ const PATIENCE: Duration = Duration::from_millis(10);
 const LOOKS: Duration = Duration::from_secs(1);
 /// The most threads that are looked at before a decision.
 const AT_ONCE: usize = 8;
-/// The most readers of the status that are answered in a round.
+/// The most readers of the status that are answered in a round of the daemon's loop.
 const READERS: usize = 8;
 
 struct Thread {
@@ -68,7 +68,7 @@ struct Client {
     /// The last turn (a core's move from one client to another) in which the client got a core or gave one, or had no
     /// thread for one.
     turned: u64,
-    /// The number of times that the threads of the client's process must still be moved to the rest (the processors of
+    /// The number of times that the threads of the client's process must still be moved to `rest` (the processors of
     /// threads without a core). The threads are moved twice, since a thread that begins meanwhile begins in the set of
     /// its parent.
     arrives: u32,
@@ -79,7 +79,7 @@ struct Client {
 /// The threads that are still to be looked at.
 struct Look {
     threads: Threads,
-    /// True if all these threads are moved to the rest (the processors of threads without a core). If false, only those
+    /// True if all these threads are moved to `rest` (the processors of threads without a core). If false, only those
     /// that are on a granted core are moved off it.
     all: bool,
 }
@@ -199,8 +199,8 @@ impl Arbiter {
         }
     }
 
-    /// Publishes how many cores a client is allowed, and takes those that it has beyond that: at once from a thread
-    /// that floats (never waits), from others only if the client is late.
+    /// Publishes how many cores a client is allowed, and takes the cores that it has beyond that. A core of a thread
+    /// that floats (never waits) is taken at once, other cores only if the client is late.
     fn take_from(&mut self, id: u32) {
         let share = self.share(id);
         let client = self.clients.get_mut(&id).unwrap();
@@ -305,8 +305,8 @@ impl Arbiter {
         true
     }
 
-    /// Moves a thread that has a core into the rest, the processors on which threads without a core run. `sleeps` is
-    /// true if the thread waits.
+    /// Moves a thread that has a core to `rest`, the processors on which threads without a core run. `sleeps` is true
+    /// if the thread waits.
     fn unplace(&mut self, client: u32, place: u32, sleeps: bool) {
         let of = self.clients.get_mut(&client).and_then(|it| Some((it.process, it.threads.get_mut(&place)?)));
         let (process, thread) = match of {
@@ -322,8 +322,8 @@ impl Arbiter {
         }
     }
 
-    /// Moves the owner's thread to its core, or into the rest while the machine's host takes the core's processor.
-    /// Returns false if the thread can't be moved.
+    /// Moves the owner's thread to its core, or to `rest` while the machine's host takes the core's processor. Returns
+    /// false if the thread can't be moved.
     fn set_on_core(&mut self, core: usize) -> bool {
         let owner = self.cores[core].owner.and_then(|(id, place)| {
             let client = self.clients.get(&id)?;
@@ -366,7 +366,8 @@ impl Arbiter {
 
     // ------------------------------------------------------------------------------------------ looks
 
-    /// Looks at some threads of clients' processes: admits those of a client that has come, and moves others off cores.
+    /// Looks at some threads of clients' processes: moves those of a client that has just connected to `rest`, and
+    /// others off cores.
     fn look_at_threads(&mut self) {
         let cpus: Vec<usize> = self.cores.iter().map(|core| core.cpus[0]).collect();
         let threads = self.clients.values().flat_map(|client| client.threads.values());
@@ -388,7 +389,7 @@ impl Arbiter {
         }
     }
 
-    /// Returns the next look: at the threads of a client that has come, or else each second at those that clients'
+    /// Returns the next look: at the threads of a client that has connected, or each second at threads that clients'
     /// threads may have begun. Each second the daemon also drops threads that have ended.
     fn next_look(&mut self, cpus: &[usize]) -> Option<Look> {
         if let Some(client) = self.clients.values_mut().find(|client| client.arrives != 0) {
@@ -453,7 +454,7 @@ impl Arbiter {
 }
 
 impl Thread {
-    /// Returns true if the thread has not ended, so that its number is not that of another thread.
+    /// Returns true if the thread of this entry has not ended, so that its number is not that of another thread.
     fn is_of(&self, process: u32) -> bool {
         threads::began(process, self.id) == Some(self.began)
     }

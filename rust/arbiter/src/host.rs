@@ -6,8 +6,8 @@ use std::time::{Duration, Instant};
 
 /// The time between two looks at the account.
 pub const WINDOW: Duration = Duration::from_millis(200);
-/// A processor counts as taken once the host has had `MUCH` hundredths of it between two looks, until the host has had
-/// at most `LITTLE` hundredths of it at each of `CALM` looks in a row.
+/// A processor counts as taken once the host has had `MUCH` hundredths of its time between two looks, until the host
+/// has had at most `LITTLE` hundredths of its time at each of `CALM` looks in a row.
 const MUCH: u64 = 15;
 const LITTLE: u64 = 5;
 const CALM: u32 = 5;

@@ -71,7 +71,7 @@ pub enum Message {
     Ask { cores: u32 },
 }
 
-/// Reads the message that bytes begin with. The error says why they begin with none.
+/// Reads the message at the beginning of `bytes`. The error says why there is none.
 pub fn read(bytes: &[u8]) -> Result<Message, &'static str> {
     // SAFETY: the length is the slice's, which lives through the call.
     let it = unsafe { arachne_message_read(bytes.as_ptr(), bytes.len()) };
@@ -112,12 +112,12 @@ impl State {
     /// Returns a state without clients, of at most 1,024 cores. Returns None if there are more, or memory is refused.
     pub fn new(cores: usize) -> Option<State> {
         let mut state = State(Handle { opaque: std::ptr::null_mut() });
-        // SAFETY: the handle holds nothing, and lives through the call.
+        // SAFETY: the handle is empty, and lives through the call.
         let code = unsafe { arachne_arbiter_new(&mut state.0, u32::try_from(cores).ok()?) };
         (code == DONE).then_some(state)
     }
 
-    /// Adds a client. This call and those for the other events return false if the event is not allowed now; then
+    /// Adds a client. This call and the calls for the other events return false if the event is not allowed now; then
     /// nothing has changed.
     pub fn hello(&mut self, client: usize, priority: u8, reserved: u32, most: u32) -> bool {
         // SAFETY: nobody else uses the handle, as `&mut` says.
@@ -175,7 +175,7 @@ impl State {
 
 impl Drop for State {
     fn drop(&mut self) {
-        // SAFETY: the handle is this one's, and isn't used again.
+        // SAFETY: this is the state's own handle, which isn't used again.
         unsafe { arachne_arbiter_close(&mut self.0) };
     }
 }

@@ -17,8 +17,8 @@ pub enum Means {
 /// The folder of an arbiter's cpusets, and the moves that are still to be made there.
 ///
 /// Linux may let a move to another set wait for a grace period, some 10 ms. So a thread is first moved to its core by
-/// affinity, while the core's processor is still one of the rest. It is moved into the core's set only after the client
-/// was notified.
+/// affinity, while the core's processor is still in `rest` (the processors of threads without a core). The thread is
+/// moved into the core's set only after the client was notified.
 pub struct Sets {
     top: PathBuf,
     /// All processors that an affinity can name. A thread whose affinity names fewer would be kept on these even in
@@ -41,15 +41,16 @@ impl Sets {
         let _ = write(self.top.join("rest/cpuset.cpus"), list(rest));
     }
 
-    /// Moves a thread of the rest to a core. The core's processor is added to those of the rest, if it isn't one of
-    /// them.
+    /// Moves a thread to the core `cpu`.
+    ///
+    /// First adds `cpu` to `rest`, if it isn't there: a thread's affinity can only name processors of its cpuset.
     fn place(&mut self, thread: u32, cpu: usize, rest: &mut Vec<usize>) -> io::Result<()> {
         if !rest.contains(&cpu) {
             rest.push(cpu);
             self.set_rest(rest);
         }
         let set = format!("cpu{cpu}");
-        // One that is still to be moved into the rest can't go to another core by affinity.
+        // A thread that is still to be moved to the set `rest` can't go to another core by affinity.
         if self.later.iter().any(|(it, _)| *it == thread) || sys::set_affinity(thread, &[cpu]).is_err() {
             return self.put(thread, &set);
         }
@@ -77,13 +78,14 @@ fn numbers(file: PathBuf) -> Vec<u32> {
 impl Means {
     /// Makes cpusets of these processors below `parent`, if one is given; otherwise keeps `groups` on these processors.
     ///
-    /// If an arbiter was killed and has left anything below `parent`, that is put back first.
+    /// If an arbiter was killed and has left cpusets below `parent`, these are removed first, and their threads moved
+    /// back.
     pub fn new(parent: Option<&Path>, groups: &[PathBuf], cpus: &[usize]) -> io::Result<Means> {
         let parent = match parent {
             Some(parent) => parent,
             None => {
                 for group in groups {
-                    // If it can't be written, the next line fails unless it was written before.
+                    // If this file can't be written, the next line fails unless the file was written before.
                     let _ = write(group.join("../cgroup.subtree_control"), "+cpuset");
                     write(group.join("cpuset.cpus"), list(cpus))?;
                 }
@@ -106,7 +108,8 @@ impl Means {
         Ok(Means::Cpusets(Sets { top, all: (0..sys::PROCESSORS).collect(), later: Vec::new() }))
     }
 
-    /// Moves each process in the parent's own set into the rest, and returns the number of those that were moved.
+    /// Moves each process in the parent's own set to the set `rest`, and returns the number of processes that were
+    /// moved.
     pub fn sweep(&self) -> usize {
         match self {
             Means::Cpusets(Sets { top, .. }) => {
@@ -117,7 +120,7 @@ impl Means {
         }
     }
 
-    /// Returns the threads of a process that must be moved into the rest.
+    /// Returns the threads of a process that must be moved to the set `rest`.
     pub fn arrivals(&self, process: u32) -> Threads {
         match self {
             Means::Cpusets(_) => threads_of(process),
@@ -125,7 +128,7 @@ impl Means {
         }
     }
 
-    /// Moves one thread of a client's process into the rest: if a whole process is moved, Linux waits for all
+    /// Moves one thread of a client's process to the set `rest`. If a whole process is moved, Linux waits for all
     /// processors.
     pub fn admit(&self, thread: u32) {
         if let Means::Cpusets(Sets { top, .. }) = self {
@@ -140,8 +143,8 @@ impl Means {
         }
     }
 
-    /// Moves a thread to its core. With cpusets, only `carry_out` moves the thread into the core's set; until then the
-    /// core's processor is one of the rest.
+    /// Moves a thread to the core `cpu`. With cpusets, only `carry_out` moves the thread into the core's set; until
+    /// then the core's processor is also in `rest`.
     pub fn place(&mut self, thread: u32, cpu: usize, rest: &mut Vec<usize>) -> io::Result<()> {
         match self {
             Means::Cpusets(sets) => sets.place(thread, cpu, rest),
@@ -149,7 +152,7 @@ impl Means {
         }
     }
 
-    /// Moves a thread into the rest. With cpusets, a thread that sleeps is moved only by `carry_out`.
+    /// Moves a thread to the set `rest`. With cpusets, a thread that sleeps is moved only by `carry_out`.
     pub fn unplace(&mut self, thread: u32, sleeps: bool, rest: &[usize]) -> io::Result<()> {
         match self {
             Means::Cpusets(sets) if sleeps => sets.later.push((thread, "rest".into())),
@@ -168,7 +171,7 @@ impl Means {
         }
     }
 
-    /// Sets the processors of the rest. `others` are the clients' threads that have no core.
+    /// Sets the processors of threads without a core to `rest`. `others` are the clients' threads that have no core.
     pub fn set_rest(&self, rest: &[usize], others: impl Iterator<Item = u32>) {
         match self {
             Means::Cpusets(sets) => sets.set_rest(rest),
@@ -192,7 +195,7 @@ impl Means {
         }
     }
 
-    /// Moves a thread that is no client's off a core.
+    /// Moves a thread that is no client's off its core.
     pub fn free(&mut self, thread: u32, all: &[usize]) {
         let _ = match self {
             Means::Cpusets(sets) => sets.put(thread, "rest"),

@@ -9,8 +9,9 @@ pub struct Options {
     pub cpuset: Option<PathBuf>,
     pub groups: Vec<PathBuf>,
     pub sweep: bool,
-    /// The processors of the cores, and all that this process may use.
+    /// The processors of the cores.
     pub cpus: Vec<usize>,
+    /// All processors that this process may use.
     pub all: Vec<usize>,
     pub keep: usize,
     pub hyperthreads: bool,
@@ -50,7 +51,7 @@ impl Options {
                 _ => return None,
             }
         }
-        // Not the processors that this process may use: it may stand in the rest of an arbiter before.
+        // Not the processors that this process may use: an arbiter before may have left this process in its set `rest`.
         if let (Some(folder), false) = (&options.cpuset, listed) {
             options.cpus = topology::read_list(fs::read_to_string(folder.join("cpuset.cpus")).ok()?.trim())?;
         }

@@ -1,7 +1,8 @@
 //! The texts that the tables of the tests spell.
 use std::alloc::{AllocError, Global};
 
-/// Appends a piece. `PART*N]REST` is PART, N times, and then REST. A piece without a bracket stands for itself.
+/// Appends a piece. `PART*N]TAIL` (without a `[`) is PART, N times, and then TAIL. A piece without `]` stands for
+/// itself.
 fn append(text: &mut String, piece: &str) -> Result<(), AllocError> {
     let Some((repeated, rest)) = piece.split_once(']') else {
         return text.push_str(piece);

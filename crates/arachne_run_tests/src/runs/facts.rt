@@ -1,4 +1,4 @@
-//! The facts that a run shows in its report, or at the gate that watched it.
+//! The facts that a run shows in its report, or to the observer (`Gate`) that watched it.
 use super::locks::{events, events_of, grants, grants_are_holds};
 use super::programs::threads_of;
 use crate::gates::Watch;
@@ -40,7 +40,7 @@ pub(super) enum Fact {
     Tickets(u64),
     /// At most this number of sleeps timed out before something was found.
     OversleepsUpTo(u64),
-    /// All events for which the gate held a core have occurred, and no event that must not occur has.
+    /// All events for which a core waited (see `Watching`) have occurred, and no event that must not occur has.
     IsOver,
     /// The number of events of the first lock.
     Events,

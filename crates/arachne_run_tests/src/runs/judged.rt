@@ -167,7 +167,8 @@ fn run_is_lawful<R: Threads + Wait + Clock + Sync>(
 /// Returns the number of places and the form of table for the machine of this number in this turn.
 ///
 /// With as many turns as there are combinations of a number of places and a form, each machine has every combination.
-/// Machines that are neighbours in the list differ in number and form.
+/// In one turn, machines that follow each other in the list get different numbers of places (if the row has several)
+/// and different forms of table.
 fn kind_of(judged: &Judged, nth: usize, turn: usize) -> (u8, Form) {
     let count = judged.slots.len().max(1);
     let line = nth / LINE;

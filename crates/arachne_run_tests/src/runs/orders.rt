@@ -223,7 +223,7 @@ const GRANTS: &[Row] = &[
 ];
 
 /// The root awaits its child on core 1 while core 0's kernel thread sleeps, so that the root continues on core 1 and
-/// core 0 is empty. A slice of core 1 is held until the order, which is due by then, is applied.
+/// core 0 is empty. A slice of core 1 waits until the order, which is due at that time, is applied.
 const IDLE: Row = Row {
     shows: "orders are applied while core 0 has nothing to run",
     source: Source {
@@ -394,8 +394,8 @@ const ROWS: &[Row] = &[
         telling: Telling::Nothing,
         told: "",
     },
-    // Both of the root's children are on core 1. Its first slice is held until core 0 has entered more slices than the
-    // root needs. So core 0 must have run the other child, which was moved there when core 1 was closed.
+    // Both of the root's children are on core 1. Core 1 waits in its first slice until core 0 has entered more slices
+    // than the root needs. So core 0 must have run the other child, which was moved there when core 1 was closed.
     Row {
         shows: "a closed core is drained",
         source: COUNTING,

@@ -103,7 +103,7 @@ pub(super) fn tried<R: Threads + Wait + Clock + Sync>(
 
 /// Checks the text of a run against its row, and all facts.
 ///
-/// If there is no report, checks that all events that a core was held for have happened, and that no slice begins any
+/// If there is no report, checks that all events for which a core waited have happened, and that no slice begins any
 /// more.
 pub(super) fn judge(
     alloc: Global,

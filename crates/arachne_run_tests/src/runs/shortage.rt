@@ -31,8 +31,7 @@ const RUNS_ON_CORES: u64 = 200;
 /// The number of bytes that each run has more than the previous one.
 const BYTES: usize = 400;
 
-/// The number of times that a run on one core is repeated, with the memory of the first that had a report and `SLACK`
-/// bytes more. The C library keeps a few freed blocks of each size for requests of the same size.
+/// The number of times that a run on one core is repeated with just enough memory for a report, and `SLACK` bytes more.
 const REPEATED: usize = 2_000;
 
 const SLACK: usize = 200_000;

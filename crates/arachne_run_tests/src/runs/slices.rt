@@ -52,8 +52,8 @@ const HELD_BACK: Row = Row {
     told: "",
 };
 
-/// The root's first step forks a child to core 1. If the gate were called only after the fork's step, core 1 could
-/// enter a slice before the gate is called.
+/// The root's first step forks a child to core 1. If the run's observer (`Gate`) were called only after the fork's
+/// step, core 1 could begin its slice before the observer knew of core 0's.
 const TOLD_FIRST: Row = Row {
     shows: "the gate is told of a slice before its steps",
     source: FORK,

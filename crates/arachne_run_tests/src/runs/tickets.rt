@@ -6,8 +6,8 @@ use crate::choosers::{CORE_ONE, ZEROS};
 use crate::gates::Watching;
 use std::test::Fail;
 
-/// The root's first child has core 1's only place, and the second one waits for it. Core 1's first slice is held until
-/// the root has forked both children, and then the root is held until core 1 runs the second child.
+/// The root's first child has core 1's only place, and the second child waits for that place. Core 1 waits in its first
+/// slice until the root has forked both children, and then the root waits until core 1 runs the second child.
 const WAITS: Row = Row {
     shows: "a thread that waits gets a place of another core",
     source: Source {

@@ -14,7 +14,7 @@
 //! - *Tables outlive wakers*: a runtime's table is never freed. A later runtime of the same shape uses the table again,
 //!   and its generations go on.
 //! - *An unpark is obeyed*: a worker sleeps in the epoll, whose event stays raised until a waiter has seen it, or on
-//!   its bell, which stays rung. The worker to wake is looked up after the call.
+//! its bell, which stays rung. The worker to wake is looked up after the call that returns `unpark`.
 //! - *No panic crosses a call of the library*: panics of tasks are caught, and a panic of a worker's loop aborts.
 //! - *No call from a signal handler or after a fork*: this crate makes none; a program must use no waker there.
 //! - *`malloc`, `realloc` and `free` are of one allocator*: the C library's; a program that replaces one must replace
@@ -69,7 +69,7 @@ impl Drop for Handle {
 /// A runtime's executor, from which threads get their seats.
 pub(crate) struct Root(Handle);
 
-/// The most seats of a thread that other threads may use at a time, so that it keeps some.
+/// The most seats of a thread that other threads may use at a time, so that the thread keeps some for itself.
 const AWAY: u64 = 24;
 
 /// The seats of threads that steal jobs from each other, `each` per thread.
@@ -79,32 +79,33 @@ struct Crew {
     members: Box<[Line<Member>]>,
 }
 
-/// The state of one thread's seats: those that other threads have given back, as bits, and the number that others use.
+/// The state of one thread's seats: the seats that other threads have given back, as bits, and the number that others
+/// use.
 #[derive(Default)]
 struct Member {
     laid: AtomicU64,
     away: AtomicU64,
 }
 
-// SAFETY: a seat's handle is used by one thread at a time. The first of each thread is always its own. Any other is
-// used by its owner, until another thread steals the seat's job, which orders the accesses. That thread uses the seat
-// until it lays the job down and sets the seat's bit in `laid`, by which the owner gets it back.
+// SAFETY: a seat's handle is used by one thread at a time. The first seat of each thread is always its own. Any other
+// seat is used by its owner, until another thread steals the seat's job, which orders the accesses. That thread uses
+// the seat until it lays the job down and sets the seat's bit in `laid`, by which the owner gets the seat back.
 unsafe impl Sync for Crew {}
 
-/// A thread's seats: one for each job that it may have in hand, and the first for calls that leave the hand unchanged.
+/// A thread's seats: one for each job that it may have in hand, and the first seat for calls that change no hand.
 pub(crate) struct Hands {
     crew: Arc<Crew>,
     me: usize,
-    /// The seats with nothing in hand, as bits.
+    /// The seats with no job in hand, as bits.
     free: Cell<u64>,
     /// For each seat, the index in a block at which its next take starts: the library keeps such an index per seat, not
     /// per thread.
     from: Vec<Cell<u32>>,
-    /// The seat that is used for sweeps over blocks.
+    /// The seat that is used for sweeps (passes over all jobs of a block).
     sweeps: Cell<usize>,
 }
 
-/// The right to sleep as the worker that looks after the shards of one number.
+/// The right to sleep as the worker that looks after the shards of one worker number.
 pub(crate) struct Parking(Handle);
 
 impl Root {
@@ -131,7 +132,7 @@ impl Root {
         Some((0..threads).map(hands).collect())
     }
 
-    /// Takes a thread's seats back, with nothing in hand. The last thread of a crew joins all its handles.
+    /// Takes a thread's seats back, which must have no job in hand. The last thread of a crew joins all its handles.
     pub(crate) fn join(&mut self, hands: Hands) {
         for seat in Arc::try_unwrap(hands.crew).map_or(Box::default(), |crew| crew.seats).iter() {
             // SAFETY: two handles of one origin.
@@ -150,8 +151,8 @@ impl Root {
 }
 
 impl Parking {
-    /// Asks the core for leave to sleep. If the result is true, the idle bit is set, and every summary word was found
-    /// empty after that.
+    /// Asks the core whether the worker may sleep. If the result is true, the worker's idle bit is set, and every
+    /// summary word was found empty after that.
     ///
     /// The call is one of the core's `next`, which also hides empty blocks. If `next` takes a job, the job is made
     /// ready again.
@@ -173,7 +174,7 @@ impl Parking {
         }
     }
 
-    /// Clears the number's idle bit: the worker that looks after it is awake.
+    /// Clears the idle bit of this worker number: the worker that looks after it is awake.
     pub(crate) fn wake_up(&self) {
         // SAFETY: a handle.
         unsafe { arachne_exec_wake_up(self.0.at()) };
@@ -191,7 +192,7 @@ fn round(from: u32, to: u32) -> u64 {
     }
 }
 
-/// Returns the thread that owns a seat, and the seat's index there.
+/// Returns the thread that owns a seat, and the seat's index in that thread's seats.
 #[inline]
 fn owner(seat: u16) -> (usize, usize) {
     (seat as usize >> 6, seat as usize & 63)
@@ -209,13 +210,14 @@ impl Hands {
         self.crew.seats[owner * self.crew.each + which].at()
     }
 
-    /// Returns the seat for calls that leave the hand unchanged.
+    /// Returns the seat for calls that change no hand.
     #[inline]
     fn any(&self) -> *mut arachne_exec {
         self.crew.seats[self.me * self.crew.each].at()
     }
 
-    /// Records that this thread has stolen a job from another's hand. The seat by which the job was taken comes along.
+    /// Records that this thread has stolen a job from another thread's hand. The seat by which the job was taken comes
+    /// with the job.
     ///
     /// Returns false if the job must be made ready at once, so that the owner of the seat keeps enough seats.
     pub(crate) fn gets(&self, job: &Job, of: usize) -> bool {
@@ -227,7 +229,7 @@ impl Hands {
         owner != of || away.fetch_add(1, Relaxed) < AWAY
     }
 
-    /// Puts a job into a place of the block. With `keep` it stays in this thread's hand.
+    /// Puts a job into a place of the block. With `keep` the job stays in this thread's hand.
     #[inline]
     pub(crate) fn spawn(&self, block: usize, job: u64, keep: bool) -> Spawned {
         let own = if keep { self.last_free() } else { None };
@@ -268,9 +270,9 @@ impl Hands {
 
     /// Takes the next job of a sweep over the places `wanted` of a block, as bits.
     ///
-    /// A job that has become ready since the sweep of the block began may come before the wanted ones. A place is
-    /// wanted until the sweep has passed it, so that a job which is ready again and again keeps no other waiting. The
-    /// sweep uses one seat as long as that seat is free: in the library each seat goes round a block by itself, so
+    /// A job that has become ready since the sweep of the block began may come before those at `wanted` places. A place
+    /// is wanted until the sweep has passed it, so that a job which is ready again and again keeps no other waiting.
+    /// The sweep uses one seat as long as that seat is free: in the library each seat goes round a block by itself, so
     /// several seats would follow one another over the same jobs.
     #[inline]
     pub(crate) fn take_next(&self, block: usize, wanted: &mut u64) -> Option<Job> {
@@ -317,7 +319,7 @@ impl Hands {
         true
     }
 
-    /// Gives a seat back to its owner, with nothing in hand.
+    /// Gives a seat, with no job in hand, back to its owner.
     #[inline]
     fn is_free(&self, seat: u16) {
         let (owner, which) = owner(seat);
@@ -329,7 +331,7 @@ impl Hands {
         member.away.fetch_sub(1, Relaxed);
     }
 
-    /// Returns the seats with nothing in hand; if there are none, collects those that other threads have given back.
+    /// Returns the seats with no job in hand. If there are none, collects those that other threads have given back.
     #[inline]
     fn free(&self) -> u64 {
         match self.free.get() {
@@ -338,7 +340,7 @@ impl Hands {
         }
     }
 
-    /// Takes the seat that swept last or, if that has a job in hand, the first free one.
+    /// Takes the seat of the last sweep or, if that seat has a job in hand, the first free one.
     #[inline]
     fn sweeping(&self) -> Option<u16> {
         let free = self.free();
@@ -352,7 +354,7 @@ impl Hands {
         Some(self.own(self.sweeps.get()))
     }
 
-    /// Takes the last free seat, for all but sweeps.
+    /// Takes the last free seat, for a call that is no sweep.
     #[inline]
     fn last_free(&self) -> Option<u16> {
         let free = self.free();
@@ -378,7 +380,7 @@ impl Hands {
         told.unpark != ARACHNE_NOBODY
     }
 
-    /// Blocks a job in hand until a wake, unless there was one since it was taken.
+    /// Blocks a job in hand until a wake, unless a wake has come since the job was taken.
     #[inline]
     pub(crate) fn rest_blocked(&self, job: &Job) -> Rested {
         // SAFETY: a handle.
@@ -391,7 +393,7 @@ impl Hands {
         }
     }
 
-    /// Ends a job in hand. The job's place is free then, and its name is never used again.
+    /// Ends a job in hand. The job's place is then free, and its name is never used again.
     #[inline]
     pub(crate) fn finish(&self, job: &Job) {
         // SAFETY: a handle.
@@ -457,7 +459,7 @@ impl Drop for LockHandle {
 #[derive(Default)]
 struct Sets {
     roots: Vec<LockHandle>,
-    /// The unused locks: set and number.
+    /// The unused locks, each with the index of its set and its number in the set.
     free: Vec<(usize, usize)>,
 }
 
@@ -493,7 +495,7 @@ fn split_locks(set: usize) -> LockHandle {
     other
 }
 
-/// Returns an odd number that no other call returns, to be the name in which a lock is asked for.
+/// Returns an odd number that no other call returns, for use as the name under which a lock is asked for.
 fn odd_number() -> u64 {
     static NEXT: AtomicU64 = AtomicU64::new(0);
     ASKED.with(|asked| {
@@ -505,11 +507,11 @@ fn odd_number() -> u64 {
     })
 }
 
-/// The core's part of a lock: its holder, and the line of those who wait.
+/// The core's part of a lock: its holder, and the queue of waiters.
 pub(crate) struct LockCore {
     set: usize,
     lock: usize,
-    /// True if the lock is probably held: then `try_ask` fails without a call of the core.
+    /// True if the lock probably has a holder: then `try_ask` fails without a call of the core.
     held: AtomicBool,
 }
 
@@ -533,7 +535,7 @@ impl Default for LockCore {
 
 impl Drop for LockCore {
     fn drop(&mut self) {
-        // If its guard was leaked, the lock is held for ever and is not used again.
+        // If the lock's guard was leaked, the lock has a holder for ever and is not used again.
         self.held.store(false, Relaxed);
         if let Some(who) = self.try_ask() {
             self.free(who);
@@ -570,7 +572,7 @@ impl LockCore {
         }
     }
 
-    /// Takes the lock if it is free. Returns the name in which the lock is held.
+    /// Takes the lock if it is free. Returns the name of the holder.
     #[inline]
     pub(crate) fn try_ask(&self) -> Option<u64> {
         if self.held.load(Relaxed) {
@@ -597,7 +599,7 @@ impl LockCore {
         }
     }
 
-    /// Frees the lock, which is held in the name `who`.
+    /// Frees the lock of the holder `who`.
     #[inline]
     pub(crate) fn free(&self, who: u64) -> Freed {
         // SAFETY: a handle.
@@ -612,7 +614,7 @@ impl LockCore {
         }
     }
 
-    /// Removes a waiter from the line. Returns false if the waiter holds the lock by now.
+    /// Removes a waiter from the queue. Returns false if the waiter was granted the lock meanwhile.
     pub(crate) fn withdraw(&self, who: u64) -> bool {
         // SAFETY: a handle.
         let told = self.insist(|seat| unsafe { arachne_lock_withdraw(seat, self.lock, who) });

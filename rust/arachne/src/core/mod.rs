@@ -1,12 +1,12 @@
-//! The executor's core, behind one interface in two forms: which seat has a task in hand, which tasks are ready, and
-//! which workers may sleep.
+//! The executor's core, behind one interface in two forms. It says which seat has a task in hand, which tasks are
+//! ready, and which workers may sleep.
 //!
 //! By default each call is one of the proved library `libarachne_exec_c.a` (`library.rs`). With the feature `model` the
 //! same steps are made by Rust's atomics (`model.rs`); that form needs no archive, and is **not** the proved code.
 //!
 //! A task is a *job*: a number of 64 bits at a *place*. A block has 64 places, and a *shard* has 64 blocks. Each shard
-//! has a number, its index modulo 64; the thread that looks after that number has a `Parking` for it. A place and a
-//! generation make a job's *name*. Between any two calls a place is free, ready, blocked, or in the hand of one seat.
+//! has a number, its index modulo 64. The thread that looks after that number has a `Parking` for it. A place and a
+//! generation make a job's *name*. Between any two calls a place is free, ready, blocked, or in one seat's hand.
 
 #[cfg(feature = "model")]
 mod model;
@@ -23,12 +23,13 @@ pub(crate) use library::{Estimator, Hands, LockCore, Parking, Root};
 #[derive(Default)]
 pub(crate) struct Line<T>(pub(crate) T);
 
-/// The places of a block, and the blocks of a shard; few for the explorer (a test), whose schedules count each step.
+/// The number of places of a block, and of blocks of a shard. Few for the explorer (a test), whose schedules count each
+/// step.
 pub(crate) const BLOCK: usize = if cfg!(feature = "explore") { 2 } else { 64 };
 pub(crate) const SHARD: usize = if cfg!(feature = "explore") { 2 } else { 64 };
 /// The number of different shard numbers, and the most workers.
 pub(crate) const NUMBERS: usize = 64;
-/// The bits of a name that are its place; the others are its generation.
+/// The number of bits of a name that are its place; the other bits are its generation.
 pub(crate) const PLACE_BITS: u32 = 20;
 /// The most shards, as a name has 20 bits for a place.
 pub(crate) const MOST_SHARDS: usize = (1 << PLACE_BITS) / (BLOCK * SHARD);
@@ -57,7 +58,7 @@ pub(crate) fn place_of(name: u64) -> usize {
 /// The result of spawning a job.
 #[derive(Clone, Copy, PartialEq, Eq, Debug)]
 pub(crate) enum Spawned {
-    /// The job is ready in its block. If `unpark`, the caller must wake the worker of its shard.
+    /// The job is ready in its block. If `unpark`, the caller must wake the worker of the block's shard.
     Ready { name: u64, unpark: bool },
     /// The job is in a seat's hand.
     Kept(Job),
@@ -65,7 +66,7 @@ pub(crate) enum Spawned {
     Full,
 }
 
-/// The result of laying down a job that has not ended.
+/// The result of laying down a job (taking it out of hand) that has not ended.
 #[derive(Clone, Copy, PartialEq, Eq, Debug)]
 pub(crate) enum Rested {
     /// The job waits for a wake.
@@ -73,7 +74,7 @@ pub(crate) enum Rested {
     /// The job was woken while it ran, and stays in the seat's hand.
     #[cfg_attr(not(feature = "model"), allow(dead_code))]
     InHand,
-    /// The job was woken while it ran, and is ready. If `unpark`, the caller must wake the worker of its shard.
+    /// The job was woken while it ran, and is ready. If `unpark`, the caller must wake the worker of the job's shard.
     #[cfg_attr(feature = "model", allow(dead_code))]
     Ready { unpark: bool },
 }
@@ -83,7 +84,8 @@ pub(crate) enum Rested {
 pub(crate) enum Woken {
     /// The job waited, and is now in a seat's hand.
     Kept(Job),
-    /// The job waited, and is now ready in its block. If `unpark`, the caller must wake the worker of its shard.
+    /// The job waited, and is now ready in its block. If `unpark`, the caller must wake the worker of the block's
+    /// shard.
     Ready { unpark: bool },
     /// The job runs or is ready, and is marked as woken.
     Marked,
@@ -102,6 +104,6 @@ pub(crate) enum Asked {
 #[derive(Clone, Copy, PartialEq, Eq, Debug)]
 pub(crate) enum Freed {
     Free,
-    /// The waiter of this name holds the lock now; the caller must wake it.
+    /// The waiter of this name holds the lock now; the caller must wake this waiter.
     HandedOn(u64),
 }

@@ -28,8 +28,8 @@ struct Table {
     summary: Box<[Line<AtomicU64>]>,
     idle: Line<AtomicU64>,
 }
-// SAFETY: only the seat that has a place in hand accesses its slot: the one that cleared its bit in the free or the
-// ready word, or took its mark from blocked. Those steps order the accesses.
+// SAFETY: only the seat that has a place in hand accesses the place's slot: the seat that cleared the place's bit in
+// the free or the ready word, or changed its mark from blocked. Those steps order the accesses.
 unsafe impl Sync for Table {}
 // SAFETY: as above; the numbers in the slots belong to no thread.
 unsafe impl Send for Table {}
@@ -54,10 +54,10 @@ impl Table {
         self.blocks[place / BLOCK].slots[place % BLOCK].get()
     }
 
-    /// Makes the job of a place ready. Returns true if the caller must wake the worker of its shard.
+    /// Makes the job of a place ready. Returns true if the caller must wake the worker of the place's shard.
     ///
-    /// If the ready word had a bit already, the thread that set the word's first bit does the rest. The order closes
-    /// the race with `park`: the ready bit, then the summary bit, then a look at the idle bit.
+    /// If the ready word had a bit already, the thread that set the word's first bit does the remaining steps. Their
+    /// order closes the race with `park`: the ready bit, then the summary bit, then a look at the idle bit.
     #[inline]
     fn publish(&self, place: usize) -> bool {
         let block = place / BLOCK;
@@ -112,7 +112,7 @@ pub(crate) struct Parking {
 }
 
 impl Root {
-    /// Makes a table of `shards` shards, at most 256. Returns None if that is out of range.
+    /// Makes a table of `shards` shards. Returns None if `shards` is greater than 256.
     pub(crate) fn new(shards: usize) -> Option<Root> {
         if shards == 0 || shards > MOST_SHARDS {
             return None;
@@ -135,7 +135,7 @@ impl Root {
         Some((0..threads).map(|_| Hands { table: self.0.clone(), _one_thread: Cell::new(()) }).collect())
     }
 
-    /// Takes a thread's access back, with nothing in hand.
+    /// Takes a thread's access back, which must have no job in hand.
     pub(crate) fn join(&mut self, hands: Hands) {
         debug_assert!(Arc::ptr_eq(&self.0, &hands.table));
     }
@@ -168,14 +168,14 @@ impl Parking {
         true
     }
 
-    /// Clears the number's idle bit: the worker that looks after it is awake.
+    /// Clears the idle bit of this worker number: the worker that looks after it is awake.
     pub(crate) fn wake_up(&self) {
         self.table.wake_up(self.number);
     }
 }
 
 impl Hands {
-    /// Puts a job into a place of the block. With `keep` it stays in this thread's hand.
+    /// Puts a job into a place of the block. With `keep` the job stays in this thread's hand.
     #[inline]
     pub(crate) fn spawn(&self, block: usize, job: u64, keep: bool) -> Spawned {
         let free = &self.table.blocks[block].free.0;
@@ -260,14 +260,14 @@ impl Hands {
         self.table.summary[shard].0.load(SeqCst)
     }
 
-    /// Hides an empty block, unless it has jobs by now. Always returns false in this form of the core: nothing is left
-    /// to hide.
+    /// Hides an empty block, unless it has got jobs meanwhile. Always returns false in this form of the core: nothing
+    /// is left to hide.
     pub(crate) fn hide(&self, block: usize) -> bool {
         self.table.hide(block);
         false
     }
 
-    /// Makes a job in hand ready. Returns true if the caller must wake the worker of its shard.
+    /// Makes a job in hand ready. Returns true if the caller must wake the worker of the job's shard.
     #[inline]
     pub(crate) fn rest_ready(&self, job: &Job) -> bool {
         // SAFETY: the job is in this thread's hand.
@@ -275,7 +275,7 @@ impl Hands {
         self.table.publish(job.place())
     }
 
-    /// Blocks a job in hand until a wake, unless there was one since it was taken or begun.
+    /// Blocks a job in hand until a wake, unless a wake has come since the job was taken or begun.
     #[inline]
     pub(crate) fn rest_blocked(&self, job: &Job) -> Rested {
         let mark = self.table.mark(job.place());
@@ -290,7 +290,7 @@ impl Hands {
         Rested::InHand
     }
 
-    /// Ends a job in hand. The job's place is free then, and its name is never used again.
+    /// Ends a job in hand. The job's place is then free, and its name is never used again.
     #[inline]
     pub(crate) fn finish(&self, job: &Job) {
         let next = (job.name >> PLACE_BITS) + 1;
@@ -321,7 +321,7 @@ impl Hands {
                 Err(now) => seen = now,
                 Ok(_) if seen & BLOCKED == 0 => return Woken::Marked,
                 Ok(_) if keep => {
-                    // SAFETY: this thread took the mark from blocked.
+                    // SAFETY: this thread changed the mark from blocked.
                     return Woken::Kept(Job { name, job: unsafe { *self.table.slot(place) }, seat: 0 });
                 }
                 Ok(_) => return Woken::Ready { unpark: self.table.publish(place) },
@@ -334,16 +334,16 @@ const FREE: u8 = 0;
 const HELD: u8 = 1;
 const QUEUED: u8 = 2;
 
-/// The core's part of a lock: its holder, and the line of those who wait.
+/// The core's part of a lock: its holder, and the queue of waiters.
 #[derive(Default)]
 pub(crate) struct LockCore {
-    /// `FREE`, `HELD` with an empty line, or `QUEUED`: held with waiters.
+    /// `FREE`; `HELD`, with nobody waiting; or `QUEUED`: held, with waiters in `line`.
     state: AtomicU8,
     line: Mutex<VecDeque<u64>>,
 }
 
 impl LockCore {
-    /// Takes the lock if it is free. Returns the name in which the lock is held.
+    /// Takes the lock if it is free. Returns the name of the holder.
     #[inline]
     pub(crate) fn try_ask(&self) -> Option<u64> {
         self.state.compare_exchange(FREE, HELD, SeqCst, SeqCst).is_ok().then_some(1)
@@ -378,7 +378,7 @@ impl LockCore {
         next.map_or(Freed::Free, Freed::HandedOn)
     }
 
-    /// Removes a waiter from the line. Returns false if the waiter holds the lock by now.
+    /// Removes a waiter from the queue. Returns false if the waiter was granted the lock meanwhile.
     pub(crate) fn withdraw(&self, who: u64) -> bool {
         let mut line = self.line.lock().unwrap();
         let found = line.iter().position(|&w| w == who);
@@ -401,13 +401,12 @@ impl LockCore {
     }
 }
 
-/// A stand-in for the proved estimator. Like the proved one it keeps the use at which each core was added, but nothing
-/// else.
+/// A stand-in for the proved estimator. Like that one it keeps the use at which each core was added, but nothing else.
 pub(crate) struct Estimator {
     load: u64,
     hysteresis: u64,
     most: u64,
-    /// For each number of cores, the use (in thousandths of a core) at which that many were last asked for.
+    /// For each number of cores, the use (in thousandths of a core) at which this number was last asked for.
     used: Vec<u64>,
 }
 

@@ -73,7 +73,7 @@ pub struct TcpStream(pub(super) Source<std::net::TcpStream>);
 impl TcpStream {
     /// Connects to the first of these addresses that accepts.
     ///
-    /// A host name is looked up on this thread, which blocks it; in a task use `lookup_host` first.
+    /// A host name is looked up on the calling thread, which is blocked meanwhile; in a task use `lookup_host` first.
     ///
     /// ```
     /// # fn main() -> std::io::Result<()> {
@@ -125,7 +125,7 @@ impl TcpStream {
         self.0.socket.nodelay()
     }
 
-    /// Sets `TCP_NODELAY`: if true, small writes are sent at once, without waiting for the last ones to be confirmed.
+    /// Sets `TCP_NODELAY`: if true, small writes are sent at once, without waiting for earlier ones to be confirmed.
     ///
     /// ```
     /// # fn main() -> std::io::Result<()> {
@@ -140,7 +140,7 @@ impl TcpStream {
         self.0.socket.set_nodelay(nodelay)
     }
 
-    /// Like `read`, but leaves the bytes there: the next read returns them again.
+    /// Like `read`, but leaves the bytes in the socket: the next read returns them again.
     ///
     /// ```
     /// # fn main() -> std::io::Result<()> {

@@ -6,7 +6,7 @@ use std::net::{SocketAddr, ToSocketAddrs};
 
 /// A socket that sends and receives datagrams. Each call takes `&self`.
 ///
-/// The type has few of std's options; set the others before `from_std`.
+/// The type has few of std's options; set other options before `from_std`.
 ///
 /// ```
 /// use arachne::net::UdpSocket;
@@ -37,7 +37,7 @@ impl UdpSocket {
 
     /// Sets the address to which `send` sends, and from which `recv` receives. The call isn't `async`.
     ///
-    /// A host name is looked up on this thread, which blocks it.
+    /// A host name is looked up on the calling thread, which is blocked meanwhile.
     ///
     /// ```
     /// use arachne::net::UdpSocket;
@@ -93,7 +93,7 @@ impl UdpSocket {
 
     /// Sends a datagram to the first of these addresses, once there is room. Returns the length of the datagram.
     ///
-    /// A host name is looked up on this thread, which blocks it. See the example at `UdpSocket`.
+    /// A host name is looked up on the calling thread, which is blocked meanwhile. See the example at `UdpSocket`.
     pub async fn send_to(&self, bytes: &[u8], to: impl ToSocketAddrs) -> io::Result<usize> {
         let none = || io::Error::new(io::ErrorKind::InvalidInput, "no address");
         let to = to.to_socket_addrs()?.next().ok_or_else(none)?;

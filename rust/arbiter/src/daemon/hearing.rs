@@ -10,9 +10,10 @@ use std::io::{ErrorKind, Read};
 use std::os::unix::io::AsRawFd;
 use std::os::unix::net::UnixStream;
 
-/// The most connections of all processes, so that there are descriptors for each: a client's take three, of the usual
-/// limit of 1,024. The second number is for one process: twice the connections of 64 workers and a control connection.
+/// The most connections of all processes, so that there are descriptors for each: a client's connection takes three, of
+/// the usual limit of 1,024.
 const CONNECTIONS: usize = 300;
+/// The most connections of one process: twice the connections of 64 workers and a control connection.
 const OF_A_PROCESS: usize = 130;
 /// The most passes over the sockets before a decision. In each pass at most this many messages of a connection, and
 /// this many new connections, are read. So nobody who sends all of the time delays a decision.
@@ -44,7 +45,7 @@ pub(super) struct Connection {
 }
 
 impl Arbiter {
-    /// Reads all messages that have arrived. Waits for at most `timeout` milliseconds until one comes.
+    /// Reads all messages that have arrived. Waits for at most `timeout` milliseconds until a message arrives.
     ///
     /// The call goes on until nothing more arrives, for at most four passes. Otherwise a request might be decided on
     /// before the daemon reads that threads joined or waited, although they did so first. Then cores would go to
@@ -59,8 +60,8 @@ impl Arbiter {
         }
     }
 
-    /// Reads what has come, a few messages of each connection. Returns false if nothing arrives within `timeout`
-    /// milliseconds.
+    /// Reads the messages that have arrived, a few of each connection. Returns false if nothing arrives within
+    /// `timeout` milliseconds.
     fn pass(&mut self, timeout: i32) -> bool {
         self.bury();
         let names: Vec<u64> = self.connections.keys().copied().collect();
@@ -88,8 +89,8 @@ impl Arbiter {
                 Err(_) => break,
             }
         }
-        // What a client's threads have sent before a request that was read above has come by now, also of those that
-        // have connected since.
+        // The messages that a client's threads sent before a request read above have arrived by now, also those of
+        // threads that have connected since.
         let others = self.connections.iter().filter(|(_, it)| !matches!(it.role, Role::Control(_)));
         let others: Vec<u64> = others.map(|(&name, _)| name).collect();
         others.into_iter().for_each(|name| self.read(name));
@@ -110,7 +111,7 @@ impl Arbiter {
         self.connections.insert(self.connected, connection);
     }
 
-    /// Reads a few messages of a connection, as far as they have come.
+    /// Reads the messages of a connection that have arrived, at most a few.
     fn read(&mut self, name: u64) {
         for _ in 0..MESSAGES {
             let connection = match self.connections.get_mut(&name) {
@@ -187,7 +188,7 @@ impl Arbiter {
             given: 0,
             forced: 0,
             until: None,
-            // Behind those that wait already.
+            // The client stands behind those that wait for a turn already.
             turned: self.turns.count,
             arrives: 2,
             threads: BTreeMap::new(),

@@ -4,14 +4,14 @@ use super::{Arbiter, Client};
 use std::collections::BTreeMap;
 use std::time::{Duration, Instant};
 
-/// The most clients that are tried for a turn at a time: each that has no thread for the core costs a decision.
+/// The most clients that are tried for a turn at a time: each client that has no thread for the core costs a decision.
 const TRIED: usize = 8;
 
 pub(super) struct Turns {
     /// The time between two turns; zero if there are none.
     every: Duration,
     looked: Instant,
-    /// The number of turns, and of times that a client had no thread for the core of its turn.
+    /// The number of turns, added to the number of times that a client had no thread for the core of its turn.
     pub(super) count: u64,
     current: Option<Turn>,
 }
@@ -56,8 +56,8 @@ impl Arbiter {
         may.then_some(*looked + *every)
     }
 
-    /// Decides how many cores each client is allowed. The turn ends if a client of its priority is allowed fewer than
-    /// the turn would give it: other clients, which ask for fewer during the turn, may want those cores.
+    /// Decides how many cores each client is allowed. Ends the turn if a client of its priority is allowed fewer cores
+    /// than the turn would give it: then other clients, which ask for fewer during the turn, may want those cores.
     pub(super) fn decide(&mut self) {
         self.state.decide();
         let most = self.turns.current.as_ref().map_or(BTreeMap::new(), |turn| turn.most.clone());
