@@ -95,7 +95,7 @@ pub(crate) struct Io {
 /// The futures that wait for one direction of a descriptor. An event wakes all of these futures.
 pub(crate) struct Waiters {
     table: usize,
-    /// The name of one task of this runtime, which needs no lock. The future of that task may be gone.
+    /// The name of one task of this runtime that waits, which needs no lock. The future of that task may be gone.
     first: AtomicU64,
     /// The number of the other wakers.
     count: AtomicUsize,
@@ -110,8 +110,7 @@ impl Waiters {
 
     /// Registers a future's waker. `key` must be 0 at first, and is the future's key from then until `leave`.
     ///
-    /// The caller must read the descriptor's state after this call: an event changes the state before it looks for
-    /// wakers.
+    /// The caller must read the descriptor's state after this call: an event changes the state before it wakes.
     #[inline]
     pub(crate) fn join(&self, key: &mut u64, waker: &Waker) {
         if *key == 0 {
@@ -133,7 +132,7 @@ impl Waiters {
         if let Some((_, old)) = waiting.iter_mut().find(|(of, _)| *of == *key) {
             if !old.will_wake(waker) {
                 let old = std::mem::replace(old, waker.clone());
-                // Without the lock: the drop of a waker may drop a future that leaves.
+                // Without the lock: the drop of a waker may drop a future that calls `leave`.
                 drop(others);
                 drop(old);
             }
@@ -188,7 +187,7 @@ impl Io {
         }
     }
 
-    /// Clears bits, unless there was an event since `seen` was read. Returns the state after the call.
+    /// Clears `bits` in the state, unless there was an event since `seen` was read. Returns the state after the call.
     #[inline]
     pub(crate) fn clear(&self, seen: u64, bits: u64) -> u64 {
         match self.state.compare_exchange(seen, seen & !bits, SeqCst, SeqCst) {
@@ -224,7 +223,7 @@ impl Io {
     }
 }
 
-/// The descriptors by key. A key has a use count, so that a late event of a removed descriptor finds nobody.
+/// The descriptors by key. A key contains a use count, so that a late event of a removed descriptor finds nobody.
 #[derive(Default)]
 struct Sources {
     all: Vec<(u32, Option<Arc<Io>>)>,
@@ -281,7 +280,7 @@ impl Reactor {
         self.used.load(Relaxed) != 0
     }
 
-    /// Ends the wait of the worker that waits here, or else the next wait.
+    /// Ends the wait of the worker that waits in this epoll, or else the next wait.
     pub(crate) fn notify(&self) {
         sys::raise(self.event);
     }
@@ -330,7 +329,7 @@ impl Reactor {
         io.as_ref().filter(|_| *uses as u64 == data >> 32).cloned()
     }
 
-    /// Wakes all who wait for a descriptor, without an event.
+    /// Wakes all tasks that wait for a descriptor, without an event.
     pub(crate) fn wake_all(&self) {
         let sources: Vec<_> = self.sources.lock().unwrap().all.iter().filter_map(|(_, io)| io.clone()).collect();
         for io in sources {
@@ -339,7 +338,7 @@ impl Reactor {
         }
     }
 
-    /// Returns at most `most` events that are there now.
+    /// Returns at most `most` of the events that have occurred, without waiting.
     pub(crate) fn look(&self, most: usize) -> Found {
         Found::of(self.epoll, 0, most)
     }

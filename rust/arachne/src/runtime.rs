@@ -23,8 +23,8 @@ use std::mem::ManuallyDrop;
 use std::panic::Location;
 use std::time::Duration;
 
-/// The most jobs that a worker may have in hand: the one that runs, the next one and one that it displaces, those in
-/// line, and those that were stolen.
+/// The most jobs that a worker may have in hand: the job that runs, the next job and a job that it displaces, the jobs
+/// in line, and the stolen jobs.
 const HANDS: usize = 3 + crate::worker::HAND + crate::hand::FIRST;
 
 /// The function that each thread calls before its first task.
@@ -89,8 +89,8 @@ impl Builder {
 
     /// Sets the number of tasks that may be in progress at a time: 65,536 by default, at most 1,048,576.
     ///
-    /// The number is rounded up to a multiple of 4,096 for each worker. Tasks beyond the number wait in a queue until
-    /// one ends, or are refused by `try_spawn`.
+    /// The number is rounded up to a multiple of 4,096 for each worker. Tasks beyond this number wait in a queue until
+    /// another task ends, or are refused by `try_spawn`.
     ///
     /// ```
     /// let runtime = arachne::Builder::new(1).places(4096).build().unwrap();
@@ -104,7 +104,7 @@ impl Builder {
         self
     }
 
-    /// Lets the number of active cores follow the load. Without a policy all are active.
+    /// Lets the number of active cores follow the load. Without a policy all cores are active.
     ///
     /// ```
     /// let runtime = arachne::Builder::new(4).policy(arachne::Policy::default()).build().unwrap();
@@ -117,11 +117,11 @@ impl Builder {
         self
     }
 
-    /// Shares the machine's processors with other processes, by the arbiter (`rust/arbiter`) that listens at `path`.
+    /// Shares the machine's processors with other processes, by the daemon (`rust/arbiter`) that listens at `path`.
     ///
-    /// The arbiter grants each worker a processor; the first worker also runs without one. The runtime asks for as many
-    /// processors as its policy wants, or for one per worker. `priority` is 0 (first) to 7; `reserved` cores (at most
-    /// 65,535) go to this runtime before others get more than is reserved for them.
+    /// This daemon, the arbiter, grants each worker a processor; the first worker also runs without one. The runtime
+    /// asks for as many processors as its policy wants, or for one per worker. `priority` is 0 (first) to 7; `reserved`
+    /// cores (at most 65,535) go to this runtime before others get more than is reserved for them.
     ///
     /// If there is no arbiter, or it refuses, the runtime works as without this call, and tries again each second.
     ///
@@ -135,7 +135,7 @@ impl Builder {
         self
     }
 
-    /// Keeps each worker on a processor of its own, unless there is an arbiter, which does that itself.
+    /// Keeps each worker on a processor of its own, unless there is an arbiter: then the arbiter does that.
     ///
     /// ```
     /// let runtime = arachne::Builder::new(2).pinned(true).build().unwrap();
@@ -149,7 +149,8 @@ impl Builder {
         self
     }
 
-    /// Sets the time slice that workers request from Linux (6.12 and later): 100 us by default, which is its least.
+    /// Sets the time slice that workers request from Linux (6.12 and later): 100 us by default, which is Linux's
+    /// minimum.
     ///
     /// A thread that wakes gets a processor sooner if its slice is shorter. None keeps the system's slice (some 3 ms),
     /// which suits tasks that compute for long beside other busy threads.
@@ -163,7 +164,7 @@ impl Builder {
         self
     }
 
-    /// Sets the most threads for `spawn_blocking`: 512 by default, at least one.
+    /// Sets the most threads for `spawn_blocking`: 512 by default, and at least one.
     ///
     /// A thread starts if none is idle, and ends after five seconds without work.
     ///
@@ -211,11 +212,11 @@ impl Builder {
         self
     }
 
-    /// Calls a function on each thread that polls tasks, before its first task: the workers, and the watcher of
-    /// `watch_polls`.
+    /// Calls a function on each thread that polls tasks, before its first task. These threads are the workers, and the
+    /// watcher of `watch_polls`.
     ///
     /// The function can set up thread-locals that tasks expect, such as tokio's: `std::mem::forget(handle.enter())` for
-    /// the handle of a runtime of tokio that runs beside this one. A panic there ends the process.
+    /// the handle of a runtime of tokio that runs beside this one. A panic in the function ends the process.
     ///
     /// ```
     /// use std::cell::Cell;
@@ -231,7 +232,7 @@ impl Builder {
     /// Starts a watcher thread that reports polls which take longer than `longer`, and works around them.
     ///
     /// Each such poll is counted in `Stats::slow_polls` and, if `log`, named on the standard error stream. Meanwhile
-    /// the watcher looks after the ready tasks, sockets and timers of its worker.
+    /// the watcher looks after the ready tasks, sockets and timers of the worker that makes the poll.
     ///
     /// ```
     /// use std::time::Duration;
@@ -253,7 +254,7 @@ impl Builder {
     /// Starts the workers, and returns the runtime.
     ///
     /// Fails if memory, descriptors or threads are refused, or if the process has 32 runtimes. A runtime that has ended
-    /// counts too, until one with the same cores, places and `observed` takes its place.
+    /// also counts, until a runtime with the same cores, places and `observed` takes its place.
     ///
     /// ```
     /// # fn main() -> std::io::Result<()> {
@@ -275,7 +276,7 @@ impl Builder {
             shared.arbiter.open(self.cores)?;
         }
         let cpus = if self.pin && !shares { sys::affinity() } else { Vec::new() };
-        // The watcher is one more, behind the workers.
+        // The watcher is one more thread, behind the workers.
         let crew = shared.root.lock().unwrap().crew(self.cores + self.slow.is_some() as usize, HANDS);
         let mut crew = crew.ok_or(io::ErrorKind::OutOfMemory)?;
         let watches = crew.drain(self.cores..).next();
@@ -335,35 +336,36 @@ impl Builder {
 #[derive(Clone, Debug, Default)]
 #[non_exhaustive]
 pub struct Stats {
-    /// Active cores. Under an arbiter at least 1, even if the first worker has no core of its own.
+    /// The number of active cores. Under an arbiter at least 1, even if the first worker has no core of its own.
     pub active: usize,
     /// True if an arbiter decides how many cores may be active.
     pub arbiter: bool,
-    /// Polls of tasks.
+    /// The number of polls of tasks.
     pub polls: u64,
-    /// Tasks that ended on a worker.
+    /// The number of tasks that ended on a worker.
     pub ended: u64,
-    /// Successful steals from other workers.
+    /// The number of successful steals from other workers.
     pub takes: u64,
     /// The number of times that workers slept.
     pub parks: u64,
-    /// Tasks that had to wait for a free place.
+    /// The number of tasks that had to wait for a free place.
     pub queued: u64,
-    /// Cores that the policy asked for.
+    /// The number of cores that the policy asked for.
     pub adds: u64,
-    /// Cores that the policy gave back.
+    /// The number of cores that the policy gave back.
     pub removes: u64,
     /// The time for which cores were active, summed over the cores. Only counted with a policy.
     pub core_time: Duration,
-    /// Polls that took longer than the limit of `Builder::watch_polls`.
+    /// The number of polls that took longer than the limit of `Builder::watch_polls`.
     pub slow_polls: u64,
-    /// Polls that the watcher made in place of workers that were stuck.
+    /// The number of polls that the watcher made in place of workers that were stuck.
     pub rescued: u64,
     /// The counts of each worker.
     pub workers: Vec<WorkerStats>,
     /// A histogram of the times for which ready tasks waited to be taken; empty unless the runtime is observed.
     ///
-    /// Number i counts the times from 2^(i-1) up to 2^i microseconds, number 0 those below one, the last all others.
+    /// Number i counts the times from 2^(i-1) up to 2^i microseconds. Number 0 counts those below one microsecond, and
+    /// the last number all longer ones.
     pub ready_to_taken: Vec<u64>,
 }
 
@@ -378,24 +380,24 @@ pub struct Stats {
 #[derive(Clone, Copy, Debug, Default)]
 #[non_exhaustive]
 pub struct WorkerStats {
-    /// Polls of tasks.
+    /// The number of polls of tasks.
     pub polls: u64,
-    /// Tasks that ended here.
+    /// The number of tasks that ended on this worker.
     pub ended: u64,
-    /// Successful steals from other workers.
+    /// The number of successful steals from other workers.
     pub takes: u64,
-    /// Waiting tasks that were woken here.
+    /// The number of waiting tasks that were woken on this worker.
     pub wakes: u64,
     /// The number of times that the worker slept.
     pub parks: u64,
-    /// The time without work.
+    /// The time for which the worker had no work.
     pub idle: Duration,
 }
 
 /// A runtime: worker threads that run tasks.
 ///
-/// Dropping a runtime ends it as `shutdown` does. If a runtime is dropped by one of its own tasks, or by its blocking
-/// work, another thread ends it, and the drop returns at once.
+/// Dropping a runtime ends it as `shutdown` does. If a task or the blocking work of the runtime itself drops it,
+/// another thread ends it, and the drop returns at once.
 ///
 /// ```
 /// let runtime = arachne::Runtime::new(4);
@@ -446,7 +448,7 @@ impl Runtime {
         self.shared.spawn_task(future, About { spawned: Location::caller(), name: None }, false)
     }
 
-    /// Like `spawn`, but puts the tasks at the workers in turn; see the function `spawn_balanced`.
+    /// Like `spawn`, but gives the tasks to the workers in turn; see the function `spawn_balanced`.
     ///
     /// ```
     /// let runtime = arachne::Runtime::new(2);
@@ -493,7 +495,7 @@ impl Runtime {
         self.shared.spawn_background(future, About { spawned: Location::caller(), name: None })
     }
 
-    /// Like `spawn`, but hands the future back if no place is free, or if tasks already wait for one.
+    /// Like `spawn`, but hands the future back if no place is free, or if tasks already wait for a place.
     ///
     /// ```
     /// let runtime = arachne::Runtime::new(1);
@@ -526,7 +528,7 @@ impl Runtime {
 
     /// Runs a future on the calling thread, with this runtime for its spawns, sockets and timers.
     ///
-    /// Within a task it blocks the worker; see the function `block_on`.
+    /// Within a task the call blocks the worker; see the function `block_on`.
     ///
     /// ```
     /// let runtime = arachne::Runtime::new(2);
@@ -591,7 +593,7 @@ impl Runtime {
         }
     }
 
-    /// Returns all tasks in progress, with their states; none unless the runtime is observed.
+    /// Returns all tasks in progress, with their states. The list is empty unless the runtime is observed.
     ///
     /// ```
     /// let runtime = arachne::Builder::new(1).observed().build().unwrap();
@@ -634,11 +636,11 @@ impl Runtime {
         self.shared
     }
 
-    /// Ends the runtime: drops all tasks that have not ended, and joins its threads.
+    /// Ends the runtime: drops all tasks that have not ended, and joins the runtime's threads.
     ///
     /// No task is polled from then on. The tasks are dropped on the calling thread, and their handles return
-    /// `Cancelled`. Polls in progress, and work that runs on the blocking pool, are waited for, without a limit. See
-    /// `shutdown_within` for an end that lets tasks finish.
+    /// `Cancelled`. The call waits, without a limit, for polls in progress and for work that runs on the blocking pool.
+    /// See `shutdown_within` for an end that lets tasks finish.
     ///
     /// ```
     /// let runtime = arachne::Runtime::new(1);
@@ -650,7 +652,7 @@ impl Runtime {
         drop(self);
     }
 
-    /// Ends the runtime; returns at `until` even if work on the blocking pool still runs.
+    /// Ends the runtime. Returns at `until` even if work on the blocking pool still runs.
     pub(crate) fn end(&mut self, until: Option<Instant>) {
         if self.ended {
             return;
@@ -674,7 +676,8 @@ impl Runtime {
             end_spawned(shared);
             if left().is_zero() {
                 shared.door.close();
-                // Another thread waits for the rest; if none can be started, the state is never used again.
+                // Another thread waits for the blocking work that still runs. If none can be started, the state is
+                // never used again.
                 let _ = thread::Builder::new().name("arachne-end".into()).spawn(move || end_later(shared));
                 return;
             }
@@ -688,8 +691,8 @@ impl Runtime {
 /// The time between two looks for tasks that blocking work has spawned since the end.
 const LOOK: Duration = Duration::from_millis(10);
 
-/// Waits for blocking work that outlives its runtime. A later runtime may use the ended one's state only after this
-/// wait.
+/// Waits for blocking work that outlives its runtime. Only after this wait may a later runtime use the state of the
+/// ended runtime.
 fn end_later(shared: &'static Shared) {
     while !shared.blocking.wait_for_end(LOOK) {
         end_spawned(shared);
@@ -698,7 +701,7 @@ fn end_later(shared: &'static Shared) {
     shared.give();
 }
 
-/// Ends the tasks that blocking work has spawned since the end: the work may wait for them.
+/// Ends the tasks that blocking work has spawned since the runtime's end: the work may wait for them.
 fn end_spawned(shared: &'static Shared) {
     if shared.live() != 0 {
         entered(shared, || end_all(shared));
@@ -710,7 +713,7 @@ impl Drop for Runtime {
         if self.ended || !is_own(self.shared) {
             return self.end(None);
         }
-        // A thread can't join itself. If no other can be started, the runtime runs on.
+        // A thread can't join itself. If no other thread can be started, the runtime runs on.
         let threads = std::mem::take(&mut self.threads);
         let rest = ManuallyDrop::new(Runtime { shared: self.shared, threads, ended: self.ended });
         let ends = move || drop(ManuallyDrop::into_inner(rest));
@@ -750,7 +753,7 @@ fn end_queued(shared: &'static Shared) {
             None => return,
         };
         shared.queued.0.fetch_sub(1, SeqCst);
-        // SAFETY: it was never put into a place, and nobody else has it.
+        // SAFETY: the task was never put into a place, and nobody else has it.
         unsafe { task::end(raw) };
         shared.counts.ended_elsewhere.fetch_add(1, SeqCst);
     }
@@ -769,7 +772,7 @@ fn end_placed(shared: &'static Shared) {
             }
         }
         for block in 0..shared.roomy.len() * SHARD {
-            // Every block, and not only those that the summary shows: it may have missed one.
+            // Every block, and not only those that the summary shows: it may have missed a block.
             while let Some(job) = hands.take_any(block) {
                 jobs.push(job.job);
                 hands.finish(&job);
@@ -779,7 +782,7 @@ fn end_placed(shared: &'static Shared) {
         }
     });
     shared.counts.ended_elsewhere.fetch_add(jobs.len() as u64, SeqCst);
-    // SAFETY: each was taken out of the table, so it is in this thread's hand, and no name leads to it.
+    // SAFETY: each job was taken out of the table, so it is in this thread's hand, and no name leads to it.
     jobs.into_iter().for_each(|job| unsafe { task::end(job) });
 }
 

@@ -83,7 +83,7 @@ impl From<AcquireError> for std::io::Error {
 pub enum TryAcquireError {
     /// The semaphore is closed.
     Closed,
-    /// There are too few permits, or others wait for some.
+    /// There are too few permits, or others wait for permits.
     NoPermits,
 }
 
@@ -203,7 +203,7 @@ impl Semaphore {
         Ok(())
     }
 
-    /// Adds `count` permits, and wakes those who wait for them.
+    /// Adds `count` permits, and wakes the tasks that can have them.
     ///
     /// ```
     /// let permits = std::sync::Arc::new(arachne::Semaphore::new(0));
@@ -227,9 +227,9 @@ impl Semaphore {
         self.grant(state);
     }
 
-    /// Closes the semaphore: all who wait for permits, or request some later, get an error.
+    /// Closes the semaphore: all who wait for permits, or request permits later, get an error.
     ///
-    /// Permits that are held stay valid.
+    /// Permits that were given stay valid.
     ///
     /// ```
     /// let permits = arachne::Semaphore::new(1);
@@ -250,7 +250,8 @@ impl Semaphore {
         self.state.lock().unwrap().closed
     }
 
-    /// Gives permits to the first in line, as far as there are enough, and wakes them after the lock is released.
+    /// Gives permits to the first waiters in line, as far as there are enough, and wakes these after the lock is
+    /// released.
     fn grant(&self, mut state: crate::sync::MutexGuard<'_, State>) {
         let mut granted = Vec::new();
         while state.line.front().map_or(false, |node| node.wants <= state.permits) {
@@ -265,7 +266,7 @@ impl Semaphore {
     }
 }
 
-/// The future of `Semaphore::acquire`. A future that is dropped while it waits leaves the line.
+/// The future of `Semaphore::acquire`. A future that is dropped while it waits leaves the line of waiters.
 ///
 /// ```
 /// let permits = arachne::Semaphore::new(1);
@@ -293,7 +294,7 @@ impl<'a> Future for Acquire<'a> {
         if let Some(node) = &self.node {
             node.slot.set(cx.waker());
             if !node.granted.load(SeqCst) {
-                // Checked after the waker is set: `close` sets the flag before it wakes the line.
+                // Checked after the waker is set: `close` sets the flag before it wakes all waiters.
                 return if semaphore.is_closed() { Poll::Ready(Err(AcquireError)) } else { Poll::Pending };
             }
             self.node = None;
@@ -351,7 +352,7 @@ pub struct SemaphorePermit<'a> {
     count: usize,
 }
 
-/// Like `SemaphorePermit`, of a semaphore in an `Arc`: it may go to another task.
+/// Like `SemaphorePermit`, but of a semaphore in an `Arc`: the permits may go to another task.
 ///
 /// ```
 /// let permits = std::sync::Arc::new(arachne::Semaphore::new(1));

@@ -1,4 +1,4 @@
-//! The state that a runtime's kernel threads share, and the state of each of them.
+//! The state that a runtime's kernel threads share, and each thread's own state.
 
 use crate::arbiter::Client;
 use crate::blocking::Pool;
@@ -26,7 +26,7 @@ mod explored;
 #[cfg(feature = "explore")]
 pub use explored::{forget_runtimes, forget_thread, set_active};
 
-/// The most runtimes of a process at a time: each needs a table of waker functions.
+/// The most runtimes of a process at a time: each runtime needs a table of waker functions.
 pub(crate) const TABLES: usize = 32;
 
 /// A number that no worker has.
@@ -35,7 +35,7 @@ pub(crate) const NO_ONE: usize = usize::MAX;
 #[allow(clippy::declare_interior_mutable_const)]
 const NO_TABLE: AtomicPtr<Shared> = AtomicPtr::new(ptr::null_mut());
 static ALL: [AtomicPtr<Shared>; TABLES] = [NO_TABLE; TABLES];
-/// The number of `Shared` made so far, and those that no runtime uses now.
+/// The number of `Shared` made so far, and the `Shared` that no runtime uses now.
 ///
 /// A `Shared` is never freed, since a waker may be kept for ever.
 static POOL: Mutex<(usize, Vec<&'static Shared>)> = Mutex::new((0, Vec::new()));
@@ -56,11 +56,12 @@ pub(crate) struct Shared {
     pub(crate) rests: AtomicI32,
     /// Milliseconds between two looks at the other workers by the worker that waits in the epoll.
     pub(crate) pauses: AtomicI32,
-    /// Nanoseconds between two looks of the worker that covers for the first one, if only the first has a core; else 0.
+    /// Nanoseconds between two looks of the worker that covers for the first worker, if only the first has a core; else
+    /// 0.
     pub(crate) covers: Line<AtomicU64>,
     /// For each shard, its blocks that may have a free place, as bits.
     pub(crate) roomy: Box<[Line<AtomicU64>]>,
-    /// For each place, the name of the last task that waited there, so that it can be ended with the runtime.
+    /// For each place, the name of the last task that waited there, so that this task can be ended with the runtime.
     pub(crate) names: Box<[AtomicU64]>,
     /// The workers that sleep, as bits. They only decide which worker it is worth waking.
     pub(crate) sleepers: Line<AtomicU64>,
@@ -107,19 +108,19 @@ pub(crate) struct Worker {
     pub(crate) bell: Bell,
     pub(crate) hand: Hand,
     pub(crate) timers: Timers,
-    /// True while the core is given back.
+    /// True while the worker's core is given back.
     pub(crate) given_back: (Mutex<bool>, Condvar),
-    /// True if the worker has laid down all jobs in its hand, and waits for its core.
+    /// True if the worker has made all jobs in its hand ready, and waits for its core.
     pub(crate) away: AtomicBool,
     /// The worker's shards. The core knows each shard by a worker number: the shard's index modulo `NUMBERS`.
     pub(crate) shards: Box<[usize]>,
-    /// The number of the worker's shards, from the first on, that ever had a task. This number only grows; the other
-    /// shards are not searched.
+    /// The number of the worker's shards, from the first on, that ever had a task. This number only grows. The shards
+    /// beyond it are not searched.
     pub(crate) used: AtomicUsize,
-    /// The block, of the worker's shards, in which the next task may find room.
+    /// The block, counted over the worker's shards, in which the next task may find a place.
     pub(crate) roomy: Line<AtomicUsize>,
-    /// The rights to park, one for each worker number of its shards. The worker that looks after these shards takes the
-    /// lock.
+    /// The rights to park, one for each worker number of the worker's shards. Whoever looks after these shards takes
+    /// the lock.
     pub(crate) parking: Mutex<Vec<Parking>>,
     pub(crate) polls: AtomicU64,
     pub(crate) spawned: AtomicU64,
@@ -135,7 +136,7 @@ pub(crate) struct Worker {
     pub(crate) idle: AtomicU64,
     /// The time since which the worker is without work; 0 if it has work.
     pub(crate) idle_since: AtomicU64,
-    /// The thread's `/proc` file `schedstat`: the time it ran, and the time it waited for a processor.
+    /// The `/proc` file `schedstat` of the worker's thread: the time it ran, and the time it waited for a processor.
     pub(crate) account: Mutex<Option<File>>,
     /// For the watcher: the name of the task that is polled now.
     pub(crate) running: AtomicU64,
@@ -194,13 +195,13 @@ impl Worker {
         &self.shards[..self.used.load(Relaxed)]
     }
 
-    /// Returns the nanoseconds without work until now.
+    /// Returns the nanoseconds for which the worker had no work until now.
     pub(crate) fn idle_time(&self, now: u64) -> u64 {
         let since = self.idle_since.load(Relaxed);
         self.idle.load(Relaxed) + if since == 0 { 0 } else { now.saturating_sub(since) }
     }
 
-    /// Ends the time without work, and returns the current time.
+    /// Ends the worker's time without work, and returns the current time.
     pub(crate) fn ends_idling(&self) -> u64 {
         let now = now();
         add(&self.idle, now.saturating_sub(self.idle_since.swap(0, Relaxed)));
@@ -217,17 +218,17 @@ impl Worker {
     }
 }
 
-/// Returns the shared state of this number, if one was ever made.
+/// Returns the `Shared` of this number, if one was ever made.
 #[inline]
 pub(crate) fn shared_of(table: usize) -> Option<&'static Shared> {
-    // SAFETY: what was stored there once is never freed.
+    // SAFETY: a `Shared` that was stored there is never freed.
     unsafe { ALL[table].load(Acquire).as_ref() }
 }
 
 impl Shared {
-    /// Returns an unused `Shared` of this shape: one of an ended runtime, or a new one.
+    /// Returns an unused `Shared` of this shape: that of an ended runtime, or a new one.
     ///
-    /// Fails if all 32 are in use or of other shapes, or if memory or descriptors are refused.
+    /// Fails if all 32 are in use or have other shapes, or if memory or descriptors are refused.
     pub(crate) fn get(workers: usize, shards: usize, observed: bool) -> io::Result<&'static Shared> {
         let mut pool = POOL.lock().unwrap();
         let alike =
@@ -338,7 +339,7 @@ impl Shared {
         (self.spawned() - ended).max(0) as u64
     }
 
-    /// Returns the number of tasks for which a drain waits, those of the background left out.
+    /// Returns the number of tasks for which a drain waits: all but those of `spawn_background`.
     ///
     /// The number is never too low, even while tasks begin and end: `spawned` counts a background task before
     /// `background.0` does, and `background.1` counts it before `ended` does. So the counts must be read in the reverse
@@ -349,17 +350,17 @@ impl Shared {
         (self.spawned() - background - ended).max(0) as u64
     }
 
-    /// Returns true if the runtime that was made at the count `turns` of the `Door` has ended, or is about to: nobody
-    /// looks for its events any more.
+    /// Returns true if the runtime that was made at the count `turns` of the `Door` has ended, or is about to end:
+    /// nobody looks for its events any more.
     ///
-    /// Returns false in a poll of one of that runtime's own tasks, which is dropped instead.
+    /// Returns false in a poll of one of that runtime's own tasks: that task is dropped instead.
     pub(crate) fn has_ended(&self, turns: u64) -> bool {
         let in_own_task = || Context::with(|worker| worker.map_or(false, |worker| ptr::eq(worker.shared, self)));
         self.door.turns() != turns || self.stop.load(SeqCst) && !in_own_task()
     }
 
-    /// Wakes those who wait for this runtime's sockets and timers after its end, in another runtime or in blocking
-    /// work.
+    /// Wakes the tasks that still wait for this runtime's sockets and timers after its end, in another runtime or in
+    /// blocking work.
     ///
     /// After this call a wait for a socket of this runtime fails, and a sleep goes on in the runtime in which it is
     /// polled.
@@ -376,13 +377,14 @@ impl Shared {
         POOL.lock().unwrap().1.push(self);
     }
 
-    /// Returns the worker to whose blocks this place belongs.
+    /// Returns the worker whose blocks contain this place.
     #[inline]
     pub(crate) fn home(&self, place: usize) -> usize {
         place / (BLOCK * SHARD) % NUMBERS % self.workers.len()
     }
 
-    /// Returns the worker that looks after this one's blocks and timers: itself, or another if it has no core.
+    /// Returns the worker that looks after the blocks and timers of `worker`: itself, or another worker if it has no
+    /// core.
     #[inline]
     pub(crate) fn keeper(&self, worker: usize) -> usize {
         let active = self.active.0.load(SeqCst);
@@ -454,7 +456,7 @@ impl Context {
         call(unsafe { context.as_ref() })
     }
 
-    /// Runs `f` with this context as the thread's.
+    /// Runs `f`, during which this context is the thread's.
     pub(crate) fn enter<R>(&self, f: impl FnOnce() -> R) -> R {
         struct Leave;
         impl Drop for Leave {
@@ -467,9 +469,9 @@ impl Context {
         f()
     }
 
-    /// Returns true if the current poll may read a socket: once always, and again until the next look is due.
+    /// Returns true if the current poll may read a socket: always once, and again until the next look is due.
     ///
-    /// So a socket that always has more doesn't keep its worker.
+    /// So a socket that always has more data doesn't keep its worker.
     #[inline]
     pub(crate) fn may_read(&self) -> bool {
         let reads = self.reads.replace(self.reads.get() + 1);
@@ -516,7 +518,7 @@ pub(crate) fn entered<R>(shared: &'static Shared, f: impl FnOnce() -> R) -> R {
     f()
 }
 
-/// The seats of a thread that is no worker, by runtime.
+/// For each runtime, the seat by which this thread, which is no worker of the runtime, calls it.
 struct Visitor {
     seats: Vec<Option<Hands>>,
 }
@@ -549,7 +551,7 @@ pub(crate) fn with_hands<R>(shared: &'static Shared, call: impl FnOnce(&Hands) -
     match (visited, call) {
         (Ok(Some(result)), _) => result,
         (_, Some(call)) => {
-            // The thread is ending and its seats are gone, or they are in use: seats for this call only.
+            // The thread is ending and its seats are gone, or they are in use: makes seats for this call only.
             let mut root = shared.root.lock().unwrap_or_else(|e| e.into_inner());
             let hands = root.crew(1, 1).and_then(|mut crew| crew.pop()).expect("no memory for a seat");
             let result = call(&hands);

@@ -10,10 +10,10 @@ use std::panic::Location;
 use std::pin::Pin;
 use std::task::{self as std_task, Poll};
 
-/// The number of tasks from other threads that go to one worker before the next one gets some.
+/// The number of tasks from other threads that go to one worker before the next worker gets some.
 const IN_A_ROW: usize = 16;
 
-/// The error of `try_spawn`: no place is free. The error has the future.
+/// The error of `try_spawn`: no place is free. It contains the future.
 ///
 /// ```
 /// let runtime = arachne::Builder::new(1).places(1).build().unwrap();     // rounded up to 4,096
@@ -63,8 +63,8 @@ impl<F: Future> Future for Background<F> {
 impl Shared {
     /// Puts a task into a free place of a worker's blocks.
     ///
-    /// Consecutive tasks go to the blocks of a shard in turn: the marks of neighbours in a block share a cache line, on
-    /// which the workers that wake them would contend.
+    /// Consecutive tasks go to the blocks of a shard in turn: the marks of neighbours in a block share a cache line,
+    /// and workers that wake two neighbours would contend for it.
     pub(crate) fn spawn_at(&self, hands: &Hands, worker: usize, raw: Raw, keep: bool) -> Spawned {
         let (shards, next) = (&*self.workers[worker].0.shards, &self.workers[worker].0.roomy.0);
         let hint = next.load(Relaxed);
@@ -87,7 +87,8 @@ impl Shared {
                 let (bit, at) = (bits & bits.wrapping_neg(), shard * SHARD + bits.trailing_zeros() as usize);
                 let mut spawned = hands.spawn(at, raw, keep);
                 if spawned == Spawned::Full {
-                    // Cleared before the second try: a thread that frees a place sets the bit after that.
+                    // Cleared before the second try: a thread that frees a place sets the bit after it has freed the
+                    // place.
                     roomy.fetch_and(!bit, SeqCst);
                     spawned = hands.spawn(at, raw, keep);
                     if spawned != Spawned::Full {
@@ -106,7 +107,7 @@ impl Shared {
 
     /// Puts a new task into a place, or into the queue if no place is free.
     ///
-    /// The place is this worker's, or each worker's in turn if `balanced` or if this thread is no worker.
+    /// The place is this worker's. If `balanced`, or if this thread is no worker, it is each worker's in turn.
     #[inline]
     pub(crate) fn spawn(&'static self, raw: Raw, balanced: bool) {
         if !self.place_new(raw, balanced) {
@@ -155,8 +156,8 @@ impl Shared {
         }
     }
 
-    /// Puts a new task into a place of the first worker from `home` on that has a free one. Returns false if no worker
-    /// has a free place.
+    /// Puts a new task into a place of the first worker, from `home` on, that has a free place. Returns false if no
+    /// worker has a free place.
     fn spawn_among(&self, hands: &Hands, home: usize, raw: Raw) -> bool {
         if self.queued.0.load(Relaxed) != 0 {
             return false;
@@ -178,7 +179,7 @@ impl Shared {
             self.queued.0.fetch_add(1, SeqCst);
         }
         self.counts.queued.fetch_add(1, Relaxed);
-        // After it is counted: a worker looks at the count last before it sleeps.
+        // After the task is counted: a worker looks at the count last before it sleeps.
         self.rouse_any();
     }
 
@@ -218,16 +219,16 @@ impl Shared {
             self.observer.spawns(&about);
             return Ok(handle);
         }
-        // `place_new` has counted it as spawned.
+        // `place_new` has counted the task as spawned.
         self.counts.ended_elsewhere.fetch_add(1, SeqCst);
-        // SAFETY: nobody else has it, and it was not polled.
+        // SAFETY: nobody else has the task, and it was not polled.
         Err(Refused(unsafe { task::unmake(raw, handle) }))
     }
 }
 
 /// Spawns a task on the runtime of the calling task or `block_on`. Returns the handle on the task's output.
 ///
-/// The task runs next on this worker, or on another if the spawning task goes on for long.
+/// The task runs next on this worker, or on another worker if the spawning task goes on for long.
 ///
 /// ```
 /// let sum = arachne::Runtime::new(2).block_on(async {
@@ -269,7 +270,7 @@ where
     here().expect("spawn outside of a runtime").spawn_task(future, about, false)
 }
 
-/// Like `spawn`, but puts the tasks at the workers in turn: for tasks that live long, such as a connection's.
+/// Like `spawn`, but gives the tasks to the workers in turn: for tasks that live long, such as those of connections.
 ///
 /// ```
 /// # async fn serve(_: arachne::net::TcpStream) {}
@@ -292,7 +293,7 @@ where
     here().expect("spawn outside of a runtime").spawn_task(future, about, true)
 }
 
-/// Like `spawn`, but hands the future back if no place is free, or if tasks already wait for one.
+/// Like `spawn`, but hands the future back if no place is free, or if tasks already wait for a place.
 ///
 /// ```
 /// arachne::Runtime::new(1).block_on(async {
@@ -318,7 +319,7 @@ where
 /// Like `spawn`, for a task that doesn't end by itself, such as one that sweeps a store.
 ///
 /// `Runtime::shutdown_within` doesn't wait for such a task, and drops it once the other tasks have ended or at the
-/// deadline. Tasks that it spawns are waited for, unless they are spawned by this function too.
+/// deadline. The call waits for tasks that the background task spawns, unless it spawns them by this function too.
 ///
 /// ```
 /// use std::time::Duration;

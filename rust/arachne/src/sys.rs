@@ -98,12 +98,12 @@ fn checked(result: i32) -> io::Result<i32> {
 }
 
 pub(crate) fn new_epoll() -> io::Result<RawFd> {
-    // SAFETY: a call with numbers alone.
+    // SAFETY: a call with numbers only.
     checked(unsafe { epoll_create1(CLOSE_ON_EXEC) })
 }
 
 pub(crate) fn new_event() -> io::Result<RawFd> {
-    // SAFETY: a call with numbers alone.
+    // SAFETY: a call with numbers only.
     checked(unsafe { eventfd(0, CLOSE_ON_EXEC | NON_BLOCKING) })
 }
 
@@ -114,17 +114,17 @@ pub(crate) fn new_event_file() -> io::Result<File> {
 }
 
 pub(crate) fn close_fd(fd: RawFd) {
-    // SAFETY: a call with a number alone; the caller has the descriptor for itself, and doesn't use it again.
+    // SAFETY: a call with a number only. Only the caller has the descriptor, and doesn't use it again.
     unsafe { close(fd) };
 }
 
 pub(crate) fn watch(epoll: RawFd, fd: RawFd, events: u32, data: u64) -> io::Result<()> {
-    // SAFETY: the event lives through the call, which keeps a copy.
+    // SAFETY: the event lives through the call, and the kernel keeps a copy.
     checked(unsafe { epoll_ctl(epoll, ADD, fd, &mut Event { events, data }) }).map(drop)
 }
 
 pub(crate) fn unwatch(epoll: RawFd, fd: RawFd) {
-    // SAFETY: the event lives through the call, which doesn't read it.
+    // SAFETY: the event lives through the call, and the kernel doesn't read it.
     unsafe { epoll_ctl(epoll, DELETE, fd, &mut Event { events: 0, data: 0 }) };
 }
 
@@ -141,7 +141,7 @@ pub(crate) fn wait(epoll: RawFd, events: &mut [Event], timeout: i32) -> usize {
 /// Raises an event, which makes its descriptor readable.
 pub(crate) fn raise(event: RawFd) {
     let one = 1u64.to_ne_bytes();
-    // SAFETY: there are eight bytes to read from.
+    // SAFETY: there are eight bytes to read.
     unsafe { write(event, one.as_ptr(), 8) };
     told();
 }
@@ -149,7 +149,7 @@ pub(crate) fn raise(event: RawFd) {
 /// Clears an event.
 pub(crate) fn lower(event: RawFd) {
     let mut count = [0; 8];
-    // SAFETY: there are eight bytes to write to.
+    // SAFETY: there is room for eight bytes.
     unsafe { read(event, count.as_mut_ptr(), 8) };
 }
 
@@ -157,7 +157,7 @@ pub(crate) fn lower(event: RawFd) {
 pub(crate) fn set_nonblocking(fd: RawFd) -> io::Result<()> {
     const GET_FLAGS: i32 = 3;
     const SET_FLAGS: i32 = 4;
-    // SAFETY: calls with numbers alone.
+    // SAFETY: calls with numbers only.
     let flags = checked(unsafe { fcntl(fd, GET_FLAGS) })?;
     // SAFETY: the same.
     checked(unsafe { fcntl(fd, SET_FLAGS, flags | NON_BLOCKING) }).map(drop)
@@ -165,7 +165,7 @@ pub(crate) fn set_nonblocking(fd: RawFd) -> io::Result<()> {
 
 /// Sets the backlog of a socket that listens already.
 pub(crate) fn listen(fd: RawFd, backlog: i32) -> io::Result<()> {
-    // SAFETY: a call with numbers alone.
+    // SAFETY: a call with numbers only.
     checked(unsafe { listen_call(fd, backlog) }).map(drop)
 }
 
@@ -191,7 +191,7 @@ pub(crate) fn start_connect(to: &std::net::SocketAddr) -> io::Result<RawFd> {
 /// Like `start_connect`, to a Unix socket's path. Fails with `WouldBlock` if the listener's backlog is full.
 pub(crate) fn connect_unix(path: &Path) -> io::Result<RawFd> {
     let (path, mut bytes) = (path.as_os_str().as_bytes(), [0u8; 110]);
-    // The path is ended by a zero byte.
+    // The path must be followed by a zero byte.
     if path.is_empty() || path.len() > 107 || path.contains(&0) {
         return Err(io::ErrorKind::InvalidInput.into());
     }
@@ -202,9 +202,9 @@ pub(crate) fn connect_unix(path: &Path) -> io::Result<RawFd> {
 /// Starts a connection to an address in the family's layout, whose first two bytes are the family.
 fn begin_connect(family: u16, address: &mut [u8]) -> io::Result<RawFd> {
     address[..2].copy_from_slice(&family.to_ne_bytes());
-    // SAFETY: a call with numbers alone.
+    // SAFETY: a call with numbers only.
     let fd = checked(unsafe { socket(family as i32, 1 | CLOSE_ON_EXEC | NON_BLOCKING, 0) })?;
-    // SAFETY: the address has as many bytes as are said.
+    // SAFETY: the address has as many bytes as its length says.
     match checked(unsafe { connect(fd, address.as_ptr(), address.len() as u32) }) {
         Err(error) if error.raw_os_error() != Some(IN_PROGRESS) => {
             close_fd(fd);
@@ -228,7 +228,7 @@ pub(crate) fn now() -> u64 {
 /// Returns the processors that the calling thread may run on; none if the call fails.
 pub(crate) fn affinity() -> Vec<usize> {
     let mut mask = [0u64; 16];
-    // SAFETY: the mask has the 128 bytes that are said.
+    // SAFETY: the mask has 128 bytes.
     let len = unsafe { sched_getaffinity(0, 128, mask.as_mut_ptr()) };
     if len < 0 {
         return Vec::new();
@@ -241,11 +241,12 @@ pub(crate) fn pin(cpu: usize) -> bool {
     set_affinity(0, &[cpu])
 }
 
-/// Keeps a thread of this process on these processors; 0 is the calling one. Returns true if the call succeeds.
+/// Keeps a thread of this process on these processors; thread 0 is the calling thread. Returns true if the call
+/// succeeds.
 pub(crate) fn set_affinity(thread: u32, cpus: &[usize]) -> bool {
     let mut mask = [0u64; 16];
     cpus.iter().for_each(|cpu| mask[cpu / 64 % 16] |= 1 << (cpu % 64));
-    // SAFETY: the mask has the 128 bytes that are said.
+    // SAFETY: the mask has 128 bytes.
     unsafe { sched_setaffinity(thread as i32, 128, mask.as_ptr()) == 0 }
 }
 
@@ -287,7 +288,8 @@ pub(crate) fn map_page(file: &File, at: *mut AtomicU32) -> io::Result<*mut Atomi
     const SHARED: i32 = 1;
     const FIXED: i32 = 0x10;
     let flags = if at.is_null() { SHARED } else { SHARED | FIXED };
-    // SAFETY: only an earlier page is mapped there, and its readers find a number before the call and after it.
+    // SAFETY: only an earlier page is mapped at that address. Whoever reads the number there finds one before and after
+    // the call.
     let mapped = unsafe { mmap(at as *mut u8, PAGE, READ, flags, file.as_raw_fd(), 0) };
     if mapped as isize == -1 {
         return Err(io::Error::last_os_error());
@@ -302,7 +304,7 @@ const NO_EVENT: AtomicI32 = AtomicI32::new(-1);
 static SIGNALLED: [AtomicI32; 65] = [NO_EVENT; 65];
 
 extern "C" fn handler(number: i32) {
-    // Within a signal handler this may only raise an event.
+    // Within a signal handler this call may only raise an event.
     if let Some(event) = SIGNALLED.get(number as usize) {
         raise(event.load(SeqCst));
     }
@@ -331,7 +333,7 @@ pub(crate) fn raise_at(number: i32, event: RawFd) -> io::Result<()> {
 /// Clears an event that is raised. Returns false if the event isn't raised.
 pub(crate) fn take_event(event: RawFd) -> bool {
     let mut count = [0; 8];
-    // SAFETY: there are eight bytes to write to.
+    // SAFETY: there is room for eight bytes.
     unsafe { read(event, count.as_mut_ptr(), 8) == 8 }
 }
 
@@ -350,7 +352,8 @@ pub(crate) fn await_event(event: RawFd) -> bool {
     }
 }
 
-/// Waits until one of these descriptors is readable or has failed, for at most `nanos`. Returns which are or have.
+/// Waits until one of these descriptors is readable or has failed, for at most `nanos`. Returns for each whether it is
+/// readable or has failed.
 pub(crate) fn readable(fds: [RawFd; 2], nanos: u64) -> [bool; 2] {
     let mut polled = fds.map(|fd| Polled { fd, wanted: 1, found: 0 });
     let time = [nanos as i64 / 1_000_000_000, nanos as i64 % 1_000_000_000];
@@ -370,13 +373,13 @@ const SCHEDULING: Option<(i64, i64)> = None;
 /// Requests a time slice of `nanos` for the calling thread (Linux 6.12 and later). Returns None if the system doesn't
 /// grant it.
 ///
-/// A waking thread with a shorter slice gets a processor sooner. A thread of another policy than the default one is
-/// left unchanged.
+/// A waking thread with a shorter slice gets a processor sooner. A thread whose policy isn't the default one is left
+/// unchanged.
 pub(crate) fn ask_for_slices(nanos: u64) -> Option<()> {
     let (set, get) = SCHEDULING?;
     // `struct sched_attr`: its size and the policy, flags, priorities, the slice, and three for other policies.
     let mut attributes = [0u64; 7];
-    // SAFETY: the attributes have the 56 bytes that are said.
+    // SAFETY: the attributes have 56 bytes.
     let got = unsafe { syscall(get, 0i32, attributes.as_mut_ptr(), 56u32, 0u32) };
     if got != 0 || attributes[0] >> 32 != 0 {
         return None;

@@ -1,7 +1,7 @@
 //! A task: its future, then its output, behind one pointer.
 //!
-//! The task is shared by the runtime, until it has ended, and by its handles, until they are dropped. Whichever of
-//! these goes last frees the task.
+//! The task is shared by the runtime, until the task has ended, and by its handles, until they are dropped. Whoever is
+//! the last of these frees the task.
 
 use crate::sync::atomic::{AtomicU32, AtomicU64, Ordering::*};
 use crate::sync::Mutex;
@@ -18,9 +18,9 @@ use std::task::{Context, Poll, Waker};
 
 /// The task has ended, and its output is stored.
 const COMPLETE: u32 = 1;
-/// There is a `JoinHandle`.
+/// Set if there is a `JoinHandle`.
 const JOINED: u32 = 2;
-/// `join_waker` is set; only the thread that ends the task may read it.
+/// `join_waker` is set. Only the thread that ends the task may read it.
 const WAITING: u32 = 4;
 /// The thread that ended the task no longer touches it.
 const SETTLED: u32 = 8;
@@ -30,7 +30,7 @@ const ABORTED: u32 = 16;
 const SHARED: u32 = 32;
 /// One abort handle: the bits of the state from this bit on count the abort handles.
 const ONE: u32 = 64;
-/// There is a `JoinHandle` or an abort handle.
+/// Set if there is a `JoinHandle` or an abort handle.
 const HELD: u32 = JOINED | !(ONE - 1);
 
 /// The value with which a task panicked; see `JoinError::Panicked`.
@@ -272,7 +272,7 @@ struct Task<F: Future> {
 /// The runtime's reference to a task, as the number that the core stores: made by `new`, consumed by its end.
 pub(crate) type Raw = u64;
 
-/// Makes a task of a future. Returns the runtime's reference, and the handle on the output.
+/// Makes a task of a future. Returns the runtime's reference, and the handle on the task's output.
 pub(crate) fn new<F>(future: F, about: About) -> (Raw, JoinHandle<F::Output>)
 where
     F: Future + Send + 'static,
@@ -317,8 +317,8 @@ fn at(raw: Raw) -> *mut Header {
     raw as usize as *mut Header
 }
 
-/// Polls a task, or ends it if it was aborted. Returns true if the task has ended; then its handle was woken, and `raw`
-/// is consumed.
+/// Polls a task, or ends it if it was aborted. Returns true if the task has ended; in this case its handle was woken,
+/// and `raw` is consumed.
 ///
 /// # Safety
 /// `raw` must be from `new` and not consumed, and the caller must have the task in hand.
@@ -358,7 +358,7 @@ pub(crate) unsafe fn about(raw: Raw) -> About {
     (*at(raw)).about
 }
 
-/// Marks a task as ended, wakes who waits for it, and frees it if there is no handle.
+/// Marks a task as ended, wakes whoever waits for its output, and frees the task if there is no handle.
 unsafe fn complete(header: *mut Header) {
     let before = (*header).state.fetch_or(COMPLETE, AcqRel);
     if before & HELD == 0 {
@@ -376,7 +376,8 @@ unsafe fn complete(header: *mut Header) {
             ((*header).vtable.free)(header);
         }
     }
-    // With neither flag the handle owns the task as soon as it sees COMPLETE, so it must not be touched from here on.
+    // If neither flag was set, the handle owns the task as soon as it sees COMPLETE, so the task must not be touched
+    // from here on.
 }
 
 /// Returns true if a task in this state is no longer touched by the thread that ended it.
@@ -397,7 +398,7 @@ unsafe fn poll<F: Future>(header: *mut Header, cx: &mut Context<'_>) -> bool {
     let task = header.cast::<Task<F>>();
     let stage = (*task).stage.get();
     let polled = catch_unwind(AssertUnwindSafe(|| match &mut *stage {
-        // SAFETY: the future stays in its box until it is dropped there.
+        // SAFETY: the future stays in the task's box until it is dropped there.
         Stage::Running(future) => Pin::new_unchecked(future).poll(cx),
         _ => unreachable!("a task was polled after its end"),
     }));
@@ -450,7 +451,7 @@ unsafe fn free<F: Future>(header: *mut Header) {
 
 /// A handle on a task, and the future of its output. Dropping the handle leaves the task running.
 ///
-/// A handle must not be polled again once it was ready: that panics.
+/// A handle must not be polled again after it was ready: that panics.
 ///
 /// ```
 /// let runtime = arachne::Runtime::new(2);
@@ -524,12 +525,12 @@ impl<T> JoinHandle<T> {
 }
 
 impl<T> JoinHandle<T> {
-    /// Returns true if the task has ended. If not, keeps the waker, which is woken when the task ends.
+    /// Returns true if the task has ended. If not, keeps `waker`, which is woken when the task ends.
     pub(crate) fn is_there(&mut self, waker: &Waker) -> bool {
         let header = self.header();
         let mut state = header.state.load(Acquire);
         if state & (COMPLETE | WAITING) == WAITING {
-            // Takes the waker back before it is changed, unless the task ends first.
+            // Takes the old waker back before it is replaced, unless the task ends first.
             state = header.state.fetch_and(!WAITING, AcqRel);
             if state & COMPLETE != 0 {
                 header.state.fetch_or(WAITING, AcqRel);
@@ -537,7 +538,7 @@ impl<T> JoinHandle<T> {
         }
         if state & COMPLETE == 0 {
             let place = header.join_waker.get();
-            // SAFETY: with WAITING clear, and COMPLETE clear when that was seen, the waker is the handle's.
+            // SAFETY: WAITING is clear, and COMPLETE was clear after that, so only the handle uses the waker.
             unsafe {
                 if !matches!(&*place, Some(old) if old.will_wake(waker)) {
                     *place = Some(waker.clone());
@@ -556,7 +557,7 @@ impl<T> JoinHandle<T> {
     fn take(&mut self) -> Poll<Result<T, JoinError>> {
         let mut output: Poll<Result<T, JoinError>> = Poll::Pending;
         let to: *mut Poll<Result<T, JoinError>> = &mut output;
-        // SAFETY: the output is stored, and of this type; only the handle takes it.
+        // SAFETY: the output is stored, and has this type. Only the handle takes it.
         unsafe { (self.header().vtable.take_output)(self.at.as_ptr(), to.cast()) };
         output
     }
@@ -585,7 +586,7 @@ impl<T> Drop for JoinHandle<T> {
     fn drop(&mut self) {
         let header = self.header();
         if header.state.load(Relaxed) & SHARED != 0 {
-            // If the task has ended, the output is this handle's to drop; otherwise that of the thread that ends it.
+            // If the task has ended, this handle drops the output; otherwise the thread that ends the task does.
             let leave = |state| (state & COMPLETE == 0).then_some(state & !JOINED);
             if header.state.fetch_update(AcqRel, Acquire, leave).is_ok() {
                 return;
@@ -593,10 +594,10 @@ impl<T> Drop for JoinHandle<T> {
             // SAFETY: the output is stored, and nobody else takes it.
             unsafe { (header.vtable.drop_output)(self.at.as_ptr()) };
         }
-        // If the task has not ended, or its end isn't settled, the thread that ends it or an abort handle frees it.
+        // If the task has not ended, or SETTLED isn't set, the thread that ends the task or an abort handle frees it.
         let before = header.state.fetch_and(!JOINED, AcqRel);
         if before & HELD == JOINED && is_settled(before) {
-            // SAFETY: the ender no longer touches it, and the handles are gone.
+            // SAFETY: the thread that ended the task no longer touches it, and the handles are gone.
             unsafe { (header.vtable.free)(self.at.as_ptr()) };
         }
     }
@@ -613,7 +614,7 @@ impl<T> Drop for JoinHandle<T> {
 /// assert!(handle.is_finished());
 /// ```
 pub struct AbortHandle(Option<NonNull<Header>>);
-// SAFETY: it gives only atomic access; the last handle frees the task, whose output is `Send`.
+// SAFETY: the handle gives only atomic access. The last handle frees the task, whose output is `Send`.
 unsafe impl Send for AbortHandle {}
 // SAFETY: the same.
 unsafe impl Sync for AbortHandle {}
@@ -641,7 +642,7 @@ impl AbortHandle {
 impl Clone for AbortHandle {
     fn clone(&self) -> AbortHandle {
         if let Some(header) = self.header() {
-            // As in `Arc`: there can only be this many if handles are leaked.
+            // As in `Arc`: there can be this many handles only if some are leaked.
             if header.state.fetch_add(ONE, Relaxed) > u32::MAX / 2 {
                 std::process::abort();
             }
@@ -655,7 +656,7 @@ impl Drop for AbortHandle {
         if let (Some(at), Some(header)) = (self.0, self.header()) {
             let before = header.state.fetch_sub(ONE, AcqRel);
             if before & HELD == ONE && is_settled(before) {
-                // SAFETY: the ender no longer touches it, and the handles are gone.
+                // SAFETY: the thread that ended the task no longer touches it, and the handles are gone.
                 unsafe { (header.vtable.free)(at.as_ptr()) };
             }
         }

@@ -41,7 +41,7 @@ impl Timers {
         self.next.load(SeqCst)
     }
 
-    /// Adds a timer. Returns the timer's key, and true if it is the first that is due.
+    /// Adds a timer. Returns the timer's key, and true if this timer is the first that is due.
     fn add(&self, at: u64, waker: Waker) -> (Key, bool) {
         let mut queue = self.queue.lock().unwrap();
         queue.made += 1;
@@ -97,7 +97,7 @@ impl Timers {
     }
 }
 
-/// A sleep's timer, and the name of the task whose waker is there: `NOBODY` for a waker that is no task's.
+/// A sleep's timer, and the name of the task whose waker the timer has; `NOBODY` if the waker isn't a task's.
 struct Waits {
     timers: &'static Timers,
     key: Key,
@@ -156,7 +156,7 @@ impl fmt::Debug for Sleep {
 }
 
 impl Sleep {
-    /// Sets the time anew, also if a task waits already.
+    /// Sets a new time for the sleep, also if a task already waits for it.
     ///
     /// ```
     /// use std::{pin::Pin, time::{Duration, Instant}};
@@ -194,7 +194,7 @@ impl Future for Sleep {
             return Poll::Ready(());
         }
         match &mut self.waits {
-            // The task's own waker is in place already, so the queue needn't be locked.
+            // The task's own waker is registered already, so the queue needn't be locked.
             Some(waits) if name_in(cx.waker(), waits.table) == Some(waits.name) => {}
             Some(waits) if waits.timers.renew(waits.key, cx.waker()) => {
                 waits.name = name_in(cx.waker(), waits.table).unwrap_or(NOBODY);
@@ -266,7 +266,7 @@ pub fn timeout<F: Future>(duration: Duration, future: F) -> Timeout<F> {
 impl<F: Future> Future for Timeout<F> {
     type Output = Result<F::Output, Elapsed>;
     fn poll(self: Pin<&mut Self>, cx: &mut Context<'_>) -> Poll<Self::Output> {
-        // SAFETY: the future is not moved out of `self`, which has no Drop of its own; a sleep may move.
+        // SAFETY: the future is not moved out of `self`, which has no Drop of its own. A `Sleep` may be moved.
         let (future, sleep) = unsafe {
             let this = self.get_unchecked_mut();
             (Pin::new_unchecked(&mut this.future), &mut this.sleep)
@@ -278,14 +278,15 @@ impl<F: Future> Future for Timeout<F> {
     }
 }
 
-/// Returns the timers that futures of this thread use: those of its worker, or of all threads that are no workers.
+/// Returns the timers that futures of this thread use: those of its worker, or those of all threads that are no
+/// workers.
 pub(crate) fn of_this_thread() -> Option<&'static Timers> {
     let shared = here()?;
     let me = Worker::with(|worker| worker.filter(|w| std::ptr::eq(w.shared, shared)).map(|w| w.me));
     Some(me.map_or(&shared.visitors, |me| &shared.workers[me].0.timers))
 }
 
-/// Returns for how many milliseconds a worker that looks after these timers may sleep; -1 is for ever.
+/// Returns for how many milliseconds a worker that looks after the timers of `workers` may sleep; -1 is for ever.
 pub(crate) fn rest(shared: &Shared, workers: impl Iterator<Item = usize>) -> i32 {
     let next = workers.map(|worker| shared.next_timer(worker)).min().unwrap_or(u64::MAX);
     if next == u64::MAX {

@@ -1,4 +1,4 @@
-//! Wakers of tasks: the waker's one word is the task's name, and each runtime has a table of functions.
+//! Wakers of tasks: the waker's only word is the task's name, and each runtime has a table of functions.
 //!
 //! So cloning and dropping a waker costs nothing, and the waker of a task that has ended wakes nobody.
 
@@ -49,7 +49,7 @@ pub(crate) fn in_own_poll(waker: &Waker, of: impl FnOnce(&Worker) -> bool) -> bo
     Worker::with(|worker| worker.map_or(false, |worker| is_of_running(waker, worker) && of(worker)))
 }
 
-/// Returns the name of the running task, if this is its waker and it is a task of this runtime.
+/// Returns the name of the task of this waker, if the task belongs to this runtime.
 #[inline]
 pub(crate) fn name_in(waker: &Waker, table: usize) -> Option<u64> {
     Worker::with(|worker| {
@@ -67,7 +67,7 @@ pub(crate) fn wake_name(table: usize, name: u64) {
     Worker::with(|worker| match worker {
         Some(worker) if worker.shared.table == table => {
             if worker.current.get() == name {
-                // It is being polled by this worker, which makes it ready again once the poll returns.
+                // The task is being polled by this worker, which makes it ready again once the poll returns.
                 worker.woken.set(true);
                 return;
             }

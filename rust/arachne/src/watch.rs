@@ -26,7 +26,7 @@ pub(crate) fn run(shared: &'static Shared, hands: Hands, longer: Duration, log: 
     let longer = longer.as_nanos() as u64;
     let mut seen: Vec<Seen> =
         shared.workers.iter().map(|_| Seen { polls: 0, name: NOBODY, since: 0, told: false }).collect();
-    // The workers in a long poll, as bits; the watcher looks after their blocks and timers.
+    // The workers in a long poll, as bits. The watcher looks after their blocks and timers.
     let mut stuck = 0;
     while !shared.stop.load(SeqCst) {
         if stuck == 0 {
@@ -36,7 +36,7 @@ pub(crate) fn run(shared: &'static Shared, hands: Hands, longer: Duration, log: 
         stuck = 0;
         for (worker, seen) in seen.iter_mut().enumerate() {
             let age = age_of_poll(shared, worker, seen, now);
-            // Help begins well before the poll is reported: after about three looks at which it was in progress.
+            // Help begins well before the poll is reported: after about three looks that found the worker in this poll.
             if age > longer / 12 {
                 stuck |= 1 << worker;
             }
@@ -53,7 +53,7 @@ pub(crate) fn run(shared: &'static Shared, hands: Hands, longer: Duration, log: 
     shared.root.lock().unwrap().join(hands);
 }
 
-/// Returns for how long the worker has been seen in its current poll, in nanoseconds; 0 if it is in none.
+/// Returns for how long the worker has been seen in its current poll, in nanoseconds; 0 if it is in no poll.
 fn age_of_poll(shared: &Shared, worker: usize, seen: &mut Seen, now: u64) -> u64 {
     let counts = &shared.workers[worker].0;
     let (polls, name) = (counts.polls.load(Relaxed), counts.running.load(Relaxed));
@@ -110,7 +110,7 @@ fn rescue(shared: &'static Shared, hands: &Hands, stuck: u64) {
     }
 }
 
-/// Runs up to 64 ready jobs of a worker's blocks. Returns the number that ran.
+/// Runs up to 64 ready jobs of a worker's blocks. Returns the number of jobs that ran.
 fn run_some(shared: &'static Shared, hands: &Hands, worker: usize) -> usize {
     let mut ran = 0;
     for &shard in shared.workers[worker].0.used_shards() {
@@ -129,7 +129,7 @@ fn run_some(shared: &'static Shared, hands: &Hands, worker: usize) -> usize {
 
 fn run_one(shared: &'static Shared, hands: &Hands, job: &Job) {
     let waker = waker_of(shared.table, job.name);
-    // SAFETY: the job is in this thread's hand until it is laid down or spent below.
+    // SAFETY: the job is in this thread's hand until it is put back or ended below.
     let about = unsafe { task::about(job.job) };
     shared.observer.begins(job, &about);
     shared.counts.rescued.fetch_add(1, Relaxed);

@@ -3,13 +3,13 @@
 //! The core decides which seat has a job and whether a worker may park. This module decides where a worker looks next,
 //! and which sleeping worker to wake.
 //!
-//! **Next.** A job that another makes ready or spawns runs next on the same worker, up to `NEXTS` in a row. A job that
-//! would run next and is displaced by another becomes ready in its block. A job that yields, or would be beyond
-//! `NEXTS`, goes into the worker's line.
+//! **Next.** A job that another job makes ready or spawns runs next on the same worker, up to `NEXTS` in a row. A job
+//! that would run next and is displaced by another becomes ready in its block. A job that yields, or would be beyond
+//! `NEXTS`, goes into the worker's line (its local queue).
 //!
-//! **Order.** Then the worker sweeps its blocks with ready jobs: of each block it runs every job that was ready as the
-//! block's turn came, each of them once. At the end of a round all jobs in the worker's line run, in order. So a job
-//! that is ready again and again makes no other wait for more than a round.
+//! **Order.** Then the worker sweeps its blocks with ready jobs: of each block it runs every job that was ready when
+//! the block's turn came, each of them once. At the end of a round all jobs in the worker's line run, in order. So a
+//! job that is ready again and again makes no other job wait for more than a round.
 //!
 //! **Looking out.** After `LOOK_OUT` polls, or by time if polls are long, a worker looks at its timers and at the
 //! workers that make no progress. From the ready words and the hand of each such worker it takes up to two jobs. The
@@ -19,12 +19,12 @@
 //! worker runs its line, unless the other worker has been in its poll for `LONG_POLL`. At every `LONG`th look at a
 //! worker that has made no progress since the first of these looks, the timers of that worker are fired too.
 //!
-//! **Helping.** Any free worker can take any ready job, also from another worker's hand: first the one that would run
-//! first. An idle worker takes half of another worker's ready jobs or, at last, half of those in that worker's hand
+//! **Helping.** Any free worker can take any ready job, also from another worker's hand: first the job that would run
+//! first. An idle worker takes half of another worker's ready jobs or, at last, half of the jobs in that worker's hand
 //! behind the next one. A single job is taken only if that worker sleeps or makes no progress. Stolen jobs run before
 //! all that is ready on the worker that stole them, and may be stolen again. A worker sleeps only if no other worker
 //! has two or more jobs that it could take over. While a worker is idle, the others keep in hand only as many jobs as
-//! run in about `LOOK_TIME`, and wake the idle one for more.
+//! run in about `LOOK_TIME`, and wake the idle worker for more.
 
 use crate::core::{place_of, Hands, Job, Rested, Spawned, BLOCK, SHARD};
 use crate::cores::Judge;
@@ -44,25 +44,25 @@ pub(crate) use sleepers::Ends;
 const NEXTS: u32 = 128;
 
 /// A worker looks at the epoll, its timers and other workers after `LOOK_OUT` polls or about `LOOK_TIME` nanoseconds,
-/// even if it has jobs to run. A look that is due by time skips the epoll if another worker has looked there within
-/// `LOOK_TIME`.
+/// even if it has jobs to run. A look that is due by time skips the epoll if another worker has looked at the epoll
+/// within `LOOK_TIME`.
 const LOOK_OUT: u32 = 64;
 pub(crate) const LOOK_TIME: u64 = 100_000;
 /// The time between two looks of the only active worker: nobody else could run the jobs that a look finds. A look that
-/// is due by time polls the epoll only after `LONELY_LOOK`, since the jobs found there run behind those in hand.
+/// is due by time polls the epoll only after `LONELY_LOOK`, since the jobs that it finds run behind those in hand.
 const LONELY_TIME: u64 = 500_000;
 const LONELY_LOOK: u64 = 2_000_000;
 /// The worker that applies the core policy reads its clock after this many polls.
 const JUDGED: u32 = 8;
 /// After this many looks in a row at which another worker had made no progress, its timers are fired for it.
 const LONG: u32 = 8;
-/// Nanoseconds in one poll after which a busy worker also takes the job that would run next at the stuck one.
+/// Nanoseconds in one poll after which a busy worker also takes the job that would run next on the stuck worker.
 const LONG_POLL: u64 = 1_000_000;
 /// A worker clears its empty blocks' bits in the summary after it has looked at this many empty blocks that the summary
 /// still shows.
 const STALE: u32 = 16;
-/// The most jobs that a worker keeps in hand from one look at the epoll or from another worker; while any worker is
-/// idle, the most in all.
+/// The most jobs that a worker keeps in hand from one look at the epoll or from another worker. While any worker is
+/// idle, the most jobs in hand in all.
 const FEW: usize = 8;
 /// The most jobs in a worker's line: those that yielded or ended a chain (`KEPT`), or, for the only worker, of any kind
 /// (`HAND`).
@@ -141,7 +141,7 @@ impl Turn {
         }
     }
 
-    /// Estimates how many polls take `LOOK_TIME`, from those since the last look; starts the next measurement.
+    /// Estimates how many polls take `LOOK_TIME`, from the polls since the last look. Starts the next measurement.
     fn pace(&mut self, context: &Context, now: u64) {
         if self.polls != 0 {
             let fitting = self.polls as u64 * LOOK_TIME / now.saturating_sub(context.looked.get()).max(1);
@@ -151,14 +151,16 @@ impl Turn {
         context.looked.set(now);
     }
 
-    /// Returns true if the time for a look has come. Only called if polls are so long that the clock is worth reading.
+    /// Returns true if the time for a look has come. Must only be called if polls are so long that the clock is worth
+    /// reading.
     #[inline]
     fn is_over(&self, context: &Context, alone: bool) -> bool {
         let time = if alone { LONELY_TIME } else { LOOK_TIME };
         now().saturating_sub(context.looked.get()) >= time
     }
 
-    /// Returns how many jobs this worker keeps in hand while another is idle: those that run before its next look.
+    /// Returns how many jobs this worker keeps in hand while another worker is idle: those that run before its next
+    /// look.
     #[inline]
     fn few(&self) -> usize {
         FEW.min(self.most as usize)
@@ -181,14 +183,15 @@ impl Shared {
         }
     }
 
-    /// Makes a job in this worker's hand ready for all.
+    /// Makes a job in this worker's hand ready, so that any worker can take it.
     #[inline]
     pub(crate) fn make_ready(&self, context: &Context, job: &Job) {
         let unpark = context.hands.rest_ready(job);
         self.published(job.name, unpark, false);
     }
 
-    /// Sets the job that runs next on this worker. A job that was next before is made ready for all.
+    /// Sets the job that runs next on this worker. A job that was next before is made ready, so that any worker can
+    /// take it.
     #[inline]
     pub(crate) fn set_next(&self, context: &Context, job: Job) {
         if !context.worker.hand.next.put(job) {
@@ -202,11 +205,11 @@ impl Shared {
         if let Some(waits) = context.worker.hand.next.take(context.alone) {
             self.make_ready(context, &waits);
         }
-        // The slot is empty now: the job was taken either here or by another worker.
+        // The slot is empty now: the job was taken either by this call or by another worker.
         context.worker.hand.next.put(job);
     }
 
-    /// Makes ready all jobs in a worker's hand. Only the workers whose blocks they belong to are woken for them.
+    /// Makes ready all jobs in a worker's hand. For each job only the worker whose block it belongs to is woken.
     pub(crate) fn relieve(&self, hands: &Hands, other: usize) {
         while let Some(job) = self.workers[other].0.hand.take(true) {
             hands.gets(&job, other);
@@ -220,7 +223,7 @@ impl Shared {
         if self.sleepers.0.load(SeqCst) & bit == 0 || self.sleepers.0.fetch_and(!bit, SeqCst) & bit == 0 {
             return false;
         }
-        // Counted as searching before it wakes, so that no second worker is woken until it has looked.
+        // Counted as searching before it wakes, so that no second worker is woken until this one has looked.
         self.searching.0.fetch_add(1, SeqCst);
         self.ring(worker);
         true
@@ -228,9 +231,9 @@ impl Shared {
 
     /// Ends a worker's current sleep, or its next one.
     ///
-    /// The worker may start to wait in the epoll after `waits` was read here, and then misses the bell. The worker
-    /// still sees what the caller did before this call, since it registers as the one in the epoll before it checks for
-    /// work.
+    /// The worker may start to wait in the epoll after `waits` was read by this call, and then misses the bell. The
+    /// worker still sees what the caller did before this call, since it registers as the one in the epoll before it
+    /// checks for work.
     pub(crate) fn ring(&self, worker: usize) {
         if self.waits.0.load(SeqCst) == worker {
             self.reactor.notify();
@@ -253,10 +256,10 @@ impl Shared {
         }
     }
 
-    /// Ends a search by a worker that stays awake. If that worker was the last to search, wakes another for work that
-    /// may be left.
+    /// Ends a search by a worker that stays awake. If that worker was the last to search, wakes another worker for work
+    /// that may be left.
     ///
-    /// While the worker searched, no other was woken for new work, so the decrement must come before the check.
+    /// While the worker searched, no other worker was woken for new work, so the decrement must come before the check.
     fn stop_looking(&self, hands: &Hands) {
         if self.searching.0.fetch_sub(1, SeqCst) != 1 {
             return;
@@ -281,7 +284,7 @@ impl Shared {
         roused
     }
 
-    /// Returns true if no worker waits in the epoll, and none is its deputy.
+    /// Returns true if no worker waits in the epoll, and no worker is the deputy.
     fn is_unattended(&self) -> bool {
         self.waits.0.load(SeqCst) == NO_ONE && self.deputy.0.load(SeqCst) == NO_ONE
     }
@@ -296,12 +299,12 @@ impl Shared {
         self.queued.0.load(SeqCst) != 0 && !self.clogged.load(SeqCst)
     }
 
-    /// Returns the number of jobs that seem ready in a worker's blocks; it stops counting at eight.
+    /// Returns the number of jobs that seem ready in a worker's blocks. The count stops at eight.
     pub(crate) fn ready(&self, hands: &Hands, worker: usize) -> u32 {
         self.ready_up_to(hands, worker, 8)
     }
 
-    /// Returns the number of jobs that seem ready in a worker's blocks; it stops counting at `most`.
+    /// Returns the number of jobs that seem ready in a worker's blocks. The count stops at `most`.
     fn ready_up_to(&self, hands: &Hands, worker: usize, most: u32) -> u32 {
         let mut count = 0;
         for &shard in self.workers[worker].0.used_shards() {
@@ -317,14 +320,14 @@ impl Shared {
 
     // --------------------------------------------------------------------------------------- one task
 
-    /// Runs a job in hand, then finishes it or lays it down.
+    /// Runs a job in hand. Then ends the job, or puts it back as ready or blocked.
     #[inline]
     fn run(&self, context: &Context, turn: &mut Turn, job: Job) {
         let name = job.name;
         let waker = waker_of(self.table, name);
         let mut cx = std::task::Context::from_waker(&waker);
         let worker = context.worker;
-        // SAFETY: the job is in this worker's hand until it is laid down or spent below.
+        // SAFETY: the job is in this worker's hand until it is put back or ended below.
         let about = unsafe { task::about(job.job) };
         worker.begins(name, &about);
         self.observer.begins(&job, &about);
@@ -345,7 +348,8 @@ impl Shared {
         self.rest(context, job);
     }
 
-    /// Lays down a job that has not ended: it is blocked, or, if it was woken, goes behind all that is ready here.
+    /// Puts back a job that has not ended. The job is blocked or, if it was woken, goes behind all that is ready on
+    /// this worker.
     #[inline]
     fn rest(&self, context: &Context, job: Job) {
         let name = job.name;
@@ -391,7 +395,8 @@ impl Shared {
 
     // --------------------------------------------------------------------------------------- what is next
 
-    /// Returns the next job to run, in this worker's hand; looks out first if that is due.
+    /// Returns the next job to run, in this worker's hand. Looks at the epoll, timers and other workers first if that
+    /// is due.
     #[inline]
     fn pick(&'static self, context: &Context, turn: &mut Turn) -> Option<Job> {
         let is_over = |turn: &Turn| turn.most < LOOK_OUT && turn.polls >= 1 && turn.is_over(context, self.is_alone());
@@ -405,7 +410,7 @@ impl Shared {
         self.pick_next(context, turn).or_else(|| self.pick_ready(context, turn))
     }
 
-    /// Takes the job that the last one made ready, unless the chain is too long: then that job goes into the line.
+    /// Takes the job that the last job made ready, unless the chain is too long: then the job goes into the line.
     #[inline]
     fn pick_next(&self, context: &Context, turn: &mut Turn) -> Option<Job> {
         if let Some(job) = context.worker.hand.next.take(context.alone) {
@@ -420,7 +425,8 @@ impl Shared {
         None
     }
 
-    /// Puts a job behind all that is ready here. The job stays in hand unless `most` jobs are already in line.
+    /// Puts a job behind all that is ready on this worker. The job stays in hand unless `most` jobs are already in
+    /// line.
     #[inline]
     pub(crate) fn set_behind(&self, context: &Context, job: Job, most: usize) {
         if !context.worker.hand.line.put(job, most) {
@@ -428,7 +434,7 @@ impl Shared {
         }
     }
 
-    /// Returns how many jobs that yielded or ended a chain stay in line: one while any worker is idle.
+    /// Returns how many jobs that yielded or ended a chain stay in line: one job while any worker is idle.
     #[inline]
     fn kept(&self) -> usize {
         match self.all_busy() {
@@ -501,10 +507,10 @@ impl Shared {
         }
     }
 
-    /// Finds a worker's first block with ready jobs, from number `from` on.
+    /// Finds a worker's first block with ready jobs, from block number `from` on.
     ///
-    /// Returns the number after it, the block, and its places with a ready job, as bits. Adds to `stale` the empty
-    /// blocks that the summary still shows.
+    /// Returns the number of the block after it, the block, and its places with a ready job, as bits. Adds to `stale`
+    /// the empty blocks that the summary still shows.
     #[inline]
     fn find_block(&self, hands: &Hands, owner: usize, from: usize, stale: &mut u32) -> Option<(usize, usize, u64)> {
         let first = from / SHARD;
@@ -527,14 +533,15 @@ impl Shared {
         None
     }
 
-    /// Puts a queued task into a place of this worker, or of another, and keeps it in hand if possible. Returns None if
-    /// there is no place.
+    /// Puts a queued task into a place of this worker, or of another worker, and keeps the task in hand if possible.
+    /// Returns None if there is no free place.
     fn begin_queued(&'static self, context: &Context) -> Option<Option<Job>> {
         let raw = self.pop_queued()?;
         if let Some(job) = self.place(context, raw) {
             return Some(job);
         }
-        // The flag must be set before the second try: a place that is freed later clears it, one freed before is found.
+        // The flag must be set before the second try: a place that is freed later clears it, and a place freed before
+        // is found.
         self.clogged.store(true, SeqCst);
         if let Some(job) = self.place(context, raw) {
             self.clogged.store(false, SeqCst);
@@ -572,21 +579,21 @@ impl Shared {
 
     // --------------------------------------------------------------------------------------- others
 
-    /// Returns the workers without a core whose jobs and timers this one looks after.
+    /// Returns the workers without a core whose jobs and timers worker `me` looks after.
     fn lodgers(&self, me: usize) -> impl Iterator<Item = usize> {
         let active = self.active.0.load(SeqCst);
         (active..self.workers.len()).filter(move |&other| other % active == me)
     }
 
-    /// Looks at the epoll, the timers and the other workers, even if there are jobs to run. Returns false if this
-    /// worker's core is asked back.
+    /// Looks at the epoll, the timers and the other workers, even if there are jobs to run. Returns false if the
+    /// arbiter wants this worker's core back.
     #[inline(never)]
     fn look_out(&self, context: &Context, turn: &mut Turn, by_time: bool) -> bool {
         if context.worker.hand.line.len() > turn.few() && !self.all_busy() {
             self.rouse_any();
         }
-        // The jobs of this look must not run before those that are ready here, nor, if polls are long, before those
-        // in line. The only worker takes them anyway, since it runs all in that order.
+        // The jobs of this look must not run before those that are ready on this worker, nor, if polls are long, before
+        // those in line. The only active worker takes them anyway, since it runs all jobs in that order.
         let (alone, lasts) = (self.is_alone(), turn.few() < FEW);
         let first = |turn: &Turn| turn.wanted == 0 && !self.mine(context);
         let takes = alone || (context.worker.hand.line.is_empty() || !lasts) && first(turn);
@@ -611,8 +618,9 @@ impl Shared {
 
     /// Takes jobs of workers that make no progress, and fires their timers.
     fn look_at_others(&self, context: &Context, turn: &mut Turn) {
-        // If polls are long, a worker within one counts as making no progress. More is taken from it only after the
-        // jobs taken before and one of this worker's own have run, and its line too unless that poll is very long.
+        // If polls are long, a worker within a poll counts as making no progress. More is taken from that worker only
+        // after the jobs taken before and one of this worker's own have run, and this worker's line too unless the poll
+        // is very long.
         let (active, long_polls) = (self.active.0.load(Relaxed), turn.few() < FEW);
         for other in 0..self.workers.len() {
             let worker = &self.workers[other].0;
@@ -630,7 +638,7 @@ impl Shared {
             }
             let (long, sleeps) = (stands && turn.stood[other] == 0, self.sleepers.0.load(Relaxed) >> other & 1 == 1);
             if long && !sleeps {
-                // It is in a long poll or has no processor, and nobody else fires its timers.
+                // The other worker is in a long poll or has no processor, and nobody else fires its timers.
                 if other < active {
                     self.fire_quietly(context, other);
                 }
@@ -640,7 +648,8 @@ impl Shared {
             if !gets_on && !sleeps && may_help {
                 self.take_out(context, turn, other, 2, lasts);
             }
-            // A sleeping worker's blocks are looked at only now and then: a publish there wakes somebody.
+            // A sleeping worker's blocks are looked at only now and then: a job that becomes ready there wakes some
+            // worker.
             if (long || !sleeps) && may_help && self.ready(&context.hands, other) != 0 {
                 self.help(context, turn, other, 2);
             }
@@ -648,7 +657,7 @@ impl Shared {
         turn.helps = turn.first != 0;
     }
 
-    /// Takes up to `most` ready jobs of one of another worker's blocks; they run next here.
+    /// Takes up to `most` ready jobs of one of another worker's blocks. The jobs run next on this worker.
     fn help(&self, context: &Context, turn: &mut Turn, other: usize, most: usize) -> bool {
         let (hands, stale) = (&context.hands, &mut 0);
         let start = context.random() as usize % (self.workers[other].0.used_shards().len() * SHARD);
@@ -659,8 +668,8 @@ impl Shared {
         self.has_taken(context, turn, got)
     }
 
-    /// Takes up to `most` jobs out of another worker's hand; the jobs run next here. With `next`, also takes the job
-    /// that would run next on the other worker.
+    /// Takes up to `most` jobs out of another worker's hand. The jobs run next on this worker. With `next`, also takes
+    /// the job that would run next on the other worker.
     fn take_out(&self, context: &Context, turn: &mut Turn, other: usize, most: usize, next: bool) -> bool {
         let most = most.min(FIRST - context.worker.hand.first.len());
         let jobs = (0..most).map_while(|_| self.workers[other].0.hand.take(next));
@@ -672,7 +681,7 @@ impl Shared {
         self.has_taken(context, turn, got)
     }
 
-    /// Puts a stolen job before all that is ready here.
+    /// Puts a stolen job before all that is ready on this worker.
     fn set_first(&self, context: &Context, job: Job) {
         if !context.worker.hand.first.put(job, FIRST) {
             self.make_ready(context, &job);
@@ -695,9 +704,9 @@ impl Shared {
 
     /// Returns how many events to ask the epoll for: as many as fit into this worker's hand.
     ///
-    /// The other events stay with the kernel, in their order, for whoever looks next. If they were taken too, their
-    /// tasks would wait if this worker loses its processor, and would run before the jobs in line. A worker with no
-    /// room asks for a few events, whose tasks others can take.
+    /// The other events stay with the kernel, in their order, for the next worker that looks. If they were taken too,
+    /// their tasks would wait if this worker loses its processor, and would run before the jobs in line. A worker with
+    /// no room asks for a few events, whose tasks other workers can take.
     fn asks(&self, room: usize) -> usize {
         match room {
             0 if self.is_alone() => EVENTS,
@@ -735,7 +744,8 @@ impl Shared {
         heard
     }
 
-    /// Fires the timers of a worker that makes no progress, without waking others. Returns the number of timers fired.
+    /// Fires the timers of a worker that makes no progress, without waking other workers. Returns the number of timers
+    /// fired.
     fn fire_quietly(&self, context: &Context, other: usize) -> usize {
         context.keeps.set(false);
         let fired = self.fire(other);
@@ -743,7 +753,7 @@ impl Shared {
         fired
     }
 
-    /// Fires a worker's timers that are due. Returns the number of timers fired.
+    /// Fires the due timers of the worker `owner`. Returns the number of timers fired.
     pub(crate) fn fire(&self, owner: usize) -> usize {
         if self.next_timer(owner) == u64::MAX {
             return 0;
@@ -753,7 +763,7 @@ impl Shared {
         fire(&self.workers[owner].0.timers) + if owner == 0 { fire(&self.visitors) } else { 0 }
     }
 
-    /// Returns the time at which a worker's first timer is due; `u64::MAX` if there is none.
+    /// Returns the time at which the first timer of the worker `owner` is due; `u64::MAX` if there is none.
     #[inline]
     pub(crate) fn next_timer(&self, owner: usize) -> u64 {
         let own = self.workers[owner].0.timers.next();
@@ -764,7 +774,8 @@ impl Shared {
         }
     }
 
-    /// Steals from another worker: half of its ready jobs or, with `last`, of those in its hand behind the next one.
+    /// Steals from another worker: half of its ready jobs or, with `last`, half of the jobs in its hand behind the next
+    /// one.
     ///
     /// A worker's single job is stolen only if that worker sleeps or makes no progress. Returns true if any job was
     /// stolen.
@@ -834,14 +845,14 @@ impl Shared {
         }
         let heard = self.look_at_events(context, room);
         if heard != 0 && self.is_alone() {
-            // Its hand may be full now: a look by time before these jobs have run would find no room.
+            // This worker's hand may be full now: a look by time before these jobs have run would find no room.
             turn.pace(context, now());
             self.looked.0.store(context.looked.get(), Relaxed);
         }
         heard
     }
 
-    /// Takes ready jobs of the workers without a core that this one looks after. Returns true if any job was taken.
+    /// Takes ready jobs of the workers without a core that this worker looks after. Returns true if any job was taken.
     fn help_lodgers(&self, context: &Context, turn: &mut Turn) -> bool {
         self.lodgers(context.me)
             .any(|other| self.ready(&context.hands, other) != 0 && self.help(context, turn, other, FEW))

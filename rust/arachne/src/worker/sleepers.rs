@@ -1,21 +1,22 @@
-//! Sleeping workers: one waits in the epoll, a deputy polls it now and then, and the others wait for their bells.
+//! Sleeping workers: one waits in the epoll, a deputy polls the epoll now and then, and the others wait for their
+//! bells.
 //!
 //! The deputy stands in while the worker of the epoll runs tasks or has no processor. The deputy wakes after 1, 2, 4 ..
 //! ms, each millisecond while tasks run, and takes the place of the worker of the epoll if that worker is stuck in a
 //! poll. So the events of sockets are seen as long as one worker is in no long poll.
 //!
-//! **Beside a long poll.** While any worker is awake, the one in the epoll and the deputy look at the others, at most
-//! `LONG_REST` apart. If a worker is in the same poll at two looks, the looking worker takes all jobs in its hand, the
-//! next one too, fires its timers, and takes the ready jobs of its blocks. A worker that is woken again and again does
-//! the same once a millisecond, before it goes back to sleep (`looks_before_sleep`), and a busy worker does it as it
-//! looks out (`look_out`). So, as long as one worker is in no long poll, a ready job behind one begins within about 4
-//! ms plus the delays of the machine. Once all workers sleep, nobody looks. The first worker that runs a job after a
-//! sleep wakes another, which looks again (`goes_on`).
+//! **Beside a long poll.** While any worker is awake, the worker in the epoll and the deputy look at the others, at
+//! most `LONG_REST` apart. If a worker is in the same poll at two looks, the worker that looks takes all jobs in that
+//! worker's hand, the next one too, fires its timers, and takes the ready jobs of its blocks. A worker that is woken
+//! again and again does the same once a millisecond, before it goes back to sleep (`looks_before_sleep`), and a busy
+//! worker does it as it looks out (`look_out`). So, as long as one worker is in no long poll, a ready job behind a long
+//! poll begins within about 4 ms plus the delays of the machine. Once all workers sleep, nobody looks. The first worker
+//! that runs a job after a sleep wakes another worker, which looks again (`goes_on`).
 //!
 //! **Without a core.** While only the first worker has a core, the second one covers for it (`cover`): each millisecond
-//! it looks if the first gets on. If not, as it is in a long poll or has lost its processor, the second runs what
-//! waits, on any processor that it may use. Once nothing has run for a while it looks less and less often, and
-//! `goes_on` calls it.
+//! the second worker looks if the first makes progress. If not, as the first is in a long poll or has lost its
+//! processor, the second runs the waiting jobs, on any processor that it may use. Once nothing has run for a while the
+//! second worker looks less and less often, and `goes_on` makes it look each millisecond again.
 //!
 //! With the watcher, ready jobs also run if all workers are in long polls.
 
@@ -35,16 +36,18 @@ const LONG_REST: i32 = 2;
 /// The milliseconds between two looks at the other workers while all workers sleep: some 17 minutes, so that nobody
 /// looks.
 const FOR_EVER: i32 = 1 << 20;
-/// Nanoseconds between two looks of the worker that covers for the first: while tasks run, once it had one to run, at
-/// most while the first is awake, and at most while it sleeps.
+/// Nanoseconds between two looks of the worker that covers for the first, while tasks run.
 const COVER: u64 = 1_000_000;
+/// Nanoseconds between these looks once the last one found a task to run.
 const COVER_SOON: u64 = 200_000;
+/// The most nanoseconds between these looks while the first worker is awake.
 const COVER_LONG: u64 = 2_000_000;
+/// The most nanoseconds between these looks while the first worker sleeps.
 const COVER_MOST: u64 = 3_600_000_000_000;
 
 /// The reasons for which a wait of a worker without a core ends.
 pub(crate) enum Ends {
-    /// The caller must check if there is a core.
+    /// The caller must check if the worker has a core now.
     Core,
     Call,
     Time,
@@ -53,14 +56,15 @@ pub(crate) enum Ends {
 impl Shared {
     /// Searches for work at the other workers, and sleeps if there is none.
     ///
-    /// The sleeper bit must be set, and the search ended, before the last check for work: whoever publishes later wakes
-    /// this worker, and the check finds what was published before.
+    /// The sleeper bit must be set, and the search ended, before the last check for work: whoever makes a job ready
+    /// later wakes this worker, and the check finds jobs that were made ready before.
     pub(super) fn look_around(&'static self, context: &Context, turn: &mut Turn, judge: &Option<Judge>) {
         self.searching.0.fetch_add(1, SeqCst);
         if self.finds_work(context, turn) {
             return self.stop_looking(&context.hands);
         }
-        // Taken before the sleeper bit is set and given up after it is cleared: `ring` looks here while the bit is set.
+        // Taken before the sleeper bit is set and given up after it is cleared: `ring` reads `waits` while the bit is
+        // set.
         let waits = self.waits.0.compare_exchange(NO_ONE, context.me, SeqCst, SeqCst).is_ok();
         self.sleepers.0.fetch_or(1 << context.me, SeqCst);
         self.searching.0.fetch_sub(1, SeqCst);
@@ -75,7 +79,8 @@ impl Shared {
             || context.me >= self.active.0.load(SeqCst);
         let sleeps = !busy && self.may_park(context);
         let (found, called) = if sleeps { self.sleep(context, turn, judge, waits) } else { (Found::NOTHING, false) };
-        // Before the events wake tasks: with the idle bit set, a wake in its own blocks would unpark it once more.
+        // Before the events wake tasks: with the idle bit set, a wake in this worker's own blocks would unpark it once
+        // more.
         self.wake_up(context);
         let roused = self.awake(context);
         if waits {
@@ -104,14 +109,14 @@ impl Shared {
         false
     }
 
-    /// Returns true if a job seems ready in this worker's blocks, or in those of the workers it looks after.
+    /// Returns true if a job seems ready in this worker's blocks, or in the blocks of the workers that it looks after.
     pub(super) fn mine(&self, context: &Context) -> bool {
         let me = context.me;
         self.ready(&context.hands, me) != 0 || self.lodgers(me).any(|other| self.ready(&context.hands, other) != 0)
     }
 
-    /// Asks the core if this worker may sleep: as the worker of its own shards, and of those of the workers it looks
-    /// after.
+    /// Asks the core if this worker may sleep: as the worker of its own shards, and of the shards of the workers that
+    /// it looks after.
     fn may_park(&self, context: &Context) -> bool {
         std::iter::once(context.me).chain(self.lodgers(context.me)).all(|owner| {
             let parking = self.workers[owner].0.parking.lock().unwrap();
@@ -132,7 +137,7 @@ impl Shared {
     fn wake_up(&self, context: &Context) {
         for owner in std::iter::once(context.me).chain(self.lodgers(context.me)) {
             let parking = self.workers[owner].0.parking.lock().unwrap();
-            // Checked under the lock: another worker may look after those numbers by now, and may have parked them.
+            // Checked under the lock: another worker may look after those numbers meanwhile, and may have parked them.
             if self.keeper(owner) == context.me {
                 parking.iter().for_each(|seat| seat.wake_up());
             }
@@ -188,9 +193,9 @@ impl Shared {
 
     /// Sleeps as the deputy until it is woken, `timeout` has passed, or there is something to do.
     ///
-    /// The deputy has something to do if tasks of a stuck worker need it, or if nobody waits in the epoll and a worker
-    /// that is awake makes no progress. The deputy also has something to do if the epoll has events that the worker who
-    /// waits there doesn't take for want of a processor.
+    /// The deputy has something to do in three cases. Tasks of a stuck worker need it. Or nobody waits in the epoll,
+    /// and a worker that is awake makes no progress. Or the epoll has events, and the worker that waits there has no
+    /// processor to take them.
     fn stand_in(&self, context: &Context, turn: &mut Turn, timeout: i32) -> (Found, bool) {
         let bell = &context.worker.bell;
         let mut left = timeout;
@@ -219,10 +224,10 @@ impl Shared {
         }
     }
 
-    /// Looks after the others before a sleep, if that was last done `LONG_POLL` ago. Returns true if tasks of a stuck
-    /// worker need this one.
+    /// Looks after the other workers before a sleep, if the last time was `LONG_POLL` ago. Returns true if tasks of a
+    /// stuck worker need this one.
     ///
-    /// A worker that is woken again and again never sleeps for long enough to do it from within a sleep.
+    /// A worker that is woken again and again never sleeps for long enough to look after others within a sleep.
     fn looks_before_sleep(&self, context: &Context, turn: &mut Turn) -> bool {
         let now = context.looked.get();
         if self.workers.len() == 1 || now.saturating_sub(turn.looked) < LONG_POLL {
@@ -237,8 +242,9 @@ impl Shared {
 
     /// Takes the jobs in hand of workers that made no progress since the last look, and fires their timers.
     ///
-    /// A worker that has not yet given its core back only loses its jobs: its timers already have another keeper.
-    /// Returns true if there is a stuck worker, and true if there are jobs or timers of one to run.
+    /// If a worker has not yet given back a core that it must give back, only its jobs are taken: its timers already
+    /// have another keeper. Returns two values: true if there is a stuck worker, and true if there are jobs or timers
+    /// of a stuck worker to run.
     fn look_after(&self, context: &Context, turn: &mut Turn) -> (bool, bool) {
         let (active, sleepers) = (self.active.0.load(SeqCst), self.sleepers.0.load(SeqCst));
         let (mut stands, mut waits) = (false, false);
@@ -251,7 +257,7 @@ impl Shared {
             }
             waits |= self.take_out(context, turn, other, FIRST, true);
             if other >= active {
-                // Its core was asked back: another worker already looks after its timers and blocks.
+                // The worker's core was asked back: another worker already looks after its timers and blocks.
                 continue;
             }
             stands = true;
@@ -263,12 +269,13 @@ impl Shared {
     }
 
     /// Waits for a core by `waits`, whose argument is the most nanoseconds. Meanwhile covers for the first worker, the
-    /// only one that has a core.
+    /// only worker that has a core.
     pub(crate) fn cover(&self, context: &Context, turn: &mut Turn, mut waits: impl FnMut(u64) -> Ends) {
         let mut rests = COVER;
         loop {
             self.covers.0.store(rests, SeqCst);
-            // Written before the check: as the first wakes, it clears its sleeper bit and then reads this (`goes_on`).
+            // Written before the check: when the first worker wakes, it clears its sleeper bit and then reads this
+            // number (`goes_on`).
             if rests > COVER_LONG && self.sleepers.0.load(SeqCst) & 1 == 0 {
                 rests = COVER_LONG;
                 self.covers.0.store(rests, SeqCst);
@@ -282,13 +289,13 @@ impl Shared {
         self.covers.0.store(0, SeqCst);
     }
 
-    /// Runs what the first worker leaves undone. Returns the nanoseconds until the next look.
+    /// Runs the jobs that the first worker doesn't get to. Returns the nanoseconds until the next look.
     fn look_at_first(&self, context: &Context, turn: &mut Turn, rested: u64) -> u64 {
         let polls = self.workers[0].0.polls.load(Relaxed);
         if std::mem::replace(&mut turn.seen[0], polls) != polls {
             return COVER;
         }
-        // Without a core of its own it runs where this worker would.
+        // Without a core of its own the first worker runs on the processor that this worker would use.
         if self.arbiter.limit() != 0 && self.runs_what_waits(context, turn) {
             return COVER_SOON;
         }
@@ -304,10 +311,10 @@ impl Shared {
         self.arbiter.call();
     }
 
-    /// Runs the jobs of workers that make no progress, and those of the events that nobody has taken. Returns true if
+    /// Runs the jobs of workers that make no progress, and the jobs of events that nobody has taken. Returns true if
     /// there were any.
     fn runs_what_waits(&self, context: &Context, turn: &mut Turn) -> bool {
-        // While it has jobs, others look after it too.
+        // While this worker has jobs, others look after it too.
         context.worker.away.store(false, SeqCst);
         turn.pace(context, now());
         let waits = self.look_after(context, turn).1;
@@ -331,13 +338,13 @@ impl Shared {
         self.lay_down(context, turn);
         context.worker.away.store(true, SeqCst);
         if self.next_timer(context.me) != u64::MAX {
-            // Its timers are the keeper's, which may be asleep.
+            // This worker's timers are looked after by its keeper, which may be asleep.
             self.ring(self.keeper(context.me));
         }
         ran != 0
     }
 
-    /// Returns for how many milliseconds a worker that looks after the others sleeps, and publishes them.
+    /// Returns for how many milliseconds a worker that looks after the others sleeps, and publishes this number.
     ///
     /// The sleep is `least` while tasks run, and `times` as long after each look at which no task has run; at most
     /// `LONG_REST` while any worker is awake.
@@ -347,7 +354,8 @@ impl Shared {
         turn.rests = if polls != turn.watched { least } else { longer };
         turn.watched = polls;
         told.store(turn.rests, SeqCst);
-        // Written before the check: a worker that wakes clears its sleeper bit first and then reads this (`goes_on`).
+        // Written before the check: a worker that wakes clears its sleeper bit first and then reads this number
+        // (`goes_on`).
         if turn.rests > LONG_REST && self.is_anybody_awake(me) {
             turn.rests = LONG_REST;
             told.store(turn.rests, SeqCst);
@@ -360,11 +368,11 @@ impl Shared {
         self.workers.iter().enumerate().any(|(other, line)| sleepers >> other & 1 == 0 && !line.0.away.load(SeqCst))
     }
 
-    /// Wakes a worker that looks after this one, which has woken and has something to do that may take long.
+    /// Wakes a worker that looks after this worker, which has woken and has something to do that may take long.
     ///
-    /// If nobody waits in the epoll and there is no deputy, any sleeper is woken to wait there. If those that look
-    /// after the others sleep for longer than `LONG_REST`, one of them is woken, to look more often again; so is the
-    /// worker that covers for the first.
+    /// If nobody waits in the epoll and there is no deputy, any sleeping worker is woken to wait there. If the workers
+    /// that look after the others sleep for longer than `LONG_REST`, one of them is woken, to look more often again; so
+    /// is the worker that covers for the first.
     pub(crate) fn goes_on(&self) {
         if self.covers.0.load(SeqCst) > COVER_LONG {
             self.call_cover();
