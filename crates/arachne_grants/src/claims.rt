@@ -2,7 +2,7 @@
 ghost use Rattle.std.specs.Prelude.{◌≡◌};
 ghost use Rattle.arachne_grants.specs.Claims.{before_alike, claim_of, gets_before, goes_before, level_before, reserve_of};
 
-/// A client of the machine: its priority, and the cores that it reserves, asks for and holds.
+/// A client of the machine: its priority, and the numbers of cores that it reserves, asks for and has.
 #[derive(Clone, Copy, Debug, PartialEq, Eq)]
 pub struct Client {
     /// The client's priority; 0 goes first.
@@ -11,11 +11,11 @@ pub struct Client {
     pub reserved: u32,
     /// The number of cores that the client asks for.
     pub asks: u32,
-    /// The number of cores that the client holds.
+    /// The number of cores that the client has.
     pub held: u32,
 }
 
-/// A client's claim to the next core, by which it goes before others or behind them.
+/// A client's claim to the next core. It decides whether the client goes before others or behind them.
 #[derive(Clone, Copy, Debug, PartialEq, Eq)]
 pub(crate) struct Claim {
     /// True if the client gets its reserve already.
@@ -23,12 +23,12 @@ pub(crate) struct Claim {
     pub priority: u8,
     /// The number of cores that the client gets already.
     pub gets: u32,
-    /// True if the client holds no more than `gets` cores, so that the next core would be taken from elsewhere.
+    /// True if the client has no more than `gets` cores, so that the next core would be taken from elsewhere.
     pub moves: bool,
 }
 
 impl Client {
-    /// A client that asks for nothing, for a place that no client has.
+    /// A client that asks for nothing. It stands at a place that no client has.
     pub(crate) const NONE: Client = Client {
         priority: 0,
         reserved: 0,
@@ -36,8 +36,8 @@ impl Client {
         held: 0,
     };
 
-    /// Returns the client's reserve, but at most what it asks for: the cores that it gets before any client gets more
-    /// than its reserve.
+    /// Returns the client's reserve, but at most the cores that it asks for. The client gets these cores before any
+    /// client gets more than its reserve.
     fn reserve(&self) -> u32
         ensures { result ≡ reserve_of self.now }
     {
@@ -82,8 +82,8 @@ impl Client {
         }
     }
 
-    /// Returns the number of cores up to which this client's claims go before `claim`, of a client of the same
-    /// priority.
+    /// Returns the number of cores up to which this client's claims go before `claim`, which is another client's of the
+    /// same priority.
     fn level_before(&self, claim: &Claim) -> u32
         ensures { result ≡ level_before claim.now self.now }
     {
@@ -104,8 +104,8 @@ impl Claim {
         moves: false,
     };
 
-    /// Returns true if this claim goes before the other. First goes who has less than its reserve, then the higher
-    /// priority, then who gets fewer cores, then who holds the core already.
+    /// Returns true if this claim goes before `other`. A client that has less than its reserve goes first, then one of
+    /// higher priority, then one that gets fewer cores, then one that has the core already.
     pub(crate) fn goes_before(&self, other: &Claim) -> bool
         ensures { result ≡ goes_before self.now other.now }
     {

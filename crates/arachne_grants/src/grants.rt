@@ -6,9 +6,9 @@ use crate::claims::{Claim, Client};
 
 /// Returns the number of cores that each client gets, at its place in `targets`.
 ///
-/// One core at a time goes to the client that asks for more and has the first claim; of equal claims, to the client
-/// that came first. The cores of many claims are given in one step, so the time grows only with the logarithm of the
-/// number of cores.
+/// One core at a time goes to the client that asks for more and has the first claim. If claims are equal, the core goes
+/// to the client that came first. The cores of many claims are given in one step, so the time grows only with the
+/// logarithm of the number of cores.
 pub fn targets(clients: &[Client], cores: u32, targets: &mut [u32])
     requires { length targets.old ≡ length clients.now }
     ensures order { IsInOrder clients.now targets.new }
@@ -35,7 +35,7 @@ pub fn targets_are_decided(clients: &[Client], cores: u32)
     ensures { IsDecided clients.now cores }
 {}
 
-/// Finds the last claim such that there are enough cores for all claims before it, and gives each client the cores of
+/// Finds the last claim such that there are enough cores for all claims before it, and gives each client the cores for
 /// its claims before that one. Returns the number of cores given.
 fn fill_levels(clients: &[Client], cores: u32, targets: &mut [u32]) -> u32
     requires { length targets.old ≡ length clients.now }
@@ -53,8 +53,8 @@ fn fill_levels(clients: &[Client], cores: u32, targets: &mut [u32]) -> u32
     given
 }
 
-/// Returns the last claim such that there are enough cores for all claims before it. Claims go by whether the reserve
-/// is met, then by priority, number of cores, and whether the client holds these.
+/// Returns the last claim such that there are enough cores for all claims before it. Claims are ordered by whether the
+/// reserve is met, then by priority, then by number of cores, then by whether the client has these cores.
 fn last_filled(clients: &[Client], cores: u32) -> Claim
     ensures { AreEnough clients.now cores result }
 {
@@ -86,8 +86,8 @@ fn last_filled(clients: &[Client], cores: u32) -> Claim
     )
 }
 
-/// Returns the claim like `claim` for the most cores (fewer than `cores`) such that there are enough for all claims
-/// before it.
+/// Returns a claim like `claim`, but for more cores: the most (fewer than `cores`) such that there are enough for all
+/// claims before it.
 fn last_level(clients: &[Client], cores: u32, claim: Claim) -> Claim
     requires { AreEnough clients.now cores claim }
     ensures { AreEnough clients.now cores result }
@@ -121,7 +121,7 @@ fn later(clients: &[Client], cores: u32, claim: Claim, next: Claim) -> Claim
     }
 }
 
-/// Returns true if there are cores for all claims that go before this one.
+/// Returns true if there are cores for all claims that go before `claim`.
 fn are_enough(clients: &[Client], cores: u32, claim: &Claim) -> bool
     ensures { IsTrue result ↔ AreEnough clients.now cores claim.now }
 {
@@ -149,7 +149,7 @@ fn next_client(clients: &[Client], targets: &[u32]) -> Option<usize>
 }
 
 /// Returns the client that gets the next core: the client at `place` if its claim goes first, and otherwise `next`, the
-/// best client before it.
+/// best client before `place`.
 fn first_of(clients: &[Client], targets: &[u32], next: Option<usize>, place: usize) -> Option<usize>
     requires sized { length targets.now ≡ length clients.now }
     requires within { place < length clients.now }

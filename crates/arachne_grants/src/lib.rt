@@ -1,5 +1,5 @@
 //! The decision of an arbiter, a daemon that grants cores to programs: how many cores each client gets, and which cores
-//! change hands for that.
+//! go from one client to another.
 //!
 //! Every call is a pure function over numbers: none takes memory, none waits, and none knows a process or a thread.
 #![tactic(auto)]

@@ -22,8 +22,8 @@ const ASK: u32 = 4;
 /// A message of a client.
 #[derive(Clone, Copy, Debug, PartialEq, Eq)]
 pub enum ClientMessage {
-    /// A client's first message: its priority (0 goes first), the cores that it reserves, and the most that it may ask
-    /// for.
+    /// A client's first message: its priority (0 goes first), the number of cores that it reserves, and the most cores
+    /// that it may ask for.
     Hello {
         priority: u8,
         reserved: u16,
@@ -44,7 +44,7 @@ pub enum ClientMessage {
     },
 }
 
-/// The reason why bytes begin with no message: the first of their four numbers that is not valid.
+/// The reason why bytes begin with no message: it names the first of their four numbers that is not valid.
 #[derive(Clone, Copy, Debug, PartialEq, Eq)]
 pub enum MessageFault {
     /// There are fewer than `MESSAGE_BYTES` bytes.
@@ -91,7 +91,7 @@ pub fn messages_are_unambiguous(bytes: &[u8])
     ensures { IsUnambiguous bytes.now }
 {}
 
-/// Returns the number that four bytes give.
+/// Returns the number whose bytes begin at `at`.
 fn number_at(bytes: &[u8], at: usize) -> u32
     requires { at + 4 ≤ length bytes.now }
     ensures { result ≡ number_at bytes.now at }

@@ -22,7 +22,7 @@ pub fn moves(owners: &mut [Option<u8>], clients: &[Client], targets: &[u32])
     give_free(owners, clients, targets);
 }
 
-/// Takes from each client the cores that it has beyond its target, the last ones first.
+/// Takes from each client the cores that it has beyond its target, the last cores first.
 pub fn take_back(owners: &mut [Option<u8>], targets: &[u32])
     ensures only { TakesOnly owners.old owners.new }
     ensures keeps { KeepsTargets owners.old owners.new targets.now }
@@ -33,7 +33,7 @@ pub fn take_back(owners: &mut [Option<u8>], targets: &[u32])
     }
 }
 
-/// Gives cores that nobody has to clients that have less than their targets, those of higher priority first.
+/// Gives cores that nobody has to clients that have less than their targets. Clients of higher priority go first.
 pub fn give_free(owners: &mut [Option<u8>], clients: &[Client], targets: &[u32])
     requires cores { length owners.old < 2 ^ 32 }
     requires clients { length clients.now ≤ 256 }
@@ -51,7 +51,7 @@ pub fn give_free(owners: &mut [Option<u8>], clients: &[Client], targets: &[u32])
     }
 }
 
-/// Counts the cores that each client holds, a number by which `targets` decides.
+/// Counts the cores that each client has, a number by which `targets` decides.
 pub fn count_held(clients: &mut [Client], owners: &[Option<u8>])
     requires cores { length owners.now < 2 ^ 32 }
     requires clients { length clients.old ≤ 256 }
@@ -157,7 +157,7 @@ pub(crate) fn next_short(clients: &[Client], targets: &[u32], held: &[u32]) -> O
 }
 
 /// Returns the client that gets a free core: the client at `place` if it goes first, and otherwise `next`, the best
-/// client before it.
+/// client before `place`.
 fn next_short_of(
     clients: &[Client],
     targets: &[u32],

@@ -8,7 +8,7 @@ use crate::claims::Client;
 pub const MAX_THREADS: usize = 64;
 
 /// The state of the thread at one of a client's places. A thread that floats never waits: the daemon moves it to a core
-/// and away again while it runs.
+/// and away from it while it runs.
 #[derive(Clone, Copy, Debug, PartialEq, Eq)]
 pub enum ClientThread {
     /// There is no thread at this place.
@@ -74,7 +74,7 @@ impl ClientThread {
         matches!(self, ClientThread::Waits)
     }
 
-    /// Returns true if the thread is of the kind that may wait (it doesn't float), and doesn't wait now.
+    /// Returns true if the thread may wait (it doesn't float), and doesn't wait now.
     pub(crate) fn can_wait(self) -> bool
         ensures { result ≡ can_wait self }
     {
@@ -149,8 +149,8 @@ impl Session {
             .count() as u32
     }
 
-    /// Returns the client as `targets` sees it. The client asks for at most the cores that it may have, and for no more
-    /// than it has threads for.
+    /// Returns the client as `targets` sees it. The client asks for at most the cores that it may have, and at most as
+    /// many as it has threads for.
     pub(crate) fn wants(&self) -> Client
         ensures { result ≡ wants_of self.now }
     {
@@ -182,7 +182,7 @@ impl Session {
         last
     }
 
-    /// Returns `place` if its thread has a core, and otherwise `last`, the last such place before it.
+    /// Returns `place` if its thread has a core, and otherwise `last`, the last place before it whose thread has one.
     fn last_of(&self, last: Option<usize>, place: usize) -> Option<usize>
         requires within { place < 64 }
         requires last { IsLastPlaced self.now.threads place last }

@@ -216,8 +216,8 @@ impl CoreArbiter {
         targets(&clients, u32::from(self.cores), &mut self.allowed);
     }
 
-    /// Gives a free core to a thread that can take one, of a client that has fewer than it is allowed. The higher
-    /// priority goes first.
+    /// Gives a free core to a thread that can take one, of a client that has fewer cores than it is allowed. Clients of
+    /// higher priority go first.
     pub fn give(&mut self) -> Option<Grant>
         ensures gives { MatchOption result (self.new.sessions ≡ self.old.sessions)
             (λ grant. IsGrant self.old.sessions self.new.sessions self.old.allowed self.old.cores grant) }
@@ -240,8 +240,8 @@ impl CoreArbiter {
         })
     }
 
-    /// Takes a core back from a client that has more than it is allowed: from the last of its threads that has one. If
-    /// that thread floats, the core is taken at once, otherwise only if the client is late.
+    /// Takes a core back from a client that has more than it is allowed: from the last of its threads that has a core.
+    /// If that thread floats, the core is taken at once, otherwise only if the client is late.
     pub fn take_back(&mut self, client: usize, late: bool) -> Option<TakenCore>
         ensures takes { MatchOption result (self.new.sessions ≡ self.old.sessions)
             (λ taken. IsTake self.old.sessions self.new.sessions self.old.allowed client late taken) }
@@ -346,8 +346,8 @@ impl CoreArbiter {
         held
     }
 
-    /// Returns the client that gets a free core: of those that have fewer than they are allowed, the first of the
-    /// highest priority.
+    /// Returns the client that gets a free core: of the clients that have fewer cores than they are allowed, the first
+    /// of the highest priority.
     fn next_short(&self) -> Option<u8>
         ensures { IsNextShort (map wants_of self.now.sessions) self.now.allowed (map held_in self.now.sessions) 64 result }
     {

@@ -33,7 +33,7 @@ pub extern "C" fn arachne_arbiter_new(
     DONE
 }
 
-/// Frees the arbiter that a handle holds, if it holds one.
+/// Frees the arbiter of a handle, if it has one.
 #[unsafe(no_mangle)]
 pub extern "C" fn arachne_arbiter_close(alloc: Global, arbiter: &mut ArachneArbiter)
     ensures { held arbiter.new ≡ None }
@@ -41,10 +41,10 @@ pub extern "C" fn arachne_arbiter_close(alloc: Global, arbiter: &mut ArachneArbi
     drop(arbiter.take(alloc));
 }
 
-/// Adds a client with its priority (0 goes first), and the cores that it reserves and may ask for at most.
+/// Adds a client with its priority (0 goes first), the cores that it reserves, and the most cores that it may ask for.
 ///
-/// The client's number is from 0 to 63, and no other client's. Returns DONE or REFUSED. The caller must check that the
-/// client is entitled to this priority and these cores.
+/// `client`, the client's number, must be from 0 to 63, and no other client's. Returns DONE or REFUSED. The caller must
+/// check that the client is entitled to this priority and these cores.
 #[unsafe(no_mangle)]
 pub extern "C" fn arachne_arbiter_hello(
     alloc: Global,
@@ -118,7 +118,7 @@ pub extern "C" fn arachne_arbiter_join(
     told
 }
 
-/// Takes the core from a thread, if it has one, and lets the thread wait until it is granted one.
+/// Takes the core from a thread, if it has one, and lets the thread wait until a core is granted to it.
 ///
 /// Returns DONE, or REFUSED if the thread floats or waits already, or does not exist.
 #[unsafe(no_mangle)]
@@ -169,7 +169,7 @@ pub extern "C" fn arachne_arbiter_decide(alloc: Global, arbiter: &mut ArachneArb
     told
 }
 
-/// Takes a core from a client that has more than it may have: from its last thread that has one.
+/// Takes a core from a client that has more cores than it may have: from its last thread that has a core.
 ///
 /// If that thread floats, the core is taken at once, otherwise only if `late` is set. Returns TAKEN or NOTHING.
 #[unsafe(no_mangle)]
@@ -189,7 +189,7 @@ pub extern "C" fn arachne_arbiter_take_back(
     told
 }
 
-/// Gives a free core to a thread that can take one, of a client that has fewer than it may have.
+/// Gives a free core to a thread that can take one, of a client that has fewer cores than it may have.
 ///
 /// A client of higher priority goes first. Returns GRANTED if the thread waited, PLACED if it floats, or NOTHING.
 #[unsafe(no_mangle)]

@@ -46,7 +46,7 @@ impl ArachneArbiter {
         }
     }
 
-    /// Takes the arbiter out of the handle, if it holds one.
+    /// Takes the arbiter out of the handle, if the handle has one.
     pub(crate) fn take(&mut self, alloc: Global) -> Option<Box<CoreArbiter>>
         ensures none { IfNone result (self.old.value ≡ None) }
         ensures some { IfSome result (λ taken. self.old.value ≡ Some taken.value) }
@@ -56,7 +56,7 @@ impl ArachneArbiter {
         mem::replace(self, empty).into_handle().into_box()
     }
 
-    /// Puts an arbiter into the handle. An arbiter that the handle held before is freed.
+    /// Puts an arbiter into the handle. An arbiter that the handle had before is freed.
     pub(crate) fn put(&mut self, value: Box<CoreArbiter>)
         ensures { self.new.value ≡ Some value.value }
     {

@@ -16,7 +16,7 @@ pub(crate) const HELLO: u32 = 3;
 /// A kernel thread joins its client.
 pub(crate) const JOIN: u32 = 4;
 
-/// A thread gives its core back, if it has one, and waits for another.
+/// A thread gives its core back, if it has one, and waits for another core.
 pub(crate) const WAIT: u32 = 5;
 
 /// A client asks for a number of cores.
@@ -43,11 +43,11 @@ pub(crate) const UNUSED: u32 = 12;
 /// There is nothing to do.
 pub(crate) const NOTHING: u32 = 13;
 
-/// The core was taken from the thread: move the thread away from it.
+/// The core was taken from the thread: move the thread away from the core.
 pub(crate) const TAKEN: u32 = 14;
 
-/// The thread, which floats, was given the core: move the thread there.
+/// The core was given to the thread, which floats: move the thread to the core.
 pub(crate) const PLACED: u32 = 15;
 
-/// The thread, which waited, was given the core: move the thread there, and notify it.
+/// The core was given to the thread, which waited: move the thread to the core, and notify the thread.
 pub(crate) const GRANTED: u32 = 16;

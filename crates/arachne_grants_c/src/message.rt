@@ -9,8 +9,8 @@ use arachne_grants::{ClientMessage, MessageFault, read_message};
 #[repr(C)]
 #[derive(Clone, Copy)]
 pub struct ArachneMessage {
-    /// HELLO, JOIN, WAIT or ASK if the bytes begin with such a message. If the bytes begin with no message, the reason
-    /// for that.
+    /// HELLO, JOIN, WAIT or ASK if the bytes begin with such a message; otherwise the code of the reason why they
+    /// don't.
     pub code: u32,
     pub priority: u32,
     pub reserved: u32,
@@ -25,7 +25,7 @@ pub struct ArachneMessage {
 /// Reads the message at the beginning of the bytes.
 ///
 /// Returns HELLO, JOIN, WAIT or ASK; SHORT if there are fewer than 16 bytes; otherwise KIND, VERSION, PRIORITY, PLACE
-/// or UNUSED, by the first of its four numbers that is not valid.
+/// or UNUSED, by the first of the message's four numbers that is not valid.
 #[unsafe(no_mangle)]
 pub extern "C" fn arachne_message_read(bytes: &[u8]) -> ArachneMessage
     ensures { IsRead bytes.now result }

@@ -64,7 +64,7 @@ impl<T: Fits<K> + Drop, K> CellBlock<T, K> {
 }
 
 impl<T: Fits<K>, K> CellBlock<T, K> {
-    /// Moves the first cell that the seat has to a seat of its own.
+    /// Moves the first cell that the seat `all` has to a seat of its own, which is returned.
     pub(crate) fn give_first(&self, all: &mut BlockSeat<T, K>, index: usize) -> BlockSeat<T, K>
         requires own { all.old.table_id ≡ self.now }
         requires inside { index < self.now.slots }
@@ -115,9 +115,9 @@ impl<T: Fits<K>, K> CellBlock<T, K> {
         shared.store::<LeaveThere>(&mut seat, index, full);
     }
 
-    /// Returns the value that was left in the receiving end's cell, if it is there now.
+    /// Returns the value that was left in the receiving end's cell, if there is one now.
     ///
-    /// If the value is there, the seat then has both ends of the cell, which is unused.
+    /// If there is a value, the seat then has both ends of the cell, which is unused.
     pub(crate) fn fetch(&self, seat: &mut BlockSeat<T, K>, index: usize, full: u64) -> Option<T>
         requires own { seat.old.table_id ≡ self.now }
         requires inside { index < self.now.slots }

@@ -17,7 +17,8 @@ use atomic_table::{Seat, Table};
 use std::alloc::{AllocError, Global};
 use std::marker::Model;
 
-/// A cell for a value that is fetched at most once. Whoever shares the cell, for example by an `Arc`, may fetch.
+/// A cell for a value that is fetched at most once. Whoever shares the cell, for example by an `Arc`, may fetch the
+/// value.
 ///
 /// Contracts see the identity of the cell's table, and the key for which the cell was made.
 #[derive(Drop)]
@@ -36,7 +37,8 @@ impl<T: Fits<K>, K> Model for JoinCell<T, K> {
     ghost invariant = { λ c. (c.table.shared.table_id.words ≡ 1) × (c.table.shared.table_id.slots ≡ 1) };
 }
 
-/// The error of a call that got no value: the state in which the call saw the cell, and the receipt that shows it.
+/// The error of a call that got no value: the state in which the call saw the cell, and a receipt that shows this
+/// state.
 #[derive(Drop)]
 pub struct Missed<K> {
     pub state: CellState,
@@ -65,7 +67,7 @@ impl<T: Fits<K>, K> JoinCell<T, K> {
         Ok((JoinCell { table }, SendingEnd::of(seat)))
     }
 
-    // Returns the word that a new seat found, and that seat.
+    // Returns the word of the cell, and a new seat that has read the word.
     fn look(&self) -> (u64, Seat<Option<T>, View<K>>)
         ensures place { result.1.table_id ≡ self.now.table }
         ensures look { Looks (view (Some self.now.key) Maker, []) result.0 result.1.me }
@@ -94,8 +96,8 @@ impl<T: Fits<K>, K> JoinCell<T, K> {
         self.table.shared.exchange(seat, 0, None).unwrap()
     }
 
-    /// Returns the state of the cell at one moment of the call, and a receipt that shows it. A value in the cell stays
-    /// there.
+    /// Returns the state of the cell at one moment of the call, and a receipt that shows this state. A value in the
+    /// cell stays in it.
     pub fn seen(&self) -> (CellState, Receipt<K>)
         ensures { result.1 ≡ shown self.now.table (Saw result.0) }
     {
@@ -103,7 +105,7 @@ impl<T: Fits<K>, K> JoinCell<T, K> {
         (CellState::of(found), Receipt::of(seat))
     }
 
-    /// Returns the value that was left, if it is there now.
+    /// Returns the value that was left in the cell, if it is there now.
     pub fn fetch(&self) -> Result<(T, Receipt<K>), Missed<K>>
         ensures value { IfOk result (λ got. T.fits self.now.key got.0) }
         ensures fetched { IfOk result (λ got. got.1 ≡ shown self.now.table Fetched) }
@@ -123,7 +125,7 @@ impl<T: Fits<K>, K> JoinCell<T, K> {
         Ok((value, Receipt::of(seat)))
     }
 
-    /// Returns the value that was put back, if it is there now, with the cell's sending end.
+    /// Returns the value that was put back into the cell, if it is there now, with the cell's sending end.
     pub fn take_back(&self) -> Result<(T, SendingEnd<T, K>), Missed<K>>
         ensures value { IfOk result (λ got. T.may_wait self.now.key got.0) }
         ensures sending_end { IfOk result (λ got. got.1 ≡ self.now.table) }
@@ -143,7 +145,7 @@ impl<T: Fits<K>, K> JoinCell<T, K> {
     }
 
     /// Does nothing. The contract is a law: at most one call has fetched from a cell. So if one receipt of the cell is
-    /// that of a fetch, no other is.
+    /// the receipt of a fetch, no other is.
     pub fn fetched_once(&self, fetched: Receipt<K>, other: Receipt<K>)
         requires fetched { fetched ≡ shown self.now.table Fetched }
         requires other { other.table ≡ self.now.table }

@@ -33,7 +33,7 @@ impl<T: Fits<K>, K> Model for UnusedCell<T, K> {
     ghost invariant = { λ c. IsPlaced (arc_value c.block) c.seat.table_id c.index c.full c.seat.me.0.passed × IsUnusedAt c.index c.seat.me.0.passed c.seat.me };
 }
 
-/// The end of an opened cell by which the value is left. If the sender is dropped, the cell stays empty for ever.
+/// The end of an opened cell by which a value is left. If the sender is dropped, the cell stays empty for ever.
 ///
 /// Contracts see the opening: the cell, how many values had passed through the cell before, and the key.
 #[derive(Drop)]
@@ -157,7 +157,7 @@ impl<T: Fits<K> + Drop, K> Sender<T, K> {
 }
 
 impl<T: Fits<K> + Drop, K> Receiver<T, K> {
-    /// Returns the value, if it was left, and the cell, to be used again.
+    /// Returns the value, if it was left in the cell, and the cell, which can be opened again.
     ///
     /// If one load shows that no value was left, returns the receiver as an error.
     pub fn fetch(self) -> Result<(T, UnusedCell<T, K>), Receiver<T, K>>

@@ -1,9 +1,9 @@
-//! A one-shot cell that a fork's parent and child share: the child's end leaves one value, and whoever shares the cell
-//! fetches it once.
+//! A one-shot cell that a fork's parent and child share: the child leaves one value, and whoever shares the cell
+//! fetches the value once.
 //!
-//! A cell is made for a key, which only proofs know. Only a value that fits the key can be left, so each fetched value
-//! fits it. The cell is one word and one slot of an `atomic_table`: no call locks, waits, or compares the value with
-//! the key.
+//! A cell is made for a key, which only proofs know. Only a value that fits the key can be left in the cell, so each
+//! fetched value fits the key. The cell is one word and one slot of an `atomic_table`: no call locks, waits, or
+//! compares the value with the key.
 //!
 //! A `JoinCell` has a table of its own. An `UnusedCell` shares a table with the other cells of its block, and is used
 //! again.

@@ -3,7 +3,7 @@ use std::snapshot::Snapshot;
 
 /// The part of a block's cells that a seat has. These types are only for proofs: no value of them is made.
 pub enum Part<K> {
-    /// All cells from an index on, which no other seat has had yet.
+    /// All cells from an index on, which no other seat has had before.
     Rest,
     /// A cell that was never used, whose slot is in the table.
     Fresh,
@@ -13,7 +13,7 @@ pub enum Part<K> {
     Opened(K),
     /// The end that leaves the value, with the slot.
     Sending(K),
-    /// The end that fetches the value, and how many times it looked and found none.
+    /// The end that fetches the value, and how many times it looked and found no value.
     Receiving(K, u64),
     /// Nothing: the seat's rights are used up.
     Spent,

@@ -13,7 +13,7 @@ use crate::view::View;
 use atomic_table::Seat;
 use std::marker::Model;
 
-/// The one sending end of a cell, with the cell's slot. To leave a value in the cell uses up the sending end.
+/// The only sending end of a cell, with the cell's slot. To leave a value in the cell uses up the sending end.
 ///
 /// A sending end has no bytes. If the sending end is dropped, the cell stays empty. Contracts see the identity of its
 /// cell's table.
@@ -55,7 +55,7 @@ impl<T: Fits<K>, K> SendingEnd<T, K> {
         Receipt::of(seat)
     }
 
-    /// Puts back a value that may only wait in the cell, and is not fetched from it.
+    /// Puts back a value that may only wait in the cell, and can't be fetched from it.
     ///
     /// Whoever takes the value back gets the sending end with it. Takes no memory and waits for nobody.
     pub fn put_back(self, cell: &JoinCell<T, K>, waiting: T) -> Receipt<K>

@@ -28,7 +28,7 @@ impl<T: Fits<K> + Drop, K> SpareCells<T, K> {
         }
     }
 
-    /// Returns an unused cell. Takes memory only if none is kept, for a new block.
+    /// Returns an unused cell. Takes memory, for a new block, only if no cell is kept.
     pub fn take(&mut self, alloc: Global) -> Result<UnusedCell<T, K>, AllocError> {
         match self.cells.pop() {
             Some(cell) => Ok(cell),
@@ -36,7 +36,7 @@ impl<T: Fits<K> + Drop, K> SpareCells<T, K> {
         }
     }
 
-    /// Keeps a cell for the next opening, unless enough are kept or memory for it is refused.
+    /// Keeps a cell for the next opening, unless `MOST` are kept or memory for the cell is refused.
     pub fn give(&mut self, cell: UnusedCell<T, K>) {
         if self.cells.len() < MOST {
             let _ = self.cells.push(cell);
@@ -61,7 +61,7 @@ impl<T: Fits<K> + Drop, K> SpareCells<T, K> {
         }
     }
 
-    // Creates a block, keeps all its cells but the first, and returns that one.
+    // Creates a block, keeps all its cells but the first, and returns the first.
     fn add_block(&mut self, alloc: Global) -> Result<UnusedCell<T, K>, AllocError> {
         self.cells.reserve(CELLS - 1)?;
         let (block, mut all) = CellBlock::new(alloc)?;

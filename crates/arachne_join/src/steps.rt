@@ -62,7 +62,7 @@ impl<T, K> Play<Option<T>, View<K>> for ReturnSlot {
     ghost then = { λ _ m n w. Becomes Fetched w };
 }
 
-/// The step that joins another seat into the one that fetched.
+/// The step that joins another seat into the seat that fetched the value.
 pub(crate) struct JoinFetched;
 
 impl<K> Join<View<K>> for JoinFetched {
@@ -71,7 +71,7 @@ impl<K> Join<View<K>> for JoinFetched {
     ghost spent = { blank };
 }
 
-/// Of the two seats that were joined, at most one had fetched.
+/// Of the two seats that were joined, at most one had fetched the value.
 pub(crate) struct FetchedAlone;
 
 impl<T, K> Play<Option<T>, View<K>> for FetchedAlone {

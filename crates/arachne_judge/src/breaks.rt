@@ -3,7 +3,7 @@ ghost use Rattle.std.specs.Prelude.{◌≡◌, ◌≢◌, ◌≤◌, ◌<◌, �
 
 use arachne_core::ThreadId;
 
-/// Returns whether the rule `Numbers` is broken: the slice's number is not the core's next one.
+/// Returns whether the rule `Numbers` is broken: the slice's number is not the next number of the core.
 pub(crate) fn is_out_of_turn(next: u64, nth: u64) -> bool
     ensures { IsTrue result ↔ (nth ≢ next) }
 {
@@ -47,16 +47,16 @@ pub(crate) fn is_untold(has_exclusive: bool, untold: u64, most: u64) -> bool
     has_exclusive || untold > most
 }
 
-/// Returns whether the rule `Parks` is broken: a core that was not closed has parked, or a core that still had a
-/// thread, which ran there later.
+/// Returns whether the rule `Parks` is broken: a core has parked that was not closed, or that still had a thread, which
+/// ran on the core later.
 pub(crate) fn parks_for_nothing(owes_close: bool, owes_return: bool) -> bool
     ensures { IsTrue result ↔ (owes_close ≡ true) ⊎ (owes_return ≡ true) }
 {
     owes_close || owes_return
 }
 
-/// Returns whether the rule `Unparks` is broken: a core has left a park more often than it was granted. Once the run is
-/// over, `ends` is 1 and allows one time more.
+/// Returns whether the rule `Unparks` is broken: a core has continued after a park more often than it was granted. Once
+/// the run is over, `ends` is 1 and allows one time more.
 pub(crate) fn unparks_for_nothing(unparks: u64, grants: u64, ends: u64) -> bool
     ensures { IsTrue result ↔ (min (grants + ends) u64.MAX < unparks) }
 {
@@ -73,15 +73,15 @@ pub(crate) fn is_beside(alone: Option<ThreadId>, id: ThreadId) -> bool
     }
 }
 
-/// Returns whether the rule `Pulls` is broken: a worker has moved a thread to its core from that same core.
+/// Returns whether the rule `Pulls` is broken: a worker has moved a thread to its core `core` from that same core.
 pub(crate) fn is_from_there(core: u8, from: u8) -> bool
     ensures { IsTrue result ↔ (from ≡ core) }
 {
     from == core
 }
 
-/// Returns whether the rule `InHand` is broken by a slice that begins on this core: the thread was last on another
-/// core, is in a slice already or has ended, or the core is in a slice already.
+/// Returns whether the rule `InHand` is broken by a slice that begins on this core. It is if the thread was last on
+/// another core, is in a slice already or has ended, or if the core is in a slice already.
 pub(crate) fn is_not_in_hand(
     core: u8,
     last: u8,

@@ -19,8 +19,8 @@ use arachne_policy::OrderKind;
 use arachne_workers::{SliceEnd, WorkerEvent};
 use std::alloc::{AllocError, Global};
 
-/// The number of moves of threads between cores that may stay unreported. If a thread leaves its place just before a
-/// worker moves it from there, the worker moves the thread that came to the place next instead.
+/// The number of moves of threads between cores that may stay unreported. Such a move is made if a thread leaves its
+/// place just before a worker moves it away: then the worker moves the next thread that came to the place instead.
 ///
 /// Such a move takes a delay between two steps of a worker, so it is rare. One more such move is allowed for each
 /// `TURNS_PER_UNTOLD` times that a thread continued. A program with an exclusive fork has no such moves.
@@ -50,9 +50,9 @@ struct Case<'r> {
     owes: bool,
     /// The number of moves of threads that were not reported.
     untold: u64,
-    /// The threads that continued after a wait, and whose wake was not reported yet. At most one thread for each other
-    /// core, which may have woken it and not reported that yet. Such a thread may have ended since, and its context may
-    /// have another thread.
+    /// The threads that continued after a wait, and whose wake was not reported yet. There is at most one such thread
+    /// for each other core, which may have woken it and not reported that yet. Such a thread may have ended since, and
+    /// its context may have another thread.
     unwoken: Vec<Option<ThreadId>>,
     scans: Scans,
     counts: Counts,
@@ -150,7 +150,7 @@ impl<'r> Case<'r> {
         self.counts.add(rule, 1);
     }
 
-    /// Records that the rule is broken at this entry, unless a rule was broken before.
+    /// Records that the rule is broken at the current entry, unless a rule was broken before.
     fn breaks(&mut self, rule: Rule)
         ensures { self.new ≡ record self.old { broken = first_broken self.old.broken (record { rule = rule; at = self.old.at }) } }
     {
@@ -246,7 +246,8 @@ impl<'r> Case<'r> {
         );
     }
 
-    /// Records as broken each rule whose report is still missing when core 0 continues, or at the end of the log.
+    /// Records each rule whose report is still missing as broken. Called when core 0 continues, and at the end of the
+    /// log.
     fn settle(&mut self) {
         if !self.owes {
             return;
@@ -274,7 +275,7 @@ impl<'r> Case<'r> {
         }
     }
 
-    /// Returns the number of moves that may be unreported by now.
+    /// Returns the number of moves that may be unreported so far.
     fn most_untold(&self) -> u64 {
         UNTOLD.saturating_add(self.counts.of(Rule::OwnCore) / TURNS_PER_UNTOLD)
     }
@@ -333,8 +334,8 @@ impl<'r> Case<'r> {
     /// Checks that a thread that has waited was woken before this turn. Returns the number of wakes of the thread that
     /// are left once this turn has used up one.
     ///
-    /// Another core may have woken the thread just now, and has to report it immediately. A wake may also be reported
-    /// just before the turn in which it occurs.
+    /// Another core may have woken the thread just now, and has to report this wake immediately. A wake may also be
+    /// reported just before the turn in which it occurs.
     fn waits(&mut self, before: ThreadFacts) -> u64 {
         if !matches!(before.end, SliceEnd::AwaitsChild | SliceEnd::Awaits(_)) {
             return before.woken;

@@ -9,7 +9,7 @@ pub(crate) struct Core {
     /// The number of the core's slices that were reported as ended.
     pub(crate) ended: u64,
     /// The number of the core's slices that the run must have counted, since the core has reported something after
-    /// them.
+    /// these slices.
     pub(crate) counted: u64,
     /// The thread whose turn it is on the core, or whose turn was the last.
     pub(crate) turn: Option<ThreadId>,
@@ -28,10 +28,11 @@ pub(crate) struct Core {
     pub(crate) unparks: u64,
     /// One more than the number of the entry that last reported threads moved to the core; 0 if there is none.
     pub(crate) moved: usize,
-    /// True if a thread is on the core whose move there was not reported yet. Core 0 has to report the move before its
-    /// next slice.
+    /// True if a thread is on the core whose move to the core was not reported yet. Core 0 has to report the move
+    /// before its next slice.
     pub(crate) owes_move: bool,
-    /// True if a thread that was on the core when it parked continues there, and its move back was not reported yet.
+    /// True if a thread that was on the core when the core parked continues there, and its move back was not reported
+    /// yet.
     pub(crate) owes_return: bool,
     /// True if the core has parked, and its closing was not reported yet.
     pub(crate) owes_close: bool,

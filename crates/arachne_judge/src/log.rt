@@ -46,7 +46,7 @@ const MOVED_AWAY: u64 = 12;
 
 const HELPS: u64 = 13;
 
-/// An entry in three words. The first, the head, has the core, the kind of event and a small number.
+/// An entry in three words. The first word, the head, has the core, the kind of event and a small number.
 #[derive(Drop)]
 struct EntryWords {
     head: AtomicU64,

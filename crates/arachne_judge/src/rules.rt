@@ -8,10 +8,10 @@ use arachne_policy::CoreOrder;
 /// A rule of a run.
 #[derive(Clone, Copy, Debug, PartialEq, Eq)]
 pub enum Rule {
-    /// A thread continues on the core on which it was, unless a move was reported, or it was reported that another
-    /// core's worker runs the thread at its place.
+    /// A thread continues on the core on which it was, unless a move was reported, or another core's worker has
+    /// reported that it runs the thread at its place.
     OwnCore,
-    /// A slice is of a thread that the core took before, that has not ended, and that no other core has in hand.
+    /// A slice is made by a thread that the core took before, that has not ended, and that no other core has in hand.
     InHand,
     /// The slices of a core are numbered from 0, without gaps.
     Numbers,
@@ -25,19 +25,19 @@ pub enum Rule {
     Parks,
     /// A parked core continues only if it was granted since, or if the run is at its end.
     Unparks,
-    /// A thread that has its core to itself is the only thread there from its first turn to its end.
+    /// A thread that has its core to itself is the only thread on the core from its first turn to its end.
     Alone,
-    /// A scan (a worker's pass over its core's indexes) goes in ascending order. This rule is judged in runs on one
+    /// A scan (a worker's pass over its core's indexes) goes in ascending order. This rule is checked in runs on one
     /// core without locks.
     Upwards,
-    /// No child waits for a place while one is free. This rule is judged in runs on one core that keep no places.
+    /// No child waits for a place while one is free. This rule is checked in runs on one core that keep no places.
     Places,
     /// A thread that waits continues only after it was woken.
     Waits,
-    /// No worker moves a thread to its own core, or runs a thread of another core. This rule is judged in programs with
-    /// an exclusive fork.
+    /// No worker moves a thread to its own core, or runs a thread of another core. This rule is checked in programs
+    /// with an exclusive fork.
     Stays,
-    /// A thread that a worker moves to its core, or runs at the thread's place, was on another core.
+    /// A thread that a worker moves to its core, or runs at the thread's place, was on another core before.
     Pulls,
 }
 
@@ -69,7 +69,7 @@ impl Rule {
     }
 }
 
-/// The number of times that each rule was judged.
+/// The number of times that each rule was checked.
 #[derive(Clone, Copy, Debug, PartialEq, Eq)]
 pub struct Counts {
     counts: [u64; RULES],
@@ -96,7 +96,7 @@ impl Counts {
         }
     }
 
-    /// Returns the number of times that a rule was judged.
+    /// Returns the number of times that a rule was checked.
     pub fn of(&self, rule: Rule) -> u64
         ensures { result ≡ slice_index_or self.now.counts (number_of rule) 0 }
     {
@@ -125,7 +125,7 @@ pub struct Broken {
 /// The result of judging a log.
 #[derive(Clone, Copy, Debug, PartialEq, Eq)]
 pub struct Verdict {
-    /// The number of times that each rule was judged.
+    /// The number of times that each rule was checked.
     pub counts: Counts,
     /// The first rule that was broken.
     pub broken: Option<Broken>,

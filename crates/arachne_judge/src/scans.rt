@@ -8,14 +8,14 @@ use crate::rules::Run;
 /// The facts that are known of the scans (a worker's passes over its core's indexes), and of the places that are taken.
 #[derive(Drop)]
 pub(crate) struct Scans {
-    /// True if scans are judged: there is one core, and no lock whose next holder would run before others.
+    /// True if scans are checked: there is one core, and no lock whose next holder would run before others.
     is_judged: bool,
-    /// True if the use of places is judged: scans are judged, and no worker keeps places for later children.
+    /// True if the use of places is checked: scans are checked, and no worker keeps places for later children.
     are_places: bool,
     slots: u64,
-    /// The index that had a turn last.
+    /// The index of the last turn.
     last: Option<u32>,
-    /// An index at which a thread is ready, higher than the index at which this scan began.
+    /// An index at which a thread is ready, higher than the index at which the current scan began.
     due: Option<u32>,
     /// The number of threads known to be on the core.
     threads: u64,
@@ -31,7 +31,7 @@ pub(crate) struct Scans {
 pub(crate) struct TurnFindings {
     /// True if a scan has begun.
     pub(crate) is_judged: bool,
-    /// True if the scan before has left out a thread that was ready.
+    /// True if the previous scan has left out a thread that was ready.
     pub(crate) is_downward: bool,
     /// True if a child has waited although a place was free.
     pub(crate) was_free: bool,
@@ -52,7 +52,7 @@ impl Scans {
         }
     }
 
-    /// Returns the index that had a turn last.
+    /// Returns the index of the last turn.
     pub(crate) fn last(&self) -> Option<u32> {
         self.last
     }
@@ -62,7 +62,7 @@ impl Scans {
         self.threads = self.threads.saturating_sub(1);
     }
 
-    /// Records that a child waits for a place. Returns whether the use of places is judged.
+    /// Records that a child waits for a place. Returns whether the use of places is checked.
     pub(crate) fn spilled(&mut self) -> bool
         ensures { result ≡ self.old.are_places }
     {
@@ -78,7 +78,7 @@ impl Scans {
 
     /// Records a turn of the thread at an index. Returns the findings.
     ///
-    /// `goes_on` is true if the thread that had the turn before is ready. `is_first` is true if this is the thread's
+    /// `goes_on` is true if the thread that had the previous turn is ready. `is_first` is true if this is the thread's
     /// first turn.
     pub(crate) fn turn(&mut self, index: u32, goes_on: bool, is_first: bool) -> TurnFindings
         ensures downward { IsTrue result.is_downward ↔ (result.is_judged ≡ true) × IsSome self.old.due }

@@ -12,10 +12,10 @@ pub(crate) struct ThreadFacts {
     pub(crate) core: u8,
     /// The number of the entry of the thread's last turn.
     pub(crate) turned: usize,
-    /// The core whose worker has moved the thread to that core since its last turn, or runs it next at the thread's
+    /// The core whose worker has moved the thread to that core since its last turn, or will run it next at the thread's
     /// place.
     pub(crate) pulled: Option<u8>,
-    /// The core on which the thread has its place, if the worker of another core runs it there.
+    /// The core on which the thread has its place, if the worker of another core runs the thread.
     pub(crate) home: Option<u8>,
     pub(crate) is_in_slice: bool,
     /// The way in which the thread's last slice has ended.

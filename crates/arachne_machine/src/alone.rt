@@ -18,8 +18,8 @@ use std::alloc::{AllocError, Global};
 
 /// Returns the meaning of a program, which runs on the calling kernel thread.
 ///
-/// All threads are in one list. The newest one runs for at most `budget` steps at a time; a budget of 0 counts as 1. A
-/// lock that a thread asks for is granted at once, and the thread runs on until it frees the lock: no thread of a
+/// All threads are in one list. The newest thread runs for at most `budget` steps at a time; a budget of 0 counts as 1.
+/// A lock that a thread asks for is granted at once, and the thread runs on until it frees the lock: no thread of a
 /// checked program forks while it holds a lock.
 pub fn run_alone(alloc: Global, program: &Program, budget: u32) -> Result<Meaning, AllocError>
     ensures { IfOk result (λ meaning. meaning ≡ meaning_of (source_of program.now)) }
@@ -155,7 +155,7 @@ fn meaning(alloc: Global, outcome: DetachedOutcome) -> Result<Meaning, AllocErro
     })
 }
 
-/// Returns the name and the holds of a line.
+/// Returns the name and the holds of a thread's line.
 fn line_of_thread(line: ThreadLine) -> Line
     ensures { result ≡ named_holds line }
 {

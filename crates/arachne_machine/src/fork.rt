@@ -68,8 +68,8 @@ impl<'p> State<'p> {
         Ok(Progress::Begin(during))
     }
 
-    /// Forks a child of this class that begins with `begins`. The thread keeps `frame` for after the join, and goes on
-    /// with `next`.
+    /// Forks a child of this class that begins with `begins`. The thread keeps `frame` for the time after the join, and
+    /// goes on with `next`.
     fn spawn(
         &mut self,
         class: Class,
@@ -137,8 +137,8 @@ impl<'p> State<'p> {
         ))
     }
 
-    /// Forks a child for the numbers of a part of a sweep below `middle`. The thread goes on with the numbers from
-    /// `middle` on.
+    /// Forks a child for those numbers of a part of a sweep that are below `middle`. The thread goes on with the
+    /// numbers from `middle` on.
     fn halve(
         &mut self,
         stretch: Stretch<'p>,

@@ -1,4 +1,4 @@
-//! The next action of a thread, and the frames that say what comes after it.
+//! The next action of a thread, and the frames that say what follows it.
 use arachne_program::{Expr, Operation, Reduction};
 
 /// A part of a sweep: the numbers from `first` to below `end`.
@@ -20,10 +20,10 @@ pub enum Control<'p> {
     Give(u64),
     /// The thread begins a part of a sweep.
     Cover(Stretch<'p>),
-    /// The thread has forked a child, and begins this expression once the child has been taken.
+    /// The thread has forked a child, and begins this expression once the child has been taken out of the thread.
     Forked(&'p Expr),
-    /// The thread has forked the left half of a part of a sweep, and begins the right half once the child has been
-    /// taken.
+    /// The thread has forked the left half of a part of a sweep, and begins the right half once the child for the left
+    /// half has been taken out of the thread.
     Halved(Stretch<'p>),
     /// The thread awaits the outcome of its child of this number, and goes on with the expression `after`. `during` is
     /// the value of the expression that the thread has evaluated meanwhile.
@@ -43,7 +43,7 @@ pub enum Control<'p> {
         lock: u64,
         body: &'p Expr,
     },
-    /// The thread releases a lock, and then hands this value on.
+    /// The thread releases a lock, and then hands the value to the next frame.
     Frees {
         lock: u64,
         value: u64,
@@ -73,14 +73,15 @@ pub enum Frame<'p> {
     Extend(&'p Expr),
     /// The value is an amount for this ledger, and the expression is next.
     Amount(u64, &'p Expr),
-    /// This lock is released, and the value handed on.
+    /// This lock is released, and the value is handed to the next frame.
     Release(u64),
     /// The child of this number is joined, and this expression is next.
     Join {
         number: u64,
         after: &'p Expr,
     },
-    /// The value is that of the right half of a part of a sweep. The child of this number has the left half.
+    /// The value is that of the right half of a part of a sweep. The child of this number has the left half, and is
+    /// joined.
     Merge {
         number: u64,
         reduction: Reduction,
@@ -114,7 +115,7 @@ pub enum Frame<'p> {
     /// The value is the end of a sweep from this number on, with this body.
     SweepStart(Reduction, u64, u64, &'p Expr),
     /// The value is that of a sweep's body for one number, and is reduced with the value so far. The newest variable is
-    /// that number.
+    /// this number.
     SweepTurn {
         reduction: Reduction,
         next: u64,
@@ -122,6 +123,6 @@ pub enum Frame<'p> {
         so_far: u64,
         body: &'p Expr,
     },
-    /// The environment is truncated to this length, and the value handed on.
+    /// The environment is truncated to this length, and the value is handed to the next frame.
     Restore(usize),
 }

@@ -76,8 +76,8 @@ impl<'p> State<'p> {
         Ok(())
     }
 
-    /// Makes the innermost thread wait for a child that goes on in its place. The child has its line at `place`, and
-    /// has forked `forks` threads. There must be room for one more parent.
+    /// Makes the innermost thread wait for a child that goes on in the innermost thread's place. The child has its line
+    /// at `place`, and has forked `forks` threads. There must be room for one more parent.
     #[inline(always)]
     fn descend(&mut self, awaits: Control<'p>, place: usize, forks: u64)
         requires { vec_len self.old.parents + 1 ≤ vec_capacity self.old.parents }
@@ -95,7 +95,8 @@ impl<'p> State<'p> {
         };
     }
 
-    /// Lets the awaited child, with the threads that run in the child's place, go on in this thread's place.
+    /// Lets the awaited child, with the threads that run in the child's place, go on in the place of the innermost
+    /// thread.
     ///
     /// If memory is refused, nothing has changed but capacities.
     pub fn take_in(&mut self, child: &mut State<'p>) -> Result<(), AllocError>
@@ -127,8 +128,8 @@ impl<'p> State<'p> {
     }
 
     /// Makes the innermost thread wait for a child, and takes over the levels of the child's threads. The frames of the
-    /// child's threads come behind those that are here, and the lines of these threads begin at `place`. There must be
-    /// room for the parents.
+    /// child's threads come behind the frames of this state, and the lines of these threads begin at `place`. There
+    /// must be room for the parents.
     #[inline(always)]
     fn take_levels(&mut self, child: &State<'p>, place: usize)
         requires room { vec_len self.old.parents + vec_len child.now.parents + 1 ≤ vec_capacity self.old.parents }
@@ -146,9 +147,9 @@ impl<'p> State<'p> {
         self.level = child.level.moved(child.parents.is_empty(), start, place);
     }
 
-    /// Ends the child that has run in its parent's place: the parent joins it, with this value, and goes on.
+    /// Ends the child that has run in its parent's place: the parent joins the child, with this value, and goes on.
     ///
-    /// If memory is refused, the value still has to be handed on.
+    /// If memory is refused, the value must be handed on later.
     #[inline(always)]
     pub fn join_here(&mut self, value: u64, left: &mut u32) -> Result<Progress<'p>, AllocError>
         requires parent { HasParent self.old }
@@ -221,7 +222,7 @@ impl<'p> State<'p> {
         Ok(())
     }
 
-    /// Appends the lines, and adds the sums. If memory is refused, nothing has changed but capacities.
+    /// Appends the lines and adds the sums of `contents`. If memory is refused, nothing has changed but capacities.
     #[inline(always)]
     fn take_contents(&mut self, contents: &mut Contents) -> Result<(), AllocError>
         requires sums { length contents.old.sums.items ≡ length self.old.sums.items }

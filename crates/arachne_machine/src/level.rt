@@ -11,7 +11,8 @@ pub struct Level {
     pub start: usize,
     /// The number of threads that the thread has forked.
     pub forks: u64,
-    /// The index of the thread's line among the lines below the outermost thread, whose own line is kept apart.
+    /// The index of the thread's line among the lines below the outermost thread. The line of the outermost thread is
+    /// kept apart.
     pub place: usize,
 }
 
@@ -30,7 +31,7 @@ impl Level {
     /// Returns the level with `start` more frames before its own.
     ///
     /// The line of the outermost thread, which was kept apart, is then at `place`, and the lines of the others are
-    /// behind it.
+    /// behind this line.
     #[inline(always)]
     pub fn moved(self, outermost: bool, start: usize, place: usize) -> Level
         requires start { start + self.start < 2 ^ 64 }
@@ -51,7 +52,7 @@ impl Level {
     }
 }
 
-/// A thread that waits for the one that runs in its place.
+/// A thread that waits for the thread that runs in its place.
 #[derive(Clone, Copy)]
 pub struct Parent<'p> {
     pub level: Level,
@@ -59,7 +60,7 @@ pub struct Parent<'p> {
     pub control: Control<'p>,
 }
 
-/// Appends `others`, the threads that wait in another state, to `parents`, the outermost first.
+/// Appends `others`, the threads of another state that wait, to `parents`, the outermost first.
 ///
 /// `start` frames come before the frames of `others`, whose lines begin at `place`. There must be room for `others`.
 pub fn move_parents<'p>(

@@ -59,7 +59,7 @@ impl ThreadLine {
     }
 }
 
-/// A thread's record, in a list that keeps apart how often each lock was held.
+/// A thread's record, in a list that stores separately how often each lock was held.
 #[derive(Drop)]
 pub struct LineView<'a> {
     name: &'a Name,

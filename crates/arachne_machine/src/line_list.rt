@@ -1,4 +1,4 @@
-//! The lines of threads in one list, which keeps apart how often each lock was held.
+//! The lines of threads in one list, which stores separately how often each lock was held.
 ghost use Rattle.std.specs.Prelude.{◌≡◌, ◌+◌, ◌<◌, ◌∷◌, ◌++◌, [], ℕ, length, get_or, IfOk, IfSome, MatchOption, OnOk, OnErr};
 ghost use Rattle.arachne_program.specs.Effects.{tabulated};
 ghost use Rattle.arachne_machine.specs.declared.line.ThreadLine.{ThreadLine};
@@ -121,7 +121,7 @@ impl LineList {
         Ok(())
     }
 
-    /// Moves the line `own`, and then the lines `below`, to the end of this list. All lines are of threads of one
+    /// Moves the line `own`, and then the lines `below`, to the end of this list. All lines must be of threads of one
     /// program.
     ///
     /// If memory is refused, nothing has changed but capacities.

@@ -12,7 +12,7 @@ use std::alloc::{AllocError, Global};
 use std::marker::Model;
 use std::mem::replace;
 
-/// The maximum number of lines that are moved behind others. A list of more lines isn't moved: it stays a list of its
+/// The maximum number of lines that are moved behind others. A list of more lines isn't moved, and stays a list of its
 /// own.
 const MOST_MOVED: usize = 1000;
 

@@ -1,4 +1,4 @@
-//! A context table behind a lock that answers some calls itself, so that a run meets rare or wrong answers.
+//! A context table behind a lock that answers some calls by itself, so that a run meets rare or wrong answers.
 ghost use Rattle.std.specs.Prelude.{◌≡◌, ◌<◌, IfOk, IfErr};
 ghost use Rattle.arachne_contexts.specs.Answers.{RestsAs};
 ghost use Rattle.arachne_contexts.specs.Out.{Thread as a_thread, Spends};
@@ -19,7 +19,7 @@ const FULL: u64 = 0x38FF_FFFF_FFFF_FFFF;
 /// The bits of a core's first three places in its occupancy word.
 const THREE: u64 = 0b111;
 
-/// The calls that a table answers itself instead of passing them on.
+/// The calls that a table answers by itself instead of passing them on.
 #[derive(Clone, Copy)]
 enum Alteration {
     /// Passes on every call.
@@ -30,7 +30,7 @@ enum Alteration {
     RefusesMemory,
     /// `claim` finds every core but 0 full.
     IsFull,
-    /// `out` returns 1 for every seat, as if the seat still had something in hand.
+    /// `out` returns 1 for every seat, as if the seat still had a place or a thread.
     HasOut,
     /// A claim on a core in use is refused memory. `finish` hands threads back, but only after such a refusal.
     RefusesMemoryFirst,
@@ -39,7 +39,7 @@ enum Alteration {
     HandsBackFirst,
     /// The first two of every three calls of `claim` return `Lost`.
     Loses,
-    /// `glance` and `claim` on core 1 wait until a place is free there, and `move_one` moves no thread.
+    /// `glance` and `claim` on core 1 wait until a place of core 1 is free, and `move_one` moves no thread.
     AwaitsPlace,
     /// The first two of every three calls of `claim_alone` return `Lost`.
     LosesAlone,
@@ -59,10 +59,10 @@ const SPINS: u32 = 1_000_000;
 
 const YIELDS: u32 = 100;
 
-/// The number of looks at core 1, while it is full, after which a call gives up.
+/// The number of looks at core 1, while the core is full, after which a call gives up.
 const GLANCES: u32 = 2_000_000;
 
-/// A table behind a lock that passes on all calls but those that its alteration names.
+/// A table behind a lock that passes on all calls except for those that its alteration names.
 ///
 /// A run makes its table itself, so `new` selects the alteration by the numbers of cores and of places per core.
 #[derive(Drop)]
@@ -95,7 +95,8 @@ fn give_time() {
 }
 
 impl<T: Tagged + Drop> Altered<T> {
-    /// Looks at the core until one of its first three places is free, at most `GLANCES` times. Returns the last word.
+    /// Looks at the core until one of its first three places is free, at most `GLANCES` times. Returns the occupancy
+    /// word of the last look.
     fn glance_at_place<R: Wait>(&self, rt: &R, core: u8) -> u64
         requires { core < self.now.inner.cores }
     {

@@ -12,7 +12,7 @@ pub struct Draws {
     pub word: u64,
     /// The difference between a chooser's word and its previous one, modulo 2^64.
     pub step: u64,
-    /// The difference between the first words of a core's chooser and of the previous core's, modulo 2^64.
+    /// The difference between the first word of a core's chooser and that of the previous core's, modulo 2^64.
     pub apart: u64,
 }
 
@@ -23,7 +23,8 @@ pub const ZEROS: Draws = Draws {
     apart: 0,
 };
 
-/// Both choices of a fork are core 1. The first choice is the low half of a drawn word, the second the high half.
+/// Both choices of a fork are core 1. The first choice is the low half of a drawn word, the second choice the high
+/// half.
 pub const CORE_ONE: Draws = Draws {
     word: 0x0000_0001_0000_0001,
     step: 0,

@@ -20,11 +20,11 @@ pub struct Hasty {
     tag: u64,
     parent: Option<ThreadId>,
     pending: Option<Pending>,
-    /// True if the thread ends in its next slice. The value is true for a child from the start.
+    /// True if the thread ends in its next slice. For a child it is true from the start.
     has_forked: bool,
 }
 
-/// Stands for a child, its ticket, and the memory of ended threads. The type is empty, as no child waits for a place.
+/// Stands for a child, a ticket, and the memory of ended threads. The type is empty, as no child waits for a place.
 #[derive(Drop)]
 pub struct Nothing;
 

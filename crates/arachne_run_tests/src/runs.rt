@@ -36,10 +36,10 @@ mod tables;
 mod tickets;
 mod waiting;
 
-/// A form of context table, and the jobs that run over it.
+/// A form of context table, and the jobs that run over the table.
 #[derive(Clone, Copy)]
 enum Form {
-    /// The table behind a lock, `Altered`, which answers some calls itself on some machines.
+    /// The table behind a lock, `Altered`, which answers some calls by itself on some machines.
     Locked,
     Words,
     /// The table on words, with jobs that end without awaiting the child that they have forked.

@@ -43,8 +43,8 @@ pub(super) const EXCLUSIVE: Source = Source {
 };
 
 /// The root and three other threads have all places while 301 more are forked, and the queue has no room for 45 of
-/// these. All forks up to then have drawn 304 words, each of which chooses the other core than the previous word did.
-/// So the next thread is forked to core 0, and core 1 is empty for an exclusive one.
+/// these. All forks until then have drawn 304 words, each of which chooses the other core than the previous word did.
+/// So the next thread is forked to core 0, and core 1 is empty for an exclusive thread.
 const WORD_EACH: Row = Row {
     shows: "each fork draws a word, that of a thread that runs in place at once too",
     source: Source {
@@ -96,7 +96,7 @@ const ROWS: &[Row] = &[
         telling: Telling::Nothing,
         told: "",
     },
-    // In a chain of threads each is on the core after its parent's.
+    // In a chain of threads each thread is on the next core after its parent's.
     Row {
         shows: "each core has its own chooser",
         source: Source {
@@ -188,7 +188,7 @@ const ROWS: &[Row] = &[
         telling: Telling::Nothing,
         told: "",
     },
-    // The parent waits for its child, and does not run it.
+    // The parent waits for its child, and does not run the child.
     Row {
         shows: "a thread that has a core alone runs there",
         source: EXCLUSIVE,

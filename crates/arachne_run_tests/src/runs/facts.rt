@@ -46,7 +46,7 @@ pub(super) enum Fact {
     Events,
     /// The number of grants of the first lock.
     Grants,
-    /// The first lock was granted once to each thread that has held it once, and to no other.
+    /// The first lock was granted once to each thread that has held it once, and to no other thread.
     GrantsAreHolds,
 }
 
@@ -109,7 +109,7 @@ pub(super) enum Telling {
     Ran,
 }
 
-/// Returns the selected text of a report, or the fault if there is none.
+/// Returns the selected text of a report, or the fault if there is no report.
 pub(super) fn told(
     alloc: Global,
     answer: &Result<Report, RunFault>,

@@ -24,7 +24,7 @@ const IN_TURN: Draws = Draws {
 };
 
 const ROWS: &[Row] = &[
-    // The root's child ends on core 1 once it has counted. The root counts without end.
+    // The root's child ends on core 1 after it has counted. The root counts without end.
     Row {
         shows: "threads that go on stop",
         source: Source {
@@ -212,8 +212,8 @@ const ROWS: &[Row] = &[
         telling: Telling::Nothing,
         told: "Worker(Memory)",
     },
-    // The root's child ends on core 1 while the root claims a place there. The refused memory is recorded first, and
-    // the thread that is handed back second.
+    // The root's child ends on core 1 while the root claims a place on core 1. The refused memory is recorded first,
+    // and the thread that is handed back second.
     Row {
         shows: "the first fault is told",
         source: Source {
@@ -251,7 +251,7 @@ const ROWS: &[Row] = &[
         telling: Telling::Nothing,
         told: "Worker(Token)",
     },
-    // After all of these, a run in the same process goes well.
+    // After all of these runs, a run in the same process succeeds.
     Row {
         shows: "a run goes well behind others that did not",
         source: SWEEP,

@@ -1,5 +1,5 @@
 //! Rules of a run that no contract states and no log shows: tickets and places are counted, a core that is taken back
-//! is left, and a lost claim or wake is repeated.
+//! is left by its threads, and a lost claim or wake is repeated.
 use super::cores::EXCLUSIVE;
 use super::facts::{Fact, Telling};
 use super::rows::{Row, rows_hold};
@@ -237,10 +237,10 @@ const LOST_ALONE: Row = Row {
 };
 
 /// The root and 15 others have all places of the core. The last of these threads forks one thread after another, for
-/// which there is no place, until the queue is full. The other threads end before it, in one scan of the core, and the
-/// worker keeps their places. When the last of them ends, all of these places are given back. So the next thread that
-/// is forked gets a place at once. Otherwise the children that are forked in a whole slice would run in their parent's
-/// place.
+/// which there is no place, until the queue is full. The other threads end before the last one, in one scan of the
+/// core, and the worker keeps their places for later children. When the last of them ends, all of these places are
+/// given back. So the next thread that is forked gets a place at once. Otherwise the children that are forked in a
+/// whole slice would run in their parent's place.
 const GIVEN_BACK: Row = Row {
     shows: "a place that was kept and is given back is free at once",
     source: Source {

@@ -1,4 +1,4 @@
-//! Runs on many machines, whose logs are judged by the rules of a run.
+//! Runs on many machines. Their logs are checked against the rules of a run.
 ghost use Rattle.arachne_lang.specs.Checked.{IsChecked};
 ghost use Rattle.arachne_lang.specs.Program.{source_of};
 
@@ -19,7 +19,7 @@ use std::test::Fail;
 use std::thread::Threads;
 use std::time::Clock;
 
-/// The number of entries that a log has room for.
+/// The number of entries for which a log has room.
 const ROOM: usize = 120_000;
 
 /// Machines of 1 to 64 cores, with quanta of 1 to 10,000.
@@ -52,29 +52,29 @@ const LINE: usize = 5;
 /// Machines of one core, with quanta of 1 to 10,000.
 const ONE: &[Machine] = &[(1, 1, 1), (1, 3, 1), (1, 7, 1), (1, 100, 1), (1, 10_000, 1)];
 
-/// A row that is run with several numbers of places, and whose logs are judged.
+/// A row that is run with several numbers of places, and whose logs are checked.
 #[derive(Clone, Copy)]
 struct Judged {
     row: Row,
     slots: &'static [u8],
     /// The number of runs on each of the row's machines, each with another number of places or another form of table.
     turns: usize,
-    /// The number of orders on machines of several cores: releases and grants of cores from 1 on in turn, each due a
-    /// slice after the previous one. If the number is 0, the orders are the row's.
+    /// The number of orders on machines of several cores: releases and grants of cores from 1 on in turn, each due one
+    /// slice after the previous order. If the number is 0, the orders are those of the row.
     orders: u64,
     has_exclusive: bool,
-    /// The number of the root's exclusive fork, if it is ever made.
+    /// The number of the root's exclusive fork, if the root makes one.
     exclusive: Option<u64>,
     /// The minimum number of steps of all slices together.
     steps: u64,
-    /// The rules that must come up at least once over all runs of the row, besides those of every run.
+    /// The rules that must be checked at least once over all runs of the row, besides the rules `ALWAYS`.
     rules: &'static [Rule],
 }
 
-/// The rules that come up in every run.
+/// The rules that are checked in every run.
 const ALWAYS: &[Rule] = &[Rule::InHand, Rule::Numbers, Rule::Quantum];
 
-/// Returns `count` orders, each due a slice after the previous one: releases and grants of each core but 0 in turn.
+/// Returns `count` orders, each due one slice after the previous order: releases and grants of each core but 0 in turn.
 fn in_turn(alloc: Global, count: u64, cores: u64) -> Result<Vec<CoreOrder>, AllocError> {
     let mut orders = Vec::new(alloc);
     for after in 0..count {
@@ -98,7 +98,7 @@ fn orders_of(alloc: Global, judged: &Judged, cores: u64) -> Result<Vec<CoreOrder
     }
 }
 
-/// Judges the log of a run. Returns how often each rule was judged.
+/// Checks the log of a run. Returns how often each rule was checked.
 ///
 /// Fails if a rule is broken, if the log had no room for an entry, or if there are too few steps.
 fn counts_of(
@@ -132,7 +132,7 @@ fn counts_of(
     Ok(verdict.counts)
 }
 
-/// Runs a row's program once, and judges the run by its report and by its log.
+/// Runs a row's program once, and checks the run's report and its log.
 fn run_is_lawful<R: Threads + Wait + Clock + Sync>(
     rt: &R,
     alloc: Global,
@@ -180,7 +180,7 @@ fn kind_of(judged: &Judged, nth: usize, turn: usize) -> (u8, Form) {
     (slots, form)
 }
 
-/// Runs a row on each of its machines in each of its turns. Each rule of the row must be judged at least once.
+/// Runs a row on each of its machines in each of its turns. Each rule of the row must be checked at least once.
 fn is_lawful<R: Threads + Wait + Clock + Sync>(
     rt: &R,
     alloc: Global,
@@ -198,7 +198,7 @@ fn is_lawful<R: Threads + Wait + Clock + Sync>(
     come_up(judged, judged.rules, &counts)
 }
 
-/// Fails if one of these rules was never judged.
+/// Fails if one of these rules was never checked.
 fn come_up(judged: &Judged, rules: &[Rule], counts: &Counts) -> Result<(), Fail> {
     let shows = judged.row.shows;
     for &rule in rules {
@@ -291,8 +291,8 @@ const HOLDS: Judged = Judged {
     ..COUNTS
 };
 
-/// Six threads of core 0 hold a lock for longer than a holder may run at once, so that the others come to wait for it.
-/// Once one of the six has the lock, it runs before other threads. Meanwhile an order is due in each slice.
+/// Six threads of core 0 hold a lock for longer than a holder may run at once, so that the others come to wait for the
+/// lock. Once one of the six has the lock, it runs before other threads. Meanwhile an order is due in each slice.
 const NEXT: Row = Row {
     shows: "orders are applied before the slice of a thread that goes next",
     source: Source {
@@ -425,8 +425,8 @@ const LONE: Row = Row {
     ..COUNTING
 };
 
-/// A thread that runs in its parent's place, after it was taken back from the queue. The thread of `BEGUN` begins there
-/// at once.
+/// A thread that runs in its parent's place, after it was taken back from the queue. The thread of `BEGUN` begins in
+/// that place at once.
 const IN_PLACE: Row = Row {
     shows: "the steps of a thread in place are charged to the slices",
     source: TAKEN_BACK,

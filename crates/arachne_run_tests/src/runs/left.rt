@@ -8,7 +8,7 @@ use crate::gates::Watching;
 use arachne_core::SLOTS;
 use std::test::Fail;
 
-/// The root ends before its child has begun. The table hands the child back when it is closed.
+/// The root ends before its child has begun. When the table is closed, it hands the child back.
 const LEFT: &[Row] = &[Row {
     shows: "a thread that is left stops the report",
     source: FORK,

@@ -1,4 +1,4 @@
-//! Which threads held a lock, and in which order.
+//! Which threads have held a lock, and in which order.
 use super::facts::{Fact, Telling};
 use super::rows::{MACHINES, Row, rows_hold};
 use super::{FORMS, Machine, Source};
@@ -37,7 +37,7 @@ pub(super) fn grants(report: &Report, tag: Option<u64>) -> u64 {
     count
 }
 
-/// Returns whether the first lock was granted once to each thread that has held it once, and to no other.
+/// Returns whether the first lock was granted once to each thread that has held it once, and to no other thread.
 pub(super) fn grants_are_holds(report: &Report) -> bool {
     let mut counted = 0u64;
     for line in report.threads.iter() {
@@ -153,8 +153,8 @@ const ROWS: &[Row] = &[
         telling: Telling::Nothing,
         told: "",
     },
-    // The root holds the lock for 10,000 iterations, and its child on the same core asks for it after 100. A thread
-    // that waits for a lock gets it once it is freed.
+    // The root holds the lock for 10,000 iterations, and its child on the same core asks for the lock after 100. A
+    // thread that waits for a lock gets it once it is freed.
     Row {
         shows: "a thread that waits is next",
         source: Source {

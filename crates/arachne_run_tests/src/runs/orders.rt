@@ -29,7 +29,7 @@ const COUNTING: Source = Source {
 };
 
 /// 300 threads. The root forks nine of them and then counts to 3,000. After that the root forks an exclusive thread,
-/// and one more thread while the exclusive one lives.
+/// and one more thread while the exclusive thread lives.
 const WAITING: Source = Source {
     ledgers: 0,
     locks: 0,
@@ -37,7 +37,7 @@ const WAITING: Source = Source {
     expr: "(sweep add 1 (num 0) (num 300) (if (eq (var 0) (num 299)) (let (fold (num 0) (num 3000) (num 0) (num 0)) (fork x (num 1) (fork n (num 2) (num 3) (add (var 2) (var 3))) (add (var 2) (var 3)))) (num 0)))",
 };
 
-/// Returns `count` orders, each due a slice after the previous one: releases and grants of cores 1 to 3 in turn.
+/// Returns `count` orders, each due one slice after the previous order: releases and grants of cores 1 to 3 in turn.
 fn orders(alloc: Global, count: u64) -> Result<Vec<CoreOrder>, AllocError> {
     let mut orders = Vec::new(alloc);
     for after in 0..count {
@@ -252,7 +252,7 @@ fn grants_have_cores_go_on(rt: HostRuntime) -> Result<(), Fail> {
 
 const ROWS: &[Row] = &[
     // The root forks while core 0 is full and the other cores are closed, so that its children wait. Once the other
-    // cores are open it forks an exclusive child, which gets a core at once, and then another child.
+    // cores are open the root forks an exclusive child, which gets a core at once, and then another child.
     Row {
         shows: "an exclusive child among those that wait is joined in turn",
         source: WAITING,
@@ -287,7 +287,7 @@ const ROWS: &[Row] = &[
         telling: Telling::Nothing,
         told: "",
     },
-    // Three orders, and then the same with a fourth that is never due. The report counts only those that were applied.
+    // Three orders, and then the same three with a fourth that is never due. The report counts only applied orders.
     Row {
         shows: "orders are counted",
         source: SWEEP,
@@ -351,7 +351,7 @@ const ROWS: &[Row] = &[
         telling: Telling::Threads,
         told: SWEPT,
     },
-    // Both choices of the fork are core 3, which is closed. Among the open cores both are core 0.
+    // Both choices of the fork are core 3, which is closed. Among the open cores both choices are core 0.
     Row {
         shows: "a closed core gets no thread",
         source: FORK,

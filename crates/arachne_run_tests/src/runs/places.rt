@@ -21,7 +21,7 @@ const IN_TURN: Source = Source {
     expr: "(fold (num 0) (num 1000) (num 0) (fork n (num 1) (num 1) (add (var 1) (var 2))))",
 };
 
-/// 100 threads and, after these have ended, 1,000 that the root forks and joins one after another.
+/// 100 threads and, after these have ended, 1,000 threads that the root forks and joins one after another.
 const AFTER_MANY: Source = Source {
     ledgers: 0,
     locks: 0,
@@ -29,7 +29,7 @@ const AFTER_MANY: Source = Source {
     expr: "(let (sweep add 1 (num 0) (num 100) (fold (num 0) (num 30) (num 0) (num 0))) (fold (num 0) (num 1000) (num 0) (fork n (num 1) (num 1) (add (var 2) (var 3)))))",
 };
 
-/// A chain of 31 threads. The innermost has 9 children that end soon, and then 24 that live at the same time.
+/// A chain of 31 threads. The innermost has 9 children that end soon, and then 24 children that live at the same time.
 const NEVER_FULL: Source = Source {
     ledgers: 0,
     locks: 0,
@@ -52,7 +52,7 @@ const ALL_PLACED: Row = Row {
     told: "",
 };
 
-/// A normal thread and, after it has ended, an exclusive one.
+/// A normal thread and, after it has ended, an exclusive thread.
 const THEN_ALONE: Source = Source {
     ledgers: 0,
     locks: 0,
@@ -113,7 +113,7 @@ const ROWS: &[Row] = &[
         telling: Telling::Nothing,
         told: "",
     },
-    // For most threads the queue of those that wait is full.
+    // For most threads the queue of waiting children is full.
     Row {
         shows: "where all places are taken, threads run in their parents'",
         source: MANY,
@@ -145,7 +145,8 @@ const ROWS: &[Row] = &[
         telling: Telling::Ran,
         told: "slot in place ",
     },
-    // The second child finds no place, and gets that of the first child once it has ended. Meanwhile the root counts.
+    // The second child finds no place, and gets the place of the first child once that child has ended. Meanwhile the
+    // root counts.
     Row {
         shows: "a thread that waits gets a place that is left",
         source: Source {
@@ -168,7 +169,7 @@ const ROWS: &[Row] = &[
     NONE_KEPT,
 ];
 
-/// The root's first child has the other place, and three more wait for it in turn.
+/// The root's first child has the other place, and three more children wait for that place in turn.
 const THREE_WAIT: Row = Row {
     shows: "threads that wait get a place that is left, one after the other",
     source: Source {
@@ -188,8 +189,8 @@ const THREE_WAIT: Row = Row {
     told: "",
 };
 
-/// Of the 1,000 threads of a sweep 134 get a place when they are forked. If places were kept, only 56 threads would get
-/// a place.
+/// Of the 1,000 threads of a sweep 134 get a place when they are forked. If workers kept places for later children,
+/// only 56 threads would get a place.
 const NONE_KEPT: Row = Row {
     shows: "no place is kept where an order may close the core",
     source: Source {
@@ -232,7 +233,7 @@ const KEPT: &[Row] = &[
         telling: Telling::Nothing,
         told: "",
     },
-    // 44 of the first threads find no place, and all later ones find one.
+    // 44 of the first threads find no place, and all later threads find one.
     Row {
         shows: "places that were kept are given back",
         source: AFTER_MANY,
@@ -267,7 +268,7 @@ fn places_are_kept_on_full_cores_alone(rt: HostRuntime) -> Result<(), Fail> {
 }
 
 const AT_ONCE: &[Row] = &[
-    // Each of the two is held until the other has entered a slice.
+    // Each of the two threads waits in its slice until the other has entered a slice.
     Row {
         shows: "two long threads run side by side",
         source: BESIDE,
@@ -335,7 +336,7 @@ const SLEEPING: Source = Source {
 };
 
 /// The root and two of the four threads fill core 0, and the two others wait on core 1. A thread that the root forks
-/// meanwhile ends on core 1, so that its place is kept and core 1's kernel thread has nothing to run. A call that finds
+/// meanwhile ends on core 1, so that core 1's worker keeps the thread's place and has nothing to run. A call that finds
 /// core 1 full waits in this table until a place is free, and no thread is moved.
 const GIVEN_BACK: Row = Row {
     shows: "a kernel thread that sleeps keeps no place",
@@ -356,7 +357,7 @@ fn threads_run_side_by_side(rt: HostRuntime) -> Result<(), Fail> {
     rows_hold(&rt, rt.alloc(), AT_ONCE)
 }
 
-/// A normal thread ends, and an exclusive one begins.
+/// A normal thread ends, and then an exclusive thread begins.
 const ALONE_AFTER_ANOTHER: Row = Row {
     shows: "a thread that is to be alone gets a core that is empty",
     source: THEN_ALONE,

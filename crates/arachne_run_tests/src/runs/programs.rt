@@ -21,7 +21,7 @@ pub(super) const SWEEP: Source = Source {
 /// The text of the report of `SWEEP`.
 pub(super) const SWEPT: &str = "28 [] [][] [1][] [0][] [0, 0][]";
 
-/// Returns the numbers of a name.
+/// Returns the numbers of which a name consists.
 fn numbers(alloc: Global, name: &Name) -> Result<Vec<u64>, Fail> {
     let mut numbers = Vec::new(alloc);
     for k in 0..name.len() {

@@ -36,7 +36,7 @@ struct Means<'p> {
 }
 
 impl<'p> Means<'p> {
-    /// Runs a thread until it ends. Returns whether the thread ends: nobody else runs a child that it awaits.
+    /// Runs a thread until it ends. Returns whether the thread ends: nobody else runs a child that the thread awaits.
     fn ends(&mut self, job: &mut Job<'p>) -> bool {
         for _ in 0..SLICES {
             let mut left = STEPS;
@@ -63,8 +63,8 @@ impl<'p> Means<'p> {
     }
 }
 
-/// Has the root's child wait, and makes the child's job with `bytes` bytes of memory. Returns whether the job was
-/// refused, if both threads end.
+/// Has the root's child wait, and makes the child's job with `bytes` bytes of memory. Returns whether the memory for
+/// the job was refused, if both threads end.
 fn is_refused(alloc: Global, program: &Program, bytes: usize) -> Option<bool>
     requires { IsChecked (source_of program.now) }
 {

@@ -24,7 +24,7 @@ pub(super) const MANY: Source = Source {
 };
 
 /// The threads of `CHAIN` on cores with fewer places. On one core of three places, three threads have a place, and the
-/// others run in their parents'; on 64 cores of two places all have one.
+/// others run in their parents' places. On 64 cores of two places all threads have a place.
 const FEW: Row = Row {
     shows: "a core has as many places as its setup says",
     source: CHAIN,
@@ -40,7 +40,7 @@ const FEW: Row = Row {
 };
 
 const ROWS: &[Row] = &[
-    // One core has places for 56 of the threads, and several cores have places for all.
+    // One core has places for 56 of the threads, and several cores have places for all threads.
     Row {
         shows: "threads that find no place run in their parents",
         source: CHAIN,

@@ -31,7 +31,7 @@ pub(super) const MACHINES: &[Machine] = &[
 /// A program that is run over each of the forms on each of the machines.
 #[derive(Clone, Copy)]
 pub(super) struct Row {
-    /// The rule that the row shows, for messages.
+    /// The rule that the row shows, for messages of failed tests.
     pub(super) shows: &'static str,
     pub(super) source: Source,
     pub(super) forms: &'static [Form],
@@ -43,7 +43,7 @@ pub(super) struct Row {
     pub(super) watching: Watching,
     /// The facts that a report must show.
     pub(super) facts: &'static [(Fact, u64)],
-    /// Selects the text that is made of a report and must equal `told`. If there is no report, the text is that of the
+    /// Selects the text that is made of a report and must equal `told`. If there is no report, this is the text of the
     /// fault.
     pub(super) telling: Telling,
     pub(super) told: &'static str,
@@ -101,7 +101,7 @@ pub(super) fn tried<R: Threads + Wait + Clock + Sync>(
     Ok(wrong_fact(row, &report, &watch).is_none())
 }
 
-/// Checks the text of a run against its row, and all facts.
+/// Checks the text of a run against the row's text, and all facts of the row.
 ///
 /// If there is no report, checks that all events for which a core waited have happened, and that no slice begins any
 /// more.
@@ -125,7 +125,7 @@ pub(super) fn judge(
     Err(Fail::new(format_args!("{shows}: {machine:?}: {wrong:?} {told}")))
 }
 
-/// Runs a row's program once, and judges that run.
+/// Runs a row's program once, and checks that run.
 fn run_holds<R: Threads + Wait + Clock + Sync>(
     rt: &R,
     alloc: Global,

@@ -1,5 +1,5 @@
-//! Runs in a process whose memory is used up, each with a little more memory than the previous one: every run ends with
-//! a fault that says so, until one has a report.
+//! Runs in a process whose memory is used up, each with a little more memory than the previous one. Every run ends with
+//! the fault that memory was refused, until a run has a report.
 ghost use Rattle.arachne_lang.specs.Checked.{IsChecked};
 ghost use Rattle.arachne_lang.specs.Program.{source_of};
 
@@ -21,11 +21,11 @@ use std::test::Fail;
 use std::thread::Threads;
 use std::time::Clock;
 
-/// The maximum number of runs of a row on one core. One of these runs has a report.
+/// The maximum number of runs of a row on one core. The last of these runs has a report.
 const RUNS: u64 = 2_000;
 
 /// The maximum number of runs of a row on several cores. No run need have a report: once all memory was used up, the C
-/// library gives none to a kernel thread that has just begun, whatever was given back.
+/// library gives no memory to a kernel thread that has just begun, whatever was given back.
 const RUNS_ON_CORES: u64 = 200;
 
 /// The number of bytes that each run has more than the previous one.
@@ -175,8 +175,8 @@ fn is_want(tried: Tried, cores: u64) -> bool {
 
 /// Runs a row's program with no memory, and then with `BYTES` bytes more each time.
 ///
-/// Stops if the outcome is `last`, or anything but a lack of memory. Returns the number of runs before the last one,
-/// and the outcome of the last.
+/// Stops if the outcome is `last`, or anything but a lack of memory. Returns the number of runs before the last run,
+/// and the outcome of the last run.
 fn refused<R: Threads + Wait + Clock + Sync>(
     rt: &R,
     alloc: Global,
@@ -203,7 +203,7 @@ fn refused<R: Threads + Wait + Clock + Sync>(
 }
 
 /// Returns whether a row's program has its report `times` times. If each run left memory behind, the last runs would
-/// have none.
+/// have no memory.
 fn goes_well<R: Threads + Wait + Clock + Sync>(
     rt: &R,
     alloc: Global,
@@ -223,8 +223,8 @@ fn goes_well<R: Threads + Wait + Clock + Sync>(
     true
 }
 
-/// Runs a row's program while memory is used up. Returns the number of runs for which memory was refused, and the last
-/// outcome.
+/// Runs a row's program while memory is used up. Returns the number of runs for which memory was refused, and the
+/// outcome of the last run.
 ///
 /// On one core the program must then have its report again and again. If the program has no report then, the outcome is
 /// a lack of memory.
