@@ -27,14 +27,15 @@ extern "C" {
 enum {
     /* The call succeeded. */
     ARACHNE_DONE = 0,
-    /* The handle holds nothing, or something although it must be empty; or its seat may not make this call now;
-     * or there is no such block, lock or ledger. Nothing has changed. */
+    /* The handle holds nothing, or it holds something although it must be empty; or the handle's seat may not
+     * make this call now; or there is no such block, lock or ledger. Nothing has changed. */
     ARACHNE_REFUSED = 1,
     /* Memory was refused. Nothing has changed. */
     ARACHNE_NO_MEMORY = 2,
     /* Another thread was at the lock. Nothing has changed: try again. */
     ARACHNE_CONTENDED = 3,
-    /* Another thread was first. Nothing has changed: try again; for a worker's number, with another number. */
+    /* Another thread was first. Nothing has changed: try again, with another number if the call registers a
+     * worker. */
     ARACHNE_LOST = 4,
     /* `who` holds the lock. */
     ARACHNE_GRANTED = 5,
@@ -44,11 +45,11 @@ enum {
     ARACHNE_ALREADY_IN = 7,
     /* The lock is free. */
     ARACHNE_FREED = 8,
-    /* The lock was handed on to the one that had waited longest: wake it. */
+    /* The lock was handed on to the task that had waited longest: wake that task. */
     ARACHNE_HANDED_ON = 9,
     /* `who` doesn't hold the lock. As the answer to a withdrawal: `who` neither holds the lock nor waits for it. */
     ARACHNE_NOT_HOLDER = 10,
-    /* `who` waited for the lock, and waits no longer: the lock is not handed on to it any more. */
+    /* `who` waited for the lock, and waits no longer: the lock is not handed on to `who` any more. */
     ARACHNE_LEFT = 11,
     /* No place of the block is free. */
     ARACHNE_FULL = 12,
@@ -57,14 +58,14 @@ enum {
     /* The worker has set its idle bit, and then found no block that may have ready jobs: sleep until you are
      * unparked. */
     ARACHNE_PARK = 14,
-    /* No job was taken, or a block may have one: try again. */
+    /* No job was taken, or a block may have a job: try again. */
     ARACHNE_AGAIN = 15,
     /* The job is ready. */
     ARACHNE_READY = 16,
     /* The job waits for a wake. */
     ARACHNE_BLOCKED = 17,
     /* The job is ready or runs, and the wake is recorded. A take or a start uses up that record. If neither
-     * comes, the job is ready again when it would block next. A wake for the next job of a free place, by the
+     * follows, the job is ready again when it would block next. A wake for the next job of a free place, by the
      * name that this job will have, is recorded in the same way. */
     ARACHNE_MARKED = 18,
     /* A wake of the job was recorded already. */
@@ -83,7 +84,7 @@ enum {
 
 /* ---- The executor */
 
-/* A seat at an executor, or nothing, in C's layout: one pointer, which is null if nothing is held. Begin with
+/* A seat at an executor in C's layout: one pointer, which is null if there is no seat. Begin with
  * ARACHNE_EXEC_NULL. */
 typedef struct {
     void *opaque;
@@ -121,8 +122,10 @@ uint32_t arachne_exec_new(arachne_exec *exec, size_t shards);
 /* Splits a seat in two, for another thread: `other` gets the second part, with no job in hand and no worker
  * number.
  *
- * Returns DONE; REFUSED if `exec` holds nothing or `other` holds something; NO_MEMORY. A seat may be split 127
- * times in a row. A further split succeeds too, but then the executor can't be ended any more.
+ * Returns DONE; REFUSED if `exec` holds nothing or `other` holds something; NO_MEMORY.
+ *
+ * After more than 127 splits in a row, each of a part of the one before, splits still succeed but the executor
+ * can't be ended any more.
  *
  * Threads: safe beside calls with other handles; two at once with `exec` or `other` are undefined behaviour. */
 uint32_t arachne_exec_split(arachne_exec *exec, arachne_exec *other);
@@ -140,14 +143,14 @@ uint32_t arachne_exec_join(arachne_exec *exec, arachne_exec *other);
  *
  * The jobs that are left were spawned and have not ended; jobs of number 0 are not written. A number that
  * several jobs have is written once for each of these jobs. Returns DONE with the count of jobs written; REFUSED
- * if the handle holds nothing or has a job in hand, or if not all other handles were joined into it; NO_MEMORY.
- * Returns REFUSED also if `left` has less room than 4,096 jobs for each shard. Unless the code is DONE, the
- * count is 0, and the executor and `left` are unchanged.
+ * if the handle holds nothing or has a job in hand, or if not all other handles were joined into this one;
+ * NO_MEMORY. Returns REFUSED also if `left` has less room than 4,096 jobs for each shard. Unless the code is
+ * DONE, the count is 0, and the executor and `left` are unchanged.
  *
  * Threads: safe beside calls with other handles; two at once with `exec` are undefined behaviour. */
 arachne_exec_left arachne_exec_end(arachne_exec *exec, uint64_t *left, size_t left_room);
 
-/* Frees the seat that a handle holds, if it holds one, and the executor with the last of its handles.
+/* Frees the seat of a handle, if it has one, and the executor with the last of its handles.
  *
  * A job in hand stays at its place for ever, and the other handles can't end the executor any more.
  *
@@ -175,7 +178,8 @@ uint32_t arachne_exec_leave(arachne_exec *exec);
  * Threads: safe beside calls with other handles; two at once with `exec` are undefined behaviour. */
 arachne_exec_told arachne_exec_spawn(arachne_exec *exec, size_t block, uint64_t job);
 
-/* Puts a job at a free place of a block and into the hand, so that nobody else can take it: one try.
+/* Tries once to put a job at a free place of a block and into the handle's hand, so that nobody else can take
+ * the job.
  *
  * Returns RUN with the job's name and number; FULL; LOST; REFUSED if the handle holds nothing or has a job in
  * hand, or if there is no such block.
@@ -198,7 +202,7 @@ uint64_t arachne_exec_shown(arachne_exec *exec, size_t shard);
  * Threads: safe beside calls with other handles; two at once with `exec` are undefined behaviour. */
 uint64_t arachne_exec_ready(arachne_exec *exec, size_t block);
 
-/* Takes a ready job of a block into the hand, whichever worker looks after the block: one try.
+/* Tries once to take a ready job of a block into the handle's hand. Any worker may look after the block.
  *
  * Returns RUN with the job's name and number; AGAIN; REFUSED if the handle holds nothing or has a job in hand,
  * or if there is no such block.
@@ -206,24 +210,26 @@ uint64_t arachne_exec_ready(arachne_exec *exec, size_t block);
  * Threads: safe beside calls with other handles; two at once with `exec` are undefined behaviour. */
 arachne_exec_told arachne_exec_take(arachne_exec *exec, size_t block);
 
-/* Takes up to `most` ready jobs of a block into the hand, by one step; a `most` of 0 counts as 1.
+/* Takes up to `most` ready jobs of one block (64 places) in one atomic step. They are then in the handle's hand:
+ * nobody else can run them. A `most` of 0 counts as 1.
  *
  * Returns the places of the jobs that were taken, a bit for each of the block's 64 places. The job at the lowest
  * place is the newest: calls on the job in hand concern this job, and then the job at the next place, once the
  * newest rests or has ended. `arachne_exec_start` returns the newest job's name and number. Returns 0 if no job
- * was taken, if the handle holds nothing or has a job in hand, or if there is no such block.
+ * was taken, if the handle is empty or has a job in hand already, or if there is no such block.
  *
  * Threads: safe beside calls with other handles; two at once with `exec` are undefined behaviour. */
 uint64_t arachne_exec_take_many(arachne_exec *exec, size_t block, uint32_t most);
 
-/* Begins to run the newest job in hand, of several that were taken at once: uses up a wake that has come by now.
+/* Begins to run the newest job in hand, of several that were taken at once: uses up a wake that has come since
+ * the take.
  *
  * Returns RUN with the job's name and number, or REFUSED if the handle has no job in hand.
  *
  * Threads: safe beside calls with other handles; two at once with `exec` are undefined behaviour. */
 arachne_exec_told arachne_exec_start(arachne_exec *exec);
 
-/* Takes the next job of the worker's blocks into the hand.
+/* Takes the next job of the worker's blocks into the handle's hand.
  *
  * Returns RUN with the job's name and number; PARK; AGAIN; REFUSED if the handle holds nothing, if its seat is
  * no worker, or if a job is in hand.
@@ -231,8 +237,8 @@ arachne_exec_told arachne_exec_start(arachne_exec *exec);
  * Threads: safe beside calls with other handles; two at once with `exec` are undefined behaviour. */
 arachne_exec_told arachne_exec_next(arachne_exec *exec);
 
-/* Sets the worker's idle bit, and then looks if one of its blocks may have ready jobs: the last part of
- * `arachne_exec_next`.
+/* Sets the worker's idle bit, and then checks if a block of the worker may have ready jobs. This is the last
+ * part of `arachne_exec_next`.
  *
  * Returns PARK; AGAIN, with the bit cleared again; REFUSED if the handle holds nothing or its seat is no worker.
  *
@@ -275,7 +281,7 @@ uint32_t arachne_exec_finish(arachne_exec *exec);
  * Threads: safe beside calls with other handles; two at once with `exec` are undefined behaviour. */
 arachne_exec_told arachne_exec_wake(arachne_exec *exec, uint64_t name);
 
-/* Wakes the job of a name, and takes it into the hand if it was blocked: one try.
+/* Tries once to wake the job of a name, and to take the job into the handle's hand if it was blocked.
  *
  * Returns RUN with the job's name and number; MARKED; ALREADY_MARKED; GONE; LOST; REFUSED if the handle holds
  * nothing or has a job in hand.
@@ -285,7 +291,7 @@ arachne_exec_told arachne_exec_wake_here(arachne_exec *exec, uint64_t name);
 
 /* ---- Locks */
 
-/* A seat at a set of locks, or nothing, in C's layout: one pointer, which is null if nothing is held. Begin with
+/* A seat at a set of locks in C's layout: one pointer, which is null if there is no seat. Begin with
  * ARACHNE_LOCKS_NULL. */
 typedef struct {
     void *opaque;
@@ -294,7 +300,7 @@ typedef struct {
 
 /* The answer of a lock. The events of each lock are numbered from 0, modulo 2^64. */
 typedef struct {
-    /* The number of the event: of the grant, the ask, the free or the leave. */
+    /* The number of the event: the grant, the ask, the free or the leave. */
     uint64_t at;
     /* The waiter that holds the lock now, if a free handed it on. The number of that grant is `at` + 1. */
     uint64_t next;
@@ -308,7 +314,7 @@ typedef struct {
  * Threads: safe beside calls with other handles; two at once with `locks` are undefined behaviour. */
 uint32_t arachne_locks_new(arachne_locks *locks, size_t count);
 
-/* Splits off another seat, for another thread, and puts it into `other`.
+/* Splits a seat in two, for another thread: `other` gets the new seat.
  *
  * Returns DONE; REFUSED if `locks` holds nothing or `other` holds something; NO_MEMORY.
  *
@@ -323,12 +329,12 @@ uint32_t arachne_locks_split(arachne_locks *locks, arachne_locks *other);
  * Threads: safe beside calls with other handles; two at once with `locks` or `other` are undefined behaviour. */
 uint32_t arachne_locks_join(arachne_locks *locks, arachne_locks *other);
 
-/* Frees the seat that a handle holds, if it holds one, and the locks with the last of their handles.
+/* Frees the seat of a handle, if it has one, and the locks with the last of their handles.
  *
  * Threads: safe beside calls with other handles; two at once with `locks` are undefined behaviour. */
 void arachne_locks_close(arachne_locks *locks);
 
-/* Asks for a lock for `who`: one try.
+/* Tries once to ask for a lock for `who`.
  *
  * Returns GRANTED; QUEUED; ALREADY_IN; NO_MEMORY, only if `who` would have to wait; CONTENDED; REFUSED if the
  * handle holds nothing or there is no such lock.
@@ -336,7 +342,7 @@ void arachne_locks_close(arachne_locks *locks);
  * Threads: safe beside calls with other handles; two at once with `locks` are undefined behaviour. */
 arachne_lock_told arachne_lock_ask(arachne_locks *locks, size_t lock, uint64_t who);
 
-/* Frees a lock that `who` holds: one try.
+/* Tries once to free a lock that `who` holds.
  *
  * Returns FREED; HANDED_ON, to `next`; NOT_HOLDER; CONTENDED; REFUSED if the handle holds nothing or there is no
  * such lock.
@@ -344,26 +350,26 @@ arachne_lock_told arachne_lock_ask(arachne_locks *locks, size_t lock, uint64_t w
  * Threads: safe beside calls with other handles; two at once with `locks` are undefined behaviour. */
 arachne_lock_told arachne_lock_free(arachne_locks *locks, size_t lock, uint64_t who);
 
-/* Takes `who` out of the queue of a lock, such as when its future is dropped: one try.
+/* Tries once to take `who` out of the queue of a lock, such as when the future of `who` is dropped.
  *
- * Returns LEFT; GRANTED if `who` holds the lock by now, and must free it; NOT_HOLDER; CONTENDED; REFUSED if the
- * handle holds nothing or there is no such lock.
+ * Returns LEFT; GRANTED if `who` was granted the lock meanwhile, and must free it; NOT_HOLDER; CONTENDED;
+ * REFUSED if the handle holds nothing or there is no such lock.
  *
  * Threads: safe beside calls with other handles; two at once with `locks` are undefined behaviour. */
 arachne_lock_told arachne_lock_withdraw(arachne_locks *locks, size_t lock, uint64_t who);
 
-/* Looks if `who` holds a lock: one try.
+/* Tries once to look if `who` holds a lock.
  *
- * Returns GRANTED with the number of its grant; NOT_HOLDER; CONTENDED; REFUSED if the handle holds nothing or
- * there is no such lock.
+ * Returns GRANTED with the number of the grant to `who`; NOT_HOLDER; CONTENDED; REFUSED if the handle holds
+ * nothing or there is no such lock.
  *
  * Threads: safe beside calls with other handles; two at once with `locks` are undefined behaviour. */
 arachne_lock_told arachne_lock_check(arachne_locks *locks, size_t lock, uint64_t who);
 
 /* ---- Ledgers */
 
-/* A share of a set of ledgers, or nothing, in C's layout: one pointer, which is null if nothing is held. Begin
- * with ARACHNE_ADDER_NULL. */
+/* A share of a set of ledgers in C's layout: one pointer, which is null if there is no share. Begin with
+ * ARACHNE_ADDER_NULL. */
 typedef struct {
     void *opaque;
 } arachne_adder;
@@ -393,8 +399,10 @@ bool arachne_ledger_total(arachne_adder *adder, size_t ledger, uint64_t *total);
 
 /* Splits a share in two, for another thread: `other` gets the second part, to which nothing was added.
  *
- * Returns DONE; REFUSED if `adder` holds nothing or `other` holds something; NO_MEMORY. A share may be split 127
- * times in a row. A further split succeeds too, but then no total can be read any more.
+ * Returns DONE; REFUSED if `adder` holds nothing or `other` holds something; NO_MEMORY.
+ *
+ * After more than 127 splits in a row, each of a part of the one before, splits still succeed but no total can
+ * be read.
  *
  * Threads: safe beside calls with other handles; two at once with `adder` or `other` are undefined behaviour. */
 uint32_t arachne_ledger_split(arachne_adder *adder, arachne_adder *other);
@@ -408,7 +416,7 @@ uint32_t arachne_ledger_split(arachne_adder *adder, arachne_adder *other);
  * Threads: safe beside calls with other handles; two at once with `adder` or `other` are undefined behaviour. */
 bool arachne_ledger_join(arachne_adder *adder, arachne_adder *other);
 
-/* Frees the share that a handle holds, if it holds one, and the ledgers with the last of their handles.
+/* Frees the share of a handle, if it has one, and the ledgers with the last of their handles.
  *
  * The other handles can't read a total any more.
  *
@@ -434,7 +442,8 @@ typedef struct {
     uint64_t elapsed;
 } arachne_sample;
 
-/* Makes an estimator that has seen no sample. Returns false, with nothing changed, if `max` is greater than 64.
+/* Makes an estimator that no sample was given to yet. Returns false, with nothing changed, if `max` is greater
+ * than 64.
  *
  * Threads: safe beside calls with other memory; two at once with `estimator` are undefined behaviour. */
 bool arachne_estimator_new(uint64_t up, uint64_t hysteresis, uint64_t max, arachne_estimator *estimator);

@@ -35,7 +35,7 @@ enum {
     ARACHNE_GRANTS_HELLO = 3,
     /* A kernel thread joins its client. */
     ARACHNE_GRANTS_JOIN = 4,
-    /* A thread gives its core back, if it has one, and waits for another. */
+    /* A thread gives its core back, if it has one, and waits for another core. */
     ARACHNE_GRANTS_WAIT = 5,
     /* A client asks for a number of cores. */
     ARACHNE_GRANTS_ASK = 6,
@@ -53,11 +53,11 @@ enum {
     ARACHNE_GRANTS_UNUSED = 12,
     /* There is nothing to do. */
     ARACHNE_GRANTS_NOTHING = 13,
-    /* The core was taken from the thread: move the thread away from it. */
+    /* The core was taken from the thread: move the thread away from the core. */
     ARACHNE_GRANTS_TAKEN = 14,
-    /* The thread, which floats, was given the core: move the thread there. */
+    /* The core was given to the thread, which floats: move the thread to the core. */
     ARACHNE_GRANTS_PLACED = 15,
-    /* The thread, which waited, was given the core: move the thread there, and notify it. */
+    /* The core was given to the thread, which waited: move the thread to the core, and notify the thread. */
     ARACHNE_GRANTS_GRANTED = 16,
 };
 
@@ -65,8 +65,8 @@ enum {
 
 /* A message of a client. Fields that the message does not use are 0. */
 typedef struct {
-    /* HELLO, JOIN, WAIT or ASK if the bytes begin with such a message. If the bytes begin with no message, the
-     * reason for that. */
+    /* HELLO, JOIN, WAIT or ASK if the bytes begin with such a message; otherwise the code of the reason why they
+     * don't. */
     uint32_t code;
     uint32_t priority;
     uint32_t reserved;
@@ -81,15 +81,14 @@ typedef struct {
 /* Reads the message at the beginning of the bytes.
  *
  * Returns HELLO, JOIN, WAIT or ASK; SHORT if there are fewer than 16 bytes; otherwise KIND, VERSION, PRIORITY,
- * PLACE or UNUSED, by the first of its four numbers that is not valid.
+ * PLACE or UNUSED, by the first of the message's four numbers that is not valid.
  *
  * Threads: safe beside any call, if nobody writes to `bytes` meanwhile. */
 arachne_message arachne_message_read(const uint8_t *bytes, size_t bytes_count);
 
 /* ---- The arbiter */
 
-/* An arbiter, or nothing, in C's layout: one pointer, which is null if nothing is held. Begin with
- * ARACHNE_ARBITER_NULL. */
+/* An arbiter in C's layout: one pointer, which is null if there is no arbiter. Begin with ARACHNE_ARBITER_NULL. */
 typedef struct {
     void *opaque;
 } arachne_arbiter;
@@ -119,15 +118,16 @@ typedef struct {
  * Threads: safe beside calls with other handles; two at once with `arbiter` are undefined behaviour. */
 uint32_t arachne_arbiter_new(arachne_arbiter *arbiter, uint32_t cores);
 
-/* Frees the arbiter that a handle holds, if it holds one.
+/* Frees the arbiter of a handle, if it has one.
  *
  * Threads: safe beside calls with other handles; two at once with `arbiter` are undefined behaviour. */
 void arachne_arbiter_close(arachne_arbiter *arbiter);
 
-/* Adds a client with its priority (0 goes first), and the cores that it reserves and may ask for at most.
+/* Adds a client with its priority (0 goes first), the cores that it reserves, and the most cores that it may ask
+ * for.
  *
- * The client's number is from 0 to 63, and no other client's. Returns DONE or REFUSED. The caller must check
- * that the client is entitled to this priority and these cores.
+ * `client`, the client's number, must be from 0 to 63, and no other client's. Returns DONE or REFUSED. The
+ * caller must check that the client is entitled to this priority and these cores.
  *
  * Threads: safe beside calls with other handles; two at once with `arbiter` are undefined behaviour. */
 uint32_t arachne_arbiter_hello(arachne_arbiter *arbiter, size_t client, uint8_t priority, uint32_t reserved, uint32_t most);
@@ -148,7 +148,7 @@ uint32_t arachne_arbiter_leave(arachne_arbiter *arbiter, size_t client);
  * Threads: safe beside calls with other handles; two at once with `arbiter` are undefined behaviour. */
 uint32_t arachne_arbiter_join(arachne_arbiter *arbiter, size_t client, size_t place, bool floats);
 
-/* Takes the core from a thread, if it has one, and lets the thread wait until it is granted one.
+/* Takes the core from a thread, if it has one, and lets the thread wait until a core is granted to it.
  *
  * Returns DONE, or REFUSED if the thread floats or waits already, or does not exist.
  *
@@ -165,14 +165,14 @@ uint32_t arachne_arbiter_end(arachne_arbiter *arbiter, size_t client, size_t pla
  * Threads: safe beside calls with other handles; two at once with `arbiter` are undefined behaviour. */
 uint32_t arachne_arbiter_decide(arachne_arbiter *arbiter);
 
-/* Takes a core from a client that has more than it may have: from its last thread that has one.
+/* Takes a core from a client that has more cores than it may have: from its last thread that has a core.
  *
  * If that thread floats, the core is taken at once, otherwise only if `late` is set. Returns TAKEN or NOTHING.
  *
  * Threads: safe beside calls with other handles; two at once with `arbiter` are undefined behaviour. */
 arachne_action arachne_arbiter_take_back(arachne_arbiter *arbiter, size_t client, bool late);
 
-/* Gives a free core to a thread that can take one, of a client that has fewer than it may have.
+/* Gives a free core to a thread that can take one, of a client that has fewer cores than it may have.
  *
  * A client of higher priority goes first. Returns GRANTED if the thread waited, PLACED if it floats, or NOTHING.
  *

@@ -36,7 +36,7 @@ const MOST: usize = 16;
 const STEPS: u64 = 300_000;
 const KEPT: usize = 1 << 12;
 const LONGEST: u64 = 10_000_000_000;
-/// After this many points a thread always drops behind all others: it may wait for one of them in a loop.
+/// After this many points a thread always drops behind all others: it may wait in a loop for one of them.
 const PATIENCE: u64 = 3000;
 const START: u64 = 1_000_000_000;
 const NEVER: u64 = u64::MAX;
@@ -106,7 +106,7 @@ struct World {
     stirred: Cell<bool>,
     events: UnsafeCell<[Event; KEPT]>,
 }
-// SAFETY: whoever runs has it for itself, and hands it on by `goes_on`.
+// SAFETY: only the running thread uses it, and hands it to the next by `goes_on`.
 unsafe impl Sync for World {}
 
 static WORLD: AtomicPtr<World> = AtomicPtr::new(std::ptr::null_mut());
@@ -117,7 +117,7 @@ thread_local! {
 
 #[inline]
 fn world() -> &'static World {
-    // SAFETY: `prepare` made it for ever.
+    // SAFETY: `prepare` has made it, and it is never freed.
     unsafe { &*WORLD.load(Relaxed) }
 }
 
@@ -372,14 +372,14 @@ pub fn fail(what: &str) -> ! {
     }
     let (load, seed) = (world.load.get(), world.seed.get());
     text += &format!("FAILED {load} seed {seed} after {steps} points: {}\n", what.replace('\n', " "));
-    // Where nobody reads it, that is no failure of its own.
+    // If nobody reads the text, that is no failure.
     let _ = std::io::stdout().write_all(text.as_bytes());
     // SAFETY: a call with a number alone. No destructor may run.
     unsafe { _exit(1) }
 }
 
-/// Prepares the process for the first run. All threads stay on one processor, so that one wakes another for little; a
-/// panic on any, and a fault, ends the process. `clean` frees what a kernel thread keeps for its next calls.
+/// Prepares the process for the first run. All threads stay on one processor, so that one wakes another cheaply. A
+/// panic on any thread, and a fault, end the process. `clean` frees what a kernel thread keeps for its next calls.
 pub fn prepare(clean: fn()) {
     extern "C" fn fault(_: i32) {
         fail("a fault: something was used after it was freed, most likely");
@@ -469,7 +469,7 @@ pub fn lose_processor(points: usize, time: std::time::Duration) {
     world.alarm.set(world.alarm.get().min(from));
 }
 
-/// Returns a number below `count`, by the seed.
+/// Returns a number below `count`, determined by the seed.
 pub fn choose(count: usize) -> usize {
     world().random() as usize % count
 }

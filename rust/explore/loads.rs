@@ -41,7 +41,7 @@ impl Count {
     }
 }
 
-/// Tasks come from outside as workers fall asleep: each runs once.
+/// Tasks are spawned from outside as workers fall asleep: each task runs once.
 fn sleepers() {
     let (runtime, ran) = (runtime(2), Arc::new(Count::default()));
     for round in 0..3 {
@@ -237,11 +237,11 @@ fn resets() {
     assert!(now() + 100_000 >= until && now() < until + SOON, "{} us", (now() as i64 - until as i64) / 1000);
 }
 
-/// Nanoseconds of virtual time, in which no machine is late, within which what is ready begins.
+/// Nanoseconds of virtual time, in which no machine is late, within which a ready task must begin.
 const SOON: u64 = 5_000_000;
 
-/// Ready tasks behind a poll of 200 ms begin soon: those in its worker's hand, the one to run next, and those that the
-/// poll makes ready.
+/// Ready tasks behind a poll of 200 ms begin soon: the tasks in its worker's hand, the task to run next, and the tasks
+/// that the poll makes ready.
 fn behind() {
     let (runtime, begun) = (runtime(2 + choose(2)), Arc::new(Count::default()));
     let each = begun.clone();
@@ -270,7 +270,8 @@ fn behind() {
     begun.is(8);
 }
 
-/// A worker has a task in hand, makes one ready in its blocks, and begins a long poll: a free worker runs one at once.
+/// A worker has a task in hand, makes another ready in its blocks, and begins a long poll: a free worker runs one at
+/// once.
 fn apart() {
     let (runtime, begun) = (runtime(2), Arc::new(Mutex::new(Vec::new())));
     thread::sleep(choose(12) as u32 * MS);
@@ -289,13 +290,13 @@ fn apart() {
     assert!(late < 300_000, "after {} us", late / 1000);
 }
 
-/// A worker loses its processor as it ends a poll, or a little later: all tasks that are ready there begin soon, but
-/// for the one that it has taken to run.
+/// A worker loses its processor as it ends a poll, or a little later: all tasks that are ready on it begin soon, except
+/// for the task that it has taken to run.
 fn stands() {
     stands_on(runtime(2 + choose(2)));
 }
 
-/// The same of the only worker with a core, for which another one covers.
+/// The same for the only worker with a core, for which another worker covers.
 fn covered() {
     let runtime = runtime(2 + choose(2));
     arachne::set_active(&runtime, 1);
@@ -359,7 +360,7 @@ fn relief() {
     ran.is(4);
 }
 
-/// A worker that wakes each millisecond for its own task looks after one whose poll waits for a ready task to run.
+/// A worker that wakes each millisecond for its own task looks after a worker whose poll waits for a ready task to run.
 fn ticks() {
     let (runtime, ran) = (runtime(2), Arc::new(Count::default()));
     let ticking = runtime.spawn(async {
@@ -384,7 +385,8 @@ fn ticks() {
     assert!(runtime.block_on(ticking).unwrap_err().is_cancelled());
 }
 
-/// A worker wakes for a timer that is gone as a task comes to its blocks, which waits for a task that it has spawned.
+/// A worker wakes for a timer that is gone as a task comes to its blocks. The task waits for a task that it has
+/// spawned.
 fn stale() {
     let (runtime, mut waits, due) = (runtime(2 + choose(2)), sleep(40 * MS), now() + 40_000_000);
     let _ = runtime.enter(|| poll(&mut waits, &Arc::default()));
@@ -400,15 +402,15 @@ fn stale() {
     runtime.block_on(task).unwrap();
 }
 
-/// A worker whose tasks take some 50 us each and yield helps one that is in a long poll: it soon runs what is next
-/// there, and its own tasks have their turns, however much that poll makes ready.
+/// A worker whose tasks take some 50 us each and yield helps a worker that is in a long poll. It soon runs the task
+/// that is next there, and its own tasks have their turns, however many tasks that poll makes ready.
 fn phases() {
     let runtime = Builder::new(2).places(512).slices(None).build().unwrap();
     let (begun, ended) = (Arc::new(Count::default()), Arc::new(Count::default()));
     let (begins, ends, many) = (begun.clone(), ended.clone(), choose(2) * 80);
     let task = runtime.spawn(async move {
         begins.add();
-        // Until the other is busy.
+        // Until the other worker is busy.
         thread::sleep(5 * MS);
         let since = now();
         let next = spawn(async move {
@@ -510,8 +512,8 @@ impl Drop for Counted {
     }
 }
 
-/// An orderly end: all who wait for it are woken, even one that begins to wait at that moment or changes its waker, and
-/// tasks that are spawned then.
+/// An orderly end: all who wait for it are woken, even a task that begins to wait at that moment or changes its waker,
+/// and tasks that are spawned then.
 fn drain() {
     let (runtime, ended) = (runtime(2), Arc::new(Count::default()));
     for yields in 0..2 {
@@ -580,7 +582,7 @@ fn own() {
     dropped.await_all(2);
 }
 
-/// More tasks than places: all those with a place wait for one that gets its place only when another ends.
+/// More tasks than places: all tasks with a place wait for a task that gets its place only when another task ends.
 fn room() {
     let (runtime, gate) = (runtime(2), Arc::new(Semaphore::new(0)));
     let mut tasks: Vec<JoinHandle<()>> = Vec::new();
@@ -595,8 +597,8 @@ fn room() {
     }
 }
 
-/// Three senders at a full channel of one: no value is lost, each sender's values are in order, and a sender that got
-/// its turn and found the channel full again is next.
+/// Three senders at a full channel of one value: no value is lost, each sender's values are in order, and a sender that
+/// got its turn and found the channel full again is next.
 fn channels() {
     let (sender, receiver) = channel(1);
     sender.try_send(0).unwrap();
@@ -657,7 +659,7 @@ fn leaving() {
     runtime.block_on(gate.acquire()).unwrap().forget();
 }
 
-/// Timers of a worker, and those of another thread: none early, and none late by more than a millisecond.
+/// Timers of a worker, and of another thread: none fires early, and none is late by more than a millisecond.
 fn timers() {
     let runtime = runtime(2);
     let sleeps = |millis: u32| async move {
@@ -721,7 +723,7 @@ fn returned() {
     }
 }
 
-/// Cores come and go at any time, as under an arbiter: tasks that are ready by then are run at once.
+/// Cores are given and taken at any time, as under an arbiter: ready tasks are run at once.
 fn granted() {
     let runtime = Builder::new(3).places(12).slices(None).build().unwrap();
     for _ in 0..3 {
@@ -745,7 +747,8 @@ fn granted() {
     }
 }
 
-/// Sockets come and go: an event of a closed one doesn't reach the next one of its number, which would read in vain.
+/// Sockets are opened and closed: an event of a closed socket doesn't reach the next socket of its number, whose task
+/// would read in vain.
 fn sockets() {
     let runtime = runtime(2);
     for round in 0..2 {
@@ -804,7 +807,7 @@ fn crowd() {
     assert!(read == 3 || leaves && read == 2);
 }
 
-/// A lock that three tasks want, one of which may leave the line; and work on the blocking pool.
+/// A lock that three tasks want, one of which may leave the line of waiters; and work on the blocking pool.
 fn locks() {
     let (runtime, lock, inside) = (runtime(2), Arc::new(Lock::new(0)), Arc::new(Mutex::new(false)));
     let tasks: Vec<_> = (0..3)

@@ -111,12 +111,12 @@ pub struct Mutex<T: ?Sized> {
     held: Cell<u64>,
     value: UnsafeCell<T>,
 }
-// SAFETY: as of std's: one thread at a time runs, and has the guard.
+// SAFETY: as for std's: one thread at a time runs, and has the guard.
 unsafe impl<T: ?Sized + Send> Sync for Mutex<T> {}
 
 pub struct MutexGuard<'a, T: ?Sized>(&'a Mutex<T>);
 
-/// Returns the object's address, for which a thread waits that waits for the object.
+/// Returns the object's address, which stands for the object that a thread waits for.
 fn id<T: ?Sized>(of: &T) -> usize {
     of as *const T as *const u8 as usize
 }
@@ -187,7 +187,7 @@ impl<T> RwLock<T> {
 
 #[derive(Default)]
 pub struct Condvar(Cell<u64>);
-// SAFETY: as of `Mutex`.
+// SAFETY: as for `Mutex`.
 unsafe impl Sync for Condvar {}
 pub struct WaitTimeoutResult(bool);
 impl WaitTimeoutResult {

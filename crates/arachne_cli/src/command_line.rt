@@ -39,13 +39,13 @@ pub enum SerialRequest {
 /// The settings of a run.
 #[derive(Debug, Drop)]
 pub struct RunSettings {
-    /// The number of cores. Any number is accepted here; the run later refuses a number that it cannot have.
+    /// The number of cores. The command line accepts any number; the run later refuses a number that it can't have.
     pub cores: u64,
-    /// The seed of the random generators by which each core's forks choose a core.
+    /// The seed of the random generators (one for each core) by which forks choose a core.
     pub seed: u64,
-    /// The maximum number of steps of a slice. Any number is accepted here, as for `cores`.
+    /// The maximum number of steps of a slice. The command line accepts any number, as for `cores`.
     pub quantum: u64,
-    /// The number of threads for which each core has a place. Any number is accepted here, as for `cores`.
+    /// The number of threads for which each core has a place. The command line accepts any number, as for `cores`.
     pub slots: u64,
     /// True if a line for each thread is printed.
     pub names: bool,
@@ -290,7 +290,7 @@ fn is_flag_set(matches: &ArgMatches<'_>, flag: &str) -> bool
     }
 }
 
-/// Returns the number of an option, if it has one that fits 64 bits.
+/// Returns the number of an option, if it has a number that fits 64 bits.
 fn number_in(matches: &ArgMatches<'_>, option: &str) -> Option<u64>
     ensures { result ≡ number_under option.now (rows_of (found_of matches.now)) }
 {

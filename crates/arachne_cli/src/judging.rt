@@ -12,8 +12,8 @@ use arachne_policy::{Estimator, Sample};
 use std::alloc::Global;
 use std::fmt::Write;
 
-/// The settings for judging samples: the load above which a core is requested, the hysteresis for giving one back, and
-/// the maximum number of cores.
+/// The settings for judging samples: the load above which a core is requested, the hysteresis for giving a core back,
+/// and the maximum number of cores.
 #[derive(Clone, Copy, Debug, PartialEq, Eq)]
 pub struct Settings {
     pub up: u64,
@@ -27,7 +27,7 @@ pub fn judgement(alloc: Global, text: &[u8], settings: Settings) -> Result<Strin
     requires most { settings.max ≤ MAX_CORES }
     ensures answers { IfOk result (λ output. IsAnswer (SerialRequest.Policy settings) text.now (string_bytes output)) }
     ensures cause { IfErr result (λ fault. (fault ≢ Fault.Write) × IsCause (SerialRequest.Policy settings) text.now fault) }
-    // By then the text has been read.
+    // The text has been read already.
     ensures not_read { IfErr result (λ fault. fault ≢ Fault.Read) }
 {
     let samples = match read_samples(alloc, text) {
@@ -37,7 +37,7 @@ pub fn judgement(alloc: Global, text: &[u8], settings: Settings) -> Result<Strin
     judge(alloc, settings, samples.as_slice())
 }
 
-/// Returns a line for each sample, with the core policy's advice, which depends on the samples before it too.
+/// Returns a line for each sample, with the core policy's advice on it after the samples before it.
 ///
 /// Fails at the first sample that cannot be judged, or if memory is refused.
 fn judge(alloc: Global, settings: Settings, samples: &[Sample]) -> Result<String, Fault>

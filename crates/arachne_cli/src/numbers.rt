@@ -5,7 +5,7 @@ ghost use Rattle.arachne_cli.specs.Reading.{Gives};
 
 use arachne_lang::TextFault;
 
-/// The reason why reading stops, with the bytes from there on.
+/// The reason why reading stops, with the bytes from that place on.
 #[derive(Clone, Copy)]
 pub enum ReadingStop<'t> {
     /// The text departs from the grammar, or ends too early.

@@ -8,7 +8,7 @@ ghost use Rattle.arachne_cli.specs.Orders.{FitsWords, HasReadKind, order_word};
 use crate::numbers::{figures, number, word};
 use arachne_policy::{CoreOrder, OrderKind};
 
-/// Returns the order that a word of the command line spells, such as `250:grant:3`, if it spells one.
+/// Returns the order that a word of the command line spells, such as `250:grant:3`, if the word spells one.
 pub fn read_order(spelled: &str) -> Option<CoreOrder>
     ensures { (order : Order) → (result ≡ Some order) ↔ (FitsWords order × (order_word order ≡ spelled.now)) }
 {

@@ -20,7 +20,7 @@ pub fn read_samples(alloc: Global, text: &[u8]) -> Result<Vec<Sample>, TextFault
     // Any spelling of samples in range is read, unless memory is refused.
     ensures every_text { (samples : List Measured) → AreInRange samples → samples_text samples ≡ text.now
         → MatchResult result (λ read. read.items ≡ samples) IsOfMemory }
-    // A fault is the first one of the text, unless memory is refused.
+    // A fault that is returned is the first fault of the text, unless memory is refused.
     ensures first_fault { IfErr result (λ fault. (fault ≡ TextFault.Memory) ⊎ IsFirstFault text.now fault) }
     // A text with a first fault is refused with that fault, unless memory is refused.
     ensures every_fault { (first : Fault) → IsFirstFault text.now first → IsErrAnd result (λ fault. (fault ≡ TextFault.Memory) ⊎ (fault ≡ first)) }

@@ -78,7 +78,7 @@ pub fn checked_program(alloc: Global, text: &[u8]) -> Result<Program, Fault>
 ///
 /// The first of the words is the program's own name. The status is 0 if all went well, and 1 if there was a fault,
 /// whose line goes to the faults stream. The status is 2 if the words were not understood or ask for a run. Nothing is
-/// written to the output before all of it is known.
+/// written to the output before the whole output is known.
 pub fn drive<S: AsStr, I: Read, W: Write, E: Write>(
     alloc: Global,
     words: &[S],

@@ -3,7 +3,7 @@ use arachne_exec::Executor;
 use arachne_shortage::Hoard;
 use std::test::Fail;
 
-/// The most tries, and the number of bytes by which the memory grows for each.
+/// The most tries, and the number of bytes by which the memory grows for each try.
 const TRIES: usize = 200;
 
 const BYTES: usize = 2_000;

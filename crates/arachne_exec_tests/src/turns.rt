@@ -73,8 +73,8 @@ fn end_one(executor: &Executor, seat: &mut ExecSeat, block: usize)
     }
 }
 
-/// Spawns a job at a block, takes it and ends it, so that the block has its bit in the summary word although it has no
-/// job.
+/// Spawns a job at a block, takes the job and ends it, so that the block has its bit in the summary word although it
+/// has no job.
 fn pass_by(executor: &Executor, seat: &mut ExecSeat, block: usize)
     requires own { seat.old.table ≡ executor.now.table }
     requires block { block < 64 * executor.now.shards }
@@ -108,7 +108,7 @@ fn a_worker_goes_round_its_shards(rt: HostRuntime) -> Result<(), Fail> {
     executor.spawn(&mut other, 4096, 1);
     executor.spawn(&mut other, 4096, 2);
     assert!(rt; run_again(&executor, &mut seat) == 1);
-    // The turn is in the second shard now, where no job is left.
+    // The turn is in the second shard now, in which no job is left.
     end_one(&executor, &mut other, 4096);
     end_one(&executor, &mut other, 4096);
     executor.spawn(&mut other, 0, 4);

@@ -51,8 +51,8 @@ const MOST_LIVE: u32 = 8;
 
 /// Makes room for a ticket, if room is wanted and the queue is full.
 ///
-/// Drops the tickets of children that no longer wait, the oldest first. A ticket of a child that still waits goes to the
-/// end of the queue.
+/// Drops the tickets of children that no longer wait, the oldest first. A ticket of a child that still waits goes to
+/// the end of the queue.
 pub fn make_room<R: Wait, K: RunTicket>(
     rt: &R,
     tickets: &SpillQueue<K>,

@@ -23,8 +23,8 @@ const MOST_LOCKS: u8 = 16;
 
 /// Checks that a program may run.
 ///
-/// Checks first its nesting, then the limits, then its nodes in the order of the text, a node before its parts. Returns
-/// the first fault. Takes no memory. Parts that are nested deeper than is allowed take no stack.
+/// Checks first the program's nesting, then the limits, then its nodes in the order of the text, a node before its
+/// parts. Returns the first fault. Takes no memory. Parts that are nested deeper than is allowed take no stack.
 pub fn check(program: &Program) -> Result<(), CheckFault>
     ensures { result ≡ verdict_of (source_of program.now) }
 {
@@ -97,8 +97,8 @@ fn have_items_within(arrays: &[Vec<u64>], items: usize) -> bool
     true
 }
 
-/// Returns `nodes` less the number of nodes of an expression, or `None` if the expression has more. Stops at the node
-/// that is one too many.
+/// Returns `nodes` less the number of nodes of an expression, or `None` if the expression has more nodes. Stops at the
+/// first node that is too many.
 #[tactic(auto, using(crate::proofs::NodesJudged::node_count_positive))]
 fn nodes_left(expr: &Expr, nodes: u64) -> Option<u64>
     ensures { SomeIff result (node_count (tree_of expr.now) ≤ nodes) (nodes - node_count (tree_of expr.now)) }
@@ -147,7 +147,7 @@ impl<'p> Scope<'p> {
         array < self.program.arrays.len() as u64
     }
 
-    /// Checks the root of an expression, which is the node of number `node`, and none of its parts.
+    /// Checks the root of an expression, which is the node number `node`, and none of its parts.
     fn judge(self, expr: &Expr, node: u64) -> Result<(), CheckFault>
         ensures { result ≡ first_fault node (take 1
             (node_faults (source_of self.entry.program.now) self.entry.within self.entry.bound (tree_of expr.now))) }
@@ -202,7 +202,8 @@ impl<'p> Scope<'p> {
         }
     }
 
-    /// Checks the nodes of two parts, like `check`: those of `a`, and then those of `b`, which is in the scope `last`.
+    /// Checks the nodes of two parts, like `check`: the nodes of `a`, and then those of `b`, which is in the scope
+    /// `last`.
     #[cycle(judging)]
     fn two(self, a: &Expr, last: Scope, b: &Expr, node: u64) -> Result<u64, CheckFault>
         requires nodes { node + node_count (tree_of a.now) + node_count (tree_of b.now) ≤ MOST_NODES }

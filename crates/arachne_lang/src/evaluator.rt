@@ -35,7 +35,7 @@ impl Own {
         })
     }
 
-    /// Returns the name of the thread's next child, and counts it.
+    /// Returns the name of the thread's next child, and counts the child.
     fn fork(&mut self, alloc: Global) -> Result<Name, AllocError>
         requires { self.old.forks + 1 < 2 ^ 64 }
         ensures name { IfOk result (λ name. name ≡ self.old.name ++ self.old.forks ∷ []) }
@@ -124,8 +124,8 @@ impl Evaluator<'_> {
         }
     }
 
-    /// Evaluates an expression in a new thread. The thread's line is the next one, and the lines of its descendants
-    /// follow.
+    /// Evaluates an expression in a new thread. The thread's line comes next in the list, and the lines of its
+    /// descendants follow.
     #[cycle(evaluation)]
     fn run(&self, shared: &mut Shared, name: Name, expr: &Expr) -> Result<u64, AllocError>
         requires { MayFork (tree_of expr.now) 0 shared.old.lines.items }

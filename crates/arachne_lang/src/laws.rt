@@ -22,7 +22,7 @@ pub fn accepted_texts_have_no_fault()
     ensures { (program : Source) → (fault : TextFault) → IsAccepted program → ¬ HasFault (text_of program) fault }
 {}
 
-/// The law that every text is that of an accepted program, or has a first fault.
+/// The law that every text is the text of an accepted program, or has a first fault.
 pub fn other_texts_have_a_first_fault()
     ensures { (bytes : List ℕ) → ((program : Source) × IsAccepted program × (text_of program ≡ bytes)) ⊎ ((first : TextFault) × IsFirstFault bytes first) }
 {}

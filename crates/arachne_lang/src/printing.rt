@@ -11,7 +11,7 @@ use arachne_program::{Class, Expr, Operation, Program, Reduction};
 use itoa::Buffer;
 use std::alloc::{AllocError, Global};
 
-/// Returns the text of a program; each program has exactly one.
+/// Returns the text of a program. Each program has exactly one text.
 ///
 /// The time is linear in the bytes of the text. Memory is taken only for the text, as it grows.
 pub fn print(alloc: Global, program: &Program) -> Result<Vec<u8>, AllocError>
@@ -57,7 +57,7 @@ fn push_number(text: &mut Vec<u8>, number: u64) -> Result<(), AllocError>
     Ok(())
 }
 
-/// Returns the word that the form of an operation begins with.
+/// Returns the word with which the form of an operation begins.
 fn word_of(operation: Operation) -> &'static [u8]
     ensures { result.now ≡ operation_word operation }
 {
@@ -212,7 +212,7 @@ fn push_opening(text: &mut Vec<u8>, word: &[u8], number: Option<u64>) -> Result<
     Ok(())
 }
 
-/// Returns the words that a fork begins with.
+/// Returns the words with which a fork begins.
 fn fork_words(class: Class) -> &'static [u8]
     ensures { result.now ≡ codes "fork" ++ 32 ∷ class_word class }
 {
@@ -222,7 +222,7 @@ fn fork_words(class: Class) -> &'static [u8]
     }
 }
 
-/// Returns the words that a sweep begins with.
+/// Returns the words with which a sweep begins.
 fn sweep_words(reduction: Reduction) -> &'static [u8]
     ensures { result.now ≡ codes "sweep" ++ 32 ∷ reduction_word reduction }
 {

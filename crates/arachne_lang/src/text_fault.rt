@@ -1,7 +1,7 @@
-//! The error of a text that is not that of a program.
+//! The error of a text that is not the text of a program.
 use thiserror::Error;
 
-/// The reason why a text was refused. Each fault of the text carries the index of the byte at which it stands, from 0.
+/// The reason why a text was refused. Each fault of the text has the index, from 0, of the byte at which it stands.
 #[derive(Clone, Copy, Debug, PartialEq, Eq, Error)]
 pub enum TextFault {
     /// Memory was refused. The text may be right or wrong.

@@ -20,7 +20,7 @@ fn poll(polls_left: &mut u64) -> Option<()> {
     Some(())
 }
 
-/// Asks for a lock, and polls until it is held. Returns the number of the grant.
+/// Asks for a lock, and polls until the thread holds it. Returns the number of the grant.
 fn enter(
     locks: &Locks,
     seat: &mut LockSetSeat,
@@ -47,7 +47,7 @@ fn enter(
     None
 }
 
-/// Frees a lock. Returns `None` if the lock wasn't held.
+/// Frees a lock. Returns `None` if the thread didn't hold the lock.
 fn leave(
     locks: &Locks,
     seat: &mut LockSetSeat,

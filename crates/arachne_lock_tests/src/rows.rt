@@ -22,7 +22,7 @@ type Answer = (&'static str, u64, Option<u64>);
 /// A row: the call, the lock, the number of the task, and the expected result.
 type Row = (Call, usize, u64, Answer);
 
-/// Task 7 holds lock 0, tasks 8 and 9 wait, and task 8 leaves, so task 9 is next. Lock 1 has its own count of events.
+/// Task 7 holds lock 0, tasks 8 and 9 wait for it, and task 8 leaves, so task 9 is next. Lock 1 counts its own events.
 const ROWS: &[Row] = &[
     (Call::Ask, 0, 7, ("granted", 1, None)),
     (Call::Ask, 0, 8, ("queued", 2, None)),
@@ -75,7 +75,7 @@ fn told_check(checked: Option<u64>) -> Answer {
     }
 }
 
-/// Returns the result of a call, or `None` if the lock was found taken.
+/// Returns the result of a call, or `None` if another call was using the lock.
 fn answer_to(
     locks: &Locks,
     seat: &mut LockSetSeat,

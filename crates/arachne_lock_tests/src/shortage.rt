@@ -1,5 +1,5 @@
-//! Locks without memory: a free lock can be held and freed, and each refused ask for a lock that is held leaves the
-//! lock as it was.
+//! Locks without memory: a free lock can be held and freed, and each refused ask for a lock that has a holder leaves
+//! the lock as it was.
 ghost use Rattle.std.specs.Prelude.{◌≡◌, ◌<◌, IfOk};
 ghost use Rattle.arachne_lock.specs.Views.{IsSeatOf, IsLockAt};
 
@@ -30,7 +30,7 @@ fn is_held_and_freed(locks: &Locks, seat: &mut LockSetSeat, lock: usize) -> bool
     )
 }
 
-/// Has each task of the crowd ask for `lock`, again and again until there is memory for it.
+/// Has each task of the crowd ask for `lock`, again and again until there is memory for the ask.
 ///
 /// Returns the number of refusals, if each left the lock as it was.
 fn all_ask(locks: &Locks, seat: &mut LockSetSeat, lock: usize, hoard: &mut Hoard) -> Option<u64>
@@ -74,7 +74,8 @@ fn all_free(locks: &Locks, seat: &mut LockSetSeat, lock: usize) -> u64
     freed
 }
 
-// Under `rt try --test --fail-alloc N` the Nth allocation is refused. A call that fails so is repeated once.
+// Under `rt try --test --fail-alloc N` the Nth allocation is refused. A call that fails because of this is repeated
+// once.
 fn make(alloc: Global) -> Result<(Locks, LockSetSeat), AllocError>
     ensures { IfOk result (λ made. IsSeatOf made.0 made.1 × (made.0.count ≡ 1)) }
 {

@@ -7,8 +7,8 @@ use crate::thread_lines::ThreadLines;
 use arachne_program::{Name, Program, Sequence};
 use std::marker::Model;
 
-/// The outcome of a thread that has ended: its value, the ledger sums, and the lines of itself and of its descendants.
-/// This outcome is the one that the program's meaning gives for the thread of that name.
+/// The outcome of a thread that has ended: its value, the ledger sums, and the lines of the thread and of its
+/// descendants. It is the outcome that the program's meaning gives for the thread of that name.
 #[derive(Debug, Drop)]
 pub struct Outcome<'p> {
     pub(crate) program: &'p Program,
@@ -36,7 +36,7 @@ pub struct OutcomeParts {
     pub value: u64,
     /// For each ledger, its sum, modulo 2^64.
     pub sums: Sequence<u64>,
-    /// The thread's own line, then those of its descendants.
+    /// The thread's own line, then the lines of its descendants.
     pub lines: ThreadLines,
 }
 

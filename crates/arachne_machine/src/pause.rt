@@ -9,7 +9,7 @@ use thiserror::Error;
 pub enum Pause<'p> {
     /// The budget is used up. Advance the thread again.
     Budget,
-    /// The thread forks a child of this class. Give the child away and call `forked`, or hand it to `in_place`.
+    /// The thread forks a child of this class. Take the child and call `forked`, or hand the child to `in_place`.
     Forks(Class, Thread<'p>),
     /// The thread awaits the outcome of a child. Hand that outcome to `joined`, or hand the child to `in_place`.
     Joins,
@@ -23,7 +23,7 @@ pub enum Pause<'p> {
     Ended,
 }
 
-/// A pause that is not answered yet.
+/// A pause that was not answered yet.
 #[derive(Clone, Copy, Debug, PartialEq, Eq)]
 pub enum Pending {
     Forks,
@@ -61,7 +61,7 @@ impl<O> fmt::Debug for NotJoined<O> {
 /// The reason why a child was not placed. The child is returned with the reason.
 #[derive(Drop, Error)]
 pub enum NotPlaced<'p> {
-    /// The child is not the awaited one.
+    /// The child is not the awaited child.
     #[error("another thread")]
     Foreign(Thread<'p>),
     /// Memory was refused.

@@ -1,4 +1,4 @@
-//! Children that were handed back to run in their parent's place, and have not begun there.
+//! Children that were handed back to run in their parent's place, and have not begun.
 use crate::frame::Control;
 use crate::line::Ran;
 use crate::placing::Placing;
@@ -10,13 +10,13 @@ use std::alloc::AllocError;
 /// A child that was not placed, with the reason.
 #[derive(Drop)]
 pub enum Unplaced<'p> {
-    /// The child is not the awaited one.
+    /// The child is not the awaited child.
     Foreign(Box<State<'p>>),
     /// Memory was refused.
     Memory(Box<State<'p>>),
 }
 
-/// The steps of a thread with the children that were handed back to it. The newest child is the last.
+/// The steps of a thread with the children that were handed back to it. The newest child is the last of `placed`.
 impl<'p> State<'p> {
     ghost use Rattle.std.specs.Prelude.{◌≡◌, ◌≤◌, None, Some, true, All, IfOk, OnOk, OnErr};
     ghost use Rattle.arachne_machine.specs.declared.pause.Pending.TheVariants as pause;
@@ -44,8 +44,8 @@ impl<'p> State<'p> {
         ensures err { OnErr result (Went (P.gives_all ≡ true) left.old left.new self.old placed.old.items self.new placed.new.items) }
         ensures err_left { OnErr result (1 ≤ left.new) }
     {
-        // Only the proof uses it: the steps that are left at first fit into 32 bits, so those that are left later do
-        // too.
+        // Only the proof uses it: the steps that are left at first fit into 32 bits, so the steps that are left later
+        // do too.
         let _had = *left;
         while *left > 0 {
             if let Some(forked) = self.advance(left, spares, places)? {
@@ -83,8 +83,8 @@ impl<'p> State<'p> {
         }
     }
 
-    /// Lets the newest child of `placed` go on in this place, if it is the one that the innermost thread awaits.
-    /// Returns whether the child goes on.
+    /// Lets the newest child of `placed` go on in this thread's place, if the innermost thread awaits it. Returns
+    /// whether the child goes on.
     ///
     /// If memory is refused, the thread is left before the step in which it began to await the child.
     #[cold]
@@ -117,11 +117,11 @@ impl<'p> State<'p> {
         Ok(true)
     }
 
-    /// Takes back a child to run it in this place.
+    /// Takes back a child to run it in this thread's place.
     ///
-    /// A child that was just forked waits to run here, and will begin before `others`, the children that were handed
-    /// back to it. An awaited child goes on here at once, and `others` become the newest children of `placed`. After an
-    /// error nothing has changed but capacities.
+    /// A child that was just forked waits in this thread's place, and will begin before `others`, the children that
+    /// were handed back to it. An awaited child goes on at once, and `others` become the newest children of `placed`.
+    /// After an error nothing has changed but capacities.
     pub fn place(
         &mut self,
         placed: &mut Vec<Box<State<'p>>>,
@@ -142,8 +142,8 @@ impl<'p> State<'p> {
         }
     }
 
-    /// Takes back a child that was just forked. The child waits to run here, and will begin before `grandchildren`, the
-    /// children that were handed back to it.
+    /// Takes back a child that was just forked. The child waits in this thread's place, and will begin before
+    /// `grandchildren`, the children that were handed back to it.
     fn wait_with(
         &mut self,
         placed: &mut Vec<Box<State<'p>>>,
@@ -165,8 +165,8 @@ impl<'p> State<'p> {
         Ok(())
     }
 
-    /// Lets the awaited child go on here. `others`, the children that were handed back to it, become the newest of
-    /// `placed`.
+    /// Lets the awaited child go on in this thread's place. `others`, the children that were handed back to the child,
+    /// become the newest of `placed`.
     fn go_on_with(
         &mut self,
         placed: &mut Vec<Box<State<'p>>>,

@@ -1,4 +1,4 @@
-//! The questions that a thread asks its caller: at a fork, whether the child may get a place; at a tally, whether the
+//! The questions that a thread asks its caller. At a fork: whether the child may get a place. At a tally: whether the
 //! caller takes the amount.
 ghost use Rattle.std.specs.Prelude.{◌≡◌, ℕ, Bool, true, false, IsTrue};
 ghost use Rattle.arachne_machine.specs.Tallying.{GainsAt};
@@ -15,7 +15,7 @@ pub trait Placing {
     fn is_any(&mut self, class: Class) -> bool
         ensures { gives_all ≡ true → IsTrue result };
 
-    /// Like `is_any`, for a child that has this number of iterations of a sweep to make.
+    /// Like `is_any`, for a child that has `turns` iterations of a sweep to make.
     fn is_any_for(&mut self, class: Class, _turns: u64) -> bool
         ensures { gives_all ≡ true → IsTrue result }
     {
@@ -26,12 +26,12 @@ pub trait Placing {
     fn tag(&mut self) -> u64;
 }
 
-/// A taker of amounts that are due to ledgers.
+/// A taker of amounts that must still be added to ledgers.
 pub trait Tallying {
-    /// The amount that is due to each ledger, modulo 2^64.
+    /// The amount that must still be added to each ledger, modulo 2^64.
     ghost due_to: { Self → ℕ → ℕ };
 
-    /// Takes an amount for this ledger. Returns false, and changes nothing, if it doesn't take the amount.
+    /// Takes an amount for this ledger. Returns false, and changes nothing, if it can't take the amount.
     fn take(&mut self, ledger: u64, amount: u64) -> bool
         ensures taken { result ≡ true → GainsAt (due_to self.old) ledger amount (due_to self.new) }
         ensures full { result ≡ false → self.new ≡ self.old };

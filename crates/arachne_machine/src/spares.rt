@@ -1,17 +1,17 @@
-//! The memory that ended threads leave for new ones.
+//! The memory that ended threads leave for new threads.
 use crate::contents::Contents;
 use crate::state::State;
 use arachne_program::Program;
 use std::alloc::{AllocError, Global};
 use std::marker::Model;
 
-/// The maximum number of states of ended threads that are kept, and also of boxes of outcomes.
+/// The maximum number of states of ended threads that are kept, and of boxes of outcomes that are kept.
 const MOST: usize = 64;
 
-/// The memory that ended threads leave for new ones, for the threads of one core.
+/// The memory that ended threads leave for new threads, for the threads of one core.
 ///
-/// The memory consists of the states of ended threads, with the room of their environments and frames, and of the boxes
-/// of joined outcomes.
+/// The memory consists of the states of ended threads, with the capacity of their environments and frames, and of the
+/// boxes of joined outcomes.
 #[derive(Drop)]
 pub struct Spares<'p> {
     most: usize,
@@ -48,7 +48,7 @@ impl<'p> Spares<'p> {
         }
     }
 
-    /// Returns the state of an ended thread, or a new one if there is none.
+    /// Returns the state of an ended thread, or a new state if there is none.
     pub(crate) fn take(
         &mut self,
         alloc: Global,
@@ -60,7 +60,7 @@ impl<'p> Spares<'p> {
         }
     }
 
-    /// Returns the box of a joined outcome, or a new one if there is none.
+    /// Returns the box of a joined outcome, or a new box if there is none.
     #[inline(always)]
     pub fn take_contents(&mut self) -> Result<Box<Contents>, AllocError> {
         match self.contents.pop() {
@@ -69,7 +69,7 @@ impl<'p> Spares<'p> {
         }
     }
 
-    /// Keeps the box of a joined outcome, or one that was taken and not used, unless enough are kept.
+    /// Keeps the box of a joined outcome, or a box that was taken and not used, unless `MOST` are kept already.
     #[inline(always)]
     pub fn keep_contents(&mut self, contents: Box<Contents>) {
         if self.contents.len() < self.most {
@@ -77,7 +77,7 @@ impl<'p> Spares<'p> {
         }
     }
 
-    /// Keeps the state of an ended thread, unless enough are kept.
+    /// Keeps the state of an ended thread, unless `MOST` are kept already.
     #[inline(always)]
     pub(crate) fn keep(&mut self, state: Box<State<'p>>) {
         if self.states.len() < self.most {

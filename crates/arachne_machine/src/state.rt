@@ -75,19 +75,19 @@ pub struct State<'p> {
     pub alloc: Global,
     /// The data of the outermost thread's line.
     pub own: Own,
-    /// The lines below the outermost thread, in order: those of joined threads, and of the threads that run here, each
-    /// at its place.
+    /// The lines below the outermost thread, in order: those of joined threads, and those of the threads that run in
+    /// its place, each at its index.
     pub lines: Lines,
     /// For each ledger, the sum of the amounts that all threads of this state have tallied, modulo 2^64.
     pub sums: Vec<u64>,
-    /// The threads that wait for one that runs in their place, the outermost first.
+    /// The threads that wait for a thread that runs in their place, the outermost first.
     pub parents: Vec<Parent<'p>>,
     /// The innermost thread, which goes on.
     pub level: Level,
     /// The innermost thread's environment. Each parent's environment is a prefix of it.
     pub environment: Vec<u64>,
-    /// The frames (what comes after the current expression) of all threads, the outermost's first. The newest frame is
-    /// the last.
+    /// The frames (what follows the current expression) of all threads, the outermost thread's first. The newest frame
+    /// is the last.
     pub frames: Vec<Frame<'p>>,
     pub control: Control<'p>,
 }
@@ -167,7 +167,8 @@ impl<'p> State<'p> {
 
     /// Makes this the state of a thread that has not begun, and keeps the capacities of its lists.
     ///
-    /// The environment gets room for three more variables: a number of a sweep, and the two that may come with a value.
+    /// The environment gets room for three more variables: a number of a sweep, and the two variables that may come
+    /// with a value.
     fn renew(
         &mut self,
         program: &'p Program,
@@ -257,7 +258,7 @@ impl<'p> State<'p> {
         }
     }
 
-    /// Makes a step, and with it those of the next steps that need only what is known by then. Subtracts these further
+    /// Makes a step, and also those of the next steps that need only what is known after it. Subtracts these further
     /// steps from `left`.
     ///
     /// The step begins the expression in `begins`. If `begins` is `None`, the step begins a part of a sweep, or takes a
@@ -287,8 +288,8 @@ impl<'p> State<'p> {
         }
     }
 
-    /// Begins the expression. If there is none, takes the value that was left over, or begins a part of a sweep (a loop
-    /// whose range is halved among threads).
+    /// Begins the expression, if there is one. Otherwise takes the value that was left over, or begins a part of a
+    /// sweep (a loop whose range is halved among threads).
     #[inline(always)]
     fn begin_next<P: Placing>(
         &mut self,
@@ -332,7 +333,7 @@ impl<'p> State<'p> {
         }
     }
 
-    /// Returns the pending pause: the one that is not answered yet.
+    /// Returns the pending pause, which was not answered yet.
     pub fn pending(&self) -> Option<Pending>
         ensures { result ≡ pending_of self.now.control }
     {

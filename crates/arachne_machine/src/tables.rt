@@ -39,7 +39,7 @@ pub fn add_each(sums: &mut [u64], more: &[u64])
     }
 }
 
-/// Adds to the number at this index, modulo 2^64, if there is one.
+/// Adds to the number at this index, if there is one, modulo 2^64.
 pub fn add_at(sums: &mut [u64], place: u64, amount: u64)
     ensures { (n : ℕ) (own : ℕ → ℕ) → sums.old ≡ tabulated n own
         → sums.new ≡ tabulated n (λ other. own other + (if other == place then amount else 0)) }

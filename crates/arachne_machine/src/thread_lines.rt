@@ -29,7 +29,7 @@ impl Model for ThreadLines {
 }
 
 impl ThreadLines {
-    /// Returns the lines of these lists, `count` together.
+    /// Returns the lines of these lists, which have `count` lines together.
     pub fn of(lists: Vec<LineList>, count: usize) -> ThreadLines
         requires { count ≡ length (lines_in lists.items) }
         ensures { result ≡ lines_in lists.items }
@@ -103,14 +103,14 @@ impl<'a> Model for LinesLeft<'a> {
     ghost view = { λ l. lines_from l.place l.lists.now };
 }
 
-/// A line, and those behind it.
+/// A line, and the lines behind it.
 struct FirstLine<'a> {
     line: LineView<'a>,
     lists: &'a [LineList],
     place: usize,
 }
 
-/// Returns the first line from an index of the first list on, and those behind it.
+/// Returns the first line from index `place` of the first list on, and the lines behind it.
 #[inline(always)]
 fn first_line<'a>(lists: &'a [LineList], place: usize) -> Option<FirstLine<'a>>
     ensures { MatchOption result (lines_from place lists.now ≡ [])

@@ -115,7 +115,7 @@ fn side_at_once(
     }
 }
 
-/// Like `value_at_once`, with `newest` as the newest variable. Returns `None` too if there is no room for that
+/// Like `value_at_once`, with `newest` as the newest variable. Also returns `None` if there is no room for that
 /// variable.
 #[cycle(recursion)]
 fn bound_at_once(

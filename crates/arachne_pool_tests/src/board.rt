@@ -1,4 +1,4 @@
-//! The counts and replies that the jobs of a row (a test case) share with whoever wakes them.
+//! The counts and replies that the jobs of a row (a test case) share with the kernel threads that wake them.
 use arachne_core::ThreadId;
 use std::alloc::Global;
 use std::sync::atomic::{AtomicU64, Ordering};
@@ -8,7 +8,7 @@ use std::thread::yield_now;
 /// The number of looks at a word before a job rests, which take some microseconds.
 const MOMENT: u32 = 2_000;
 
-/// The most looks for an answer. These looks take some tenths of a second if nothing else wants the processors.
+/// The most looks for an answer, which take some tenths of a second if nothing else wants the processors.
 const MOST_LOOKS: u32 = 1_000_000;
 
 /// The counts of a row's jobs, and the number of answers that have come.

@@ -33,16 +33,16 @@ pub(crate) enum Act {
     /// A job is spawned and joined on core 0, with this result. If the result is `None`, the join must fail because the
     /// pool is stopped.
     Joins(Sort, Option<u64>),
-    /// A job is spawned, core 0 has a round, and the job is joined once the pool is stopped. By then the job has ended,
-    /// with this result.
+    /// A job is spawned, core 0 has a round, and the job is joined once the pool is stopped. The job has ended before
+    /// the stop, with this result.
     JoinsLate(Sort, u64),
     /// A spawn in this way is tried, with this result.
     Tries(On, Sort, Comes),
     /// The job of this context and generation is woken, with this result.
     Wakes(u32, u64, Wakes),
-    /// An answer comes for the jobs that sleep. The answer wakes none of these jobs.
+    /// An answer is counted for the jobs that sleep. The answer wakes none of these jobs.
     Answers,
-    /// This number of answers have come.
+    /// This number of answers was counted.
     Answered(u64),
     /// A round on a core. The round must find something if the second value is true, and nothing if it is false.
     Turns(u8, bool),
@@ -58,21 +58,23 @@ pub(crate) enum Act {
     Counts(u64),
     /// A core's statistics have these numbers of slices, steps, wakes and rests.
     Did(u8, u64, u64, u64, u64),
-    /// Sleeps of kernel threads have timed out, although something was there for them, at most this number of times.
+    /// Sleeps of kernel threads have timed out, although there was something for them to do, at most this number of
+    /// times.
     Overslept(u64),
-    /// Sleeps of kernel threads have timed out, although something was there for them, at least this number of times.
+    /// Sleeps of kernel threads have timed out, although there was something for them to do, at least this number of
+    /// times.
     OversleptAtLeast(u64),
     /// Jobs are spawned in each way until each place has one. A spawn may only fail because no place is free.
     Fills,
     /// The worker works on a core until no job is left, or it must stop.
     Works(u8),
-    /// A job and those that it forks end while memory is used up.
+    /// A job and the jobs that it forks end while memory is used up.
     EndsInNeed(Sort),
     /// From now on memory is used up.
     Hoards,
     /// From now on memory is free again.
     Frees,
-    /// From now on the pool is open for more jobs, even if none lives.
+    /// From now on the pool is open for more jobs, even if all have ended.
     KeepsOpen,
     /// The pool is stopped.
     Stops,
@@ -81,7 +83,7 @@ pub(crate) enum Act {
 /// How and where a job is spawned.
 #[derive(Clone, Copy)]
 pub(crate) enum On {
-    /// On any core, by `spawn`: if no core has a place, a worker may keep the job.
+    /// On any core, by `spawn`: if no core has a free place, a worker may keep the job.
     AnyKept,
     /// On any core, by `try_spawn`.
     Any,
@@ -96,7 +98,8 @@ pub(crate) enum On {
 pub(crate) enum Comes {
     /// The job is spawned.
     Begins,
-    /// No core had a place: the first number of cores were full or exclusive to one job, the second number were closed.
+    /// No core had a free place: the first number of cores were full or exclusive to one job, the second number were
+    /// closed.
     NoPlace(u8, u8),
     NoMemory,
     NoSeat,
@@ -126,7 +129,7 @@ pub(crate) enum Is {
 ///
 /// First one worker does `acts`. Then two kernel threads, for core 0 and core 1, do `spells`; at least `busy` of them
 /// must end a job. After that one worker does `then`. `left` is the number of jobs that are left with a place, and the
-/// number without one. `alive` also counts those that run or wait in the places of these.
+/// number without one. `alive` also counts the jobs that run or wait in the places of these.
 #[derive(Clone, Copy)]
 pub(crate) struct Row {
     pub(crate) shows: &'static str,
@@ -163,8 +166,8 @@ pub(crate) fn begin<C: Contexts<Spawned<Task>> + Drop, R: Wait + Clock>(
     }
 }
 
-/// Does the row's last acts, once both kernel threads have worked, and closes the pool. Returns true if all is as the
-/// row states: the result of each act, the kernel threads that were busy, and the jobs that are left.
+/// Does the row's last acts, once both kernel threads have worked, and closes the pool. Returns true if everything is
+/// as the row states: the result of each act, the kernel threads that were busy, and the jobs that are left.
 pub(crate) fn end<C: Contexts<Spawned<Task>> + Drop, R: Wait + Clock>(
     rt: &R,
     alloc: Global,
@@ -186,7 +189,7 @@ pub(crate) fn end<C: Contexts<Spawned<Task>> + Drop, R: Wait + Clock>(
     busy >= row.busy && sizes == row.left && count_left(left) == row.alive
 }
 
-/// Returns the number of jobs that are left, with those that run or wait in their places.
+/// Returns the number of jobs that are left, with the jobs that run or wait in their places.
 fn count_left(left: Left<Task>) -> usize {
     let Left { placed, near } = left;
     let mut count: usize = 0;
@@ -202,7 +205,7 @@ fn count_left(left: Left<Task>) -> usize {
     count
 }
 
-/// Returns the number of jobs in a job that is left: itself, and those that run or wait in its place.
+/// Returns the number of jobs in a job that is left: the job, and the jobs that run or wait in its place.
 fn count_in(job: Spawned<Task>) -> usize {
     let mut jobs = job.into_jobs();
     let mut count: usize = 0;
@@ -358,7 +361,7 @@ fn is_so<C: Contexts<Spawned<Task>>, R: Wait>(
     }
 }
 
-/// Returns how often sleeps of kernel threads have timed out, although something was there for them.
+/// Returns how often sleeps of kernel threads have timed out, although there was something for them to do.
 fn overslept<C: Contexts<Spawned<Task>>>(pool: &Pool<C>) -> u64 {
     let mut sum: u64 = 0;
     for core in 0..pool.cores {
@@ -424,7 +427,7 @@ fn spawns_many<C: Contexts<Spawned<Task>>, R: Wait>(
 }
 
 /// Spawns jobs that no worker keeps until half of the places are taken, and then on each core until it is full. Returns
-/// true if each job was spawned as long as there was a place.
+/// true if each job was spawned as long as there was a free place.
 fn fills<C: Contexts<Spawned<Task>>, R: Wait>(
     rt: &R,
     pool: &Pool<C>,
@@ -516,7 +519,8 @@ fn joins<C: Contexts<Spawned<Task>>, R: Wait + Clock>(
 }
 
 /// Spawns a job while memory is used up, and makes rounds on core 0 until all jobs have ended. After a refusal, tries
-/// again with a little more memory. Returns true if all have ended, and a spawn and more than 20 rounds were refused.
+/// again with a little more memory. Returns true if all jobs have ended, and a spawn and more than 20 rounds were
+/// refused.
 fn ends_in_need<C: Contexts<Spawned<Task>>, R: Wait + Clock>(
     rt: &R,
     alloc: Global,

@@ -17,13 +17,13 @@ use std::time::Clock;
 /// The pool's table.
 type Table = WordContexts<Spawned<Task>>;
 
-/// A job that has a core for itself, the first that is empty.
+/// A job that has a core for itself, the first empty core.
 pub(crate) const ALONE: Sort = Sort {
     is_exclusive: true,
     ..LEAF
 };
 
-/// An exclusive job that forks another for a core of its own and joins it.
+/// An exclusive job that forks another exclusive job and joins it.
 pub(crate) const ALONE_PARENT: Sort = Sort {
     is_exclusive: true,
     ..PARENT
@@ -52,7 +52,7 @@ const LONG: Sort = Sort {
     ..LEAF
 };
 
-/// Four trees are spawned, by a worker that has worked for core 0 and so keeps those that find no place.
+/// Four trees are spawned, by a worker that has worked for core 0 and so keeps the jobs that find no place.
 const TREES: &[Act] = &[
     Act::Works(0),
     Act::Spawns(TREE),

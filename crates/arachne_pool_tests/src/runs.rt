@@ -15,11 +15,11 @@ use std::time::Clock;
 enum Comes {
     /// The job ends, and has counted this many jobs, which have made this many steps.
     Ends(u64, u64),
-    /// The job is returned, which was not spawned.
+    /// The job, which was not spawned, is returned.
     NotSpawned(RunFault),
-    /// All are stopped, and this many jobs with a place are returned.
+    /// All workers are stopped, and this number of jobs with a place are returned.
     Stopped(RunFault, usize),
-    /// All are stopped, and the jobs are dropped.
+    /// All workers are stopped, and the jobs are dropped.
     Lost(RunFault),
 }
 
@@ -71,13 +71,13 @@ const ROWS: &[Row] = &[
     },
 ];
 
-/// A job that has its core for itself, and forks more children there than memory has room for.
+/// A job that has its core for itself, and forks more children on the core than memory has room for.
 const PROLIFIC: Sort = Sort {
     forks: u32::MAX,
     ..ALONE_PARENT
 };
 
-/// Runs the job of a row. Returns what comes of it, or `None` if there is no memory for the row itself.
+/// Runs the job of a row. Returns the result, or `None` if there is no memory for the row itself.
 fn run<R: Threads + Wait + Clock + Sync>(rt: &R, alloc: Global, row: &Row) -> Option<Comes> {
     let board = Board::new(alloc)?;
     let task = Task::new(row.sort, &board)?;

@@ -8,10 +8,10 @@ use crate::tasks::{Joins, LEAF, PARENT, Sort};
 use arachne_core::CORES;
 use std::test::Fail;
 
-/// A job that sleeps until an answer has come.
+/// A job that sleeps until an answer was counted.
 const SLEEPER: Sort = Sort { answers: 1, ..LEAF };
 
-/// A job that forks another and then sleeps. The forked job sleeps too.
+/// A job that forks another job and then sleeps. The forked job sleeps too.
 const BESIDE: Sort = Sort {
     joins: Joins::Never,
     answers: 9,
@@ -38,7 +38,7 @@ const LONGEST: Sort = Sort {
     ..LEAF
 };
 
-/// A job whose first step lasts until an answer has come.
+/// A job whose first step lasts until an answer was counted.
 const HELD: Sort = Sort {
     is_held: true,
     ..LEAF
@@ -53,8 +53,8 @@ const LADEN: Sort = Sort {
 /// The number of times that a kernel thread is woken.
 const OFTEN: u32 = 100;
 
-/// The most sleeps of kernel threads that may time out in a [`Row`], although something was there for them. If all
-/// signals of one kind are lost, sleeps time out nearly as often as such a signal is sent.
+/// The most sleeps of kernel threads that may time out in a [`Row`], although there was something for them to do. If
+/// all signals of one kind are lost, sleeps time out nearly as often as such a signal is sent.
 const FEW: u64 = OFTEN as u64 / 4;
 
 const ROWS: &[Row] = &[
@@ -557,7 +557,7 @@ const AMPLE: &[Row] = &[Row {
     ..NOTHING
 }];
 
-/// The numbers of places of a core. Each is tried with each number of cores.
+/// The numbers of places of a core. Each number is tried with each number of cores.
 const SLOTS_OF: [u8; 4] = [1, 8, 30, 56];
 
 #[test]

@@ -30,50 +30,50 @@ pub(crate) enum Spell {
     ToTheEndOn(u8),
     /// The kernel thread works as in `ToTheEnd` each time that the turn is passed to it, until the pool is stopped.
     ToTheStop,
-    /// The kernel thread makes this number of rounds, or fewer if no job is left before. Then the kernel thread stops
-    /// the pool.
+    /// The kernel thread makes this number of rounds, or fewer if no job is left before these are made. Then the kernel
+    /// thread stops the pool.
     Rounds(u32),
-    /// The kernel thread makes rounds until no job lives, and never calls `work`.
+    /// The kernel thread makes rounds until all jobs have ended, and never calls `work`.
     TurnsOut,
     /// The kernel thread makes rounds on this core until its own core is open, for ten seconds at most. Then the kernel
     /// thread stops the pool.
     TurnsUntilOpen(u8),
     /// Once a job has begun elsewhere, the kernel thread works on its core while memory is used up, until memory is
-    /// refused. If `work` does not report the refusal, or if the refusal does not stop the pool, an answer comes, and
-    /// the kernel thread stops the pool.
+    /// refused. If `work` does not report the refusal, or if the refusal does not stop the pool, the kernel thread
+    /// counts an answer and stops the pool.
     InNeed,
-    /// Like `InNeed`, but the kernel thread joins a job that it has spawned on its core before.
+    /// Like `InNeed`, but first the kernel thread spawns a job on its core, and then joins this job.
     JoinsInNeed,
     /// The kernel thread spawns this number of leaves, which no worker may keep, and works for no core.
     Spawns(u32),
     /// The kernel thread spawns this number of leaves for core 1, each once that core's kernel thread sleeps and only
-    /// one job lives. Then the kernel thread calls `finish`, after which no more come, and works to the end.
+    /// one job has not ended. Then the kernel thread calls `finish`, since no more leaves follow, and works to the end.
     Feeds(u32),
     /// This number of times the kernel thread keeps a pool without a job open, and passes the turn. Once core 1's
-    /// kernel thread sleeps, this kernel thread calls `finish`, and waits until that one returns from its work. At last
-    /// the kernel thread stops the pool.
+    /// kernel thread sleeps, this kernel thread calls `finish`, and waits until core 1's returns from its work. At last
+    /// this kernel thread stops the pool.
     Finishes(u32),
-    /// This number of times an answer comes once the job that wants it is about to sleep, and then the job is woken. If
-    /// the second value is true, the answer only comes once the kernel thread of core 1 sleeps too.
+    /// This number of times an answer is counted once the job that wants it is about to sleep, and then the job is
+    /// woken. If the second value is true, the answer is counted only once the kernel thread of core 1 sleeps too.
     Wakes(u32, bool),
     /// This number of times the kernel thread spawns a job on core 1 and passes the turn. Once that job has begun on
-    /// core 1, the kernel thread works to the end, or looks until no job lives. Then the kernel thread polls the
-    /// handle, and counts an answer if the result has come. At last the kernel thread stops the pool.
+    /// core 1, the kernel thread works to the end, or looks until all jobs have ended. Then the kernel thread polls the
+    /// handle, and counts an answer if the handle gives the result. At last the kernel thread stops the pool.
     Polls(u32, Sort, Until),
     /// Once a job has begun, the kernel thread spawns a leaf on core 1, and makes rounds on this core until the leaf
-    /// has begun or an answer has come. The kernel thread counts an answer if a round has found something and the leaf
-    /// has not begun. After the rounds it counts an answer in any case, and works to the end.
+    /// has begun or an answer was counted. The kernel thread counts an answer if a round has found something to do and
+    /// the leaf has not begun. After the rounds it counts an answer in any case, and works to the end.
     Fetches(u8),
     /// This number of times the kernel thread spawns a job on core 0, passes the turn and joins the job on its own
     /// core. The kernel thread counts an answer for each join; with `WorkReturns`, only if the other kernel thread
     /// returns from `work` then. At last the kernel thread stops the pool.
     JoinsThere(u32, Sort, Until),
-    /// The kernel thread makes rounds on its core until only one job lives, which sleeps, and wakes that job with an
-    /// answer.
+    /// The kernel thread makes rounds on its core until only one job has not ended, which sleeps, and wakes that job
+    /// with an answer.
     WakesLast,
 }
 
-/// The way in which a kernel thread waits until no job lives.
+/// The way in which a kernel thread waits until all jobs have ended.
 #[derive(Clone, Copy, PartialEq)]
 pub(crate) enum Until {
     WorkReturns,
@@ -169,7 +169,7 @@ fn to_the_stop<C: Contexts<Spawned<Task>>, R: Wait + Clock>(
     }
 }
 
-/// Makes `rounds` rounds, or fewer if no job is left before.
+/// Makes `rounds` rounds, or fewer if no job is left before these are made.
 fn turns<C: Contexts<Spawned<Task>>, R: Wait + Clock>(
     rt: &R,
     pool: &Pool<C>,
@@ -416,7 +416,7 @@ fn fetches<C: Contexts<Spawned<Task>>, R: Wait + Clock>(
     let _ = pool.work(rt, worker, core);
 }
 
-/// Makes rounds until at most one job lives, or the pool is stopped.
+/// Makes rounds until at most one job has not ended, or the pool is stopped.
 fn until_one<C: Contexts<Spawned<Task>>, R: Wait + Clock>(
     rt: &R,
     pool: &Pool<C>,
@@ -470,7 +470,7 @@ fn joins_there<C: Contexts<Spawned<Task>>, R: Wait + Clock>(
     board.pass_turn();
 }
 
-/// Returns true if kernel threads have returned from `work` more than `than` times, by now or within ten seconds.
+/// Returns true if kernel threads have returned from `work` more than `than` times, at once or within ten seconds.
 fn has_returned<R: Clock>(rt: &R, board: &Board, than: u32) -> bool {
     for _ in 0..GLANCES {
         if board.returns.load(Ordering::SeqCst) > u64::from(than) {
@@ -492,7 +492,7 @@ fn await_more<C: Seats, R: Wait>(rt: &R, pool: &Pool<C>, count: &AtomicU64, than
     }
 }
 
-/// Waits until at most `most` jobs live, or the pool is stopped.
+/// Waits until at most `most` jobs have not ended, or the pool is stopped.
 fn await_ends<C: Seats, R: Wait>(rt: &R, pool: &Pool<C>, most: u64) {
     let mut looks: u32 = 0;
     for _ in rt.forever() {

@@ -1,4 +1,4 @@
-//! The jobs of all tests: each counts itself and the jobs that it has joined.
+//! The jobs of all tests: each job counts itself and the jobs that it has joined.
 use crate::board::Board;
 use arachne_contexts::Tagged;
 use arachne_core::ThreadId;
@@ -6,7 +6,7 @@ use arachne_pool::{PoolJob, Step};
 use std::alloc::Global;
 use std::sync::Arc;
 
-/// A kind of job: it forks children, joins them, sleeps until answers come, goes on for some steps and ends.
+/// A kind of job: it forks children, joins them, sleeps until answers were counted, goes on for some steps and ends.
 #[derive(Clone, Copy)]
 pub(crate) struct Sort {
     /// The number of generations below the job.
@@ -26,7 +26,7 @@ pub(crate) struct Sort {
     pub(crate) is_exclusive: bool,
     /// True if the job's first child is exclusive, even if the job itself is not.
     pub(crate) is_first_exclusive: bool,
-    /// True if the job's first step lasts until an answer has come, so that its kernel thread runs no other job
+    /// True if the job's first step lasts until an answer was counted, so that its kernel thread runs no other job
     /// meanwhile.
     pub(crate) is_held: bool,
 }

@@ -7,7 +7,7 @@ use std::marker::Model;
 /// The maximum length of a list.
 const ROOM: usize = 30;
 
-/// A list of at most 30 numbers below 256. The list takes no memory beside its own 31 bytes.
+/// A list of at most 30 numbers below 256. The list takes no memory except for its own 31 bytes.
 #[derive(Debug, Drop)]
 pub struct ByteList {
     len: u8,

@@ -3,7 +3,7 @@ use thiserror::Error;
 
 /// The reason why a program was refused.
 ///
-/// A fault of a node carries the node's number. Nodes are numbered in the order of the text, from the root, which is 0.
+/// A fault of a node has the node's number. Nodes are numbered in the order of the text, from the root, which is 0.
 #[derive(Clone, Copy, Debug, PartialEq, Eq, Error)]
 pub enum CheckFault {
     /// The nesting is over 64 levels.
@@ -21,7 +21,7 @@ pub enum CheckFault {
     /// The node names a lock that the program does not have.
     #[error("node {0}: there is no such lock")]
     NoLock(u64),
-    /// The node names a variable that is not bound there.
+    /// The node names a variable that is not bound at the node.
     #[error("node {0}: the variable is not bound")]
     Unbound(u64),
     /// The node is a fork, a sweep or a hold within a hold.

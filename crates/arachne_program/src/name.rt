@@ -20,7 +20,7 @@ pub struct Name {
 
 const _: () = prove!(size_of::<Name>() == 32);
 
-/// The numbers of the forks, the root's first.
+/// The numbers of the forks from the root to the thread, in this order.
 #[derive(Debug, Drop)]
 enum Forks {
     Bytes(ByteList),

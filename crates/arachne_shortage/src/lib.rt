@@ -7,12 +7,12 @@ ghost use Rattle.arachne_shortage.specs.declared.TheConstants.{APART, KEPT};
 
 use std::alloc::{AllocError, Global};
 
-/// The size of the first block that is tried, in bytes. If a block is refused, the next one that is tried has half its
-/// size.
+/// The size of the first block that is tried, in bytes. If a block is refused, the next block that is tried has half
+/// its size.
 const LARGEST: usize = 1 << 46;
 
-/// From this size down, each next size is only `APART` bytes smaller: the C library keeps some blocks of each such
-/// size, and uses them only for blocks of that size.
+/// From this size down, each next size is only `APART` bytes smaller: the C library keeps some freed blocks of each
+/// such size, and uses them only for blocks of that size.
 const KEPT: usize = 1024;
 
 const APART: usize = 16;
@@ -31,8 +31,8 @@ const SMALL_SIZE: usize = 40;
 /// The size of the largest block that is taken again from the memory that was given back.
 const PIECE: usize = 1 << 20;
 
-/// All memory that a process can get, less what was given back. The blocks are not written to, so they use little of
-/// the machine's memory.
+/// All memory that a process can get, except for what was given back. The blocks are not written to, so they use little
+/// of the machine's memory.
 #[derive(Drop)]
 pub struct Hoard {
     alloc: Global,
@@ -40,7 +40,7 @@ pub struct Hoard {
     small: Vec<Vec<u8>>,
 }
 
-/// Takes all blocks of at most `largest` bytes that can be had, until `blocks` is full.
+/// Takes all blocks of at most `largest` bytes that can be got, until `blocks` is full.
 fn take_all(alloc: Global, blocks: &mut Vec<Vec<u8>>, largest: usize) -> Result<(), AllocError> {
     let mut size = largest;
     for _ in 0..BLOCKS {
@@ -65,8 +65,8 @@ fn next_size(size: usize) -> usize
 }
 
 impl Hoard {
-    /// Takes all memory that can be had. After that a kernel thread can begin only on the stack of one that has ended
-    /// before.
+    /// Takes all memory that can be got. After that a kernel thread can begin only on the stack of a thread that has
+    /// ended before.
     pub fn take(alloc: Global) -> Result<Hoard, AllocError> {
         let mut small = Vec::with_capacity(alloc, BLOCKS)?;
         let mut large = Vec::with_capacity(alloc, BLOCKS)?;
@@ -81,7 +81,7 @@ impl Hoard {
         })
     }
 
-    /// Gives back small blocks of at least `bytes` bytes together, or all of them if they have fewer.
+    /// Gives back small blocks of at least `bytes` bytes together, or all small blocks if they have fewer bytes.
     pub fn give_back(&mut self, bytes: usize) {
         let mut left = bytes;
         for _ in 0..BLOCKS {
@@ -95,7 +95,7 @@ impl Hoard {
         }
     }
 
-    /// Takes the memory that is left of what was given back.
+    /// Takes the part of the given-back memory that is left.
     pub fn take_again(&mut self) -> Result<(), AllocError> {
         take_all(self.alloc, &mut self.small, PIECE)
     }

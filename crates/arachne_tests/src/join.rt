@@ -15,8 +15,8 @@ impl Fits<Wanted> for u64 {
     ghost may_wait = { λ wanted value. value < wanted.0 };
 }
 
-// Under `rt try --test --fail-alloc N` the Nth allocation is refused: then the first call fails, and the second makes
-// the cell.
+// Under `rt try --test --fail-alloc N` the Nth allocation is refused: then the first call fails, and the second call
+// makes the cell.
 fn make_cell(
     alloc: Global,
     number: u64,
@@ -41,7 +41,7 @@ fn gives_nothing_back(cell: &JoinCell<u64, Wanted>) -> bool {
     cell.take_back().is_err()
 }
 
-/// Returns whether a value that was put back is taken back, and one that was left is fetched.
+/// Returns whether a value that was put back is taken back, and a value that was left is fetched.
 ///
 /// A fetch must fail, each time with the right state: before a value is put back, while it waits, after it was taken
 /// back, and after another value was left and fetched.

@@ -33,7 +33,8 @@ fn add_in_two_threads<R: Threads>(rt: &R, ledgers: &Ledgers, share: Share) -> Sh
     ledgers.join_shares(first, second)
 }
 
-// Under `rt try --test --fail-alloc N` the Nth allocation is refused. A call that fails by that is made once more.
+// Under `rt try --test --fail-alloc N` the Nth allocation is refused. A call that fails because of this is made once
+// more.
 fn make_ledgers(alloc: Global, count: usize) -> Result<(Ledgers, Share), AllocError>
     ensures ledgers { IfOk result (λ r. r.0.count ≡ count) }
     ensures share { IfOk result (λ r. IsShareOf r.0 r.1) }
@@ -45,7 +46,7 @@ fn make_ledgers(alloc: Global, count: usize) -> Result<(Ledgers, Share), AllocEr
     }
 }
 
-// After a refusal the ledgers and the share are as before, so that it can try once more.
+// After a refusal the ledgers and the share are as before, so that the call can be made once more.
 fn sums(alloc: Global, ledgers: Ledgers, share: Share) -> Option<Vec<u64>>
     requires share { IsShareOf ledgers share }
     requires whole { IsWhole share }

@@ -17,7 +17,7 @@ fn program(alloc: Global, count: u8, expression: &str) -> Option<Program> {
 
 const COUNTING: &str = "(sweep add 1 (num 0) (num 8) (hold 0 (tally 0 (num 5) (num 1))))";
 
-/// A child whose own child adds to a ledger and forks a third.
+/// A child whose own child adds to a ledger and forks a third thread.
 const GROWING: &str =
     "(fork x (fork x (tally 0 (num 3) (fork x (num 20) (num 5) (sub (var 0) (var 1)))) (num 7) (sub (var 0) (var 1))) (num 2) (sub (var 0) (var 1)))";
 
@@ -27,9 +27,9 @@ type Row = (u8, &'static str, Way, u64, &'static str);
 
 /// Programs, with the texts of their outcomes.
 ///
-/// The threads with the tags 9 to 16, or 10 to 17, hold the lock once each, and are those that ask for it. A child that
-/// its fork hands out has the tag 0; one that begins in its parent's place immediately has the tag that it gets there,
-/// 7.
+/// The threads with the tags 9 to 16, or 10 to 17, hold the lock once each, and are the threads that ask for it. A
+/// child that is taken at its fork has the tag 0; a child that begins in its parent's place immediately has the tag
+/// that it gets there, 7.
 const ROWS: &[Row] = &[
     (0, "(num 7)", Way::AtFork, 0, "7 [] []9-[]"),
     (
@@ -114,8 +114,8 @@ fn told_of_text(
 
 /// Returns whether a row's outcome is as expected.
 ///
-/// If `is_short`, there is no memory at the beginning of each call, and the call is repeated with a little more each
-/// time.
+/// If `is_short`, there is no memory at the beginning of each call, and the call is repeated with a little more memory
+/// each time.
 fn is_right_with(alloc: Global, row: &Row, budget: u32, is_short: bool) -> Option<bool> {
     let &(count, expression, way, asked, expected) = row;
     let mut round = Round::new(way, budget, budget);
@@ -198,7 +198,7 @@ fn chain(alloc: Global) -> Option<String> {
     Some(text)
 }
 
-/// Returns whether the outcome lists sixty threads in order, each forked by the one before it.
+/// Returns whether the outcome lists sixty threads in order, each forked by the previous thread.
 ///
 /// The last thread has a name of sixty numbers.
 fn is_chain(alloc: Global, text: &str) -> Option<bool> {
@@ -224,7 +224,7 @@ fn a_chain_in_place(rt: HostRuntime) {
 
 /// Three children, one after the other, each of which joins 130 children one after the other, of 1,010 threads each.
 ///
-/// So the lines of a thread are in up to 390 lists, and a list is put behind no, some and many others.
+/// So the lines of a thread are in up to 390 lists, and a list is appended to no, some and many other lists.
 const LISTS: &str =
     "(fold (num 0) (num 3) (num 0) (fork n (fold (num 0) (num 130) (num 0) (fork n (sweep add 1 (num 0) (num 1010) (num 1)) (num 0) (add (var 3) (var 4)))) (num 0) (add (var 1) (var 2))))";
 

@@ -60,8 +60,8 @@ const MOVE: Event = Event::Move {
     to: 56,
 };
 
-/// A thread is woken while it is held and while it is blocked. The thread's core is closed and drained, and then
-/// exclusive.
+/// A thread is woken while a seat has it in hand and while it is blocked. The thread's core is closed and drained, and
+/// then exclusive.
 const ON_ONE_CORE: &[Row] = &[
     (CLAIM, Some((0x100000000000001, 0x0))),
     (Event::Wake { id: ID }, None),
@@ -142,7 +142,7 @@ fn make(world: &mut World, event: Event) -> Result<(), NotApplied> {
     }
 }
 
-/// Returns whether an event leads to `words`, or isn't allowed if that is `None`.
+/// Returns whether an event leads to `words`, or isn't allowed if `words` is `None`.
 fn is_right(world: &mut World, event: Event, words: Option<(u64, u64)>) -> bool {
     match make(world, event) {
         Ok(()) => words.is_some() && shown(world) == words,
@@ -235,8 +235,8 @@ fn mark_words(rt: HostRuntime) {
 /// index.
 type Occupied = (u64, u8, bool, bool, bool, Option<u8>);
 
-/// Numbers, and the parts of each as an occupancy word (which places are occupied). The count of the last isn't that of
-/// its mask.
+/// Numbers, and the parts of each as an occupancy word (which places are occupied). The count of the last number isn't
+/// that of its mask.
 const OCCUPANCIES: &[(u64, Option<Occupied>)] = &[
     (0, Some((0, 0, false, false, true, Some(0)))),
     (

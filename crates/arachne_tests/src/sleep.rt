@@ -1,4 +1,4 @@
-//! Tests of sleep locks, and a run of asks, checks and frees that they share, a row for each call and its result.
+//! Tests of sleep locks, and asks, checks and frees that several tests make, a row for each call and its result.
 mod contended;
 mod long;
 mod several;
@@ -57,7 +57,7 @@ type Answer = (&'static str, usize, Option<Who>);
 /// Calls, each with its thread and its result.
 type Rows = &'static [(Call, Who, Answer)];
 
-/// Three threads ask for the lock: one gets it, and two wait. Each frees the lock once it has it.
+/// Three threads ask for the lock: one gets it, and two wait. Each thread frees the lock once it has it.
 const ROWS: Rows = &[
     (Call::Ask, A, ("granted", 1, None)),
     (Call::Ask, B, ("queued", 2, None)),

@@ -28,7 +28,8 @@ type Queue = SpillQueue<Ticket>;
 
 type Pass = SpillPass<Ticket>;
 
-// Under `rt try --test --fail-alloc N` the Nth allocation is refused. A call that fails by that is made once more.
+// Under `rt try --test --fail-alloc N` the Nth allocation is refused. A call that fails because of this is made once
+// more.
 fn make(alloc: Global) -> Result<(Queue, Pass), AllocError>
     ensures { IfOk result (λ made. IsPassOf made.0 made.1) }
 {
@@ -38,7 +39,7 @@ fn make(alloc: Global) -> Result<(Queue, Pass), AllocError>
     }
 }
 
-/// Pushes tickets with the tags from 0 on until one is refused, and returns its tag.
+/// Pushes tickets with the tags from 0 on until a ticket is refused, and returns this ticket's tag.
 fn fill<R: Wait>(rt: &R, queue: &Queue, pass: &mut Pass) -> Option<u64>
     requires { IsPassOf queue.now pass.old }
     ensures { IsPassOf queue.now pass.new }
@@ -128,7 +129,7 @@ fn send<R: Wait>(rt: &R, queue: &Queue, mut pass: Pass) -> Pass
     pass
 }
 
-/// Receives all tickets, and returns the number of those that came in order.
+/// Receives all tickets, and returns the number of tickets that came in order.
 fn receive<R: Wait>(rt: &R, queue: &Queue, mut pass: Pass) -> (Pass, u64)
     requires { IsPassOf queue.now pass }
     ensures { IsPassOf queue.now result.0 }

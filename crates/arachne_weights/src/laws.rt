@@ -11,7 +11,8 @@ pub fn tokens_within_the_whole<K>()
     ensures { (nothing : K) (tokens : List (Token K)) → IsReachable nothing tokens → total_weight tokens ≤ whole }
 {}
 
-/// The law that if one token has the whole weight, each other token was joined into it, directly or by way of others.
+/// The law that if one token has the whole weight, each other token was joined into it, directly or through other
+/// tokens.
 pub fn whole_is_alone<K>()
     ensures { (nothing : K) (tokens : List (Token K)) → IsReachable nothing tokens
         → (i j : ℕ) (t u : Token K) → get_elem? tokens i ≡ some t → t.weight ≡ whole → j ≢ i → get_elem? tokens j ≡ some u

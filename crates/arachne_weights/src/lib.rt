@@ -1,7 +1,8 @@
 //! Weights, by which the holders of a shared object know that one of them is the last.
 //!
-//! An object that threads share gives each of them a token. The first token has the whole weight, a split divides it,
-//! and a join adds it up again. So whoever has the whole weight is the only holder of the object.
+//! An object that threads share gives each thread a token. The first token has the whole weight, a split divides a
+//! token's weight, and a join adds up the weights of two. So whoever has the whole weight is the only holder of the
+//! object.
 #![tactic(auto)]
 
 mod laws;

@@ -4,7 +4,7 @@
 /// object. Only contracts use this type: no value of it is made.
 pub struct Token<K> {
     /// True if the token wasn't joined into another. A live token may have no weight, since a split of weight 1 gives
-    /// two tokens without any.
+    /// two tokens of weight 0.
     pub live: bool,
     pub weight: u128,
     pub known: K,

@@ -33,7 +33,8 @@ impl Weight {
         Weight { amount: WHOLE }
     }
 
-    /// Returns half of the weight, rounded up, and the rest. A weight of 1 or 0 can't be halved: both results are 0.
+    /// Returns half of the weight, rounded up, and the other half. A weight of 1 or 0 can't be halved: both results are
+    /// 0.
     pub fn split(self) -> (Weight, Weight)
         ensures first { result.0 ≡ first_part self }
         ensures second { result.1 ≡ second_part self }

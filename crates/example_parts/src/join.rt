@@ -1,6 +1,6 @@
 //! A fork and its join, by a join cell.
 //!
-//! A child on another kernel thread leaves its result in the cell, and the parent fetches it there.
+//! A child on another kernel thread leaves its result in the cell, and the parent fetches it from there.
 
 ghost use Rattle.std.specs.Prelude.{◌≡◌, ◌*◌, ◌%◌, ◌^◌, IfOk};
 
@@ -15,7 +15,7 @@ use std::thread::{Parker, Threads};
 #[derive(Drop)]
 struct Square(u64);
 
-/// Only the square of a number fits a cell that was made for that number. No other square can be left there.
+/// Only the square of a number fits a cell that was made for that number. No other square can be left in the cell.
 impl Fits<u64> for Square {
     ghost fits = { λ number square. square.0 ≡ number * number % 2 ^ 64 };
 }

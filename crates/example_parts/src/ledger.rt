@@ -9,7 +9,7 @@ use std::alloc::Global;
 use std::thread;
 use std::thread::Threads;
 
-/// Adds each number to the only ledger. Nothing was added through the share before.
+/// Adds each number to the only ledger. The share must be one through which nothing was added before.
 fn add_all(ledgers: &Ledgers, mut share: Share, numbers: &[u64]) -> Share
     requires own { IsShareOf ledgers.now share }
     requires one { ledgers.now.count ≡ 1 }

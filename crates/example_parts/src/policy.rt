@@ -17,7 +17,7 @@ enum JudgeError {
     Memory(#[from(alloc)] AllocError),
 }
 
-/// Returns the advice on each sample, given the samples before it.
+/// Returns the advice on each sample, given the earlier samples.
 fn judge_all(
     alloc: Global,
     mut estimator: Estimator,

@@ -23,7 +23,7 @@ fn enter<R: Wait + Clock>(rt: &R, lock: &SleepLock, seat: &mut LockSeat, who: Wh
     for _ in rt.forever() {
         match lock.ask(seat, who) {
             Tried::Answered(Ok(Asked::Granted(_))) => return Some(()),
-            // It has a place in the queue: whoever frees the lock learns who is next, and may wake that thread.
+            // The thread has a place in the queue: whoever frees the lock learns who is next, and may wake that thread.
             Tried::Answered(Ok(Asked::Queued { .. })) => break,
             Tried::Answered(Err(_)) => return None,
             // Another seat is using the lock at the moment, and nothing has changed: try again.

@@ -1,4 +1,4 @@
-//! Two kernel threads meet at a context table: one puts numbers on core 0, the other takes them there and sums them.
+//! Two kernel threads meet at a context table: one puts numbers on core 0, the other takes them and sums them.
 
 ghost use Rattle.std.specs.Prelude.{◌≡◌, ◌<◌, IfSome};
 
@@ -15,7 +15,7 @@ const PLACES: u8 = 8;
 
 const NUMBERS: u64 = 1000;
 
-/// A value for the table. Any type will do that has a tag which doesn't change while the table has the value.
+/// A value for the table. Its type must have a tag which doesn't change while the table has the value.
 #[derive(Drop)]
 struct Parcel(u64);
 
@@ -53,7 +53,7 @@ fn post<C: Contexts<Parcel>, R: Wait + Clock>(rt: &R, table: &C, seat: C::Seat) 
     unreachable!()
 }
 
-/// Takes what is ready until all numbers were taken.
+/// Takes each ready thread until all numbers were taken.
 ///
 /// Returns the seat and the sum of the numbers, or `None` if memory is refused.
 fn take_all<C: Contexts<Parcel>, R: Wait + Clock>(

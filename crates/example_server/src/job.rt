@@ -13,31 +13,32 @@ use std::sync::Arc;
 /// A request that was taken from the list.
 #[derive(Clone, Copy)]
 pub struct Request {
-    /// Its place in the list.
+    /// The request's place in the list.
     pub number: u64,
     pub due: Due,
-    /// The time at which it was taken, in nanoseconds of the clock.
+    /// The time at which the request was taken from the list, in nanoseconds of the clock.
     pub taken: u64,
 }
 
-/// The answer to a request. Its work began after the slow part, if it has one.
+/// The answer to a request. The request's work began after the slow part, if the request has one.
 #[derive(Clone, Copy)]
 pub struct Answer {
     pub request: Request,
     pub value: u64,
-    /// The times at which its work began and was done, in nanoseconds of the clock.
+    /// The times at which the request's work began and was done, in nanoseconds of the clock.
     pub began: u64,
     pub ended: u64,
     ghost right: { value ≡ mixed request.due.work request.number },
     ghost waited: { earliest request ≤ began },
 }
 
-/// The job of a request. It has a clock, by which it notes its begin and end.
+/// The job of a request. It has a clock, by which it notes when it begins and ends.
 #[derive(Drop)]
 pub struct Job {
     request: Request,
     clock: HostRuntime,
-    /// The first time at which its work may begin, and the timer that wakes it then, if it has a slow part.
+    /// The first time at which the request's work may begin, and the timer that wakes the job then, if there is a slow
+    /// part.
     not_before: u64,
     timer: Option<Arc<Timer>>,
     ghost waits: { not_before ≡ earliest request },
@@ -101,7 +102,7 @@ impl PoolJob for Job {
 
     fn step(&mut self) -> Step<Job, Answer> {
         let began = now(&self.clock);
-        // It may be stepped before it is woken, so it looks at the clock each time.
+        // The job may be stepped before it is woken, so it looks at the clock each time.
         if began < self.not_before {
             return Step::Sleeps;
         }

@@ -14,7 +14,7 @@ const HYSTERESIS: u64 = 90;
 /// The settings of the server.
 #[derive(Clone, Copy)]
 pub struct Settings {
-    /// The most cores that it may have: up to 63, since a pool has 64 and one is the sender's.
+    /// The most cores that the server may have: up to 63, since a pool has 64 and one is the sender's.
     pub most: u8,
     /// The nanoseconds after which the load is judged.
     pub interval: u64,
@@ -24,7 +24,7 @@ pub struct Settings {
     ghost few: { most < 64 },
 }
 
-/// The sample of an interval, and the advice that it gave.
+/// The sample of an interval, and the advice on the sample.
 #[derive(Clone, Copy)]
 pub struct Judged {
     /// The time at which the interval ended, in nanoseconds of the clock.
@@ -40,10 +40,10 @@ pub struct Keeper {
     interval: u64,
     pub most: u8,
     held: u8,
-    /// The state at the start of this sample: the time, and the nanoseconds of work done by then.
+    /// The state at the start of this sample: the time, and the nanoseconds of work that were done until then.
     begun: u64,
     busy: u64,
-    /// The number of jobs that the scans saw, and of the cores scanned.
+    /// The number of jobs that the scans saw, and the number of cores that were scanned.
     runnable: u64,
     scans: u64,
     pub judged: Vec<Judged>,
@@ -52,7 +52,7 @@ pub struct Keeper {
 }
 
 impl Keeper {
-    /// Returns a keeper that has all cores at this time.
+    /// Returns a keeper that has all cores at the time `now`.
     pub fn new(alloc: Global, settings: Settings, now: u64) -> Keeper
         ensures { result.most ≡ settings.most }
     {
@@ -70,7 +70,7 @@ impl Keeper {
     }
 
     /// Counts a scan of all cores of the server, which saw `runnable` jobs that could run. Once the interval has ended,
-    /// judges its sample and returns the order that follows, if there is one. `busy` is the nanoseconds of work by now.
+    /// judges its sample and returns the order that follows, if there is one. `busy` is the nanoseconds of work so far.
     pub fn scan(&mut self, now: u64, runnable: u64, busy: u64) -> Option<CoreOrder>
         ensures most { self.new.most ≡ self.old.most }
         ensures order { IfSome result (λ order. AreInOrder (self.old.most + 1) (order ∷ [])) }
@@ -101,7 +101,7 @@ impl Keeper {
         self.follow(advice)
     }
 
-    /// Counts the core that comes or goes by this advice, and returns the order for it, if there is one.
+    /// Counts the core that this advice adds or removes, and returns the order for the core, if there is one.
     fn follow(&mut self, advice: Advice) -> Option<CoreOrder>
         ensures most { self.new.most ≡ self.old.most }
         ensures order { IfSome result (λ order. AreInOrder (self.old.most + 1) (order ∷ [])) }

@@ -1,7 +1,7 @@
 //! A server over the pool: it answers a list of requests, and holds as many cores as their load asks for.
 //!
-//! `example_server < LIST` prints how many it has answered; `example_server CORES INTERVAL [PATIENCE] < LIST` also its
-//! log. Times are in microseconds.
+//! `example_server < LIST` prints how many requests it has answered; `example_server CORES INTERVAL [PATIENCE] < LIST`
+//! also prints its log. Times are in microseconds.
 #![tactic(auto)]
 
 mod job;
@@ -20,7 +20,7 @@ use start::run;
 use std::env;
 use std::io::Read;
 
-/// Returns the number at a place of the arguments, or the other one if there is none.
+/// Returns the number at a place of the arguments, or `other` if there is none.
 fn number(words: &[String], place: usize, other: u64) -> u64 {
     let number = words.get(place).and_then(|word| word.as_str().parse().ok());
     number.unwrap_or(other)

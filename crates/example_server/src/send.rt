@@ -1,5 +1,5 @@
-//! The kernel thread of the sender, for which the list stands for a network: it sends each request as a job once that
-//! is due, wakes those whose slow part is over, takes the answers, and has the cores kept.
+//! The kernel thread of the sender, for which the list stands for a network. It sends each request as a job when the
+//! request is due, wakes the jobs whose slow part is over, takes the answers, and asks for cores or gives them back.
 ghost use Rattle.std.specs.Prelude.{◌≡◌, ◌+◌, ◌<◌, IfOk, IfSome, IsSome, OnSome, Some, if◌then◌else◌, length, slice_get, vec_len};
 ghost use Rattle.std.specs.VecDeque.{deque_len};
 ghost use Rattle.arachne_pool.specs.Workers.{IsIdleAt, IsWorkerOf};
@@ -15,13 +15,13 @@ use std::collections::VecDeque;
 use std::sync::Wait;
 use std::time::Clock;
 
-/// The nanoseconds between two looks at sleepers and cores, which take time from the requests.
+/// The nanoseconds between two looks at sleepers and cores. These looks take time from the requests.
 const BETWEEN_LOOKS: u64 = 20_000;
 
 /// The report of the server.
 #[derive(Drop)]
 pub struct Report {
-    /// The time at which it began, in nanoseconds of the clock.
+    /// The time at which the server began, in nanoseconds of the clock.
     pub begin: u64,
     /// The answers, in the order in which their requests were sent.
     pub answers: Vec<Answer>,
@@ -33,8 +33,8 @@ pub struct Report {
     pub judged: Vec<Judged>,
 }
 
-/// Answers or refuses all requests of the server's list. One for which there is no place is refused once it is later
-/// than the server's patience. Returns `None` if memory is refused, or the pool is stopped before.
+/// Answers or refuses all requests of the server's list. A request for which there is no place is refused once it is
+/// later than the server's patience. Returns `None` if memory is refused, or the pool is stopped before.
 pub fn send<R: Wait + Clock, C: Contexts<Spawned<Job>>>(
     rt: &R,
     server: &Server<'_, C>,
@@ -68,7 +68,7 @@ pub fn send<R: Wait + Clock, C: Contexts<Spawned<Job>>>(
     Some((server.pool.join_waker(rt, worker, waker), report))
 }
 
-/// Does the same with what the sender has.
+/// Does what `send` does, with what the sender has.
 fn send_all<R: Wait + Clock, C: Contexts<Spawned<Job>>>(
     rt: &R,
     server: &Server<'_, C>,
@@ -129,8 +129,8 @@ fn due_by(requests: &[Due], next: usize, begin: u64, now: u64) -> Option<Request
     })
 }
 
-/// Sends a request that is due, or refuses it if no core has a place and it is later than the patience. Returns whether
-/// it did either, and `None` if memory is refused.
+/// Sends a request that is due, or refuses it if no core has a free place and the request is later than the patience.
+/// Returns whether it did either, and `None` if memory is refused.
 fn settles<R: Wait, C: Contexts<Spawned<Job>>>(
     rt: &R,
     server: &Server<'_, C>,
@@ -163,7 +163,7 @@ fn settles<R: Wait, C: Contexts<Spawned<Job>>>(
     }
 }
 
-/// Takes the answer to the request that was sent first, if it has come. Returns `None` if memory is refused.
+/// Takes the answer to the request that was sent first, if it was answered. Returns `None` if memory is refused.
 fn take_answer(sent: &mut VecDeque<Handle<Job>>, report: &mut Report) -> Option<()>
     ensures all { OnSome result (vec_len report.new.answers + deque_len sent.new ≡ vec_len report.old.answers + deque_len sent.old) }
     ensures refused { report.new.refused ≡ report.old.refused }
@@ -201,7 +201,7 @@ fn keep_cores<R: Wait + Clock, C: Contexts<Spawned<Job>>>(
         let orders = vec![in server.alloc; order].ok()?;
         server.pool.order(rt, worker, orders).ok()?;
     }
-    // A round on the sender's core, which is closed: it only applies the orders.
+    // A round on the sender's core, which is closed: the round only applies the orders.
     server.pool.turn(rt, worker, keeper.most).ok()?;
     Some(())
 }

@@ -1,4 +1,5 @@
-//! The server, which its kernel threads share: one sends the requests, and each of the others serves on a core.
+//! The server, which its kernel threads share: one sends the requests, and each of the others serves requests on a
+//! core.
 ghost use Rattle.std.specs.Prelude.{◌≡◌, ◌+◌, IfSome, length, vec_len};
 ghost use Rattle.arachne_pool.specs.Workers.{IsWorkerOf};
 
@@ -14,7 +15,7 @@ use std::alloc::Global;
 use std::sync::{Arc, Wait};
 use std::time::Clock;
 
-/// The server. Kernel thread 0 is the sender's, and each other one is for the core below its number.
+/// The server. Kernel thread 0 is the sender's, and each other kernel thread is for the core below its number.
 #[derive(Drop)]
 pub struct Server<'r, C: Seats> {
     pub pool: Pool<C>,

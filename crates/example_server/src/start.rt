@@ -38,8 +38,8 @@ pub fn run<R: Threads + Wait + Clock + Sync>(
     end::<Table, R>(rt, alloc, server.pool, share)
 }
 
-/// Returns the server before any request is sent, and the share of its kernel threads. Its pool has one core more than
-/// the settings say, on which nothing runs: the sender's.
+/// Returns the server before any request is sent, and the share of its kernel threads. The server's pool has one core
+/// more than the settings say, the sender's, on which nothing runs.
 fn begin<C: Contexts<Spawned<Job>> + Drop>(
     alloc: Global,
     requests: &[Due],

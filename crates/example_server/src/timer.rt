@@ -1,4 +1,4 @@
-//! The slow part that some requests wait for: a timer, which has their jobs woken after a while.
+//! The slow part for which some requests wait: a timer, which has their jobs woken after a while.
 ghost use Rattle.arachne_pool.specs.Workers.{IsIdleAt};
 
 use crate::job::Job;
@@ -17,7 +17,7 @@ pub const SLOW: u64 = 2_000_000;
 /// The alarm of the job in a context.
 #[derive(Drop)]
 struct Alarm {
-    /// The time at which the job is to be woken, or 0 if it isn't.
+    /// The time at which the job must be woken, or 0 if no alarm is set.
     at: AtomicU64,
     /// The generation of the job's id.
     generation: AtomicU64,
@@ -45,7 +45,7 @@ impl Timer {
     /// Sets the alarm of the job of this id, which is about to sleep.
     pub fn wake_at(&self, at: u64, id: ThreadId) {
         if let Some(alarm) = self.alarms.get(id.context as usize) {
-            // The time last: whoever sees it finds the generation that it is for.
+            // The time is stored last: whoever sees it finds the generation for which it is set.
             alarm.generation.store(id.generation, SeqCst);
             alarm.at.store(at, SeqCst);
         }
@@ -57,14 +57,14 @@ impl Timer {
         self.alarms.iter().filter(is_set).count() as u64
     }
 
-    /// Returns the id of the job in this context and takes its alarm back, if the time has come.
+    /// Returns the id of the job in this context and takes its alarm back, if the alarm's time has come.
     fn take_due(&self, context: u32, now: u64) -> Option<ThreadId> {
         let alarm = self.alarms.get(context as usize)?;
         let at = alarm.at.load(SeqCst);
         if at == 0 || now < at {
             return None;
         }
-        // The next job of the context may have set its own meanwhile, which stays.
+        // The next job of the context may have set its own alarm meanwhile, which stays.
         alarm.at.compare_exchange(at, 0, SeqCst, SeqCst).ok()?;
         Some(ThreadId {
             context,

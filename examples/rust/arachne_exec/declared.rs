@@ -17,8 +17,8 @@ pub const API_VERSION: u32 = 1;
 /// The call succeeded.
 pub const DONE: u32 = 0;
 
-/// The handle holds nothing, or something although it must be empty; or its seat may not make this call now; or
-/// there is no such block, lock or ledger. Nothing has changed.
+/// The handle holds nothing, or it holds something although it must be empty; or the handle's seat may not make
+/// this call now; or there is no such block, lock or ledger. Nothing has changed.
 pub const REFUSED: u32 = 1;
 
 /// Memory was refused. Nothing has changed.
@@ -27,7 +27,7 @@ pub const NO_MEMORY: u32 = 2;
 /// Another thread was at the lock. Nothing has changed: try again.
 pub const CONTENDED: u32 = 3;
 
-/// Another thread was first. Nothing has changed: try again; for a worker's number, with another number.
+/// Another thread was first. Nothing has changed: try again, with another number if the call registers a worker.
 pub const LOST: u32 = 4;
 
 /// `who` holds the lock.
@@ -42,13 +42,13 @@ pub const ALREADY_IN: u32 = 7;
 /// The lock is free.
 pub const FREED: u32 = 8;
 
-/// The lock was handed on to the one that had waited longest: wake it.
+/// The lock was handed on to the task that had waited longest: wake that task.
 pub const HANDED_ON: u32 = 9;
 
 /// `who` doesn't hold the lock. As the answer to a withdrawal: `who` neither holds the lock nor waits for it.
 pub const NOT_HOLDER: u32 = 10;
 
-/// `who` waited for the lock, and waits no longer: the lock is not handed on to it any more.
+/// `who` waited for the lock, and waits no longer: the lock is not handed on to `who` any more.
 pub const LEFT: u32 = 11;
 
 /// No place of the block is free.
@@ -60,7 +60,7 @@ pub const RUN: u32 = 13;
 /// The worker has set its idle bit, and then found no block that may have ready jobs: sleep until you are unparked.
 pub const PARK: u32 = 14;
 
-/// No job was taken, or a block may have one: try again.
+/// No job was taken, or a block may have a job: try again.
 pub const AGAIN: u32 = 15;
 
 /// The job is ready.
@@ -69,9 +69,9 @@ pub const READY: u32 = 16;
 /// The job waits for a wake.
 pub const BLOCKED: u32 = 17;
 
-/// The job is ready or runs, and the wake is recorded. A take or a start uses up that record. If neither comes, the
-/// job is ready again when it would block next. A wake for the next job of a free place, by the name that this job
-/// will have, is recorded in the same way.
+/// The job is ready or runs, and the wake is recorded. A take or a start uses up that record. If neither follows,
+/// the job is ready again when it would block next. A wake for the next job of a free place, by the name that this
+/// job will have, is recorded in the same way.
 pub const MARKED: u32 = 18;
 
 /// A wake of the job was recorded already.
@@ -92,7 +92,7 @@ pub const REMOVE: u32 = 23;
 /// The value of `unpark` in an answer if no worker must be unparked.
 pub const NOBODY: u32 = 64;
 
-/// A seat at an executor, or nothing, in C's layout: one pointer, which is null if nothing is held.
+/// A seat at an executor in C's layout: one pointer, which is null if there is no seat.
 #[repr(C)]
 pub struct ArachneExec {
     opaque: *mut u8,
@@ -125,7 +125,7 @@ pub struct ArachneExecTold {
     pub unpark: u32,
 }
 
-/// A seat at a set of locks, or nothing, in C's layout: one pointer, which is null if nothing is held.
+/// A seat at a set of locks in C's layout: one pointer, which is null if there is no seat.
 #[repr(C)]
 pub struct ArachneLocks {
     opaque: *mut u8,
@@ -139,14 +139,14 @@ impl ArachneLocks {
 #[repr(C)]
 #[derive(Clone, Copy, Debug, PartialEq, Eq)]
 pub struct ArachneLockTold {
-    /// The number of the event: of the grant, the ask, the free or the leave.
+    /// The number of the event: the grant, the ask, the free or the leave.
     pub at: u64,
     /// The waiter that holds the lock now, if a free handed it on. The number of that grant is `at` + 1.
     pub next: u64,
     pub code: u32,
 }
 
-/// A share of a set of ledgers, or nothing, in C's layout: one pointer, which is null if nothing is held.
+/// A share of a set of ledgers in C's layout: one pointer, which is null if there is no share.
 #[repr(C)]
 pub struct ArachneAdder {
     opaque: *mut u8,
@@ -190,8 +190,10 @@ unsafe extern "C" {
     /// Splits a seat in two, for another thread: `other` gets the second part, with no job in hand and no worker
     /// number.
     ///
-    /// Returns DONE; REFUSED if `exec` holds nothing or `other` holds something; NO_MEMORY. A seat may be split 127
-    /// times in a row. A further split succeeds too, but then the executor can't be ended any more.
+    /// Returns DONE; REFUSED if `exec` holds nothing or `other` holds something; NO_MEMORY.
+    ///
+    /// After more than 127 splits in a row, each of a part of the one before, splits still succeed but the executor
+    /// can't be ended any more.
     ///
     /// Threads: safe beside calls with other handles; two at once with `exec` or `other` are undefined behaviour.
     pub fn arachne_exec_split(exec: *mut ArachneExec, other: *mut ArachneExec) -> u32;
@@ -209,14 +211,14 @@ unsafe extern "C" {
     ///
     /// The jobs that are left were spawned and have not ended; jobs of number 0 are not written. A number that
     /// several jobs have is written once for each of these jobs. Returns DONE with the count of jobs written;
-    /// REFUSED if the handle holds nothing or has a job in hand, or if not all other handles were joined into it;
-    /// NO_MEMORY. Returns REFUSED also if `left` has less room than 4,096 jobs for each shard. Unless the code is
-    /// DONE, the count is 0, and the executor and `left` are unchanged.
+    /// REFUSED if the handle holds nothing or has a job in hand, or if not all other handles were joined into this
+    /// one; NO_MEMORY. Returns REFUSED also if `left` has less room than 4,096 jobs for each shard. Unless the code
+    /// is DONE, the count is 0, and the executor and `left` are unchanged.
     ///
     /// Threads: safe beside calls with other handles; two at once with `exec` are undefined behaviour.
     pub fn arachne_exec_end(exec: *mut ArachneExec, left: *mut u64, left_room: usize) -> ArachneExecLeft;
 
-    /// Frees the seat that a handle holds, if it holds one, and the executor with the last of its handles.
+    /// Frees the seat of a handle, if it has one, and the executor with the last of its handles.
     ///
     /// A job in hand stays at its place for ever, and the other handles can't end the executor any more.
     ///
@@ -245,7 +247,8 @@ unsafe extern "C" {
     /// Threads: safe beside calls with other handles; two at once with `exec` are undefined behaviour.
     pub fn arachne_exec_spawn(exec: *mut ArachneExec, block: usize, job: u64) -> ArachneExecTold;
 
-    /// Puts a job at a free place of a block and into the hand, so that nobody else can take it: one try.
+    /// Tries once to put a job at a free place of a block and into the handle's hand, so that nobody else can take
+    /// the job.
     ///
     /// Returns RUN with the job's name and number; FULL; LOST; REFUSED if the handle holds nothing or has a job in
     /// hand, or if there is no such block.
@@ -268,7 +271,7 @@ unsafe extern "C" {
     /// Threads: safe beside calls with other handles; two at once with `exec` are undefined behaviour.
     pub fn arachne_exec_ready(exec: *mut ArachneExec, block: usize) -> u64;
 
-    /// Takes a ready job of a block into the hand, whichever worker looks after the block: one try.
+    /// Tries once to take a ready job of a block into the handle's hand. Any worker may look after the block.
     ///
     /// Returns RUN with the job's name and number; AGAIN; REFUSED if the handle holds nothing or has a job in hand,
     /// or if there is no such block.
@@ -276,25 +279,26 @@ unsafe extern "C" {
     /// Threads: safe beside calls with other handles; two at once with `exec` are undefined behaviour.
     pub fn arachne_exec_take(exec: *mut ArachneExec, block: usize) -> ArachneExecTold;
 
-    /// Takes up to `most` ready jobs of a block into the hand, by one step; a `most` of 0 counts as 1.
+    /// Takes up to `most` ready jobs of one block (64 places) in one atomic step. They are then in the handle's
+    /// hand: nobody else can run them. A `most` of 0 counts as 1.
     ///
     /// Returns the places of the jobs that were taken, a bit for each of the block's 64 places. The job at the
     /// lowest place is the newest: calls on the job in hand concern this job, and then the job at the next place,
     /// once the newest rests or has ended. `arachne_exec_start` returns the newest job's name and number. Returns 0
-    /// if no job was taken, if the handle holds nothing or has a job in hand, or if there is no such block.
+    /// if no job was taken, if the handle is empty or has a job in hand already, or if there is no such block.
     ///
     /// Threads: safe beside calls with other handles; two at once with `exec` are undefined behaviour.
     pub fn arachne_exec_take_many(exec: *mut ArachneExec, block: usize, most: u32) -> u64;
 
-    /// Begins to run the newest job in hand, of several that were taken at once: uses up a wake that has come by
-    /// now.
+    /// Begins to run the newest job in hand, of several that were taken at once: uses up a wake that has come since
+    /// the take.
     ///
     /// Returns RUN with the job's name and number, or REFUSED if the handle has no job in hand.
     ///
     /// Threads: safe beside calls with other handles; two at once with `exec` are undefined behaviour.
     pub fn arachne_exec_start(exec: *mut ArachneExec) -> ArachneExecTold;
 
-    /// Takes the next job of the worker's blocks into the hand.
+    /// Takes the next job of the worker's blocks into the handle's hand.
     ///
     /// Returns RUN with the job's name and number; PARK; AGAIN; REFUSED if the handle holds nothing, if its seat is
     /// no worker, or if a job is in hand.
@@ -302,8 +306,8 @@ unsafe extern "C" {
     /// Threads: safe beside calls with other handles; two at once with `exec` are undefined behaviour.
     pub fn arachne_exec_next(exec: *mut ArachneExec) -> ArachneExecTold;
 
-    /// Sets the worker's idle bit, and then looks if one of its blocks may have ready jobs: the last part of
-    /// `arachne_exec_next`.
+    /// Sets the worker's idle bit, and then checks if a block of the worker may have ready jobs. This is the last
+    /// part of `arachne_exec_next`.
     ///
     /// Returns PARK; AGAIN, with the bit cleared again; REFUSED if the handle holds nothing or its seat is no
     /// worker.
@@ -347,7 +351,7 @@ unsafe extern "C" {
     /// Threads: safe beside calls with other handles; two at once with `exec` are undefined behaviour.
     pub fn arachne_exec_wake(exec: *mut ArachneExec, name: u64) -> ArachneExecTold;
 
-    /// Wakes the job of a name, and takes it into the hand if it was blocked: one try.
+    /// Tries once to wake the job of a name, and to take the job into the handle's hand if it was blocked.
     ///
     /// Returns RUN with the job's name and number; MARKED; ALREADY_MARKED; GONE; LOST; REFUSED if the handle holds
     /// nothing or has a job in hand.
@@ -362,7 +366,7 @@ unsafe extern "C" {
     /// Threads: safe beside calls with other handles; two at once with `locks` are undefined behaviour.
     pub fn arachne_locks_new(locks: *mut ArachneLocks, count: usize) -> u32;
 
-    /// Splits off another seat, for another thread, and puts it into `other`.
+    /// Splits a seat in two, for another thread: `other` gets the new seat.
     ///
     /// Returns DONE; REFUSED if `locks` holds nothing or `other` holds something; NO_MEMORY.
     ///
@@ -378,12 +382,12 @@ unsafe extern "C" {
     /// Threads: safe beside calls with other handles; two at once with `locks` or `other` are undefined behaviour.
     pub fn arachne_locks_join(locks: *mut ArachneLocks, other: *mut ArachneLocks) -> u32;
 
-    /// Frees the seat that a handle holds, if it holds one, and the locks with the last of their handles.
+    /// Frees the seat of a handle, if it has one, and the locks with the last of their handles.
     ///
     /// Threads: safe beside calls with other handles; two at once with `locks` are undefined behaviour.
     pub fn arachne_locks_close(locks: *mut ArachneLocks);
 
-    /// Asks for a lock for `who`: one try.
+    /// Tries once to ask for a lock for `who`.
     ///
     /// Returns GRANTED; QUEUED; ALREADY_IN; NO_MEMORY, only if `who` would have to wait; CONTENDED; REFUSED if the
     /// handle holds nothing or there is no such lock.
@@ -391,7 +395,7 @@ unsafe extern "C" {
     /// Threads: safe beside calls with other handles; two at once with `locks` are undefined behaviour.
     pub fn arachne_lock_ask(locks: *mut ArachneLocks, lock: usize, who: u64) -> ArachneLockTold;
 
-    /// Frees a lock that `who` holds: one try.
+    /// Tries once to free a lock that `who` holds.
     ///
     /// Returns FREED; HANDED_ON, to `next`; NOT_HOLDER; CONTENDED; REFUSED if the handle holds nothing or there is
     /// no such lock.
@@ -399,18 +403,18 @@ unsafe extern "C" {
     /// Threads: safe beside calls with other handles; two at once with `locks` are undefined behaviour.
     pub fn arachne_lock_free(locks: *mut ArachneLocks, lock: usize, who: u64) -> ArachneLockTold;
 
-    /// Takes `who` out of the queue of a lock, such as when its future is dropped: one try.
+    /// Tries once to take `who` out of the queue of a lock, such as when the future of `who` is dropped.
     ///
-    /// Returns LEFT; GRANTED if `who` holds the lock by now, and must free it; NOT_HOLDER; CONTENDED; REFUSED if
-    /// the handle holds nothing or there is no such lock.
+    /// Returns LEFT; GRANTED if `who` was granted the lock meanwhile, and must free it; NOT_HOLDER; CONTENDED;
+    /// REFUSED if the handle holds nothing or there is no such lock.
     ///
     /// Threads: safe beside calls with other handles; two at once with `locks` are undefined behaviour.
     pub fn arachne_lock_withdraw(locks: *mut ArachneLocks, lock: usize, who: u64) -> ArachneLockTold;
 
-    /// Looks if `who` holds a lock: one try.
+    /// Tries once to look if `who` holds a lock.
     ///
-    /// Returns GRANTED with the number of its grant; NOT_HOLDER; CONTENDED; REFUSED if the handle holds nothing or
-    /// there is no such lock.
+    /// Returns GRANTED with the number of the grant to `who`; NOT_HOLDER; CONTENDED; REFUSED if the handle holds
+    /// nothing or there is no such lock.
     ///
     /// Threads: safe beside calls with other handles; two at once with `locks` are undefined behaviour.
     pub fn arachne_lock_check(locks: *mut ArachneLocks, lock: usize, who: u64) -> ArachneLockTold;
@@ -439,8 +443,10 @@ unsafe extern "C" {
 
     /// Splits a share in two, for another thread: `other` gets the second part, to which nothing was added.
     ///
-    /// Returns DONE; REFUSED if `adder` holds nothing or `other` holds something; NO_MEMORY. A share may be split
-    /// 127 times in a row. A further split succeeds too, but then no total can be read any more.
+    /// Returns DONE; REFUSED if `adder` holds nothing or `other` holds something; NO_MEMORY.
+    ///
+    /// After more than 127 splits in a row, each of a part of the one before, splits still succeed but no total can
+    /// be read.
     ///
     /// Threads: safe beside calls with other handles; two at once with `adder` or `other` are undefined behaviour.
     pub fn arachne_ledger_split(adder: *mut ArachneAdder, other: *mut ArachneAdder) -> u32;
@@ -454,15 +460,15 @@ unsafe extern "C" {
     /// Threads: safe beside calls with other handles; two at once with `adder` or `other` are undefined behaviour.
     pub fn arachne_ledger_join(adder: *mut ArachneAdder, other: *mut ArachneAdder) -> bool;
 
-    /// Frees the share that a handle holds, if it holds one, and the ledgers with the last of their handles.
+    /// Frees the share of a handle, if it has one, and the ledgers with the last of their handles.
     ///
     /// The other handles can't read a total any more.
     ///
     /// Threads: safe beside calls with other handles; two at once with `adder` are undefined behaviour.
     pub fn arachne_ledger_close(adder: *mut ArachneAdder);
 
-    /// Makes an estimator that has seen no sample. Returns false, with nothing changed, if `max` is greater than
-    /// 64.
+    /// Makes an estimator that no sample was given to yet. Returns false, with nothing changed, if `max` is greater
+    /// than 64.
     ///
     /// Threads: safe beside calls with other memory; two at once with `estimator` are undefined behaviour.
     pub fn arachne_estimator_new(up: u64, hysteresis: u64, max: u64, estimator: *mut ArachneEstimator) -> bool;

@@ -29,7 +29,7 @@ pub const HELLO: u32 = 3;
 /// A kernel thread joins its client.
 pub const JOIN: u32 = 4;
 
-/// A thread gives its core back, if it has one, and waits for another.
+/// A thread gives its core back, if it has one, and waits for another core.
 pub const WAIT: u32 = 5;
 
 /// A client asks for a number of cores.
@@ -56,21 +56,21 @@ pub const UNUSED: u32 = 12;
 /// There is nothing to do.
 pub const NOTHING: u32 = 13;
 
-/// The core was taken from the thread: move the thread away from it.
+/// The core was taken from the thread: move the thread away from the core.
 pub const TAKEN: u32 = 14;
 
-/// The thread, which floats, was given the core: move the thread there.
+/// The core was given to the thread, which floats: move the thread to the core.
 pub const PLACED: u32 = 15;
 
-/// The thread, which waited, was given the core: move the thread there, and notify it.
+/// The core was given to the thread, which waited: move the thread to the core, and notify the thread.
 pub const GRANTED: u32 = 16;
 
 /// A message of a client. Fields that the message does not use are 0.
 #[repr(C)]
 #[derive(Clone, Copy, Debug, PartialEq, Eq)]
 pub struct ArachneMessage {
-    /// HELLO, JOIN, WAIT or ASK if the bytes begin with such a message. If the bytes begin with no message, the
-    /// reason for that.
+    /// HELLO, JOIN, WAIT or ASK if the bytes begin with such a message; otherwise the code of the reason why they
+    /// don't.
     pub code: u32,
     pub priority: u32,
     pub reserved: u32,
@@ -82,7 +82,7 @@ pub struct ArachneMessage {
     pub floats: bool,
 }
 
-/// An arbiter, or nothing, in C's layout: one pointer, which is null if nothing is held.
+/// An arbiter in C's layout: one pointer, which is null if there is no arbiter.
 #[repr(C)]
 pub struct ArachneArbiter {
     opaque: *mut u8,
@@ -117,7 +117,7 @@ unsafe extern "C" {
     /// Reads the message at the beginning of the bytes.
     ///
     /// Returns HELLO, JOIN, WAIT or ASK; SHORT if there are fewer than 16 bytes; otherwise KIND, VERSION, PRIORITY,
-    /// PLACE or UNUSED, by the first of its four numbers that is not valid.
+    /// PLACE or UNUSED, by the first of the message's four numbers that is not valid.
     ///
     /// Threads: safe beside any call, if nobody writes to `bytes` meanwhile.
     pub fn arachne_message_read(bytes: *const u8, bytes_count: usize) -> ArachneMessage;
@@ -129,15 +129,16 @@ unsafe extern "C" {
     /// Threads: safe beside calls with other handles; two at once with `arbiter` are undefined behaviour.
     pub fn arachne_arbiter_new(arbiter: *mut ArachneArbiter, cores: u32) -> u32;
 
-    /// Frees the arbiter that a handle holds, if it holds one.
+    /// Frees the arbiter of a handle, if it has one.
     ///
     /// Threads: safe beside calls with other handles; two at once with `arbiter` are undefined behaviour.
     pub fn arachne_arbiter_close(arbiter: *mut ArachneArbiter);
 
-    /// Adds a client with its priority (0 goes first), and the cores that it reserves and may ask for at most.
+    /// Adds a client with its priority (0 goes first), the cores that it reserves, and the most cores that it may
+    /// ask for.
     ///
-    /// The client's number is from 0 to 63, and no other client's. Returns DONE or REFUSED. The caller must check
-    /// that the client is entitled to this priority and these cores.
+    /// `client`, the client's number, must be from 0 to 63, and no other client's. Returns DONE or REFUSED. The
+    /// caller must check that the client is entitled to this priority and these cores.
     ///
     /// Threads: safe beside calls with other handles; two at once with `arbiter` are undefined behaviour.
     pub fn arachne_arbiter_hello(arbiter: *mut ArachneArbiter, client: usize, priority: u8, reserved: u32, most: u32) -> u32;
@@ -159,7 +160,7 @@ unsafe extern "C" {
     /// Threads: safe beside calls with other handles; two at once with `arbiter` are undefined behaviour.
     pub fn arachne_arbiter_join(arbiter: *mut ArachneArbiter, client: usize, place: usize, floats: bool) -> u32;
 
-    /// Takes the core from a thread, if it has one, and lets the thread wait until it is granted one.
+    /// Takes the core from a thread, if it has one, and lets the thread wait until a core is granted to it.
     ///
     /// Returns DONE, or REFUSED if the thread floats or waits already, or does not exist.
     ///
@@ -176,14 +177,14 @@ unsafe extern "C" {
     /// Threads: safe beside calls with other handles; two at once with `arbiter` are undefined behaviour.
     pub fn arachne_arbiter_decide(arbiter: *mut ArachneArbiter) -> u32;
 
-    /// Takes a core from a client that has more than it may have: from its last thread that has one.
+    /// Takes a core from a client that has more cores than it may have: from its last thread that has a core.
     ///
     /// If that thread floats, the core is taken at once, otherwise only if `late` is set. Returns TAKEN or NOTHING.
     ///
     /// Threads: safe beside calls with other handles; two at once with `arbiter` are undefined behaviour.
     pub fn arachne_arbiter_take_back(arbiter: *mut ArachneArbiter, client: usize, late: bool) -> ArachneAction;
 
-    /// Gives a free core to a thread that can take one, of a client that has fewer than it may have.
+    /// Gives a free core to a thread that can take one, of a client that has fewer cores than it may have.
     ///
     /// A client of higher priority goes first. Returns GRANTED if the thread waited, PLACED if it floats, or
     /// NOTHING.

@@ -57,7 +57,7 @@ fn frees_its_waker(runtime: &Runtime, what: &str, future: impl Future, let_it: i
     while poll() {
         thread::sleep(MS);
     }
-    // Who wakes may still be at it.
+    // The thread that wakes may still use the waker.
     while Arc::strong_count(&counted) != 1 {
         assert!(start.elapsed() < LONG, "{what} keeps its waker");
         thread::sleep(MS);
@@ -97,7 +97,7 @@ fn wakers_of_others_are_freed() {
     frees_its_waker(&runtime, "a handle", task, || gate.add_permits(1));
 }
 
-/// If a future is dropped after it got its turn and before it saw that, the next one in line gets the turn.
+/// If a future is dropped after it got its turn and before it saw that, the next future in line gets the turn.
 #[test]
 fn a_turn_that_was_given_is_handed_on_at_drop() {
     let (sender, receiver) = channel(1);
@@ -122,7 +122,7 @@ fn a_turn_that_was_given_is_handed_on_at_drop() {
     assert_eq!(semaphore.available_permits(), 2);
 }
 
-/// Both ends of a channel see that the other is gone, and values that nobody can receive are dropped.
+/// Each end of a channel sees that the other is gone, and values that nobody can receive are dropped.
 #[test]
 fn whoever_waits_hears_that_the_other_end_is_gone() {
     let runtime = Runtime::new(1);
@@ -162,7 +162,7 @@ fn what_is_aborted_before_it_begins_never_runs() {
             thread::yield_now();
         }
     };
-    // The one worker, or the one thread of the pool, is busy until the other has been aborted.
+    // The only worker, or the only thread of the pool, is busy until the task or work was aborted.
     for blocking in [false, true] {
         (runs.store(false, SeqCst), gate.store(false, SeqCst));
         let (first, began) = (busy.clone(), Arc::new(AtomicBool::new(false)));
@@ -185,7 +185,7 @@ fn what_is_aborted_before_it_begins_never_runs() {
     }
 }
 
-/// A task that waits for a timer is polled once when it is due, and not again.
+/// A task that waits for a timer is polled once when the timer is due, and not again.
 #[test]
 fn a_timer_wakes_once() {
     let runtime = Runtime::new(2);
@@ -198,7 +198,7 @@ fn a_timer_wakes_once() {
         is_due = is_due || Pin::new(&mut sleeps).poll(cx).is_ready();
         Poll::<()>::Pending
     }));
-    // One after the other, so that a machine that is busy makes no single wake of several.
+    // One after the other, so that a busy machine doesn't make a single wake of several.
     (0..8).for_each(|_| block_on(runtime.spawn(sleep(4 * MS))).unwrap());
     assert!(polls.load(SeqCst) <= 2, "{} polls", polls.load(SeqCst));
     task.abort();
@@ -228,7 +228,7 @@ fn a_sleep_wakes_whoever_polled_it_last() {
     runtime.block_on(arachne::poll_fn(|cx| Poll::Ready(Pin::new(&mut sleeps).poll(cx).is_ready())));
     let third = runtime.spawn(async move { sleeps.await });
     block_on(runtime.spawn(arachne::timeout(LONG, third))).unwrap().unwrap().unwrap();
-    // Two tasks, one after the other, without a poll of anyone else between.
+    // Two tasks, one after the other, without a poll of any other task between.
     let (sender, receiver) = channel(1);
     let first = runtime.spawn(async move {
         let mut sleeps = sleep(100 * MS);
@@ -258,7 +258,7 @@ fn the_end_waits_for_work_that_blocks() {
     assert_eq!(runtime.shutdown_within(LONG).aborted, 0);
     assert_eq!(done.load(SeqCst), 5);
     all.into_iter().for_each(|task| assert!(block_on(task).is_ok()));
-    // With no time, what has not begun is cancelled, and so is what is asked for from then on.
+    // With no time, work that has not begun is cancelled, and so is work that is asked for from then on.
     let runtime = Builder::new(1).blocking_threads(1).build().unwrap();
     let (dropped, began) = (Arc::new(AtomicUsize::new(0)), Arc::new(AtomicBool::new(false)));
     let (seen, begins, kept) = (dropped.clone(), began.clone(), OnDrop(dropped));
@@ -306,7 +306,7 @@ fn the_end_leaves_work_that_blocks_for_ever() {
     assert_eq!(next.live(), 0);
 }
 
-/// Blocking work that waits for a task which it has spawned after the end began doesn't hold the end up.
+/// Blocking work that waits for a task which it has spawned after the end began doesn't delay the end.
 #[test]
 fn the_end_cancels_what_work_that_blocks_has_spawned() {
     let runtime = Runtime::new(1);
@@ -324,7 +324,7 @@ fn the_end_cancels_what_work_that_blocks_has_spawned() {
     assert!(matches!(block_on(work).unwrap(), Err(JoinError::Cancelled)));
 }
 
-/// The only worker is in a poll that doesn't end: the timers of other threads fire, and so do its own in a `block_on`.
+/// The only worker is in a poll that doesn't end: timers of other threads fire, and so do the worker's in a `block_on`.
 #[test]
 fn timers_of_other_threads_fire_while_the_worker_blocks() {
     let (runtime, blocks) = (Runtime::new(1), Arc::new(AtomicBool::new(true)));
@@ -363,7 +363,7 @@ fn a_runtime_is_entered_and_ended_within_a_task_of_another_or_its_own() {
     drop(block_on(drops));
 }
 
-/// `stopping` wakes only the last waker that it was polled with.
+/// `stopping` wakes only the last waker with which it was polled.
 #[test]
 fn who_waits_for_the_end_may_change() {
     let runtime = Runtime::new(1);
@@ -460,7 +460,7 @@ fn a_panic_leaks_nothing_and_is_told() {
     assert_eq!(dropped.load(SeqCst), 2);
 }
 
-/// If no place is free, `try_spawn` returns the future, and doesn't put it into the queue.
+/// If no place is free, `try_spawn` returns the future, and doesn't put the task into the queue.
 #[test]
 fn what_has_no_place_comes_back() {
     let runtime = Builder::new(1).places(1).build().unwrap();
@@ -519,7 +519,7 @@ fn what_the_watcher_ran_ends_with_the_runtime() {
     waiting.into_iter().for_each(|task| assert!(matches!(block_on(task), Err(JoinError::Cancelled))));
 }
 
-/// Who waits for a socket of a runtime that ends gets an error, in another runtime or in its blocking work.
+/// A task that waits for a socket of a runtime that ends gets an error, in another runtime or in its blocking work.
 #[test]
 fn a_socket_of_an_ended_runtime_keeps_nobody_waiting() {
     let (ends, runtime) = (Runtime::new(1), Runtime::new(2));
@@ -544,7 +544,7 @@ fn a_socket_of_an_ended_runtime_keeps_nobody_waiting() {
     }
 }
 
-/// A sleep that began in a runtime which has ended goes on in another runtime, in whichever it is polled.
+/// A sleep that began in a runtime which has ended goes on in another runtime, whichever polls it.
 #[test]
 fn a_sleep_outlives_its_runtime() {
     let (ends, runtime) = (Runtime::new(1), Runtime::new(2));
@@ -558,7 +558,8 @@ fn a_sleep_outlives_its_runtime() {
     runtime.block_on(moved);
 }
 
-/// A later runtime has the state of the ended one, if it has the same size. No other test has a runtime of 7 workers.
+/// A later runtime has the state of the ended runtime, if it has the same size. No other test has a runtime of 7
+/// workers.
 #[test]
 fn a_socket_of_an_ended_runtime_waits_in_no_later_one() {
     let (ends, signal) = (Runtime::new(7), Signal::heard(10).unwrap());
@@ -572,7 +573,7 @@ fn a_socket_of_an_ended_runtime_waits_in_no_later_one() {
     assert_eq!(message(got.map(drop)), "the runtime of this socket has ended");
     let got = later.block_on(timeout(LONG, signal.recv())).unwrap();
     assert_eq!(message(got), "the runtime of this socket has ended");
-    // Made anew they wait there.
+    // Sockets that are made anew wait in the new runtime.
     let socket = net::UdpSocket::from_std(socket.into_std().unwrap()).unwrap();
     assert!(later.block_on(timeout(MS, socket.recv_from(&mut [0; 8]))).is_err());
     let signal = Signal::heard(10).unwrap();

@@ -46,7 +46,7 @@ fn an_aborted_task_is_dropped_and_says_so() {
             })
         })
         .collect();
-    // Half of them wait by then.
+    // At this number of polls half of the tasks wait.
     while runtime.stats().polls < 250 {
         thread::yield_now();
     }
@@ -55,7 +55,7 @@ fn an_aborted_task_is_dropped_and_says_so() {
         assert!(matches!(block_on(task), Err(JoinError::Aborted)));
     }
     assert_eq!(dropped.load(SeqCst), 500);
-    // One that has ended has its output.
+    // A task that has ended keeps its output.
     let task = runtime.spawn(async { 7 });
     while !task.is_finished() {
         thread::yield_now();
@@ -170,7 +170,7 @@ fn a_channel_tells_of_a_missing_end() {
     let (sender, receiver) = channel(1);
     assert_eq!(sender.try_send(1), Ok(()));
     assert_eq!(sender.try_send(2), Err(SendError::Full(2)));
-    // A send that is dropped while it waits is not made, and one that waits behind it is.
+    // A send that is dropped while it waits is not made, and a send that waits behind it is.
     let mut first = sender.send(3);
     let mut second = sender.send(4);
     assert!(poll_once(&mut first).is_pending() && poll_once(&mut second).is_pending());
@@ -249,7 +249,7 @@ fn a_connection_is_made_without_blocking_and_refused() {
     });
     assert_eq!(&block_on(client).unwrap(), b"hello");
     assert_eq!(&block_on(server).unwrap(), b"hello");
-    // Another test may have the port by now, but not at this address.
+    // Another test may have got the port meanwhile, but not at this address.
     let nobody = std::net::SocketAddr::from(([127, 98, 76, 54], at.port()));
     let refused = runtime.spawn(async move { net::TcpStream::connect(nobody).await.map(drop) });
     assert!(block_on(refused).unwrap().is_err());
@@ -274,7 +274,7 @@ fn work_that_blocks_has_threads_of_its_own() {
     let sum: i32 = all.into_iter().map(|task| block_on(task).unwrap()).sum();
     assert_eq!(sum, 15);
     assert!(start.elapsed() >= 40 * MS, "more threads than were allowed");
-    // Such work may spawn tasks.
+    // Blocking work may spawn tasks.
     let inner = runtime.block_on(async { spawn_blocking(|| spawn(async { 7 })).await.unwrap() });
     assert_eq!(block_on(inner).unwrap(), 7);
 }
@@ -396,7 +396,7 @@ fn what_has_come_when_the_end_begins_is_read() {
     let streams: Vec<_> = (0..COUNT).map(|_| std::net::TcpStream::connect(to).unwrap()).collect();
     streams.iter().for_each(|stream| ask(stream, 1));
     streams.iter().for_each(|stream| assert_eq!(answer(stream).unwrap(), 1));
-    // The one worker looks at no socket until the end has begun, and reads then what has come meanwhile.
+    // The only worker looks at no socket until the end has begun, and then reads what has arrived meanwhile.
     let near = std::net::TcpListener::bind("127.0.0.1:0").unwrap();
     let far = std::net::TcpStream::connect(near.local_addr().unwrap()).unwrap();
     let near = net::TcpStream::from_std(near.accept().unwrap().0).unwrap();
@@ -439,7 +439,7 @@ fn the_end_waits_for_nothing_in_the_background() {
     };
     let first = runtime.spawn_background(sweeps(OnDrop(dropped.clone())));
     let (at, ends) = (OnDrop(dropped.clone()), ended.clone());
-    // A task that takes a while to end, and spawns in the background meanwhile; of those some end too.
+    // A task that takes a while to end, and meanwhile spawns tasks in the background; some of these end too.
     runtime.spawn(async move {
         drop(spawn_background(sweeps(at)));
         for _ in 0..300 {
@@ -454,7 +454,7 @@ fn the_end_waits_for_nothing_in_the_background() {
     assert!(start.elapsed() < LONG);
     assert_eq!((ended.load(SeqCst), dropped.load(SeqCst)), (1, 2));
     assert!(matches!(block_on(first), Err(JoinError::Cancelled)));
-    // One that isn't in the background is still counted.
+    // A task that isn't in the background is still counted.
     let runtime = Runtime::new(2);
     runtime.spawn_background(std::future::pending::<()>());
     runtime.spawn(std::future::pending::<()>());
@@ -472,7 +472,7 @@ fn a_signal_is_heard() {
     assert!(signal.wait());
 }
 
-/// A fault whose signal were caught would come again and again.
+/// If the signal of a fault were caught, the fault would come again and again.
 #[test]
 fn signals_of_faults_are_refused() {
     let error = |number| Signal::heard(number).unwrap_err().raw_os_error();
@@ -567,7 +567,7 @@ fn a_slow_poll_is_seen_and_its_worker_relieved() {
     while !runs.load(SeqCst) {
         thread::yield_now();
     }
-    // The one worker is in a poll that doesn't end before these have.
+    // The only worker is in a poll that doesn't end before these tasks have begun.
     let others: Vec<_> = (0..20)
         .map(|i| {
             runtime.spawn(async move {
@@ -619,7 +619,7 @@ fn cores_are_given_back_and_asked_for() {
 /// Beside tasks that never rest, ready tasks are polled, events of the epoll are seen, and timers fire.
 #[test]
 fn tasks_that_yield_for_ever_hold_nobody_up() {
-    // One worker alone has nobody that looks at its epoll in its place.
+    // With only one worker, nobody looks at its epoll in its place.
     [1, 2].into_iter().for_each(echo_beside_yields);
 }
 
@@ -659,7 +659,7 @@ fn echo_beside_yields(cores: usize) {
     busy.into_iter().for_each(|task| block_on(task).unwrap());
 }
 
-/// Many more tasks than blocks are ready again and again: none runs twice as often as another.
+/// Many more tasks than blocks are ready again and again: no task runs twice as often as another.
 #[test]
 fn tasks_that_yield_for_ever_run_equally_often() {
     for (cores, count) in [(1, 20), (1, 1000), (1, 5000)] {
@@ -686,8 +686,8 @@ fn tasks_that_yield_for_ever_run_equally_often() {
     }
 }
 
-/// While all workers are busy, one keeps many tasks in its hand. Once another worker is idle, the first makes most of
-/// these tasks ready.
+/// While all workers are busy, one worker keeps many tasks in its hand. Once another worker is idle, the first makes
+/// most of these tasks ready.
 #[test]
 fn what_is_in_hand_is_for_whoever_has_nothing_to_do() {
     let runtime = Runtime::new(2);
@@ -730,7 +730,7 @@ fn what_is_in_hand_is_for_whoever_has_nothing_to_do() {
     block_on(other).unwrap();
 }
 
-/// A socket that always has more to be read doesn't keep its worker, neither a new one nor one that has waited before.
+/// A socket that always has more data doesn't keep its worker, neither a new socket nor one that was waited for before.
 #[test]
 fn a_socket_that_always_has_more_holds_nobody_up() {
     for waits in [false, true] {
@@ -771,7 +771,7 @@ fn a_socket_that_always_has_more_holds_nobody_up() {
     }
 }
 
-/// A connection that always has more is served until the deadline, and not for ever.
+/// A connection that always has more data is served until the deadline, and not for ever.
 #[test]
 fn what_always_has_more_ends_at_the_deadline() {
     let (runtime, (near, mut far)) = (Runtime::new(2), std::os::unix::net::UnixStream::pair().unwrap());
@@ -779,7 +779,7 @@ fn what_always_has_more_ends_at_the_deadline() {
     let near = net::Async::new(near).unwrap();
     runtime.spawn(async move {
         let mut end = stopping();
-        // It takes nothing out, so there is always more.
+        // The read takes nothing out of the socket, so there is always more.
         while let Some(Ok(())) = end.or(near.read_with(|_| Ok(()))).await {}
     });
     thread::sleep(5 * MS);
@@ -788,7 +788,7 @@ fn what_always_has_more_ends_at_the_deadline() {
     assert!(begin.elapsed() < LONG / 2);
 }
 
-/// All that has come before the end begins is read, also what takes longer than a poll may read.
+/// All data that have arrived before the end begins are read, also if that takes longer than a poll may read.
 #[test]
 fn what_was_put_off_is_read_before_the_end() {
     const LEN: usize = 40_000;
@@ -856,7 +856,8 @@ fn what_is_read_within_block_on_in_a_task_is_not_put_off() {
     assert_eq!(block_on(task).unwrap(), 50);
 }
 
-/// The tasks of the sockets run in the order of the events, also if they are more than a worker may have in hand.
+/// The tasks of the sockets run in the order of the events, also if there are more tasks than a worker may have in
+/// hand.
 #[test]
 fn sockets_are_heard_in_the_order_in_which_they_were_told_of() {
     for count in [8, 200] {
@@ -881,7 +882,7 @@ fn sockets_are_heard_in_the_order_in_which_they_were_told_of() {
                 thread::sleep(MS / 4);
             }
         };
-        // That each socket can be written to was seen, and the worker sleeps.
+        // The event that each socket can be written to was seen, and the worker sleeps.
         until(&|| {
             waiting.load(SeqCst) == count && {
                 let parks = runtime.stats().parks;
@@ -911,7 +912,7 @@ fn a_burst_of_connections_waits_to_be_accepted() {
     let runtime = Runtime::new(2);
     let listener = net::TcpListener::bind("127.0.0.1:0").unwrap();
     let to = listener.local_addr().unwrap();
-    // Nobody accepts yet: one for whom there is no room would not be connected at all.
+    // Nobody accepts yet: a client for whom there is no room in the backlog would not be connected at all.
     let connect = |_| std::net::TcpStream::connect_timeout(&to, 10_000 * MS).expect("there is no room for it");
     let begun: Vec<_> = (0..count).map(connect).collect();
     let accepts = runtime.spawn(async move {
@@ -985,12 +986,12 @@ fn a_panic_is_an_error_and_can_go_on() {
     let error = block_on(panics()).unwrap_err();
     assert!(!error.is_cancelled() && format!("{error:?}, {error}") == "Panicked(..), the task panicked");
     assert_eq!(*error.into_panic().downcast::<u32>().unwrap(), 7);
-    // One that was aborted has nothing to go on with.
+    // A task that was aborted has no panic to go on with.
     let waits = runtime.spawn(std::future::pending::<u8>());
     waits.abort();
     let error = block_on(boxed(waits)).unwrap_err().downcast::<JoinError>().unwrap();
     assert!(error.is_cancelled() && matches!(error.try_into_panic(), Err(JoinError::Aborted)));
-    // A text is told.
+    // The message of a panic is reported.
     match block_on(runtime.spawn(async { panic!("on {}", "purpose") })) {
         Err::<(), _>(JoinError::Panicked(panic)) => assert_eq!(panic.message(), Some("on purpose")),
         _ => unreachable!(),

@@ -8,7 +8,8 @@ use std::thread;
 use std::time::{Duration, Instant};
 
 const MS: Duration = Duration::from_millis(1);
-/// The length of the blocking poll, unless all tasks have begun before. No thread waits that long for a processor.
+/// The length of the blocking poll, unless all tasks have begun before its end. No thread waits that long for a
+/// processor.
 const POLL: Duration = Duration::from_secs(2);
 /// The time within which each task begins if processors are free, even if the free workers sleep as the tasks become
 /// ready.

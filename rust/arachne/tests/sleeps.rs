@@ -61,7 +61,7 @@ fn until(done: impl Fn() -> bool) {
 }
 
 /// The worker that waited in the epoll is in an endless poll, and then all workers but one are. Without a watcher the
-/// events of all sockets are still seen, even of those that connect later.
+/// events of all sockets are still seen, even of sockets that connect later.
 #[test]
 fn sockets_are_seen_beside_polls_that_block() {
     for (cores, pause) in (2..5).flat_map(|cores| [(cores, MS / 4), (cores, 20 * MS)]) {
@@ -73,7 +73,8 @@ fn sockets_are_seen_beside_polls_that_block() {
             .map(|i| {
                 let mut stream = connect(at);
                 ask(&mut stream, 2);
-                // All sleep, so that this one is told to who waits; the deputy for a short or a long time.
+                // All workers sleep, so that the worker in the epoll gets this event; the deputy has slept for a short
+                // or a long time.
                 thread::sleep(pause);
                 stream.write_all(b"b").unwrap();
                 until(|| blocked.load(SeqCst) == i);
@@ -87,7 +88,7 @@ fn sockets_are_seen_beside_polls_that_block() {
     }
 }
 
-/// At one look more sockets are ready than a worker may have in hand, and than one look returns.
+/// At one look more sockets are ready than a worker may have in hand, and more than one look returns.
 #[test]
 fn more_is_told_at_once_than_one_worker_takes() {
     for cores in 1..4 {
@@ -111,7 +112,7 @@ fn more_is_told_at_once_than_one_worker_takes() {
     }
 }
 
-/// A worker that polls the epoll now and then takes no wake from the one that waits in it.
+/// A worker that polls the epoll now and then takes no wake from the worker that waits in the epoll.
 #[test]
 fn a_wake_of_who_waits_is_left_to_it() {
     let runtime = Runtime::new(2);
@@ -134,12 +135,12 @@ fn a_wake_of_who_waits_is_left_to_it() {
             thread::sleep(MS / 8);
             block_on(runtime.spawn(async {})).unwrap();
         }
-        // Half of them are at the places of the other, which is woken while this one looks, and soon blocks.
+        // Half of the tasks are at places of the other worker, which is woken while this one looks, and soon blocks.
         let begun: Vec<_> = (0..32).map(|_| runtime.spawn(async {})).collect();
         blocks.store(true, SeqCst);
         until(|| blocked.load(SeqCst));
         begun.into_iter().for_each(|task| block_on(task).unwrap());
-        // The other one is woken yet.
+        // The other worker can still be woken.
         let gate = Arc::new(Semaphore::new(0));
         let waits: Vec<_> = (0..64)
             .map(|_| {
@@ -164,8 +165,8 @@ fn blocks(flag: &AtomicBool) {
     }
 }
 
-/// While a worker is in a poll that waits for the jobs in its hand, another worker runs these jobs, also the one to run
-/// next. The others sleep as that poll begins, or fall asleep later.
+/// While a worker is in a poll that waits for the jobs in its hand, another worker runs these jobs, also the job that
+/// would run next. The others sleep when that poll begins, or fall asleep later.
 #[test]
 fn what_is_in_hand_is_run_beside_a_poll_that_blocks() {
     for (cores, pause) in (2..5).flat_map(|cores| [(cores, MS / 4), (cores, 20 * MS)]) {
@@ -173,7 +174,7 @@ fn what_is_in_hand_is_run_beside_a_poll_that_blocks() {
         for asleep in [true, false] {
             thread::sleep(pause);
             let begin = Arc::new(AtomicBool::new(asleep));
-            // Else the others are in polls as the hand is filled, and idle soon after.
+            // Otherwise the other workers are in polls while the hand is filled, and idle soon after.
             for _ in 1..if asleep { 1 } else { cores } {
                 let (begin, beginning) = (begin.clone(), Arc::new(AtomicBool::new(false)));
                 let begun = beginning.clone();
@@ -184,7 +185,7 @@ fn what_is_in_hand_is_run_beside_a_poll_that_blocks() {
                 blocks(&beginning);
             }
             let task = runtime.spawn(async move {
-                // It yields, and stays in the hand while what it spawned before that blocks.
+                // This task yields, and stays in the worker's hand while what it spawned before blocks.
                 let yielded: Vec<_> =
                     (0..if asleep { 1 } else { 5 }).map(|_| Arc::new(AtomicBool::new(false))).collect();
                 let tasks = yielded.iter().cloned().map(|flag| async move {
@@ -201,7 +202,7 @@ fn what_is_in_hand_is_run_beside_a_poll_that_blocks() {
                 for task in tasks {
                     task.await.unwrap();
                 }
-                // What a poll makes ready, also once it is known to take long.
+                // Tasks that a poll makes ready, also once the poll is known to take long.
                 for _ in 0..3 {
                     let ran = Arc::new(AtomicBool::new(false));
                     let runs = ran.clone();
@@ -259,7 +260,7 @@ fn at_each_worker<T: Send + 'static>(runtime: &Runtime, cores: usize, about: fn(
             let all = each.clone();
             spawn_balanced(async move {
                 all.lock().unwrap().push(about());
-                // Until each has one, so that it has a worker of its own.
+                // Until each worker has one of these tasks, so that each task has a worker of its own.
                 until(|| all.lock().unwrap().len() == cores);
             });
         }
@@ -281,7 +282,7 @@ fn an_idle_runtime_sleeps_on() {
     let (before, parks) = (sleeps(&threads), runtime.stats().parks);
     thread::sleep(400 * MS);
     let (after, parked) = (sleeps(&threads), runtime.stats().parks);
-    // One looks around after 1, 2, 4 .. milliseconds of which nothing is left by now.
+    // A worker looks after the others after 1, 2, 4 .. milliseconds; these looks are over by now.
     assert!(after - before < 40 && parked - parks < 10, "{} sleeps, {} parks", after - before, parked - parks);
     ask(&mut stream, 2);
 }

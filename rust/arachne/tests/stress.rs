@@ -22,7 +22,7 @@ impl Rng {
     }
 }
 
-/// Wakers of ended tasks wake no later task at the same place: its polls are counted.
+/// Wakers of ended tasks wake no later task at the same place: the later tasks' polls are counted.
 #[test]
 fn stale_wakers_wake_nobody() {
     let rt = Runtime::new(3);
@@ -105,7 +105,7 @@ impl Mailbox {
     }
 }
 
-/// Threads and tasks send to random tasks, while others wake these for nothing. Each message arrives.
+/// Threads and tasks send to random tasks, while other threads wake these for nothing. Each message arrives.
 #[test]
 fn no_wake_is_lost() {
     let rt = Runtime::new(4);
@@ -202,7 +202,7 @@ impl Drop for Alive {
     }
 }
 
-/// Panics, dropped handles, joins by other tasks, and a runtime that is dropped in the midst of it: nothing is left.
+/// Panics, dropped handles, joins by other tasks, and a runtime that is dropped meanwhile: nothing is left.
 #[test]
 fn nothing_leaks() {
     for round in 0..rounds(15) {
@@ -240,7 +240,7 @@ fn nothing_leaks() {
                 let mut ended = 0;
                 for task in half {
                     let mut task = task;
-                    // One poll alone: those that wait for good are dropped.
+                    // Only one poll: tasks that wait for ever are dropped.
                     if poll_fn(|cx| Poll::Ready(Pin::new(&mut task).poll(cx).is_ready())).await {
                         ended += 1;
                     }
@@ -253,7 +253,7 @@ fn nothing_leaks() {
         while !ended.is_finished() {
             std::thread::yield_now();
         }
-        // Nobody asked for its output.
+        // Nobody asked for the task's output.
         drop(ended);
         drop(rt);
         for task in kept {
@@ -343,7 +343,7 @@ fn many_wait() {
     assert_eq!(sum, 20_000 * 19_999 / 2);
 }
 
-/// The lock has one holder at a time, and futures that are dropped while they wait don't stop the line.
+/// The lock has one holder at a time, and futures that are dropped while they wait don't stop the other waiters.
 #[test]
 fn the_lock_excludes() {
     let rt = Runtime::new(4);
@@ -378,7 +378,7 @@ fn the_lock_excludes() {
             })
         })
         .collect();
-    // And from outside of the runtime.
+    // Also from outside of the runtime.
     let outside = lock.clone();
     let thread = thread::spawn(move || {
         for _ in 0..each {

@@ -64,7 +64,7 @@ fn an_abort_handle_ends_its_task_and_may_outlive_it() {
 #[test]
 fn an_abort_handle_keeps_no_output() {
     let runtime = Runtime::new(2);
-    // Ended before the handle on the output is dropped, and after.
+    // The task ends before the handle on its output is dropped, and after.
     for first in [true, false] {
         let ((dropped, output), gate) = (counted(), Arc::new(Semaphore::new(0)));
         let opens = gate.clone();
@@ -133,7 +133,7 @@ fn a_set_gives_outputs_as_tasks_end() {
             assert_eq!(set.join_next().await.unwrap().unwrap(), Ok(n));
         }
         assert!(set.is_empty() && set.join_next().await.is_none());
-        // One that panics tells so, and what another thread wakes is heard.
+        // A task that panics reports the panic, and a task that another thread wakes is polled.
         set.spawn(async { panic!("on purpose") });
         assert!(set.join_next().await.unwrap().unwrap_err().is_panic());
         set.spawn(async {
@@ -162,7 +162,7 @@ fn a_set_aborts_what_it_has_and_leaves_what_was_detached() {
         assert!(is_cancelled(set.join_next().await.unwrap()));
         set.shutdown().await;
         assert_eq!((dropped.load(SeqCst), set.len()), (2, 0));
-        // What was detached runs on, and its end is nobody's output.
+        // A task that was detached runs on, and nobody gets its output.
         let detached = endless(&mut set);
         set.detach_all();
         let ready = set.spawn(async {});
@@ -188,7 +188,7 @@ fn owned_permits_go_to_other_tasks() {
         spawn(async move { drop((one, two)) }).await.unwrap();
         waits.await.unwrap().unwrap().forget();
         assert_eq!(permits.available_permits(), 0);
-        // One that leaves while it waits takes nothing with it.
+        // A future that is dropped while it waits takes no permit with it.
         assert!(timeout(MS, permits.clone().acquire_owned()).await.is_err());
         permits.add_permits(2);
         drop(permits.acquire_many(2).await.unwrap());
@@ -221,7 +221,7 @@ fn a_closed_semaphore_gives_nothing() {
 fn a_sleep_that_is_reset_wakes_at_its_new_time() {
     let runtime = Runtime::new(2);
     runtime.block_on(async {
-        // Sooner, later, and anew after its time.
+        // The sleep is reset to an earlier time, to a later time, and again after its time.
         let (begin, mut nap) = (Instant::now(), sleep(LONG));
         assert!(timeout(MS, &mut nap).await.is_err());
         Pin::new(&mut nap).reset(Instant::now() + 2 * MS);
@@ -232,7 +232,7 @@ fn a_sleep_that_is_reset_wakes_at_its_new_time() {
         nap.await;
         assert!(begin.elapsed() >= 8 * MS);
     });
-    // While another waits for it: who waits is woken at the new time, by any thread's reset.
+    // The sleep is reset while another task waits for it: that task is woken at the new time, by any thread's reset.
     let nap = Arc::new(std::sync::Mutex::new(sleep(LONG)));
     let (waits, begin) = (nap.clone(), Instant::now());
     let task = runtime.spawn(arachne::poll_fn(move |cx| Pin::new(&mut *waits.lock().unwrap()).poll(cx)));
@@ -254,7 +254,7 @@ fn an_interval_ticks_by_its_period() {
             assert_eq!(ticks.tick().await, first + n * 4 * MS);
             assert!(begin.elapsed() >= n * 4 * MS);
         }
-        // A future of a tick that is dropped loses none.
+        // A future of a tick that is dropped loses no tick.
         let next = timeout(Duration::ZERO, ticks.tick()).await.err().map(|_| first + 16 * MS);
         assert_eq!(ticks.tick().await, next.unwrap_or(first + 20 * MS));
         ticks.reset();
@@ -262,7 +262,7 @@ fn an_interval_ticks_by_its_period() {
     });
 }
 
-/// The longest period is longer than the clock goes.
+/// The longest period is longer than the clock's range.
 #[test]
 fn an_interval_may_have_any_period() {
     Runtime::new(1).block_on(async {
@@ -336,7 +336,7 @@ fn a_handle_spawns_from_any_thread_until_the_runtime_ends() {
     assert_eq!((handle.stats().workers.len(), handle.stats().active), (2, 2));
     drop(runtime);
     assert_eq!((handle.stats().workers.len(), handle.stats().polls), (0, 0));
-    // The next runtime of this shape has what the ended one had.
+    // The next runtime of this shape uses the state of the ended runtime.
     let (next, (dropped, within)) = (Runtime::new(2), counted());
     for handle in [handle, current] {
         assert!(is_cancelled(block_on(handle.spawn(async { 1 }))));
@@ -397,7 +397,7 @@ fn a_connection_is_looked_at_and_goes_to_std_and_back() {
     assert!(near.nodelay().unwrap());
     let (near, mut far) = runtime.block_on(async {
         let mut buffer = [0; 8];
-        // It is known to the reactor by then.
+        // The socket is known to the reactor after this poll.
         assert!(timeout(MS, near.peek(&mut buffer)).await.is_err());
         let write = arachne::spawn_blocking(move || far.write_all(b"hello").map(|()| far));
         assert!(near.peek(&mut buffer).await.unwrap() > 0);
@@ -405,7 +405,7 @@ fn a_connection_is_looked_at_and_goes_to_std_and_back() {
         assert_eq!(&buffer[..5], b"hello");
         (near, write.await.unwrap().unwrap())
     });
-    // Given back it doesn't block, and is out of the epoll; then it is another runtime's.
+    // After `into_std` the socket doesn't block, and isn't in the epoll. Then it belongs to another runtime.
     let mut near = near.into_std().unwrap();
     assert_eq!(near.read(&mut [0; 1]).unwrap_err().kind(), std::io::ErrorKind::WouldBlock);
     near.set_nonblocking(false).unwrap();
@@ -540,7 +540,7 @@ fn datagrams_come_and_go() {
     assert_eq!(UdpSocket::from_std(far).unwrap().local_addr().unwrap(), to);
 }
 
-/// Two tasks wait, and one of them gives up: its wait takes no wake from the other.
+/// Two tasks wait, and one of them gives up: its wait takes no wake from the other task.
 #[test]
 fn a_wait_that_is_given_up_leaves_the_others_their_socket() {
     let runtime = Runtime::new(2);
@@ -576,7 +576,7 @@ fn several_accept_at_one_listener() {
     assert_eq!(accepted, 6);
 }
 
-/// Each of two readers sees the end, and each of two writers gets on once there is room.
+/// Each of two readers sees the end, and each of two writers goes on once there is room.
 #[test]
 fn several_read_and_write_one_stream() {
     let runtime = Runtime::new(2);
@@ -613,12 +613,12 @@ fn a_task_waits_for_a_signal_and_for_the_end() {
     let task = runtime.spawn(async move { hears.recv().await });
     raise();
     runtime.block_on(task).unwrap().unwrap();
-    // A thread hears the next one, and a signal that came before is heard at once.
+    // A thread hears the next signal, and a signal that came before is heard at once.
     raise();
     assert!(signal.wait());
     raise();
     runtime.block_on(signal.recv()).unwrap();
-    // A task that waits for one doesn't keep the runtime from its end.
+    // A task that waits for a signal doesn't keep the runtime from its end.
     runtime.spawn(async move {
         let mut end = arachne::stopping();
         assert!(end.or(signal.recv()).await.is_none());
@@ -639,7 +639,7 @@ fn tasks_and_handles_spawn_in_each_way() {
         while waiting.len() < 4096 {
             match arachne::try_spawn(pending::<()>()) {
                 Ok(task) => waiting.push(task),
-                // The place of the task before is free a moment after its output is there.
+                // The place of the previous task is free a moment after its output is there.
                 Err(_) => arachne::sleep(Duration::from_millis(1)).await,
             }
         }

@@ -1,6 +1,5 @@
 //! Tests of the daemon by its protocol, with affinity, or with cpusets in the folder ARBITER_CPUSET. The tests need two
-//! processors. None of them waits for a time but for one that is promised, so the tests pass on a machine that is busy,
-//! too.
+//! processors. They wait only for times that are promised, so they pass on a busy machine, too.
 mod common;
 
 use arbiter::protocol::*;
@@ -18,7 +17,7 @@ use std::sync::mpsc;
 use std::thread;
 use std::time::{Duration, Instant};
 
-/// Returns true if the arbiter closes a connection, with the message for that or without.
+/// Returns true if the arbiter closes a connection, with a message that says so or without.
 fn is_refused(stream: &mut UnixStream) -> bool {
     receive(stream).map_or(true, |message| message[0] == REFUSED && receive(stream).is_none())
 }
@@ -67,7 +66,7 @@ fn the_higher_priority_has_its_core_within_some_milliseconds_by_force() {
         assert!(took >= Duration::from_millis(9), "it took {took:?}");
         assert_eq!(receive(&mut low).unwrap()[..2], [ALLOWED, cores - 1]);
 
-        // Who went by force waits, and has it again once the other one has ended.
+        // A thread whose core was taken by force waits, and gets a core again once the other client has ended.
         let last = threads.last_mut().unwrap();
         send(last, [WAIT, 0, 0, 0]);
         drop(high);
@@ -93,7 +92,7 @@ fn who_obeys_is_not_waited_for_and_who_floats_never_waits() {
     assert!(others.iter_mut().all(is_granted));
 }
 
-/// While the daemon stands, a client's last threads join, and it asks for all cores.
+/// While the daemon is stopped, a client's last threads join, and the client asks for all cores.
 #[test]
 fn what_has_come_is_read_before_a_decision() {
     let daemon = Daemon::new("come");
@@ -114,7 +113,7 @@ fn what_has_come_is_read_before_a_decision() {
     assert!(of_low.iter_mut().all(is_granted));
     let (mut high, welcome) = daemon.hello(5, 0);
     of_high = vec![daemon.waiting(welcome[1], 0)];
-    // Once this one is answered, all that was sent before it has been read.
+    // Once this client is answered, all messages that were sent before have been read.
     daemon.hello(5, 0);
     daemon.while_it_stands(|| {
         of_high.extend((1..cores).map(|place| daemon.waiting(welcome[1], place)));
@@ -132,7 +131,7 @@ fn processors() -> Vec<u32> {
     all.split(',').flat_map(|part| ends(part)[0]..=*ends(part).last().unwrap()).collect()
 }
 
-/// Begins a daemon that has one core, which goes round each 40 ms.
+/// Begins a daemon that has one core, which goes from client to client each 40 ms.
 fn with_one_core(name: &str) -> Daemon {
     let two = format!("{},{}", processors()[0], processors()[1]);
     Daemon::at(path_of(name), &["--cores", &two, "--turn", "40"])
@@ -161,7 +160,7 @@ fn a_core_goes_round_among_those_that_want_it_and_can_take_it() {
     assert!(is_silent(&never), "a lower priority gets nothing while a core goes round");
 }
 
-/// The core goes from the first client to the second one, which then asks for none, while a third one waits.
+/// The core goes from the first client to the second, which then asks for no core, while a third client waits.
 #[test]
 fn a_turn_that_is_not_taken_is_no_lower_priority_s() {
     let daemon = with_one_core("not-taken");
@@ -190,7 +189,7 @@ fn a_reserved_core_does_not_go_round() {
     assert!(is_silent(&it.control) && is_silent(&thread));
 }
 
-/// The kernel's account is a folder by which each two processors are one core.
+/// The kernel's account is a folder in which each two processors are one core.
 #[test]
 fn hyperthreads_of_one_core_are_granted_together() {
     let (cpus, folder) = (processors(), path_of("topology"));
@@ -302,7 +301,7 @@ fn who_connects_often() {
     let _ = std::io::stdin().read(&mut [0]);
 }
 
-/// A client can neither write its page nor change its length, for which the daemon would fail.
+/// A client can neither write its page nor change the page's length, which would make the daemon fail.
 #[test]
 fn a_page_is_only_read() {
     let daemon = Daemon::new("page");
@@ -455,7 +454,7 @@ fn a_thread_that_has_the_number_of_one_that_ended_is_not_moved() {
     let (number, end) = begin();
     let mut thread = daemon.join(welcome[1], number, 0, false);
     send(&mut thread, [WAIT, 0, 0, 0]);
-    // Once this one is answered, all that was sent before it has been read.
+    // Once this client is answered, all messages that were sent before have been read.
     daemon.hello(5, 0);
     end();
     // More than the hundredth of a second by which the kernel says when a thread began.
@@ -475,7 +474,7 @@ fn a_thread_that_has_the_number_of_one_that_ended_is_not_moved() {
     (again.1)();
 }
 
-/// The threads are more than the daemon looks at before a decision.
+/// There are more threads than the daemon looks at before a decision.
 #[test]
 fn all_threads_that_one_with_a_core_begins_leave_it() {
     let daemon = Daemon::new("begins");
@@ -504,7 +503,7 @@ fn a_thread_that_changes_its_affinity_leaves_its_core_only_by_affinity() {
     let daemon = Daemon::new("leaves");
     let client = granted(&daemon, 5, 0);
     let (id, cpu) = (thread_on(&daemon, client.cpu).to_string(), client.cpu.to_string());
-    // The processor that is kept, which is the first of those that this process's first thread may run on.
+    // The processor that the daemon keeps: the first on which this process's first thread may run.
     let all = processors_of(&std::process::id().to_string());
     let kept = all.split(['-', ',']).next().unwrap();
     let leaves = Command::new("taskset").args(["-cp", kept, &id]).output().unwrap().status.success();
@@ -512,7 +511,7 @@ fn a_thread_that_changes_its_affinity_leaves_its_core_only_by_affinity() {
     assert_eq!(processors_of(&id), if leaves { kept } else { &cpu[..] });
 }
 
-/// The daemon can't distinguish the thread from one that a client's thread has begun on its core.
+/// The daemon can't distinguish this thread from a thread that a client's thread has begun on its core.
 #[test]
 fn a_thread_that_is_kept_on_one_processor_is_freed() {
     let daemon = Daemon::new("kept");
@@ -557,7 +556,7 @@ fn a_container() {
     let it = granted(&socket, 5, 0);
     let threads = fs::read_dir("/proc/self/task").unwrap().flatten().map(|it| it.file_name().into_string().unwrap());
     assert_eq!(threads.filter(|thread| processors_of(thread) == it.cpu.to_string()).count(), 1);
-    // A number that no thread has there, though one of the daemon's namespace may.
+    // A number that no thread has in this namespace, though a thread of the daemon's namespace may have it.
     assert!(is_refused(&mut socket.join(it.client, 1 << 21, 1, false)));
 }
 
@@ -598,7 +597,7 @@ fn while_the_host_takes_a_processor_its_thread_runs_in_the_rest() {
     fs::remove_file(stat).unwrap();
 }
 
-/// The group's files are plain ones: this shows only what is written there.
+/// The group's files are plain files: this test shows only what is written to them.
 #[test]
 fn groups_of_version_2_get_the_processors_of_the_rest() {
     let group = path_of("group");

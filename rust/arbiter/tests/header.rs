@@ -4,7 +4,7 @@ use std::collections::BTreeMap;
 const MADE: &str = include_str!("../../../examples/rust/arachne_grants/declared.rs");
 const WRITTEN: &str = include_str!("../src/library.rs");
 
-/// Types as the made declarations call them, and as `library.rs` does.
+/// Types as the generated declarations name them, and as `library.rs` does.
 const NAMES: [(&str, &str); 4] = [
     ("ArachneArbiter", "Handle"),
     ("ArachneMessage", "RawMessage"),

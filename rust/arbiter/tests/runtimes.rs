@@ -60,8 +60,8 @@ fn workers() -> Vec<String> {
     threads.filter(|it| name(it).trim().strip_prefix("arachne-").map_or(false, |n| n.parse::<u32>().is_ok())).collect()
 }
 
-/// Returns the number of processors that the daemon grants: all but one of those that this thread has before it is a
-/// client's.
+/// Returns the number of processors that the daemon grants: all but one of those that this thread has before it belongs
+/// to a client.
 fn cores() -> usize {
     arachne::available_cores() - 1
 }
@@ -105,7 +105,7 @@ fn a_runtime_goes_on_without_its_daemon_and_joins_the_next() {
             becomes("it goes on by itself", || !runtime.stats().arbiter && active(runtime) == cores);
             load.gets_on("it gets on without an arbiter");
         }
-        // But by cpusets somebody has to be left who removes them.
+        // But with cpusets somebody has to be left who removes them.
         if !with_guardian || std::env::var_os("ARBITER_CPUSET").is_none() {
             becomes("its workers may run everywhere", || workers().iter().all(|it| processors_of(it) == all));
         }
@@ -117,7 +117,7 @@ fn a_runtime_goes_on_without_its_daemon_and_joins_the_next() {
     }
     drop((low, high));
     drop(daemon);
-    // Runtimes of one shape are used again: the next knows nothing of the last one's arbiter.
+    // A runtime of the same shape uses the state again: it knows nothing of the last runtime's arbiter.
     let alone = Builder::new(cores).build().unwrap();
     assert_eq!(alone.block_on(alone.spawn(async { 42 })).unwrap(), 42);
     assert_eq!((active(&alone), alone.stats().arbiter), (cores, false));
@@ -181,7 +181,7 @@ fn the_core_that_is_left_over_goes_round_within_a_priority() {
     }
 }
 
-/// The batch runtime gets the cores that are left by the runtime that asks by its load.
+/// The batch runtime gets the cores that are left by the runtime that asks according to its load.
 #[test]
 fn cores_follow_the_load_between_two_priorities() {
     let daemon = Daemon::new("policy");
@@ -251,7 +251,7 @@ fn what_a_worker_begins_does_not_stay_on_its_core() {
     arachne::block_on(task).unwrap();
 }
 
-/// The second runtime begins while its process has only the processors of the rest, as the first one has all cores.
+/// The second runtime begins while its process has only the processors of the set `rest`, as the first has all cores.
 #[test]
 fn a_runtime_that_begins_in_the_rest_is_not_kept_there() {
     let (daemon, cores) = (Daemon::new("rest"), cores());
@@ -280,7 +280,7 @@ fn is_free() -> bool {
     processors_of(me) == processors_of(&std::process::id().to_string())
 }
 
-/// A worker's core is asked back while the worker is in a poll, which blocks until a task that it makes ready has run.
+/// A worker's core is asked back while the worker is in a poll that blocks until a task that it makes ready has run.
 /// The other worker, which has nothing else to do and waits for sockets, must run that task.
 #[test]
 fn what_is_in_hand_is_run_though_the_core_was_asked_back() {
@@ -309,7 +309,8 @@ fn what_is_in_hand_is_run_though_the_core_was_asked_back() {
     }
 }
 
-/// The only worker with a core is in a poll, and the other one, which waits for a core, runs what the poll waits for.
+/// The only worker with a core is in a poll. The other worker, which waits for a core, runs the task that the poll
+/// waits for.
 #[test]
 fn what_is_behind_a_poll_is_run_by_who_waits_for_a_core() {
     let daemon = Daemon::new("covers");

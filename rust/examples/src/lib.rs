@@ -15,7 +15,7 @@ impl Default for Store {
     }
 }
 
-/// Parses the number of the line at `at`. Returns the number with the index of the next line; None if the line is
+/// Parses the number in the line at `at`. Returns the number with the index of the next line; None if the line is
 /// incomplete.
 fn number(bytes: &[u8], at: usize) -> Option<Result<(i64, usize), ()>> {
     let end = at + bytes.get(at..)?.windows(2).position(|w| w == b"\r\n")?;
@@ -23,7 +23,7 @@ fn number(bytes: &[u8], at: usize) -> Option<Result<(i64, usize), ()>> {
     Some(parsed.map(|n| (n, end + 2)).ok_or(()))
 }
 
-/// Returns the first command's words, and its length; None if it is incomplete.
+/// Returns the words of the first command, and its length; None if the command is incomplete.
 fn command(bytes: &[u8]) -> Option<Result<(Vec<&[u8]>, usize), ()>> {
     if bytes.is_empty() {
         return None;

@@ -63,7 +63,7 @@ pub(super) fn status_of<R: Threads + Wait + Clock + Sync>(
 
 /// Runs the program on these words and streams. Returns whether the program ends as expected.
 ///
-/// If all went well the output must be flushed once, at its end. If the words are refused nothing must be read.
+/// If all went well the output must be flushed once, at its end. If the words are refused, the input must not be read.
 pub(super) fn ends<R: Threads + Wait + Clock + Sync>(
     rt: &R,
     alloc: Global,

@@ -12,7 +12,7 @@ pub(super) struct Failure {
     pub(super) once: bool,
 }
 
-/// Returns the result of the call of this number if it fails: an error, or no byte.
+/// Returns the result of the call of this number if the call fails: an error, or no byte.
 fn failed(failure: Option<Failure>, call: u64) -> Option<io::Result<usize>> {
     let failure = failure?;
     if call < failure.at || failure.once && call != failure.at {
@@ -103,7 +103,7 @@ impl Tray {
         }
     }
 
-    /// Returns a writer that takes all bytes, and has room for `room` of them.
+    /// Returns a writer that takes all bytes, and has memory for `room` of them.
     pub(super) fn with_room(alloc: Global, room: usize) -> Result<Tray, AllocError> {
         let mut tray = Tray::new(alloc);
         tray.kept.try_reserve(room)?;

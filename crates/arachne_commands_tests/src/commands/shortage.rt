@@ -1,4 +1,4 @@
-//! Tests of the program in a process whose memory is used up; each run has a little more memory than the one before.
+//! Tests of the program in a process whose memory is used up; each run has a little more memory than the previous run.
 use super::endings::{Told, shown, status_of, told_by};
 use super::fakes::{Script, Tray};
 use super::spelling::spelled;
@@ -9,7 +9,7 @@ use std::sync::Wait;
 use std::thread::Threads;
 use std::time::Clock;
 
-/// The maximum number of runs of a row, and the number of bytes that each run has more than the one before.
+/// The maximum number of runs of a row, and the number of bytes that each run has more than the previous run.
 const RUNS: u64 = 5_000;
 
 const BYTES: usize = 100;
@@ -73,16 +73,16 @@ const ROWS: &[Row] = &[
 ];
 
 /// Rows that run on several cores. Runs of these rows need not end as they do with enough memory: once all memory was
-/// used up, the C library gives none to a new kernel thread, even if memory was given back.
+/// used up, the C library gives no memory to a new kernel thread, even if memory was given back.
 const ON_CORES: &[Row] = &[(
     "arachne run --cores 4 --quantum 1 --names 0:release:1 1:release:2 2:grant:1",
     "arachne 1|ledgers 0|locks 0|(sweep add 2 (num 0) (num 8) (var 0))|",
     "0 value 28|threads 4|thread /|thread /1|thread /0|thread /0/0|!",
 )];
 
-/// Runs a row's words with memory, with none, and then with a little more each time.
+/// Runs a row's words with memory, with none, and then with a little more memory each time.
 ///
-/// Stops when they end as expected, or after `most` runs. Returns the number of runs after the first.
+/// Stops when the words end as expected, or after `most` runs. Returns the number of runs after the first.
 fn ends_at_last<R: Abort + Threads + Wait + Clock + Sync>(
     rt: &R,
     alloc: Global,
@@ -111,7 +111,7 @@ fn ends_at_last<R: Abort + Threads + Wait + Clock + Sync>(
     Ok(runs)
 }
 
-/// The first run of each row has no memory at all, and the last one has enough.
+/// The first run of each row has no memory at all, and the last run has enough.
 #[test]
 fn each_growth_is_refused(rt: HostRuntime) -> Result<(), AllocError> {
     for &row in ROWS {

@@ -92,9 +92,9 @@ const ERRORS: &[(ErrorKind, bool)] = &[
     (ErrorKind::Other, false),
 ];
 
-/// Runs a row's words on its input, and lets each of its reads fail in turn, in each way.
+/// Runs a row's words on its input, and lets each of the reads fail in turn, in each way.
 ///
-/// The input gives at most `step` bytes at a time. Checks that no read follows a failed one. Returns the number of
+/// The input gives at most `step` bytes at a time. Checks that no read follows a failed read. Returns the number of
 /// reads.
 fn each_read_fails<R: Abort + Threads + Wait + Clock + Sync>(
     rt: &R,
@@ -159,7 +159,7 @@ fn readers_that_never_end(rt: HostRuntime) -> Result<(), AllocError> {
     Ok(())
 }
 
-/// The ways in which a write fails: with an error or by taking no byte, once or at every later call too.
+/// The ways in which a write fails: with an error or by taking no byte; only once, or also at every later call.
 const FAILS: &[(Option<ErrorKind>, bool)] = &[
     (None, true),
     (None, false),
@@ -254,7 +254,7 @@ fn calls_of<R: Abort + Threads + Wait + Clock + Sync>(
     })
 }
 
-/// Lets each call on `stream` fail in turn, in each way. Checks that no call on `stream` follows the failed one.
+/// Lets each call on `stream` fail in turn, in each way. Checks that no call on `stream` follows the failed call.
 fn each_call_fails<R: Abort + Threads + Wait + Clock + Sync>(
     rt: &R,
     alloc: Global,
@@ -272,7 +272,7 @@ fn each_call_fails<R: Abort + Threads + Wait + Clock + Sync>(
     Ok(())
 }
 
-/// Writes of the output, its flush, or writes of a fault's line fail. If the line of a fault cannot be written, nothing
+/// Writes of the output, its flush, or writes of a fault's line fail. If the line of a fault can't be written, nothing
 /// else changes.
 #[test]
 fn a_failed_write_is_not_tried_again(rt: HostRuntime) -> Result<(), AllocError> {

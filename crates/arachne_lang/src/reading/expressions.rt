@@ -27,7 +27,7 @@ pub fn expression(alloc: Global, levels: u8, text: &[u8]) -> Result<(Expr, &[u8]
 }
 
 /// Returns the expression at the front of the text, of at most `levels` levels, and the text behind `end`, which must
-/// follow it.
+/// follow the expression.
 #[cycle(expression)]
 #[tactic(auto, unfolding(crate::specs::Reading::part_at))]
 fn part<'t>(

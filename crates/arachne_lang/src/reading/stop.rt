@@ -5,8 +5,7 @@ ghost use Rattle.arachne_lang.specs.declared.reading.stop.Stop.TheVariants.{Memo
 use crate::text_fault::TextFault;
 use std::alloc::AllocFailed;
 
-/// The reason why reading stops. A reason that is a fault of the text has the rest of the text, from the byte on at
-/// which the fault stands.
+/// The reason why reading stops. If the reason is a fault of the text, it contains the text from the fault on.
 #[derive(Clone, Copy)]
 pub enum Stop<'t> {
     /// Memory was refused.
@@ -22,8 +21,7 @@ pub enum Stop<'t> {
 impl<'t> Stop<'t> {
     ghost use Rattle.arachne_lang.specs.Reading.{fault_within};
 
-    /// Returns this reason as a fault of the whole `text`. The rest of the text that the reason has must be the end of
-    /// `text`.
+    /// Returns this reason as a fault of the whole `text`, which must end with the text that the reason contains.
     pub fn fault(self, text: &[u8]) -> TextFault
         ensures { result ≡ fault_within text.now self.entry }
     {

@@ -43,7 +43,7 @@ fn claimed<C: Contexts<TagOnly>, R: Wait>(rt: &R, table: &C, seat: &mut C::Seat)
     }
 }
 
-/// Returns `claim` if a seat that has a claim of its own can't give back this one, which another seat has claimed.
+/// Returns `claim` if a seat that has a claim of its own can't give back `claim`, which another seat has claimed.
 fn refused<R: Wait>(
     rt: &R,
     table: &Locked,
@@ -55,7 +55,7 @@ fn refused<R: Wait>(
     table.give_back(rt, seat, claim).err()
 }
 
-/// Splits a seat in two, then splits the second of these, and then the first once more. Returns two of these four
+/// Splits a seat in two, then splits the second of these seats, and then the first once more. Returns two of these four
 /// seats.
 fn parted<R: Wait>(rt: &R, table: &Locked, seat: LockedSeat, pair: Pair) -> (LockedSeat, LockedSeat)
     requires { HasCounted seat 0 }
@@ -75,7 +75,7 @@ fn parted<R: Wait>(rt: &R, table: &Locked, seat: LockedSeat, pair: Pair) -> (Loc
     }
 }
 
-/// Returns whether the table refuses it if one of two seats, each with a claim, gives back the claim of the other.
+/// Returns whether the table refuses a claim if one of two seats, each with a claim, gives back the claim of the other.
 fn is_refused<R: Wait>(rt: &R, alloc: Global, pair: Pair) -> Result<bool, Fail> {
     let (table, seat) = Locked::new(alloc, 1, 2, 0)?;
     let (mut one, mut other) = parted(rt, &table, seat, pair);

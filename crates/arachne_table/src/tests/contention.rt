@@ -18,7 +18,7 @@ const THREADS: u64 = 10_000;
 /// moved.
 ///
 /// The log has twice the tag of each thread that the kernel thread has put into the table, and twice the tag plus 1 of
-/// each that it has ended.
+/// each thread that it has ended.
 #[derive(Drop)]
 struct Work<S> {
     seat: S,
@@ -27,7 +27,7 @@ struct Work<S> {
     moved: u64,
 }
 
-/// The result of a run: the number of threads that were settled, and the number that were moved.
+/// The result of a run: the number of settled threads, and the number of moved threads.
 ///
 /// A thread is settled if it was put into the table exactly once, and then either has ended or is left in the table,
 /// exactly once. If a thread is not settled, `settled` is `None`.
@@ -125,8 +125,8 @@ fn end_all<C: Contexts<TagOnly>, R: Wait>(
 
 /// The steps of a kernel thread in each round, on a table of `cores` cores.
 ///
-/// The kernel thread puts one thread on the last core. If it moves threads, it then closes core 1, moves the threads
-/// there to core 0, and opens core 1 again. The kernel thread ends the threads that are ready on the cores from `from`
+/// The kernel thread puts one thread on the last core. If it moves threads, it then closes core 1, moves the threads of
+/// core 1 to core 0, and opens core 1 again. The kernel thread ends the threads that are ready on the cores from `from`
 /// on.
 #[derive(Clone, Copy)]
 struct RoundPlan {
@@ -136,8 +136,8 @@ struct RoundPlan {
     first_tag: u64,
 }
 
-/// Closes core 1, moves the threads there that no seat holds to core 0, and opens core 1 again. Returns the number of
-/// moved threads.
+/// Closes core 1, moves the threads of core 1 that no seat has in hand to core 0, and opens core 1 again. Returns the
+/// number of moved threads.
 fn move_away<C: Contexts<TagOnly>, R: Wait>(rt: &R, table: &C, work: &mut Work<C::Seat>) -> u64
     requires seat { C.sits table.now work.old.seat × C.idle table.now work.old.seat }
     requires cores { 1 < C.core_count table.now }
@@ -222,7 +222,7 @@ fn work_side_by_side<R: Threads + Wait + Sync>(
     Some((first?, second?))
 }
 
-/// Returns the number of settled threads (put in once, and ended or left once), or `None` if one is not settled.
+/// Returns the number of settled threads (put in once, and ended or left once), or `None` if a thread is not settled.
 ///
 /// The logs of both kernel threads are joined, and the threads that are left are counted as ended.
 fn settled(

@@ -25,8 +25,8 @@ enum SpendKind {
 }
 
 /// A use of a claim or a thread: the expected answer of the step that gets it, the steps made before it is spent, the
-/// way in which it is spent, and the expected answer to that. If the step that should get a claim or a thread gets
-/// none, the use ends with that step's answer.
+/// way in which it is spent, and the expected answer to that. If the first step gets no claim or thread, the use ends
+/// with that step's answer.
 struct Use {
     got: Answer,
     steps: Rows,
@@ -42,7 +42,7 @@ enum RunPart {
     Thread(u8, u8, Use),
 }
 
-/// A run: the size of its table, the generation that its contexts begin with, its parts, and the threads that must be
+/// A run: the size of its table, the generation with which its contexts begin, its parts, and the threads that must be
 /// left at the end. Each such thread is given by its context, its generation and its tag; the list is `None` if the
 /// threads are not compared.
 struct TableRun {
@@ -124,7 +124,7 @@ fn use_claim<C: Contexts<TagOnly>, R: Wait>(
     same(part.spent, spent)
 }
 
-/// Claims a place or a whole core, and spends the claim if it got one.
+/// Claims a place or a whole core, and spends the claim if there is one.
 fn with_claim<C: Contexts<TagOnly>, R: Wait>(
     rt: &R,
     table: &C,
@@ -490,7 +490,7 @@ const RUNS: &[TableRun] = &[
         ],
         left: None,
     },
-    // A thread is woken while it is held. When it has ended, it is gone.
+    // A thread is woken while the seat has it in hand. When it has ended, it is gone.
     TableRun {
         cores: 1,
         slots: SLOTS,
@@ -581,7 +581,8 @@ const RUNS: &[TableRun] = &[
         ],
         left: None,
     },
-    // A held thread is not moved, nor is one that has its core exclusively. A thread is put back as ready.
+    // A thread that the seat has in hand is not moved, nor is a thread that has its core exclusively. A thread is put
+    // back as ready.
     TableRun {
         cores: 2,
         slots: SLOTS,

@@ -13,7 +13,7 @@ use std::test::Fail;
 
 const CORE_COUNTS: &[u8] = &[1, 2, 3, 5, 8, 15, 16, 17, 20, 32, 40, 63, 64];
 
-/// The numbers of places of a core, each with the core's word when all places are occupied.
+/// The numbers of places of a core, each with the core's occupancy word when all places are occupied.
 const SLOT_COUNTS: &[(u8, u64)] = &[
     (1, 0x0100000000000001),
     (2, 0x0200000000000003),
@@ -26,7 +26,8 @@ const SLOT_COUNTS: &[(u8, u64)] = &[
     (56, 0x38ffffffffffffff),
 ];
 
-/// Puts a thread at each place of a core. One more thread must be refused, with the core's word as the answer.
+/// Puts a thread at each place of a core. One more thread must be refused, with the core's occupancy word as the
+/// answer.
 fn fill_core<C: Contexts<TagOnly>, R: Wait>(
     rt: &R,
     table: &C,
@@ -94,7 +95,7 @@ pub(super) fn make_tables<C: Contexts<TagOnly> + Drop>(alloc: Global) -> Result<
     Ok(made)
 }
 
-/// Puts a thread on core 0, and ends it at this index.
+/// Puts a thread on core 0, and ends it at index `index`.
 fn pass<C: Contexts<TagOnly>, R: Wait>(
     rt: &R,
     table: &C,
@@ -117,7 +118,8 @@ fn pass<C: Contexts<TagOnly>, R: Wait>(
 
 /// Passes a thread through each context of one core, whose contexts begin at the last generation.
 ///
-/// Returns the core's word before the core is closed, its word after that, and whether it is drained.
+/// Returns the core's occupancy word before the core is closed, the occupancy word after that, and whether it is
+/// drained.
 pub(super) fn spend_core<C: Contexts<TagOnly> + Drop, R: Wait>(
     rt: &R,
     alloc: Global,

@@ -23,7 +23,7 @@ pub(super) enum Step {
     Move(u8, u8, u8),
     /// Puts a thread with a tag on a core.
     Post(u8, u64),
-    /// Claims two places of a core, puts a thread at the second, and gives the first back.
+    /// Claims two places of a core, puts a thread at the second, and gives the first place back.
     Second(u8, u64),
     /// Puts a thread at each place of a core. Its answer is what the table answered to the last of these threads.
     Fill(u8),
@@ -146,7 +146,8 @@ fn post<C: Contexts<TagOnly>, R: Wait>(
     Some(told_id(table.post(rt, seat, claim, TagOnly(tag)).ok()?))
 }
 
-/// Claims two places, puts a thread at the second, and gives the first back. Returns the table's answer to the thread.
+/// Claims two places, puts a thread at the second, and gives the first place back. Returns the table's answer to the
+/// thread.
 fn post_second<C: Contexts<TagOnly>, R: Wait>(
     rt: &R,
     table: &C,
@@ -186,7 +187,8 @@ fn fill<C: Contexts<TagOnly>, R: Wait>(
     post(rt, table, seat, core, u64::from(slots))
 }
 
-/// Makes a step, and returns its answer. Returns `None` if a core or a context doesn't exist, or if no place was got.
+/// Makes a step, and returns its answer. Returns `None` if a core or a context doesn't exist, or if no place was
+/// claimed.
 pub(super) fn answered<C: Contexts<TagOnly>, R: Wait>(
     rt: &R,
     table: &C,

@@ -10,7 +10,7 @@ fn meaning_in(alloc: Global, program: &Program) -> Option<Meaning> {
     eval(alloc, program).ok()
 }
 
-/// Returns the meaning of a text's program, or `None` if it has none or memory is refused.
+/// Returns the meaning of a text's program, or `None` if the text has none or memory is refused.
 fn meaning_of(alloc: Global, text: &[u8]) -> Option<Meaning> {
     match parse(alloc, text) {
         Ok(program) => meaning_in(alloc, &program),

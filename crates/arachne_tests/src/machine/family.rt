@@ -59,7 +59,7 @@ pub(super) struct Heard {
     pub(super) next: u64,
 }
 
-/// A run: the way of its children, the budgets of the next call and of those after it, its memory, and its records.
+/// A run: the way of its children, the budgets of the next call and of the later calls, its memory, and its records.
 #[derive(Drop)]
 pub(super) struct Round {
     way: Way,
@@ -243,7 +243,7 @@ fn lose_outcome(_outcome: Outcome) -> bool {
     false
 }
 
-/// Hands the newest child to the thread that awaits it, in whose place it runs then.
+/// Hands the newest child to the thread that awaits it. The child then runs in that thread's place.
 ///
 /// If memory is refused, the child is put back among `children`.
 fn begin<'p>(thread: &mut Thread<'p>, children: &mut Vec<Thread<'p>>, round: &mut Round) -> bool {
@@ -367,7 +367,7 @@ fn hand_grown(thread: &mut Thread) -> bool {
     child.in_place(grandchild).is_ok() && thread.in_place(child).is_ok()
 }
 
-/// Starts the root thread of a program. If memory is refused, tries again with a little more each time.
+/// Starts the root thread of a program. If memory is refused, tries again with a little more memory each time.
 fn start<'p>(alloc: Global, program: &'p Program, round: &mut Round) -> Option<Thread<'p>> {
     for _ in 0..MOST {
         match Thread::start(alloc, program, 9) {
@@ -394,7 +394,7 @@ fn set_off<'p>(
     threads.push(root).is_ok()
 }
 
-/// Takes an outcome apart. If memory is refused, tries again with a little more each time.
+/// Takes an outcome apart. If memory is refused, tries again with a little more memory each time.
 fn parts(outcome: Outcome, round: &mut Round) -> Option<OutcomeParts> {
     let mut outcome = outcome;
     for _ in 0..MOST {

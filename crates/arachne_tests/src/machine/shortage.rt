@@ -1,4 +1,4 @@
-//! The memory of a run: ample, or none at each call, which is then repeated with a little more each time.
+//! The memory of a run: ample, or none at each call, which is then repeated with a little more memory each time.
 use super::first_wrong;
 use arachne_shortage::Hoard;
 use std::alloc::Global;
@@ -51,7 +51,7 @@ impl Memory {
         self.give_back(FEW);
     }
 
-    /// Gives back enough for one growth, after it was refused.
+    /// Gives back enough for one growth, after a growth was refused.
     pub(super) fn spare_much(&mut self) {
         self.give_back(MANY);
     }

@@ -35,8 +35,8 @@ fn room(alloc: Global) -> Places {
     }
 }
 
-/// Returns whether every other index of the list, from the first on, is that of a grant to the thread, and these
-/// ascend.
+/// Returns whether every other index of the list, from the first on, is the index of a grant to the thread, and these
+/// indexes ascend.
 fn are_grants_in_order(history: &[LockEvent], who: Who, places: &[usize]) -> bool {
     let mut least = 0usize;
     for &at in places.iter().step_by(2) {
@@ -76,7 +76,7 @@ fn enter_one(
     None
 }
 
-/// Frees a lock. Returns `None` if the thread didn't hold it, or after too many polls.
+/// Frees a lock. Returns `None` if the thread didn't hold the lock, or after too many polls.
 fn leave_one(
     locks: &SleepLocks,
     seats: &mut LockSeats,

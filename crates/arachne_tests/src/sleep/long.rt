@@ -3,7 +3,7 @@ use super::{A, B};
 use arachne_sleep::{Asked, LockState};
 use std::test::Fail;
 
-/// Lets A get the lock and B wait for it, and each free it. Returns whether all calls succeeded.
+/// Lets A get the lock and B wait for it, and then each of them free it. Returns whether all calls succeeded.
 fn passes(lock: &mut LockState) -> bool {
     matches!(lock.ask(A), Ok(Asked::Granted(_)))
         && matches!(lock.ask(B), Ok(Asked::Queued { at: _ }))

@@ -7,7 +7,8 @@ use super::{Answer, Call, ROWS, WHOLE, told_ask, told_check, told_free};
 use arachne_sleep::{AskFault, Asked, History, LockEvent, LockSeats, SleepLocks, Tried, Who};
 use std::alloc::{AllocError, Global};
 
-// Under `rt try --test --fail-alloc N` the Nth allocation is refused. A call that fails by that is made once more.
+// Under `rt try --test --fail-alloc N` the Nth allocation is refused. A call that fails because of this is made once
+// more.
 pub(super) fn make(alloc: Global, count: u8) -> Result<(SleepLocks, LockSeats), AllocError>
     ensures count { IfOk result (λ made. length made.0 ≡ count) }
     ensures own { IfOk result (λ made. AreSeatsOf made.0 made.1) }
@@ -90,7 +91,7 @@ fn has_events(history: &History, events: &[LockEvent]) -> bool {
             .all(|(event, wanted)| event == *wanted)
 }
 
-/// Returns whether of three histories only that of lock 2 has events, those of `WHOLE`.
+/// Returns whether of three histories only the history of lock 2 has events, those of `WHOLE`.
 fn is_of_the_last(histories: &[History]) -> bool {
     histories.len() == 3
         && histories[0].is_empty()
@@ -98,7 +99,7 @@ fn is_of_the_last(histories: &[History]) -> bool {
         && has_events(&histories[2], WHOLE)
 }
 
-/// Returns the histories of three locks, on one of which each call was made.
+/// Returns the histories of three locks. On one of them each call was made.
 fn histories(alloc: Global) -> Option<Vec<History>> {
     let (locks, mut seats) = make(alloc, 3).ok()?;
     if locks.count() != 3 || first_wrong(&locks, &mut seats).is_some() {

@@ -1,4 +1,4 @@
-//! Tests of a lock for whose asks memory is refused: the lock stays as it was, and the threads ask again.
+//! Tests of a lock if memory for its asks is refused: the lock stays as it was, and the threads ask again.
 ghost use Rattle.std.specs.Prelude.{IfOk};
 ghost use Rattle.arachne_sleep.specs.Views.{IsSeatOf, IsWhole};
 
@@ -91,7 +91,7 @@ fn a_wanted_lock_stays_as_it_was(rt: HostRuntime) -> Result<(), AllocError> {
 
 /// Lets the crowd ask for a shared lock, each thread until there is memory, and returns the number of refusals.
 ///
-/// Returns `None` if a call finds the lock's guard taken, since each call must give it back.
+/// Returns `None` if a call finds the lock's guard taken, since each call must give the guard back.
 fn all_ask(lock: &SleepLock, seat: &mut LockSeat, hoard: &mut Hoard) -> Option<u64>
     requires { IsSeatOf lock.now seat.old }
     ensures { IsSeatOf lock.now seat.new }
@@ -131,7 +131,8 @@ fn first_leaves(lock: &SleepLock, seat: &mut LockSeat) -> bool
     }
 }
 
-// Under `rt try --test --fail-alloc N` the Nth allocation is refused. A call that fails by that is made once more.
+// Under `rt try --test --fail-alloc N` the Nth allocation is refused. A call that fails because of this is made once
+// more.
 fn make(alloc: Global) -> Result<(SleepLock, LockSeat), AllocError>
     ensures seat { IfOk result (λ made. IsSeatOf made.0 made.1) }
     ensures whole { IfOk result (λ made. IsWhole made.1) }

@@ -1,4 +1,4 @@
-//! A daemon for a test, and what a client does at its socket.
+//! A daemon for a test, and the calls of a client at its socket.
 #![allow(dead_code)]
 
 use arbiter::protocol::*;
@@ -13,10 +13,10 @@ use std::sync::mpsc;
 use std::thread;
 use std::time::{Duration, Instant};
 
-/// The time within which all that must happen does, also on a machine that has much else to do.
+/// The time within which everything that must happen does, also on a machine that has much else to do.
 const PATIENCE: Duration = Duration::from_secs(60);
 
-/// A daemon's socket, and what a client does there.
+/// A daemon's socket, and the calls of a client there.
 pub struct Socket(pub PathBuf);
 
 impl Socket {
@@ -104,7 +104,7 @@ impl Daemon {
         fs::read_to_string(format!("/proc/{id}/task/{id}/children")).unwrap().trim().parse().unwrap()
     }
 
-    /// Stops the daemon while `f` runs: all that is sent meanwhile has come once the daemon goes on.
+    /// Stops the daemon while `f` runs: all messages that are sent meanwhile have arrived once the daemon goes on.
     pub fn while_it_stands(&self, f: impl FnOnce()) {
         let child = self.child();
         signal(child, "STOP");
@@ -166,7 +166,7 @@ pub fn receive(stream: &mut UnixStream) -> Option<[u32; 4]> {
     }
 }
 
-/// Returns true if nothing has come that was not read, and the connection has not ended.
+/// Returns true if no unread message has arrived, and the connection has not ended.
 pub fn is_silent(stream: &UnixStream) -> bool {
     stream.set_nonblocking(true).unwrap();
     let read = { stream }.read(&mut [0]);
@@ -213,7 +213,7 @@ pub fn becomes(what: &str, is_so: impl Fn() -> bool) {
     }
 }
 
-/// Returns the command of one of this file's tests that are ignored, as a process of its own.
+/// Returns the command that runs one of this file's ignored tests as a process of its own.
 pub fn other(name: &str, socket: &Socket) -> Command {
     let mut command = Command::new(env::current_exe().unwrap());
     command.args(["--exact", name, "--ignored", "--nocapture"]).env("ARBITER_OF", &socket.0).stdout(Stdio::piped());

@@ -1,9 +1,9 @@
 //! GET, SET, INCR, DEL and PING of Redis's protocol on 127.0.0.1: `redis CORES PORT [policy [SOCKET PRIORITY]]`.
 //!
-//! The server ends at SIGTERM or when its standard input ends. The commands that it has read by then are answered
+//! The server ends at SIGTERM or when its standard input ends. The commands that it has read until then are answered
 //! within a second, and the server prints how many commands it has accepted, and how many of them it has answered. With
-//! `policy` the active cores follow the load, and a line each 10 ms says how many are held. SOCKET and PRIORITY are of
-//! an arbiter.
+//! `policy` the active cores follow the load, and a line each 10 ms says how many cores are active. SOCKET and PRIORITY
+//! belong to an arbiter.
 use arachne::net::{TcpListener, TcpStream};
 use examples::{wait_for_end, Arguments, Buffer, Store};
 use std::io;
@@ -46,7 +46,8 @@ async fn connection(stream: TcpStream, store: Arc<Store>) -> io::Result<()> {
         all.fetch_add(count, SeqCst);
     }
     answered?;
-    // What comes now is not accepted, and read all the same: a socket closed with bytes unread loses the last answers.
+    // Commands that arrive now are not accepted, but still read: a socket closed with unread bytes loses the last
+    // answers.
     stream.shutdown(std::net::Shutdown::Write)?;
     let mut rest = [0; 4096];
     while stream.read(&mut rest).await? != 0 {}
@@ -63,7 +64,7 @@ async fn accept(listener: TcpListener, store: Arc<Store>) {
                 });
             }
             Err(_) if arachne::is_stopping() => return,
-            // Out of descriptors, or a client that went: the next one may be accepted.
+            // Out of descriptors, or a client that has gone: the next client may be accepted.
             Err(_) => arachne::sleep(std::time::Duration::from_millis(10)).await,
         }
     }

@@ -32,7 +32,7 @@ async fn request(bytes: [u8; SIZE], out: Arc<Lock<Arc<TcpStream>>>, ticket: Opti
     let mut answer = bytes;
     let micros = u64::from_le_bytes(bytes[8..].try_into().unwrap());
     if ticket.is_some() {
-        // What can be read is read, and refused, before a request that takes long begins.
+        // Requests that have arrived are read, and refused, before a request that takes long begins.
         arachne::yield_now().await;
         spin(Duration::from_micros(micros));
     }
@@ -80,12 +80,12 @@ fn serve(runtime: &Runtime, most: usize) -> std::net::SocketAddr {
     at
 }
 
-/// The requests sent, the answers, and the latencies of the accepted ones from when they were due.
+/// The number of requests sent, the answers, and the latencies of accepted requests from the time they were due.
 #[derive(Default)]
 struct Answers {
     sent: u64,
     refused: u64,
-    /// The latency of each accepted answer, with when its request was due.
+    /// The latency of each accepted answer, and the time at which its request was due.
     times: Vec<(u64, u64)>,
 }
 
@@ -142,7 +142,7 @@ impl Client {
     }
 }
 
-/// Sends `rate` requests a second, each when it is due, whether or not earlier ones were answered.
+/// Sends `rate` requests a second, each when it is due, whether or not earlier requests were answered.
 fn offer(at: std::net::SocketAddr, rate: f64, micros: u64, time: Duration) -> Answers {
     let mut clients: Vec<_> = (0..32).map(|_| Client::new(at)).collect();
     let (start, mut answers, mut back) = (Instant::now(), Answers::default(), 0);
@@ -212,7 +212,7 @@ fn blocking() {
         let in_polls = begun.clone();
         let task = runtime.spawn_named(&format!("blocks-{i}"), async move {
             in_polls.fetch_add(1, SeqCst);
-            // Until all four are in their polls, so that each has a worker.
+            // Until all four tasks are in their polls, so that each has a worker.
             wait_for(&in_polls, 4);
             thread::sleep(Duration::from_millis(100));
         });
@@ -324,7 +324,7 @@ fn waiting(cores: usize) {
     println!("all were woken and have ended after {:?}", start.elapsed());
 }
 
-/// Sends commands with 64 in flight until the server closes. Returns the number answered, here and in all.
+/// Sends commands with 64 in flight until the server closes. Returns the number answered on this connection and in all.
 fn ask(port: u16, all: &AtomicU64) -> u64 {
     let mut stream = std::net::TcpStream::connect(("127.0.0.1", port)).unwrap();
     stream.set_nodelay(true).unwrap();
@@ -332,7 +332,7 @@ fn ask(port: u16, all: &AtomicU64) -> u64 {
     let mut bytes = [0; 4096];
     loop {
         if rest == 0 {
-            // The server may read no more: then its last answers are there, and an end.
+            // The server may read no more: then its last answers are there, and the connection's end.
             rest = 64;
             let _ = stream.write_all(commands.as_bytes());
         }
@@ -422,7 +422,7 @@ fn soak(cores: usize, seconds: u64) {
         }
     }
     let time = start.elapsed();
-    // Whoever waits for a task may be told before its worker has laid it down.
+    // Whoever waits for a task may be notified before the task's worker has put it back.
     (0..1000).take_while(|_| runtime.live() != 0).for_each(|_| thread::sleep(Duration::from_millis(1)));
     println!("{} tasks in {time:?}, live at the end {}", total * 9 / 8, runtime.live());
 }
