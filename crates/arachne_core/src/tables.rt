@@ -533,7 +533,7 @@ fn first_cores(alloc: Global, count: u8) -> Result<Vec<OccWord>, AllocError>
     vec![in alloc; OccWord::empty(); usize::from(count)]
 }
 
-/// Returns the context at each place of a new table: the one whose number is the place's.
+/// Returns the context at each place of a new table: the context whose number is the place's.
 fn first_residents(alloc: Global, count: u32) -> Result<Vec<u32>, AllocError>
     ensures { IfOk result (λ made. made.items ≡ range_with_len 0 count) }
 {

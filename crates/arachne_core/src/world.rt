@@ -60,7 +60,7 @@ impl World {
     }
 
     /// Reserves memory for `posts` more posts (threads put into the table) and `retires` more retires (ends of
-    /// threads), which then take none.
+    /// threads), which then take no memory.
     pub fn reserve(&mut self, posts: usize, retires: usize) -> Result<(), AllocError>
         ensures kept { self.new ≡ record self.old { posts = self.new.posts; retires = self.new.retires } }
         ensures grown { (self.old.posts ≤ self.new.posts) × (self.old.retires ≤ self.new.retires) }
@@ -74,7 +74,7 @@ impl World {
     /// Applies the event, if it is allowed.
     ///
     /// Returns `NotAllowed` if the event is not allowed, and `Memory` if memory was refused. After an error the World
-    /// is unchanged. Only a post or a retire takes memory, if none was reserved for it.
+    /// is unchanged. Only a post or a retire takes memory, if no memory was reserved for it.
     pub fn apply(&mut self, event: Event) -> Result<(), NotApplied>
         ensures answer { Answers event self.old self.new result }
         ensures err { OnErr result (self.new ≡ self.old) }

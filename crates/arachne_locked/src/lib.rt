@@ -1,6 +1,6 @@
 //! A context table behind a lock.
 //!
-//! The lock protects the state of the table (a World) and the values of the threads that no seat holds. Each call
+//! The lock protects the state of the table (a World) and the values of the threads that no seat has in hand. Each call
 //! applies its events to the state, one after another, so between any two calls no two threads share a context or a
 //! place. Tests compare the table on atomic words with this one.
 #![tactic(auto)]

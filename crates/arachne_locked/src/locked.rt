@@ -27,7 +27,7 @@ pub struct LockedContexts<T: Tagged> {
     slots: Slots,
 }
 
-/// Returns the occupancy word of a core, or that of a full core if the table has no such core.
+/// Returns the occupancy word of a core, or the word of a full core if the table has no such core.
 fn word_of(occ: Option<OccWord>) -> u64
     ensures { IsOccupancyWord result }
 {
@@ -82,7 +82,7 @@ fn has_no_place(occ: OccWord, slots: Slots) -> bool
     occ.is_exclusive() || occ.lowest_free_below(slots.count()).is_none()
 }
 
-/// Returns the word of a core whose places are all occupied.
+/// Returns the occupancy word of a core whose places are all occupied.
 fn full_core(slots: Slots) -> u64
     ensures { ShowsFull slots result }
 {
@@ -168,7 +168,7 @@ impl<T: Tagged + Drop> Contexts<T> for LockedContexts<T> {
 
     ghost has = { λ table seat outs. CountsOut seat outs };
 
-    // A seat of this form doesn't know what was posted.
+    // A seat of this form doesn't know which threads were posted.
     ghost settles = { λ table seat left. Unit {0} };
 
     fn glance<R: Wait>(&self, rt: &R, core: u8) -> u64 {

@@ -21,8 +21,8 @@ use arachne_core::{
 use std::alloc::{AllocError, Global};
 use std::marker::Model;
 
-/// The state of a table (a World) and the values of the threads that no seat holds, with memory reserved for each post
-/// and each end of a thread that may come.
+/// The state of a table (a World) and the values of the threads that no seat has in hand, with memory reserved for each
+/// post and each end of a thread that may follow.
 #[derive(Drop)]
 pub struct TableState<T: Tagged> {
     homes: Homes<T>,
@@ -98,7 +98,7 @@ impl<T: Tagged + Drop> TableState<T> {
         self.homes.world().slots()
     }
 
-    /// Returns the occupancy of a core, if the table has it.
+    /// Returns the occupancy of a core, if the table has such a core.
     pub fn look(&self, core: u8) -> Option<OccWord>
         ensures some { IfSome result (λ occ. (core < (world_of self.now.table).cores) × ShowsCore (world_of self.now.table) core occ) }
         ensures beyond { IfSome result (λ occ. IsVacantFrom (world_of self.now.table).slots occ) }
@@ -110,7 +110,7 @@ impl<T: Tagged + Drop> TableState<T> {
         Some(self.homes.world().occ(core))
     }
 
-    /// Returns the mark word (the packed state) of a context, if the table has it.
+    /// Returns the mark word (the packed state) of a context, if the table has such a context.
     pub fn look_mark(&self, context: u32) -> Option<MarkWord>
         ensures some { IfSome result (λ mark. IsContext (world_of self.now.table) context × (mark ≡ marked (world_of self.now.table) context)) }
         ensures none { IfNone result (IsContext (world_of self.now.table) context → ⊥) }
@@ -356,7 +356,7 @@ impl<T: Tagged + Drop> TableState<T> {
 
     // ---- cores
 
-    /// Closes a core, if the table has it. Returns the core's occupancy from before.
+    /// Closes a core, if the table has such a core. Returns the core's occupancy from before.
     pub fn close_core(&mut self, core: u8) -> Option<OccWord>
         ensures some { IfSome result (λ occ. ShowsCore (world_of self.old.table) core occ × Takes (world_of self.old.table) (event.CloseCore core ∷ []) (world_of self.new.table)) }
         ensures none { IfNone result ((core < (world_of self.old.table).cores → ⊥) × (self.new ≡ self.old)) }
@@ -369,7 +369,7 @@ impl<T: Tagged + Drop> TableState<T> {
         }
     }
 
-    /// Opens a core, if the table has it. Returns the core's occupancy from before.
+    /// Opens a core, if the table has such a core. Returns the core's occupancy from before.
     pub fn open_core(&mut self, core: u8) -> Option<OccWord>
         ensures some { IfSome result (λ occ. ShowsCore (world_of self.old.table) core occ × Takes (world_of self.old.table) (event.OpenCore core ∷ []) (world_of self.new.table)) }
         ensures none { IfNone result ((core < (world_of self.old.table).cores → ⊥) × (self.new ≡ self.old)) }
@@ -406,7 +406,7 @@ impl<T: Tagged + Drop> TableState<T> {
         self.move_to(carrier, from, place, to)
     }
 
-    /// Moves a thread that no seat holds, and whose core is not exclusive.
+    /// Moves a thread that no seat has in hand, and whose core is not exclusive.
     fn move_to(&mut self, carrier: u32, from: u32, place: Place, to: u8) -> Moved
         requires within { IsContext (world_of self.old.table) from }
         requires at { (world_of self.old.table).at from ≡ place }
@@ -433,7 +433,7 @@ impl<T: Tagged + Drop> TableState<T> {
         Moved::Moved
     }
 
-    /// Claims the target, moves the thread there, and frees the place that the thread left.
+    /// Claims the target, moves the thread to it, and frees the place that the thread left.
     fn swap(&mut self, carrier: u32, from: u32, target: u32)
         requires { CanMove (world_of self.old.table) from target }
         ensures events { Takes (world_of self.old.table) (event.Claim carrier target ∷ event.Move carrier from target ∷ event.Release carrier target ∷ []) (world_of self.new.table) }
@@ -456,7 +456,7 @@ impl<T: Tagged + Drop> TableState<T> {
 
     // ---- the end
 
-    /// Returns the threads that no seat holds, in the order of the contexts.
+    /// Returns the threads that no seat has in hand, in the order of the contexts.
     ///
     /// If memory is refused, the table is returned unchanged.
     pub fn close(self, alloc: Global) -> Result<Vec<(ThreadId, T)>, Self>

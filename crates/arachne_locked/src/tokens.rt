@@ -1,4 +1,4 @@
-//! The claims and holds that a seat has until it spends them.
+//! The claims of a seat, and the handles of the threads that it has in hand, until it spends them.
 
 use arachne_contexts::{Identified, Placed};
 use arachne_core::{Place, ThreadId};
@@ -10,7 +10,7 @@ pub struct LockedClaim {
     pub(crate) place: Place,
 }
 
-/// The handle of a thread that a seat holds.
+/// The handle of a thread that a seat has in hand.
 #[derive(Debug, Drop)]
 pub struct LockedHold {
     pub(crate) id: ThreadId,

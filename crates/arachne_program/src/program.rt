@@ -81,7 +81,7 @@ impl Reduction {
         }
     }
 
-    /// Returns the value that a sweep starts from, the neutral element of the operation.
+    /// Returns the value from which a sweep starts, the neutral element of the operation.
     #[inline(always)]
     pub fn unit(self) -> u64
         ensures { result ≡ unit_of self }
@@ -103,11 +103,11 @@ pub enum Expr {
     Var(u64),
     /// The number of items of an array.
     Len(u64),
-    /// The item of an array at an index, from 0; the value is 0 if there is no such item.
+    /// The item of an array at an index, from 0. The value is 0 if there is no such item.
     Item(u64, Box<Expr>),
     /// An operation of two expressions.
     Binary(Operation, Box<Expr>, Box<Expr>),
-    /// The value of the second expression if that of the first is not 0, else the value of the third. Only one of the
+    /// The value of the second expression if the first's value is not 0, else the value of the third. Only one of the
     /// second and the third is evaluated.
     If(Box<Expr>, Box<Expr>, Box<Expr>),
     /// The value of the second expression, in which the value of the first is the newest variable.
@@ -116,13 +116,13 @@ pub enum Expr {
     Tally(u64, Box<Expr>, Box<Expr>),
     /// An expression that is evaluated while the thread holds a lock.
     Hold(u64, Box<Expr>),
-    /// A fork: the child's expression, the expression that the thread evaluates while the child runs, and the one that
-    /// it evaluates after the join. In the third expression the two newest variables are the child's value and then the
-    /// value of the second expression.
+    /// A fork: the child's expression, the expression that the thread evaluates while the child runs, and the
+    /// expression that the thread evaluates after the join. In the third expression the two newest variables are the
+    /// child's value and then the value of the second expression.
     Fork(Class, Box<Expr>, Box<Expr>, Box<Expr>),
     /// A fold (a loop) over a range of numbers. The range goes from the first expression's value to below the second's.
-    /// The third gives the first value; the fourth is the body, in which the two newest variables are the number and
-    /// then the value so far.
+    /// The third expression gives the first value. The fourth is the body, in which the two newest variables are the
+    /// number and then the value so far.
     Fold(Box<Expr>, Box<Expr>, Box<Expr>, Box<Expr>),
     /// A sweep: its grain; a range, from the first expression to below the second; and the body, in which the number is
     /// the newest variable. A range that is longer than the grain is halved, and the left half is a child thread.
@@ -139,7 +139,7 @@ pub struct Program {
 }
 
 impl Expr {
-    /// Returns whether both are the same expression. Stops at the first difference.
+    /// Returns whether `self` and `other` are the same expression. Stops at the first difference.
     fn is_same(&self, other: &Expr) -> bool
         ensures { IsTrue result ↔ (tree_of self.now ≡ tree_of other.now) }
     {
@@ -194,7 +194,7 @@ fn are_same_arrays(some: &[Vec<u64>], others: &[Vec<u64>]) -> bool
 }
 
 impl Program {
-    /// Returns whether both are the same program. Stops at the first difference.
+    /// Returns whether `self` and `other` are the same program. Stops at the first difference.
     fn is_same(&self, other: &Program) -> bool
         ensures { IsTrue result ↔ (source_of self.now ≡ source_of other.now) }
     {

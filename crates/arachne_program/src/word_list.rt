@@ -10,7 +10,7 @@ const ROOM: usize = 6;
 /// The lowest number that is too large for a list.
 const TOO_LARGE: u64 = 1 << 32;
 
-/// A list of at most 6 numbers below 2^32. The list takes no memory beside its own 28 bytes.
+/// A list of at most 6 numbers below 2^32. The list takes no memory except for its own 28 bytes.
 #[derive(Debug, Drop)]
 pub struct WordList {
     len: u32,

@@ -149,7 +149,7 @@ fn rounds(soon: Duration, behind: usize, round: impl Fn(&Runtime, &Seen, Duratio
 /// The tasks have yielded while all workers were busy.
 #[test]
 fn what_has_yielded_is_run() {
-    // Who becomes free looks there before it sleeps.
+    // A worker that becomes free looks at those tasks before it sleeps.
     rounds(MS, BEHIND, |runtime, seen, pause| {
         thread::sleep(pause);
         let others = Busy::keep(runtime, CORES - 1);
@@ -204,7 +204,7 @@ fn what_is_next_is_run() {
     }
 }
 
-/// All workers have slept for long, and no other is woken: the task is the only one that becomes ready.
+/// All workers have slept for long, and no other worker is woken: the task is the only one that becomes ready.
 #[test]
 fn what_is_next_is_run_after_a_long_sleep() {
     rounds(SOON, 1, |runtime, seen, _| {

@@ -191,7 +191,7 @@ impl Arbiter {
             while let Some(given) = self.state.give() {
                 all_moved &= self.place(given);
             }
-            // Who can't be moved, or doesn't read, is dropped, and a turn ends once: so this ends.
+            // A client that can't be moved, or doesn't read, is dropped, and a turn ends once: so this loop ends.
             if !self.end_turn() && all_moved && self.connections.values().all(|it| !it.gone) {
                 self.means.carry_out();
                 return self.update_rest();

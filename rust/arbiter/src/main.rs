@@ -36,7 +36,7 @@ const USAGE: &str =
     "arachne-arbiter run SOCKET [--cpuset FOLDER [--sweep] | --rest GROUP..] [--cores LIST] [--keep N] \
                      [--hyperthreads] [--turn MILLISECONDS] [--open] [--log]\narachne-arbiter status SOCKET";
 
-/// The exit status of a daemon that has found another one at its socket.
+/// The exit status of a daemon that has found another daemon at its socket.
 const THERE_IS_ONE: i32 = 3;
 
 fn main() {
@@ -75,7 +75,7 @@ fn guard(options: &Options) {
             sys::terminate(child.id());
         }
     };
-    // If there was one already, all is that one's.
+    // If there was another daemon already, the socket and the cpusets are that daemon's.
     if status != THERE_IS_ONE {
         let _ = fs::remove_file(&options.socket);
         let _ = fs::remove_file(status::path_of(&options.socket));
@@ -87,7 +87,7 @@ fn guard(options: &Options) {
 
 fn serve(options: &Options) -> io::Result<()> {
     sys::end_with_parent();
-    // One that died has left its socket; one that answers is alive.
+    // A daemon that died has left its socket; a daemon that answers is alive.
     if UnixStream::connect(&options.socket).is_ok() {
         return Err(io::Error::new(ErrorKind::AddrInUse, "there is one already"));
     }

@@ -7,10 +7,10 @@ pub const SIZE: usize = 16;
 /// From a client, first on its control connection: version, priority, least and most cores (`least << 16 | most`).
 pub const HELLO: u32 = 1;
 /// The first message on a connection of a kernel thread: the client's number, the thread's number, and its place in the
-/// client's order (`place << 1 | floats`). A thread that floats never waits: it is moved to a core and away again while
-/// it runs.
+/// client's order (`place << 1 | floats`). A thread that floats never waits: it is moved to a core and away from it
+/// while it runs.
 pub const JOIN: u32 = 2;
-/// A message on a thread's connection: the thread gives its core back, if it has one, and waits for another.
+/// A message on a thread's connection: the thread gives its core back, if it has one, and waits for another core.
 pub const WAIT: u32 = 3;
 /// A message on the control connection: the number of cores that the client wants.
 pub const ASK: u32 = 4;
@@ -22,7 +22,7 @@ pub const WELCOME: u32 = 5;
 pub const GRANT: u32 = 6;
 /// A message on the control connection: the number of cores that the client may have, if that is less than before.
 pub const ALLOWED: u32 = 7;
-/// The last message on a connection that the arbiter closes because it refused a message there.
+/// The last message on a connection that the arbiter closes because it refused a message on this connection.
 pub const REFUSED: u32 = 8;
 
 /// Returns the bytes of a message.

@@ -69,7 +69,7 @@ pub fn wait(fds: &mut [Polled], timeout: i32) {
     unsafe { poll(fds.as_mut_ptr(), fds.len() as u64, timeout) };
 }
 
-/// Returns the process and the user at the other end, as they were when it connected.
+/// Returns the process and the user at the other end, as they were when the other end connected.
 pub fn peer(stream: &UnixStream) -> io::Result<(u32, u32)> {
     let (mut peer, mut len) = ([0u32; 3], 12u32);
     // SAFETY: the length is that of three numbers of 32 bits, which live through the call.
@@ -114,8 +114,8 @@ impl Page {
         if at as isize == -1 {
             return Err(io::Error::last_os_error());
         }
-        // From now on nobody can change its length, or write it but by the mapping above: F_ADD_SEALS with F_SEAL_SEAL,
-        // F_SEAL_SHRINK, F_SEAL_GROW and F_SEAL_FUTURE_WRITE.
+        // From now on nobody can change the file's length, or write it except by the mapping above: F_ADD_SEALS with
+        // F_SEAL_SEAL, F_SEAL_SHRINK, F_SEAL_GROW and F_SEAL_FUTURE_WRITE.
         // SAFETY: all arguments are numbers.
         if unsafe { fcntl(fd, 1033, 1 | 2 | 4 | 16) } != 0 {
             return Err(io::Error::last_os_error());
@@ -156,7 +156,7 @@ pub fn affinity() -> Vec<usize> {
     affinity_of(0)
 }
 
-/// Returns the processors that a thread may run on: none if it has ended. Thread 0 is the calling one.
+/// Returns the processors that a thread may run on: none if the thread has ended. Thread 0 is the calling thread.
 pub fn affinity_of(thread: u32) -> Vec<usize> {
     let mut mask = [0u64; 16];
     // SAFETY: the mask has 128 bytes, and lives through the call.
@@ -198,7 +198,7 @@ pub fn end_with_parent() {
     unsafe { prctl(1, 15, 0, 0, 0) };
 }
 
-/// Returns a descriptor that is readable once a process has ended, even if another one has its sockets.
+/// Returns a descriptor that is readable once a process has ended, even if another process has its sockets.
 pub fn watch_process(process: u32) -> io::Result<File> {
     // SAFETY: all arguments of `pidfd_open` are numbers.
     match unsafe { syscall(434, process as i32, 0u32) } {

@@ -271,7 +271,8 @@ fn row_ends<R: Threads + Wait + Clock + Sync>(
     Ok(())
 }
 
-/// Checks that a row's runs before and after the shortage went well, and that those in the shortage ended as they must.
+/// Checks that a row's runs before and after the shortage went well, and that the runs in the shortage ended as they
+/// must.
 fn judge(
     machine: Machine,
     last: Tried,

@@ -10,7 +10,7 @@ use arachne_core::SLOTS;
 use arachne_policy::{CoreOrder, OrderKind};
 use std::test::Fail;
 
-/// A child that counts to 5,000. If the child finds no place, it waits for one until its parent awaits it.
+/// A child that counts to 5,000. If the child finds no place, it waits for a place until its parent awaits it.
 pub(super) const TAKEN_BACK: Source = Source {
     ledgers: 0,
     locks: 0,
@@ -68,7 +68,8 @@ const TOLD_FIRST: Row = Row {
     told: "",
 };
 
-/// All threads are on core 0. The root makes 504 steps and each of its 100 children one, each in a slice of its own.
+/// All threads are on core 0. The root makes 504 steps and each of its 100 children makes one, each in a slice of its
+/// own.
 const ENDS_COUNT: Row = Row {
     shows: "a slice that ends its thread counts",
     source: Source {
@@ -168,8 +169,8 @@ fn a_slice_has_its_whole_quantum(rt: HostRuntime) -> Result<(), Fail> {
     rows_hold(&rt, rt.alloc(), WHOLES)
 }
 
-/// Core 3 is closed, so that its kernel thread parks. Two threads are on core 1, and an exclusive one is on core 2. The
-/// table hands the exclusive thread back when it ends, which stops the run during core 1's first slice.
+/// Core 3 is closed, so that its kernel thread parks. Two threads are on core 1, and an exclusive thread is on core 2.
+/// The table hands the exclusive thread back when it ends, which stops the run during core 1's first slice.
 const STOPPED: Row = Row {
     shows: "no slice begins once the run is stopped",
     source: Source {
@@ -205,8 +206,8 @@ const STOPS: &[Row] = &[
         },
         ..STOPPED
     },
-    // The first thread on core 1 holds the lock for which the second waits. It frees the lock in core 1's fifth slice,
-    // and goes on counting.
+    // The first thread on core 1 holds the lock for which the second waits. The first thread frees the lock in core 1's
+    // fifth slice, and goes on counting.
     Row {
         source: Source {
             ledgers: 0,

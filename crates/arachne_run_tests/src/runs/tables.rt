@@ -8,7 +8,7 @@ use crate::gates::Watching;
 use arachne_core::SLOTS;
 use std::test::Fail;
 
-/// A thread that forks no other.
+/// A thread that forks no other thread.
 const SEVEN: Source = Source {
     ledgers: 0,
     locks: 0,
@@ -16,7 +16,7 @@ const SEVEN: Source = Source {
     expr: "(num 7)",
 };
 
-/// The root forks a child, which forks another.
+/// The root forks a child, which forks another child.
 const GRANDCHILD: Source = Source {
     ledgers: 0,
     locks: 0,
@@ -39,7 +39,7 @@ const ROWS: &[Row] = &[
         telling: Telling::Nothing,
         told: "Worker(Token)",
     },
-    // Something that is still out with a seat at the end is a `Token` fault, and not one of memory.
+    // If a seat still has a place or a thread at the end, the fault is `Token`, and not that memory was refused.
     Row {
         shows: "what is out in the end gives no report",
         source: SEVEN,
@@ -67,8 +67,8 @@ const ROWS: &[Row] = &[
         telling: Telling::Nothing,
         told: "",
     },
-    // The first claim that is refused memory is the root's for its child on core 0, or that child's for its own on core
-    // 1. The run's fault is this refusal, and not that tokens are missing afterwards.
+    // The first claim that is refused memory is the root's claim for its child on core 0, or that child's claim for its
+    // own child on core 1. The run's fault is this refusal, and not that tokens are missing afterwards.
     Row {
         shows: "the first fault is told",
         source: GRANDCHILD,

@@ -1,4 +1,4 @@
-//! Children that wait for a place, and workers that have one for them.
+//! Children that wait for a place, and workers that have a place for them.
 use super::facts::{Fact, Telling};
 use super::rows::{Row, rows_hold};
 use super::{FORMS, LOCKED, Source};
@@ -27,8 +27,8 @@ const WAITS: Row = Row {
     told: "slot spill slot ",
 };
 
-/// The root has four children for the remaining places of its core, and a fifth that waits for one. On cores of five
-/// places the table answers two of every three claims with `Lost`.
+/// The root has four children for the remaining places of its core, and a fifth child that waits for a place. On cores
+/// of five places the table answers two of every three claims with `Lost`.
 const LOST: Row = Row {
     shows: "a claim that is lost is tried again",
     source: Source {
@@ -48,7 +48,7 @@ const LOST: Row = Row {
     told: "slot spill slot slot slot slot ",
 };
 
-/// The root awaits a thread that forks two others, the second after the first has ended.
+/// The root awaits a thread that forks two other threads, the second after the first has ended.
 const TWO: Source = Source {
     ledgers: 0,
     locks: 0,
@@ -56,8 +56,8 @@ const TWO: Source = Source {
     expr: "(fork n (let (fork n (num 1) (num 1) (var 0)) (fork n (num 2) (fold (num 0) (num 40) (num 0) (var 2)) (add (var 1) (var 2)))) (num 3) (var 0))",
 };
 
-/// The first child ends while all places are taken, so that its place is kept. The second child waits and gets that
-/// place, although its parent is the only thread on the core that could continue.
+/// The first child ends while all places are taken, so that the worker keeps its place. The second child waits and gets
+/// that place, although its parent is the only thread on the core that could continue.
 const KEPT: Row = Row {
     shows: "a place that is kept is free for a thread that waits",
     source: TWO,
@@ -72,8 +72,8 @@ const KEPT: Row = Row {
     told: "slot slot slot spill ",
 };
 
-/// The root holds the lock for longer than a holder may run at once, so that its child comes to wait for it. Then the
-/// root awaits the child.
+/// The root holds the lock for longer than a holder may run at once, so that its child comes to wait for the lock. Then
+/// the root awaits the child.
 const WAKES: Row = Row {
     shows: "a thread is told as woken for what it waited for",
     source: Source {

@@ -31,11 +31,11 @@ const HOLDS: Row = Row {
 
 const HELD: &[Row] = &[HOLDS];
 
-/// Checks that a worker stops yielding once it has yielded in vain.
+/// Checks that a worker yields no more after a yield that has gained nothing.
 ///
-/// After a yield a worker does not yield again in its next 4,096 rounds that find something, and a run of a thousand
-/// holds has fewer. So each of the four workers may yield once in each of the two runs, and looks twice at the clock.
-/// The clock can be read at each look, at none, or at every other one.
+/// After a yield a worker does not yield again in its next 4,096 rounds that find something to do, and a run of a
+/// thousand holds has fewer such rounds. So each of the four workers may yield once in each of the two runs, and looks
+/// twice at the clock. The clock can be read at each look, at no look, or at every other look.
 #[test]
 fn who_yields_in_vain_yields_no_more(rt: HostRuntime) -> Result<(), Fail> {
     for fails in 0..3 {
@@ -50,8 +50,8 @@ fn who_yields_in_vain_yields_no_more(rt: HostRuntime) -> Result<(), Fail> {
 }
 
 /// The root forks 30 children to core 1, and counts to 5,000 after each, so that core 1's worker has run the child and
-/// sleeps when the next one comes. The program has an exclusive fork, which is never made, so that no thread is moved.
-/// If nobody woke the worker, each of its sleeps would time out.
+/// sleeps when the next child is posted. The program has an exclusive fork, which is never made, so that no thread is
+/// moved. If nobody woke the worker, each of its sleeps would time out.
 const TOLD: Row = Row {
     shows: "who sleeps is told of what it may run",
     source: Source {
