@@ -110,8 +110,7 @@ typedef struct {
     uint32_t unpark;
 } arachne_exec_told;
 
-/* Makes an executor of `shards` shards, and puts its seat, with the whole weight, into a handle that holds
- * nothing.
+/* Makes an executor of `shards` shards, and puts its first seat into a handle that holds nothing.
  *
  * Shard s has the blocks 64 s to 64 s + 63, each of 64 places; worker s % 64 looks after it. Returns DONE;
  * REFUSED if the handle holds something, or if `shards` is greater than 256; NO_MEMORY.
@@ -375,7 +374,7 @@ typedef struct {
 } arachne_adder;
 #define ARACHNE_ADDER_NULL {0}
 
-/* Makes `count` ledgers, each of total 0, and puts their whole share into a handle that holds nothing.
+/* Makes `count` ledgers, each of total 0, and puts their first share into a handle that holds nothing.
  *
  * Returns DONE; REFUSED if the handle holds something; NO_MEMORY.
  *

@@ -186,7 +186,7 @@ pub trait Contexts<T: Tagged>: Seats {
         ensures answer { WakesAs id result };
 
     /// Closes a core, which then takes no more threads. Returns the core's occupancy word (which places are occupied,
-    /// as bits) from before.
+    /// as bits) from before the call.
     fn close_core<R: Wait>(&self, rt: &R, seat: &mut Self::Seat, core: u8) -> u64
         requires seat { Self.sits self.now seat.old }
         requires core { core < Self.core_count self.now }
@@ -195,7 +195,7 @@ pub trait Contexts<T: Tagged>: Seats {
         ensures out { KeepsOut (has self.now) seat.old seat.new }
         ensures word { IsOccupancyWord result };
 
-    /// Opens a core. Returns the core's occupancy word (which places are occupied, as bits) from before.
+    /// Opens a core. Returns the core's occupancy word (which places are occupied, as bits) from before the call.
     fn open_core<R: Wait>(&self, rt: &R, seat: &mut Self::Seat, core: u8) -> u64
         requires seat { Self.sits self.now seat.old }
         requires core { core < Self.core_count self.now }

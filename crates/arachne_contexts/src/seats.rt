@@ -28,7 +28,7 @@ pub trait Seats {
     /// The number of places of each core.
     ghost slot_count: { Self → ℕ };
 
-    /// Creates a table whose contexts are free and of one generation, and the seat with the whole weight.
+    /// Creates a table whose contexts are free and of one generation, and its first seat, which has the whole weight.
     fn new(
         alloc: Global,
         cores: u8,

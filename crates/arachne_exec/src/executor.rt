@@ -35,7 +35,8 @@ impl Model for Executor {
 }
 
 impl Executor {
-    /// Returns an executor with `shards` shards of 4,096 free places each, and the seat with the whole weight.
+    /// Returns an executor with `shards` shards of 4,096 free places each, and its first seat, which has the whole
+    /// weight.
     pub fn new(alloc: Global, shards: usize) -> Result<(Executor, ExecSeat), AllocError>
         requires { shards ≤ 256 }
         ensures shards { IfOk result (λ made. made.0.shards ≡ shards) }

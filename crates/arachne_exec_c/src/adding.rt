@@ -29,7 +29,7 @@ impl Model for Adding {
 }
 
 impl Adding {
-    /// Makes `count` ledgers, with the share that has the whole weight.
+    /// Makes `count` ledgers, with their first share, which has the whole weight.
     pub(crate) fn new(alloc: Global, count: usize) -> Result<Adding, AllocError>
         ensures { IfOk result (IsNew count) }
     {

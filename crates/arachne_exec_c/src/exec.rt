@@ -20,7 +20,7 @@ use crate::executing::Executing;
 use arachne_exec::MOST_SHARDS;
 use std::alloc::Global;
 
-/// Makes an executor of `shards` shards, and puts its seat, with the whole weight, into a handle that holds nothing.
+/// Makes an executor of `shards` shards, and puts its first seat into a handle that holds nothing.
 ///
 /// Shard s has the blocks 64 s to 64 s + 63, each of 64 places; worker s % 64 looks after it. Returns DONE; REFUSED if
 /// the handle holds something, or if `shards` is greater than 256; NO_MEMORY.

@@ -64,7 +64,7 @@ fn in_hand(block: usize, word: u64) -> (Option<usize>, u64)
 }
 
 impl Executing {
-    /// Makes an executor of `shards` shards, with the seat that has the whole weight.
+    /// Makes an executor of `shards` shards, with its first seat, which has the whole weight.
     pub(crate) fn new(alloc: Global, shards: usize) -> Result<Executing, AllocError>
         requires { shards ≤ 256 }
         ensures { IfOk result (IsNew shards) }
@@ -286,15 +286,15 @@ impl Executing {
         })
     }
 
-    /// Returns true if this seat has the whole weight of the executor, and no job in hand.
+    /// Returns true if this seat has the whole weight of the executor (no other seat is in use), and no job in hand.
     fn may_end(&self) -> bool
         ensures { IsTrue result → IsEmptyHanded self.now × (self.now.seat.weight ≡ whole) }
     {
         self.hand.is_none() && self.executor.is_whole(&self.seat)
     }
 
-    /// Ends the executor, if this seat has the whole weight and no job in hand, and `room` suffices for a job of each
-    /// place.
+    /// Ends the executor, if this seat has the whole weight (no other seat is in use) and no job in hand, and `room`
+    /// suffices for a job of each place.
     ///
     /// Returns the jobs that are left; or the unchanged value, with the code for C.
     pub(crate) fn end(self, alloc: Global, room: usize) -> Result<Vec<u64>, (Executing, u32)>

@@ -10,7 +10,7 @@ use crate::adding::{Adding, cut, join_held};
 use crate::codes::{DONE, NO_MEMORY, REFUSED};
 use std::alloc::Global;
 
-/// Makes `count` ledgers, each of total 0, and puts their whole share into a handle that holds nothing.
+/// Makes `count` ledgers, each of total 0, and puts their first share into a handle that holds nothing.
 ///
 /// Returns DONE; REFUSED if the handle holds something; NO_MEMORY.
 #[unsafe(no_mangle)]

@@ -55,7 +55,8 @@ fn zeros(alloc: Global, count: usize) -> Result<Vec<u64>, AllocError>
 }
 
 impl Ledgers {
-    /// Creates `count` ledgers (`count` may be 0). Returns the ledgers, and the share with the whole weight.
+    /// Creates `count` ledgers (`count` may be 0). Returns the ledgers, and their first share, which has the whole
+    /// weight.
     pub fn new(alloc: Global, count: usize) -> Result<(Ledgers, Share), AllocError>
         ensures ledgers { IfOk result (λ r. r.0.count ≡ count) }
         ensures share { IfOk result (λ r. r.1 ≡ record { table = r.0.table; weight = whole; sums = replicate count 0; last_read = None }) }
@@ -89,7 +90,7 @@ impl Ledgers {
 
     /// Reads the ledger's word, which at each moment is the sum of all shares at that moment, modulo 2^64.
     ///
-    /// If the share has the whole weight, the result is this share's own sum, modulo 2^64.
+    /// If the share has the whole weight (no other share is in use), the result is this share's own sum, modulo 2^64.
     pub fn read(&self, share: &mut Share, ledger: usize) -> u64
         requires own { IsShareOf self.now share.old }
         requires ledger { ledger < self.now.count }

@@ -356,7 +356,7 @@ impl<T: Tagged + Drop> TableState<T> {
 
     // ---- cores
 
-    /// Closes a core, if the table has such a core. Returns the core's occupancy from before.
+    /// Closes a core, if the table has such a core. Returns the core's occupancy from before the call.
     pub fn close_core(&mut self, core: u8) -> Option<OccWord>
         ensures some { IfSome result (λ occ. ShowsCore (world_of self.old.table) core occ × Takes (world_of self.old.table) (event.CloseCore core ∷ []) (world_of self.new.table)) }
         ensures none { IfNone result ((core < (world_of self.old.table).cores → ⊥) × (self.new ≡ self.old)) }
@@ -369,7 +369,7 @@ impl<T: Tagged + Drop> TableState<T> {
         }
     }
 
-    /// Opens a core, if the table has such a core. Returns the core's occupancy from before.
+    /// Opens a core, if the table has such a core. Returns the core's occupancy from before the call.
     pub fn open_core(&mut self, core: u8) -> Option<OccWord>
         ensures some { IfSome result (λ occ. ShowsCore (world_of self.old.table) core occ × Takes (world_of self.old.table) (event.OpenCore core ∷ []) (world_of self.new.table)) }
         ensures none { IfNone result ((core < (world_of self.old.table).cores → ⊥) × (self.new ≡ self.old)) }

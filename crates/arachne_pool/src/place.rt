@@ -1,6 +1,6 @@
 //! Gives jobs their places, and frees the places.
 //!
-//! The functions here may call the table, through the seat that they are given.
+//! The functions of this module may use the table, by the seat that they are given.
 ghost use Rattle.std.specs.Prelude.{◌≡◌, ◌<◌, [], ◌∷◌, ◌++◌, IfErr, IfOk, MatchOption, OnErr, OnOk};
 ghost use Rattle.std.specs.VecDeque.{deque_capacity, deque_len};
 ghost use Rattle.arachne_contexts.specs.Out.{Claim, KeepsOut};

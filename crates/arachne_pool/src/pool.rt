@@ -39,7 +39,7 @@ pub struct Pool<C: Seats> {
 }
 
 impl<C: Seats + Drop> Pool<C> {
-    /// Returns a pool with no job, and the seat with the whole weight.
+    /// Returns a pool with no job, and its first seat, which has the whole weight.
     pub(crate) fn with_seat(
         alloc: Global,
         cores: u8,

@@ -1,6 +1,6 @@
 //! Puts jobs at places that a seat has claimed.
 //!
-//! This module may touch the table, through the seat that it is given.
+//! This module may use the table, by the seat that it is given.
 ghost use Rattle.std.specs.Prelude.{◌≡◌, IfOk, IfSome, OnOk};
 ghost use Rattle.arachne_contexts.specs.Out.{Claim, HasOut};
 ghost use Rattle.arachne_pool.specs.Grounds.{IsSpent};

@@ -42,7 +42,7 @@ pub(crate) enum Act {
     Wakes(u32, u64, Wakes),
     /// An answer is counted for the jobs that sleep. The answer wakes none of these jobs.
     Answers,
-    /// This number of answers was counted.
+    /// This number of answers were counted.
     Answered(u64),
     /// A round on a core. The round must find something if the second value is true, and nothing if it is false.
     Turns(u8, bool),

@@ -248,8 +248,8 @@ pub fn a_drained_word_shows_a_drained_core<T>()
     ensures { EachCore T (λ tag_in bits w d b core. is_closed (b.occ core) ≡ true → HasNoOccupied w.slots (b.occ core) → IsDrained w core) }
 {}
 
-/// If one seat has the whole weight, no claim and no thread in hand, each thread that was put into the table has ended,
-/// or its value is in a slot of the table.
+/// If one seat has the whole weight (no other seat is in use), no claim and no thread in hand, each thread that was put
+/// into the table has ended, or its value is in a slot of the table.
 pub fn what_was_posted_has_ended_or_is_left<T>()
     ensures { EachWhole T (λ t k slots. IsSettled t.tag_in k (left_from t.bits 0 t.table.words slots)) }
 {}

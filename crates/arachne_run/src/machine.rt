@@ -224,7 +224,8 @@ fn close_table<H: Wait, T: Tagged + Drop, C: Contexts<T> + Drop, K: Tagged + Dro
     end_table(rt, alloc, table, seat)
 }
 
-/// Closes the table with the seat that has the whole weight. The error is `Token` if a thread is left in the table.
+/// Closes the table with a seat that has the whole weight (no other seat is in use). The error is `Token` if a thread
+/// is left in the table.
 fn end_table<H: Wait, T: Tagged + Drop, C: Contexts<T> + Drop>(
     rt: &H,
     alloc: Global,

@@ -38,7 +38,8 @@ pub(crate) struct Remains {
 }
 
 impl Resources {
-    /// Returns `ledgers` ledgers and `locks` locks, and the holdings with the whole weight of each.
+    /// Returns `ledgers` ledgers and `locks` locks, and the first share of the ledgers with the first seat of each
+    /// lock.
     pub(crate) fn new(
         alloc: Global,
         ledgers: u8,

@@ -66,7 +66,7 @@ fn first_slots(alloc: Global, number: u8) -> Result<Vec<GuardedState>, AllocErro
 }
 
 impl SleepLock {
-    /// Creates a lock that nobody has asked for yet, and its seat with the whole weight.
+    /// Creates a lock that nobody has asked for yet, and its first seat, which has the whole weight.
     pub fn new(alloc: Global, lock: u8) -> Result<(SleepLock, LockSeat), AllocError>
         ensures number { IfOk result (λ made. made.0.number ≡ lock) }
         ensures seat { IfOk result (λ made. made.1 ≡ whole_seat made.0) }

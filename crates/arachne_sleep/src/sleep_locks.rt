@@ -49,7 +49,7 @@ impl Model for LockSeats {
 }
 
 impl SleepLocks {
-    /// Creates `count` locks, which may be 0, and for each lock the seat with the whole weight.
+    /// Creates `count` locks, which may be 0, and for each lock its first seat, which has the whole weight.
     pub fn new(alloc: Global, count: u8) -> Result<(SleepLocks, LockSeats), AllocError>
         ensures count { IfOk result (λ made. length made.0 ≡ count) }
         ensures own { IfOk result (λ made. AreSeatsOf made.0 made.1) }

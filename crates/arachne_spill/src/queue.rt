@@ -33,7 +33,7 @@ impl<T: Tagged + Drop> Model for SpillQueue<T> {
 }
 
 impl<T: Tagged + Drop> SpillQueue<T> {
-    /// Returns an empty queue, and the pass with the whole weight.
+    /// Returns an empty queue, and its first pass, which has the whole weight.
     pub fn new(alloc: Global) -> Result<(SpillQueue<T>, SpillPass<T>), AllocError>
         ensures { IfOk result (λ made. made.1 ≡ record { table = made.0.table; weight = whole; pushed = []; popped = [] }) }
     {
@@ -47,8 +47,8 @@ impl<T: Tagged + Drop> SpillQueue<T> {
 
     /// Puts an item at the back. Returns the item if the queue was full at one moment of the call.
     ///
-    /// The clauses on a full queue are of use only if the pass has the whole weight: nothing ties other passes to this
-    /// queue.
+    /// The clauses on a full queue are of use only if the pass has the whole weight (no other pass is in use): nothing
+    /// ties other passes to this queue.
     pub fn push<R: Wait>(&self, rt: &R, pass: &mut SpillPass<T>, item: T) -> Result<(), T>
         requires own { IsPassOf self.now pass.old }
         ensures pushed { OnOk result (pass.new ≡ record pass.old { pushed = pass.old.pushed ++ T.tag_of item ∷ [] }) }

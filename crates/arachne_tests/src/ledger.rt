@@ -76,7 +76,7 @@ fn two_threads_add_up(rt: HostRuntime) -> Result<(), AllocError> {
 
 /// Adds to two ledgers through two shares, and reads what each has added through the other share.
 ///
-/// Returns the numbers read, and the whole share.
+/// Returns the numbers read, and the joined share.
 fn add_apart(ledgers: &Ledgers, share: Share) -> ((u64, u64), Share)
     requires share { IsShareOf ledgers.now share }
     requires two { ledgers.now.count ≡ 2 }

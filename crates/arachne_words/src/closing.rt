@@ -36,7 +36,7 @@ impl<T: Tagged + Drop> WordContexts<T> {
     }
 
     /// Closes a core, which then takes no more threads. Returns the core's occupancy word (which places are occupied,
-    /// as bits) from before.
+    /// as bits) from before the call.
     pub fn close_core(&self, seat: &mut WordSeat<T>, core: u8) -> u64
         requires own { seat.old.table ≡ self.now.table }
         requires core { core < self.now.shape.cores }
@@ -46,7 +46,7 @@ impl<T: Tagged + Drop> WordContexts<T> {
         self.set_closed(&mut seat.at, core)
     }
 
-    /// Opens a core. Returns the core's occupancy word (which places are occupied, as bits) from before.
+    /// Opens a core. Returns the core's occupancy word (which places are occupied, as bits) from before the call.
     pub fn open_core(&self, seat: &mut WordSeat<T>, core: u8) -> u64
         requires own { seat.old.table ≡ self.now.table }
         requires core { core < self.now.shape.cores }

@@ -18,7 +18,7 @@ use atomic_table::Table;
 use std::alloc::{AllocError, Global};
 
 impl<T: Tagged + Drop> WordContexts<T> {
-    /// Creates a table, and the seat with the whole weight.
+    /// Creates a table, and its first seat, which has the whole weight.
     ///
     /// The table has `cores` cores of `slots` places, and its contexts are free and have this generation.
     pub fn new(

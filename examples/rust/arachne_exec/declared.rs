@@ -178,8 +178,7 @@ pub struct ArachneSample {
 }
 
 unsafe extern "C" {
-    /// Makes an executor of `shards` shards, and puts its seat, with the whole weight, into a handle that holds
-    /// nothing.
+    /// Makes an executor of `shards` shards, and puts its first seat into a handle that holds nothing.
     ///
     /// Shard s has the blocks 64 s to 64 s + 63, each of 64 places; worker s % 64 looks after it. Returns DONE;
     /// REFUSED if the handle holds something, or if `shards` is greater than 256; NO_MEMORY.
@@ -419,7 +418,7 @@ unsafe extern "C" {
     /// Threads: safe beside calls with other handles; two at once with `locks` are undefined behaviour.
     pub fn arachne_lock_check(locks: *mut ArachneLocks, lock: usize, who: u64) -> ArachneLockTold;
 
-    /// Makes `count` ledgers, each of total 0, and puts their whole share into a handle that holds nothing.
+    /// Makes `count` ledgers, each of total 0, and puts their first share into a handle that holds nothing.
     ///
     /// Returns DONE; REFUSED if the handle holds something; NO_MEMORY.
     ///

@@ -266,7 +266,7 @@ fn what_was_told_of_is_run_by_who_sleeps() {
     });
 }
 
-/// Other workers have taken the tasks from a stuck one, and the first that they run blocks.
+/// Other workers have taken the tasks from a stuck worker, and the first task that they run blocks.
 #[test]
 fn what_was_taken_of_a_worker_that_does_not_get_on_is_run() {
     for asleep in [true, false] {

@@ -294,7 +294,7 @@ impl Arbiter {
         thread.core = Some(core);
         (self.cores[core].owner, self.cores[core].since) = (Some((id, place)), Instant::now());
         if !self.set_on_core(core) {
-            // It has ended, or may not be moved.
+            // The thread has ended, or may not be moved.
             self.drop_thread(id, place);
             return false;
         }

@@ -49,7 +49,7 @@ fn begun_by(process: u32, thread: u32) -> Vec<u32> {
 /// Returns when a thread of a process began, in hundredths of a second since the machine did; None if it has ended.
 pub fn began(process: u32, thread: u32) -> Option<u64> {
     let text = fs::read_to_string(format!("/proc/{process}/task/{thread}/stat")).ok()?;
-    // Its name is in brackets, and may have any letters.
+    // The thread's name is in brackets, and may have any letters.
     text.rsplit_once(')')?.1.split_whitespace().nth(19)?.parse().ok()
 }
 
