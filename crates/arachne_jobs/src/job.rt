@@ -299,6 +299,7 @@ impl<'p> JobOf<'p> for Job<'p> {
 
 impl<'p> Job<'p> {
     /// Returns the job of this thread, and the end of the cell from which the thread's outcome is fetched.
+    #[inline(always)]
     fn of(
         alloc: Global,
         thread: Thread<'p>,

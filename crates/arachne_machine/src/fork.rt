@@ -70,6 +70,7 @@ impl<'p> State<'p> {
 
     /// Forks a child of this class that begins with `begins`. The thread keeps `frame` for the time after the join, and
     /// goes on with `next`.
+    #[inline(always)]
     fn spawn(
         &mut self,
         class: Class,

@@ -138,6 +138,7 @@ impl Lines {
 
     /// Moves the line `own`, and then the lines `below`, to the end of this list. If memory is refused, nothing has
     /// changed but capacities.
+    #[inline(always)]
     pub fn append(
         &mut self,
         alloc: Global,

@@ -161,6 +161,7 @@ impl<'a> Access<'a> {
     }
 
     /// Repeats this call for a lock until the lock answers. Returns `None` if the thread waits for the lock.
+    #[inline(always)]
     pub(crate) fn get<H: Wait + Clock>(
         &mut self,
         rt: &H,

@@ -142,6 +142,7 @@ fn ready_place(mark: Option<MarkWord>, id: ThreadId) -> Option<Place>
 
 /// Handles a post by the worker of `core`. Notes a thread that was put at a place of `core`. Signals a thread that was
 /// put on another core, or delays that signal.
+#[inline(always)]
 pub(crate) fn posted(agenda: &mut Agenda, shared: &SharedWords, core: u8, post: PostedThread)
     ensures others { (agenda.new.scan ≡ agenda.old.scan) × (agenda.new.next ≡ agenda.old.next) }
     ensures here { post.place.core ≡ core → agenda.new ≡ record agenda.old { ready = agenda.new.ready } }
