@@ -111,8 +111,9 @@ pub fn blocks_are_counted()
         → blocks place b ≡ unblocks place b + is_blocked b.words place }
 {}
 
-/// Each mark that a wake has set at a place was used up by a seat that had the place in hand, or is still there. A
-/// blocked job's place has no such mark. So a job blocks only after each wake with which it was marked was used up.
+/// Each mark that a wake has set at a place was used up once, or is still there; by the clauses of the calls, only a
+/// take, a `start` or a `finish` of that place uses one up. A blocked job's place has no such mark. So a job blocks
+/// only after each wake with which it was marked was used up.
 pub fn wakes_are_heard()
     ensures blocked { (shards : ℕ) (b : Board) → IsLawful shards b → (place : ℕ) → place < 4096 * shards → is_blocked b.words place ≡ 1 → is_marked b.words place ≡ 0 }
     ensures heard { (shards : ℕ) (b : Board) → IsLawful shards b → (place : ℕ) → place < 4096 * shards
@@ -122,7 +123,7 @@ pub fn wakes_are_heard()
 /// The generation in a place's mark is the number of jobs that have ended there, up to the largest that a name can
 /// have, and at most one job is at the place. As long as a seat has the place in hand, the mark keeps the generation
 /// that the seat has last found in it. So a name, which has that generation, belongs to one job for good: once the job
-/// has ended no mark has that generation again, and a wake by the name does nothing.
+/// has ended the place's mark never has that generation again, and a wake by the name does nothing.
 pub fn names_are_of_one_job()
     ensures generation { (shards : ℕ) (b : Board) → IsLawful shards b → (place : ℕ) → place < 4096 * shards
         → generation_at place b ≡ min last_generation (ends_at place b.views) }

@@ -43,7 +43,7 @@ pub(crate) const FULL: u32 = 12;
 /// The job is in the handle's hand: run it.
 pub(crate) const RUN: u32 = 13;
 
-/// The worker has set its idle bit, and then found no block that may have ready jobs: sleep until you are unparked.
+/// The worker has set its idle bit, and then found the summary words of its shards empty: sleep until you are unparked.
 pub(crate) const PARK: u32 = 14;
 
 /// No job was taken, or a block may have a job: try again.

@@ -210,8 +210,8 @@ pub extern "C" fn arachne_exec_spawn_here(
 
 /// Returns the blocks of a shard that may have ready jobs, a bit for each of its 64 blocks, by one load.
 ///
-/// A block whose bit is clear has no ready job, or another call is about to set the bit. Returns 0 also if the handle
-/// holds nothing or there is no such shard.
+/// A block whose bit is clear has no ready job, or another call still has to set the bit or find that it needn't.
+/// Returns 0 also if the handle holds nothing or there is no such shard.
 #[unsafe(no_mangle)]
 pub extern "C" fn arachne_exec_shown(alloc: Global, exec: &mut ArachneExec, shard: usize) -> u64
     ensures { IsTold (HasShard shard) (LooksAt (summary_at shard)) 0 (held exec.old) (held exec.new) result }

@@ -1,8 +1,9 @@
 //! The executor, locks, ledgers and the core policy for hosts in C or Rust, as one static library.
 //!
 //! A handle holds a seat or a share, or nothing. A handle that holds nothing is one null pointer, so C starts with it.
-//! Calls synchronize by atomics only: none waits, sleeps, locks or yields. `scripts/declarations` makes
-//! `examples/c/arachne_exec.h` and `examples/rust/arachne_exec/declared.rs` from these files.
+//! Calls synchronize by atomics only: none waits, sleeps or yields, and only C's allocator may lock.
+//! `scripts/declarations` makes `examples/c/arachne_exec.h` and `examples/rust/arachne_exec/declared.rs` from these
+//! files.
 #![tactic(auto)]
 
 mod adder;

@@ -57,7 +57,8 @@ pub const FULL: u32 = 12;
 /// The job is in the handle's hand: run it.
 pub const RUN: u32 = 13;
 
-/// The worker has set its idle bit, and then found no block that may have ready jobs: sleep until you are unparked.
+/// The worker has set its idle bit, and then found the summary words of its shards empty: sleep until you are
+/// unparked.
 pub const PARK: u32 = 14;
 
 /// No job was taken, or a block may have a job: try again.
@@ -257,8 +258,8 @@ unsafe extern "C" {
 
     /// Returns the blocks of a shard that may have ready jobs, a bit for each of its 64 blocks, by one load.
     ///
-    /// A block whose bit is clear has no ready job, or another call is about to set the bit. Returns 0 also if the
-    /// handle holds nothing or there is no such shard.
+    /// A block whose bit is clear has no ready job, or another call still has to set the bit or find that it
+    /// needn't. Returns 0 also if the handle holds nothing or there is no such shard.
     ///
     /// Threads: safe beside calls with other handles; two at once with `exec` are undefined behaviour.
     pub fn arachne_exec_shown(exec: *mut ArachneExec, shard: usize) -> u64;
