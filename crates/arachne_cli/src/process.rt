@@ -1,4 +1,4 @@
-//! The words of the process's command line.
+//! Reads the words of the process's command line from the system.
 use std::alloc::{Alloc, Global};
 use std::env::{self, Env};
 use std::io;

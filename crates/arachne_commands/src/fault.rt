@@ -1,4 +1,4 @@
-//! The reasons why the program fails.
+//! The reasons why `arachne` fails, and the line that it prints for each.
 ghost use Rattle.std.specs.Prelude.{◌≡◌};
 ghost use Rattle.arachne_cli.specs.declared.fault.Fault.TheVariants.{Memory};
 ghost use Rattle.arachne_commands.specs.Fault.{line_of, run_number, run_place};
@@ -43,7 +43,7 @@ impl From<AllocError> for Fault {
 }
 
 impl Fault {
-    /// Returns the line for the fault.
+    /// Returns the line that the program prints for the fault.
     pub fn line(self) -> FaultLine
         ensures { result ≡ line_of self }
     {

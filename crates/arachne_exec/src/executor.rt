@@ -1,4 +1,4 @@
-//! The executor and its seats.
+//! The executor: it is made with its first seat, and its seats are split and joined.
 ghost use Rattle.std.specs.Prelude.{◌≡◌, ◌*◌, ◌↔◌, ◌≤◌, [], IsTrue, IfOk};
 ghost use Rattle.arachne_weights.specs.Weight.{whole, first_part, second_part, joined};
 ghost use Rattle.arachne_exec.specs.Changes.{blank, splitting, together};

@@ -1,4 +1,4 @@
-//! The layout of the words, and their first values.
+//! The index of each atomic word of an executor, and the value with which each word begins.
 ghost use Rattle.std.specs.Prelude.{◌≡◌, ℕ, ◌+◌, ◌*◌, ◌/◌, ◌%◌, ◌^◌, ◌<◌, ◌≤◌, IfOk, vec_len, slice_index};
 ghost use Rattle.arachne_exec.specs.Layout.{summary_at, ready_at, free_at, mark_at, others, name_of, worker_of};
 ghost use Rattle.arachne_exec.specs.First.{AreFirstWords, first_word};

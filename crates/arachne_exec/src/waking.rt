@@ -1,4 +1,4 @@
-//! Wakes of a job by its name.
+//! Wakes a job by its name: a blocked job becomes ready, and any other job keeps a mark that it was woken.
 ghost use Rattle.std.specs.Prelude.{◌≡◌, ◌≢◌, ◌⊎◌, ℕ, ◌+◌, ◌*◌, ◌/◌, ◌%◌, ◌^◌, ◌<◌, ◌≤◌, ◌∷◌};
 ghost use Rattle.arachne_exec.specs.Layout.{mark_at, last_generation};
 ghost use Rattle.arachne_exec.specs.Calls.{HasWoken, HasWokenHere, HandsWoken, KeepsHand, IsFound};

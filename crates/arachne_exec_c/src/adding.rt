@@ -128,7 +128,8 @@ pub(crate) fn cut(mine: &mut Option<Adding>, theirs: &mut Option<Adding>) -> boo
     }
 }
 
-/// Joins the share in `theirs` into the share in `mine`, if both are there.
+/// Joins the share in `theirs` into the share in `mine`. Returns false, with nothing changed, if one of them is
+/// missing.
 pub(crate) fn join_held(mine: &mut Option<Adding>, theirs: &mut Option<Adding>) -> bool
     requires { (a b : Adder) → mine.old ≡ Some a → theirs.old ≡ Some b → b.ledgers.table ≡ a.ledgers.table }
     ensures { IsJoined mine.old theirs.old mine.new theirs.new result }

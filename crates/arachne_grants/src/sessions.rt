@@ -25,7 +25,8 @@ pub enum ClientThread {
     FloatsOn(u16),
 }
 
-/// A client's place in the daemon.
+/// What the daemon keeps for each client: its priority, the cores that it reserves and asks for, and its threads'
+/// states.
 #[derive(Clone, Copy)]
 pub(crate) struct Session {
     /// True if a client has this place.

@@ -194,7 +194,7 @@ impl CoreArbiter {
         Ok(())
     }
 
-    /// Removes a thread.
+    /// Removes the thread that has ended at this place of the client.
     pub fn end(&mut self, client: usize, place: usize)
         ensures ends { client < 64 → place < 64 → self.new.sessions ≡ with_thread self.old.sessions client place Absent }
         ensures kept { KeepsAllowed self.old self.new }

@@ -1,4 +1,5 @@
-//! The ends of cells that a job has.
+//! The ends of join cells that a job has: one at which it leaves its outcome, and those at which it gets its
+//! children's.
 use crate::left::LeftInCell;
 use crate::waiting::WaitCell;
 use crate::wanted::{OutcomeReceiver, OutcomeSender, Wanted};

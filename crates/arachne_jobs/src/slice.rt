@@ -169,7 +169,7 @@ pub trait RunJob: RunThread {
         ensures parent { IfOk result (λ parent. parent ≡ Self.parent_of self) };
 }
 
-/// The jobs of a program's threads.
+/// The jobs that stand for the threads of a task program: how the root's job is made.
 pub trait JobOf<'p>: RunJob {
     /// Returns the root's job, which has the tag 0, and the end of the cell from which its outcome is fetched.
     fn begin(

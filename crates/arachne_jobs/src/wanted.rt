@@ -45,8 +45,8 @@ impl Fits<Wanted> for DetachedOutcome {
     ghost fits = { IsWanted };
 }
 
-/// The end at which a thread's outcome is left.
+/// The end of a join cell at which a thread leaves its outcome.
 pub type OutcomeSender = Sender<DetachedOutcome, Wanted>;
 
-/// The end at which a thread's outcome is got.
+/// The end of a join cell at which a parent gets its child's outcome.
 pub type OutcomeReceiver = Receiver<DetachedOutcome, Wanted>;

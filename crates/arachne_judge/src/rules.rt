@@ -5,7 +5,7 @@ ghost use Rattle.arachne_judge.specs.declared.rules.Rule.TheVariants.{OwnCore};
 
 use arachne_policy::CoreOrder;
 
-/// A rule of a run.
+/// A rule that the log of every run must keep.
 #[derive(Clone, Copy, Debug, PartialEq, Eq)]
 pub enum Rule {
     /// A thread continues on the core on which it was, unless a move was reported, or another core's worker has

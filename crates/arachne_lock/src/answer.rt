@@ -1,4 +1,4 @@
-//! The results of calls on a lock.
+//! The results of asking for a lock, freeing it, leaving its queue, or checking who holds it.
 use std::alloc::AllocError;
 use thiserror::Error;
 
@@ -22,7 +22,7 @@ pub enum Admitted {
 /// The result of one try at a lock.
 #[derive(Clone, Copy, Debug, PartialEq, Eq)]
 pub enum Attempt<A> {
-    /// The result of the call, which was made on the lock's state.
+    /// No other kernel thread was at the lock, so the call was made. This is its result.
     Answered(A),
     /// Another kernel thread was at the lock. Nothing has changed, and the call may be repeated.
     Contended,

@@ -1,4 +1,4 @@
-//! The events of a lock.
+//! What can happen at a lock: a task asks for it, gets it, frees it, or leaves its queue.
 
 /// An event of a lock, with the number of its task.
 ///

@@ -1,4 +1,4 @@
-//! Hands a value from frame to frame.
+//! Gives a value to the frame that waits for it, and that frame's value to the next, until one must make a step.
 use crate::frame::{Control, Frame, Stretch};
 use crate::lookup::item_in;
 use crate::placing::Placing;
@@ -80,7 +80,8 @@ impl<'p> State<'p> {
         self.join_here(value, left)
     }
 
-    /// Records that the value must be handed on later, since memory was refused, and returns the error.
+    /// Records that the thread must give the value to its newest frame later, since memory was refused, and returns the
+    /// error.
     #[cold]
     #[inline(never)]
     pub fn refused(&mut self, value: u64) -> Result<Progress<'p>, AllocError>

@@ -148,7 +148,7 @@ impl<'p> State<'p> {
 
     /// Ends the child that has run in this place: its parent joins it, with this value, and goes on.
     ///
-    /// If memory is refused, the value still has to be handed on.
+    /// If memory is refused, a later step gives the value to the parent.
     #[inline(always)]
     pub fn join_here(&mut self, value: u64, left: &mut u32) -> Result<Progress<'p>, AllocError>
         requires parent { HasParent self.old }

@@ -1,4 +1,4 @@
-//! Children that were handed back to run in their parent's place, and have not begun.
+//! The children that a thread's caller has put in the thread's place, and that have not begun.
 use crate::frame::Control;
 use crate::line::Ran;
 use crate::placing::Placing;
@@ -16,7 +16,8 @@ pub enum Unplaced<'p> {
     Memory(Box<State<'p>>),
 }
 
-/// The steps of a thread with the children that were handed back to it. The newest child is the last of `placed`.
+/// The steps of a thread with the children that its caller has put in its place. The newest child is the last of
+/// `placed`.
 impl<'p> State<'p> {
     ghost use Rattle.std.specs.Prelude.{◌≡◌, ◌≤◌, None, Some, true, All, IfOk, OnOk, OnErr};
     ghost use Rattle.arachne_machine.specs.declared.pause.Pending.TheVariants as pause;

@@ -15,7 +15,7 @@ pub trait Placing {
     fn is_any(&mut self, class: Class) -> bool
         ensures { gives_all ≡ true → IsTrue result };
 
-    /// Like `is_any`, for a child that has `turns` iterations of a sweep to make.
+    /// Returns whether a child that has `turns` iterations of a sweep to make may get a place of its own; see `is_any`.
     fn is_any_for(&mut self, class: Class, _turns: u64) -> bool
         ensures { gives_all ≡ true → IsTrue result }
     {

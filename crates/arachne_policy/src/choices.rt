@@ -1,4 +1,4 @@
-//! The choice of the core for a new thread.
+//! Chooses the core for a new thread: of two random cores the one with fewer threads.
 ghost use Rattle.std.specs.Prelude.{◌≡◌, ◌<◌, length, Any};
 ghost use Rattle.arachne_policy.specs.Choice.{chosen_core};
 

@@ -82,7 +82,8 @@ impl Estimator {
         &self.thresholds
     }
 
-    /// Returns the advice on a sample. If the advice is `Add`, the sample's utilisation is remembered.
+    /// Returns the advice on a sample. If the advice is `Add`, the estimator keeps the sample's utilisation, as the
+    /// threshold by which it later advises to give the core back.
     ///
     /// A bad sample changes nothing.
     pub fn estimate(&mut self, sample: Sample) -> Result<Advice, BadSample>

@@ -1,4 +1,4 @@
-//! Makes and closes a pool.
+//! Makes a pool with its first worker, replaces its orders, and closes it, which returns the jobs that are left.
 ghost use Rattle.std.specs.Prelude.{◌≡◌, ◌+◌, ◌<◌, ◌≤◌, ◌↔◌, [], IfErr, IfOk, IfSome, IsSome, IsTrue, MatchOption, OnErr, OnOk, Some};
 ghost use Rattle.arachne_core.specs.declared.layout.TheConstants.{CORES, SLOTS};
 ghost use Rattle.arachne_policy.specs.Orders.{AreInOrder};
@@ -120,7 +120,8 @@ impl<C: Seats> Pool<C> {
         Ok(())
     }
 
-    /// Returns whether a core seems to be closed. Only orders close a core.
+    /// Returns whether the core's occupancy word, at this moment, says that the core is closed. Only orders close a
+    /// core.
     fn is_closed<H: Wait, J: PoolJob>(&self, rt: &H, core: u8) -> bool
     where
         C: Contexts<Spawned<J>>,

@@ -1,4 +1,4 @@
-//! Jobs: what a pool runs.
+//! The trait of jobs: a job says how it makes a step, takes a child's result, and how many steps a slice of it has.
 ghost use Rattle.std.specs.Prelude.{◌≡◌, List, [], ◌∷◌};
 ghost use Rattle.arachne_pool.specs.Jobs.{EndsWith, ForksFresh, HasJoined, IsAwaited, KeepsChildren, KeepsResults, KnowsChildren};
 
@@ -24,7 +24,7 @@ pub enum Step<J, O> {
 
 /// A job. It goes on by steps, one after the other, each of which any worker may make.
 pub trait PoolJob: Tagged + Drop {
-    /// The type of the job's result.
+    /// The type of the value with which the job ends.
     type Output: Drop;
 
     /// True if this is a result of the job. A handle gives no other result.

@@ -14,11 +14,12 @@ use std::alloc::{AllocError, Global};
 use std::marker::Model;
 use std::sync::Wait;
 
-/// The orders of a pool, if a worker has them. Contracts see how many of the orders are applied.
+/// The orders to open or close cores of a pool, if a worker has them. Contracts see how many the worker has carried
+/// out.
 #[derive(Drop)]
 pub(crate) struct PoolOrders {
     arbiter: Option<Arbiter>,
-    /// The number of orders, applied or not.
+    /// The number of orders, also of those that the worker has carried out.
     count: usize,
 }
 
@@ -45,7 +46,7 @@ impl PoolOrders {
         }
     }
 
-    /// Returns `list` as orders for this number of cores, none of them applied yet.
+    /// Returns `list` as orders for this number of cores, of which the worker has carried out none yet.
     pub(crate) fn new(
         alloc: Global,
         orders: Vec<CoreOrder>,
@@ -78,7 +79,7 @@ impl PoolOrders {
         }
     }
 
-    /// Returns whether there is any order, applied or not.
+    /// Returns whether there is any order, also if the worker has carried it out.
     #[inline(always)]
     pub(crate) fn has_any(&self) -> bool
         ensures { IsTrue result ↔ (0 < count_orders self.now) }
@@ -86,7 +87,7 @@ impl PoolOrders {
         self.count != 0
     }
 
-    /// Returns whether an order is not applied yet.
+    /// Returns whether there is an order that the worker has not carried out yet.
     pub(crate) fn has_more(&self) -> bool
         ensures { IsTrue result ↔ IsOneLeft self.now }
     {

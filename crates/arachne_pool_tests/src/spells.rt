@@ -1,4 +1,4 @@
-//! The work of a row's two kernel threads.
+//! What each of a test case's two kernel threads does: it works, makes rounds, or waits for the other.
 ghost use Rattle.std.specs.Prelude.{◌≡◌, ◌<◌, IfSome};
 ghost use Rattle.arachne_pool.specs.Workers.{IsWorkerOf};
 
@@ -26,7 +26,7 @@ pub(crate) enum Spell {
     Not,
     /// The kernel thread works on its core until no job is left, or the pool is stopped.
     ToTheEnd,
-    /// Like `ToTheEnd`, on this core.
+    /// Works on this core until all jobs have ended, as `ToTheEnd` does on the thread's own core.
     ToTheEndOn(u8),
     /// The kernel thread works as in `ToTheEnd` each time that the turn is passed to it, until the pool is stopped.
     ToTheStop,

@@ -1,4 +1,4 @@
-//! The state that the workers of a run share.
+//! What the workers of a run share (table, ledgers, locks, ticket queue), and how all of it is closed at the end.
 ghost use Rattle.std.specs.Prelude.{◌≡◌, ◌≢◌, ◌≤◌, ◌⊎◌, ◌↔◌, ◌%◌, ◌^◌, [], false, true, All, Err, IfErr, IfOk, IfSome, IsOk, IsSome, IsTrue, None, OnOk, length, map};
 ghost use Rattle.arachne_lang.specs.Program.{tree_of};
 ghost use Rattle.arachne_core.specs.Occupancy.{count_of};
@@ -44,7 +44,7 @@ pub(crate) struct Machine<C, K: Tagged + Drop> {
     /// The number of places of each core.
     pub(crate) slots: u8,
     pub(crate) quantum: u32,
-    /// The number of orders.
+    /// The number of orders to open or close cores that the run was given.
     pub(crate) orders: usize,
     /// Set if workers may keep places.
     pub(crate) may_keep: bool,

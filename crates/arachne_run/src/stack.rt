@@ -1,4 +1,4 @@
-//! Values that are taken one at a time, the newest first.
+//! A stack of values: a worker takes the newest first.
 ghost use Rattle.std.specs.Prelude.{◌≡◌, [], ◌∷◌, IfErr, MatchOption, OnErr, OnOk, length};
 
 use std::alloc::Global;

@@ -1,4 +1,4 @@
-//! Threads that are put back.
+//! Puts a thread that a seat has in hand back at its place, ready to run or blocked.
 ghost use Rattle.std.specs.Prelude.{◌≡◌, ◌<◌, IfOk, IfErr};
 ghost use Rattle.atomic_table.specs.Table.{rest};
 ghost use Rattle.arachne_core.specs.declared.mark.Mark.TheVariants as Mark;

@@ -1,4 +1,4 @@
-//! Takes threads that are ready.
+//! Takes the ready thread at a place into a seat's hand, with the thread's value.
 ghost use Rattle.std.specs.Prelude.{◌≡◌, ◌↔◌, IsTrue, ◌<◌, ◌∷◌, Some, None, IfOk, IfErr};
 ghost use Rattle.atomic_table.specs.Table.{rest};
 ghost use Rattle.arachne_core.specs.declared.mark.Mark.TheVariants as Mark;

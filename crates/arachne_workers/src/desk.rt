@@ -39,7 +39,7 @@ impl Halted {
         Halted { halt }
     }
 
-    /// Returns the cause.
+    /// Returns the reason why the worker's loop has ended.
     #[inline(always)]
     pub fn halt(self) -> Halt
         ensures { result ≡ self }
@@ -94,7 +94,7 @@ pub trait Desk {
     fn give_one_back(&mut self) -> Result<bool, Halt>
         ensures { self.new ≡ self.old };
 
-    /// Returns the core's occupancy.
+    /// Returns which places of the worker's core are occupied, and whether the core is closed or exclusive.
     fn look(&mut self) -> OccWord
         ensures { self.new ≡ self.old };
 
@@ -208,13 +208,14 @@ pub enum WorkerEvent {
     /// The worker's sleep timed out, and then the worker found something that nobody had signalled. Threads and tickets
     /// that are not signalled at once cause a few such events; many of them show that a signal is missing.
     Overslept,
-    /// The worker that applies orders has applied an order: this is the number of all applied orders now.
+    /// The worker has carried out an order to open or close a core. The number is that of all orders carried out so
+    /// far.
     Applied(usize),
     /// The worker that applies orders has moved threads away from a closed core to these cores, a bit for each.
     MovedAway(u64),
 }
 
-/// The end of a slice.
+/// Why a slice of a thread has ended.
 #[derive(Clone, Copy, Debug, PartialEq, Eq)]
 pub enum SliceEnd {
     /// The thread can go on: its steps are used up, or another thread must run.

@@ -21,7 +21,7 @@ pub struct PostedThread {
     pub place: Place,
 }
 
-/// A worker's notes.
+/// Where a worker looks for its next threads, and which workers it must still signal.
 #[derive(Drop)]
 pub struct Agenda {
     /// The indexes that the current scan (pass over the core's indexes) has not reached yet, a bit for each.

@@ -12,7 +12,7 @@ use arachne_core::Place;
 use std::sync::Wait;
 use std::time::{Clock, Duration};
 
-/// The worker of one core.
+/// The kernel thread of one core, with what it needs to find, run and wait for threads.
 #[derive(Drop)]
 pub struct CoreWorker<'a, H, D> {
     pub rt: &'a H,

@@ -23,7 +23,7 @@ struct Alarm {
     generation: AtomicU64,
 }
 
-/// An alarm for each context.
+/// For each context of the pool's table, the time at which the timer must wake its job.
 #[derive(Drop)]
 pub struct Timer {
     alarms: Vec<Alarm>,

@@ -128,9 +128,9 @@ pub(crate) struct Worker {
     pub(crate) takes: AtomicU64,
     pub(crate) wakes: AtomicU64,
     pub(crate) parks: AtomicU64,
-    /// The number of looks at the ready jobs that were counted for the policy.
+    /// How often the worker has counted its ready jobs, for the policy.
     pub(crate) scans: AtomicU64,
-    /// The sum of the numbers of ready jobs at these looks.
+    /// The sum of these counts of ready jobs.
     pub(crate) runnable: AtomicU64,
     /// Nanoseconds that the worker was without work.
     pub(crate) idle: AtomicU64,

@@ -76,7 +76,8 @@ fn numbers(file: PathBuf) -> Vec<u32> {
 }
 
 impl Means {
-    /// Makes cpusets of these processors below `parent`, if one is given; otherwise keeps `groups` on these processors.
+    /// If `parent` is given, makes cpusets below it: one for each of `cpus`, and one for the rest. Otherwise restricts
+    /// each control group in `groups` to `cpus`, by its `cpuset.cpus`.
     ///
     /// If an arbiter was killed and has left cpusets below `parent`, these are removed first, and their threads moved
     /// back.

@@ -34,7 +34,7 @@ pub(crate) const PLACE_BITS: u32 = 20;
 /// The most shards, as a name has 20 bits for a place.
 pub(crate) const MOST_SHARDS: usize = (1 << PLACE_BITS) / (BLOCK * SHARD);
 
-/// A job in a seat's hand.
+/// A job that this thread may run, with the seat that has it in hand.
 #[derive(Clone, Copy, PartialEq, Eq, Debug)]
 pub(crate) struct Job {
     pub(crate) name: u64,
@@ -79,7 +79,7 @@ pub(crate) enum Rested {
     Ready { unpark: bool },
 }
 
-/// The result of a wake.
+/// The effect that a wake had on the job.
 #[derive(Clone, Copy, PartialEq, Eq, Debug)]
 pub(crate) enum Woken {
     /// The job waited, and is now in a seat's hand.
