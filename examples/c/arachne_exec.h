@@ -91,7 +91,7 @@ typedef struct {
 } arachne_exec;
 #define ARACHNE_EXEC_NULL {0}
 
-/* The answer of the end of an executor. */
+/* What C gets when an executor ends: a code, and the jobs that had not ended. */
 typedef struct {
     /* The number of jobs that are left, which were written to the caller's array. */
     uint64_t count;

@@ -61,7 +61,7 @@ impl Arbiter {
         self.orders.applied()
     }
 
-    /// Applies the orders that are due, and moves threads away from one closed core.
+    /// Carries out the orders that are due, and moves threads away from one closed core.
     ///
     /// Returns the cores to which threads were moved, a bit for each. Core 0's kernel thread must call this before each
     /// of its slices, and while it finds nothing to run. `slices` (the counts of ended slices) is read only while an
@@ -87,7 +87,7 @@ impl Arbiter {
         self.drain(cores, seat)
     }
 
-    /// Applies the orders that are due once `ended` slices have ended.
+    /// Carries out the orders that are due once `ended` slices have ended.
     ///
     /// A release closes its core; a grant opens its core and unparks its kernel thread. A release of a closed core and
     /// a grant of an open one are counted, and change nothing.
@@ -109,7 +109,7 @@ impl Arbiter {
         while self.apply_next(cores, seat, parking, ended) {}
     }
 
-    /// Applies the next order, if it is due once `ended` slices have ended. Returns whether the order was due.
+    /// Carries out the next order, if it is due once `ended` slices have ended. Returns whether the order was due.
     fn apply_next<H: Wait, T: Tagged, C: Contexts<T>>(
         &mut self,
         cores: &Cores<'_, H, T, C>,

@@ -43,7 +43,7 @@ impl Model for Orders {
 impl Orders {
     ghost use Rattle.arachne_arbiter.specs.Orders.{is_closed_after, next_effect, with_next, IsDue, IsNoneDue, IsWithin};
 
-    /// Creates the orders of `list`, none of them applied yet, for `cores` cores, all of them open.
+    /// Creates the orders of `list`, of which none is carried out yet, for `cores` cores, which are all open.
     ///
     /// The error is a refusal of memory.
     pub fn new(alloc: Global, list: Vec<CoreOrder>, cores: u8) -> Result<Orders, AllocError>
@@ -82,9 +82,9 @@ impl Orders {
         self.closed[usize::from(core)]
     }
 
-    /// Counts the next order as applied and returns its effect, if it is due once `ended` slices have ended.
+    /// Counts the next order as carried out, and returns what it changes, if it is due once `ended` slices have ended.
     ///
-    /// Returns `None` and changes nothing if the next order is not due, or if all orders were applied.
+    /// Returns `None` and changes nothing if the next order is not due, or if no order is left.
     pub fn next_due(&mut self, ended: u64) -> Option<Effect>
         ensures due { MatchOption result (IsNoneDue self.old ended) (λ _. IsDue self.old ended) }
         ensures effect { IfSome result (λ effect. (effect ≡ next_effect self.old) × IsWithin self.old.cores effect) }

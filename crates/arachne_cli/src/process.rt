@@ -1,4 +1,4 @@
-//! Reads the words of the process's command line from the system.
+//! Asks the system for the words of this process's command line.
 use std::alloc::{Alloc, Global};
 use std::env::{self, Env};
 use std::io;

@@ -36,7 +36,7 @@ pub enum SpawnedHere {
     Lost,
 }
 
-/// The result of `rest_blocked`, by which a job waits.
+/// Whether the job that `rest_blocked` has put back waits now, or is ready since a wake had come.
 #[derive(Clone, Copy, Debug, PartialEq, Eq)]
 pub enum JobRested {
     Blocked,
@@ -44,7 +44,7 @@ pub enum JobRested {
     Ready { unpark: bool },
 }
 
-/// The next action of a worker.
+/// What a worker must do next: run a job, look again, or park.
 #[derive(Clone, Copy, Debug, PartialEq, Eq)]
 pub enum Next {
     Run(HeldJob),

@@ -9,7 +9,7 @@ use std::alloc::{AllocError, Global};
 use std::marker::Model;
 use std::sync::Arc;
 
-/// The value behind a handle on ledgers.
+/// The value behind a handle on ledgers: a share, and the ledgers to which it adds.
 #[derive(Drop)]
 pub struct Adding {
     ledgers: Arc<Ledgers>,

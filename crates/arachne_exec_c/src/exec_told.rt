@@ -23,7 +23,7 @@ pub struct ArachneExecTold {
     pub unpark: u32,
 }
 
-/// The answer of the end of an executor.
+/// What C gets when an executor ends: a code, and the jobs that had not ended.
 #[repr(C)]
 #[derive(Clone, Copy)]
 pub struct ArachneExecLeft {

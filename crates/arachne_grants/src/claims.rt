@@ -1,4 +1,4 @@
-//! A client, and its claim to one core more.
+//! Decides which of the daemon's clients goes first if several of them ask for one core more.
 ghost use Rattle.std.specs.Prelude.{◌≡◌};
 ghost use Rattle.arachne_grants.specs.Claims.{before_alike, claim_of, gets_before, goes_before, level_before, reserve_of};
 

@@ -29,7 +29,7 @@ pub enum ClientThread {
 /// states.
 #[derive(Clone, Copy)]
 pub(crate) struct Session {
-    /// True if a client has this place.
+    /// True if there is a client of this number now.
     pub taken: bool,
     /// The client's priority; 0 goes first.
     pub priority: u8,

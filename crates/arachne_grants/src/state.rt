@@ -17,7 +17,7 @@ pub const MAX_CORES: usize = 1024;
 #[derive(Clone, Copy, Debug, PartialEq, Eq)]
 pub struct Refused;
 
-/// A core that was given to a thread.
+/// A core that the arbiter has given to a thread: the core, and the thread's client and place.
 #[derive(Clone, Copy, Debug, PartialEq, Eq)]
 pub struct Grant {
     pub client: usize,
@@ -27,7 +27,7 @@ pub struct Grant {
     pub waited: bool,
 }
 
-/// A core that was taken from a thread.
+/// A core that the arbiter has taken from a client's thread, and the thread's place.
 #[derive(Clone, Copy, Debug, PartialEq, Eq)]
 pub struct TakenCore {
     pub place: usize,

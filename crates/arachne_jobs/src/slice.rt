@@ -21,7 +21,7 @@ use std::alloc::{AllocError, Global};
 pub enum Slice<Child> {
     /// The job goes on.
     Goes,
-    /// The job forks this child, and goes on once the fork has a reply.
+    /// The job forks this child, and goes on once its worker has said where the child runs.
     Forks(Class, Child),
     /// The job awaits a child that has not ended.
     Blocks,

@@ -1,4 +1,4 @@
-//! The outcome that a fork's child leaves for its parent.
+//! Says of a join cell which outcome it is for: that of a thread of a given name, for a given parent.
 ghost use Rattle.std.specs.Prelude.{◌≡◌};
 ghost use Rattle.arachne_jobs.specs.Cells.{IsFor};
 ghost use Rattle.arachne_jobs.specs.Threads.{tag_of};

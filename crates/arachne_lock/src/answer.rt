@@ -19,7 +19,7 @@ pub enum Admitted {
     },
 }
 
-/// The result of one try at a lock.
+/// Whether a call on a lock was made, or another kernel thread was at the lock so that the caller may try again.
 #[derive(Clone, Copy, Debug, PartialEq, Eq)]
 pub enum Attempt<A> {
     /// No other kernel thread was at the lock, so the call was made. This is its result.
@@ -48,7 +48,7 @@ impl From<AllocError> for AskRefusal {
     }
 }
 
-/// The result of a free by the owner.
+/// The owner has freed the lock: the task that owns it next, if one waited.
 #[derive(Clone, Copy, Debug, PartialEq, Eq)]
 pub struct Released {
     /// The number of the task that holds the lock now and must be woken, if any task waited. It had waited longest.

@@ -14,7 +14,7 @@ pub enum QueueEvent {
     Leave(u64),
 }
 
-/// The effect of a call on a lock.
+/// What a call has done at a lock, as contracts see it.
 #[derive(Clone, Copy)]
 pub enum LockDeed {
     Nothing,

@@ -10,7 +10,7 @@ use arachne_lang::{Name, Sequence};
 use std::alloc::AllocError;
 use std::mem::swap;
 
-/// The reason why an outcome was not joined.
+/// The reason why the thread could not join a child's outcome.
 #[derive(Clone, Copy)]
 pub enum Unjoined {
     /// It is not the outcome of the awaited child.

@@ -27,7 +27,7 @@ pub struct Label {
     pub ran: Ran,
 }
 
-/// The record of a thread that has ended.
+/// A line of a report, for a thread that has ended: its name, its tag, where it ran, and how often it held each lock.
 #[derive(Debug, Drop)]
 pub struct ThreadLine {
     pub name: Name,

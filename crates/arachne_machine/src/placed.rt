@@ -7,7 +7,7 @@ use crate::state::State;
 use arachne_lang::Class;
 use std::alloc::AllocError;
 
-/// A child that was not placed, with the reason.
+/// A child that could not be put in this thread's place, with the reason.
 #[derive(Drop)]
 pub enum Unplaced<'p> {
     /// The child is not the awaited child.
@@ -118,11 +118,11 @@ impl<'p> State<'p> {
         Ok(true)
     }
 
-    /// Takes back a child to run it in this thread's place.
+    /// Puts a child, which the caller gives back, in this thread's place to run there.
     ///
-    /// A child that was just forked waits in this thread's place, and will begin before `others`, the children that
-    /// were handed back to it. An awaited child goes on at once, and `others` become the newest children of `placed`.
-    /// After an error nothing has changed but capacities.
+    /// A child that was just forked waits in this thread's place, and will begin before `others`, the children that the
+    /// caller had put in the child's place. An awaited child goes on at once, and `others` become the newest children
+    /// of `placed`. After an error nothing has changed but capacities.
     pub fn place(
         &mut self,
         placed: &mut Vec<Box<State<'p>>>,
@@ -143,8 +143,8 @@ impl<'p> State<'p> {
         }
     }
 
-    /// Takes back a child that was just forked. The child waits in this thread's place, and will begin before
-    /// `grandchildren`, the children that were handed back to it.
+    /// Puts a child that was just forked in this thread's place. The child waits there, and will begin before
+    /// `grandchildren`, the children that the caller had put in the child's place.
     fn wait_with(
         &mut self,
         placed: &mut Vec<Box<State<'p>>>,
@@ -166,8 +166,8 @@ impl<'p> State<'p> {
         Ok(())
     }
 
-    /// Lets the awaited child go on in this thread's place. `others`, the children that were handed back to the child,
-    /// become the newest of `placed`.
+    /// Lets the awaited child go on in this thread's place. `others`, the children that the caller had put in the
+    /// child's place, become the newest of `placed`.
     fn go_on_with(
         &mut self,
         placed: &mut Vec<Box<State<'p>>>,

@@ -37,7 +37,7 @@ pub trait Tallying {
         ensures full { result ≡ false → self.new ≡ self.old };
 }
 
-/// A `Placing` with which each fork is a pause.
+/// Answers each fork's question with yes: each child may get a place of its own, so that each fork is a pause.
 #[derive(Clone, Copy, Debug)]
 pub struct Everywhere;
 

@@ -22,7 +22,7 @@ pub struct Sample {
     pub elapsed: u64,
 }
 
-/// The advice on the number of cores.
+/// The advice on the number of cores: ask for one more, keep them, or give one back.
 #[derive(Clone, Copy, Debug, PartialEq, Eq)]
 pub enum Advice {
     /// Ask for one core more.

@@ -40,7 +40,7 @@ impl<J: PoolJob> Left<J> {
     }
 }
 
-/// The reason why a pool was not closed.
+/// The reason why `close` has not closed the pool, with what it gives back.
 #[derive(Drop)]
 pub enum NotClosed<C: Seats, J: PoolJob> {
     /// Another worker or a waker has a part of the seat, or this worker has no seat. Pool and worker are returned.
@@ -91,9 +91,10 @@ impl<C: Seats> Pool<C> {
     ghost use Rattle.arachne_pool.specs.NotClosed.{ComesBack};
     ghost use Rattle.arachne_pool.specs.Workers.{ComeLast};
 
-    /// Replaces the orders of the pool, as a caller's policy does between two rounds. Old orders that are not applied
-    /// yet are forgotten. A core that old orders have closed stays closed until a new order grants it. All orders of a
-    /// pool must be given to the same worker. If memory is refused, the worker keeps its orders.
+    /// Replaces the pool's orders to open or close cores, as a caller's policy does between two rounds. The worker
+    /// forgets old orders that it has not carried out yet. A core that old orders have closed stays closed until a new
+    /// order grants it. The caller must give all orders of a pool to the same worker. If memory is refused, the worker
+    /// keeps its orders.
     pub fn order<H: Wait, J: PoolJob>(
         &self,
         rt: &H,
@@ -179,7 +180,7 @@ impl<C: Seats> Pool<C> {
     }
 }
 
-/// The order that closes a core, due at once.
+/// Returns the order that closes a core, due at once.
 fn closes_at_once(core: u8) -> CoreOrder
     ensures { result ≡ record { after = 0; kind = Release; core = core } }
 {

@@ -5,7 +5,7 @@ ghost use Rattle.arachne_pool.specs.Jobs.{EndsWith, ForksFresh, HasJoined, IsAwa
 use arachne_contexts::Tagged;
 use arachne_core::ThreadId;
 
-/// The request of a job after a step.
+/// What a job wants after a step: to go on, to fork a child, to join one, to sleep or to end.
 #[derive(Drop)]
 pub enum Step<J, O> {
     /// The job goes on.

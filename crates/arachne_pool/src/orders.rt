@@ -97,8 +97,8 @@ impl PoolOrders {
         }
     }
 
-    /// Applies the orders that are due, and moves jobs away from a closed core. Returns the number of orders applied in
-    /// all, if this call has applied an order, and the cores to which jobs were moved, a bit for each.
+    /// Carries out the orders that are due, and moves jobs away from a closed core. Returns the number of orders
+    /// carried out so far, if this call has carried out one, and the cores to which it has moved jobs, a bit for each.
     pub(crate) fn tend<H: Wait, T: Tagged, C: Contexts<T>>(
         &mut self,
         cores: &Cores<'_, H, T, C>,

@@ -85,10 +85,10 @@ impl From<TeamFault> for RunFault {
     }
 }
 
-/// A job that was not run to its end.
+/// What `Pool::run` returns if the job has not ended: the fault, and what is left of the jobs.
 #[derive(Drop)]
 pub enum Unfinished<J: PoolJob> {
-    /// Memory or a kernel thread was refused before the job was spawned. It is returned.
+    /// Memory or a kernel thread was refused before the job was spawned. The job is returned.
     NotSpawned(RunFault, J),
     /// All kernel threads were stopped for a fault. The jobs that have not ended are returned; with those that have,
     /// they are as many as were spawned.

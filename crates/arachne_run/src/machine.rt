@@ -127,8 +127,8 @@ impl<C: Seats + Drop, K: Tagged + Drop> Machine<C, K> {
         Ok((machine, tokens))
     }
 
-    /// Returns what is left once all workers have ended, and how many orders were applied. The error is the first
-    /// fault, if there was one.
+    /// Returns what is left once all workers have ended, and how many orders the arbiter has carried out. The error is
+    /// the first fault, if there was one.
     pub(crate) fn close<H: Wait, T>(
         self,
         rt: &H,

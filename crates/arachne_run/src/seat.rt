@@ -424,8 +424,8 @@ impl<'a, H: Wait + Clock, T: RunJob, C: Contexts<T>, R: Rng + Drop, G: Gate> Des
     }
 }
 
-/// Applies the orders that are due, and moves threads away ([`Arbiter::tend`]). Returns the number of orders applied in
-/// all, if this call has applied an order, and the cores to which threads were moved.
+/// Carries out the orders to open or close cores that are due, and moves threads away ([`Arbiter::tend`]). Returns the
+/// number of orders carried out so far, if this call has carried out one, and the cores to which it has moved threads.
 #[inline(always)]
 fn tend_by<H: Wait, T: Tagged, C: Contexts<T>>(
     arbiter: &mut Arbiter,

@@ -28,7 +28,7 @@ const WORDS: usize = 32;
 /// The index of the guard word.
 const GUARD: usize = 16;
 
-/// The value of the guard word while the lock's state is in its slot.
+/// The value of the guard word (the lock's atomic word) while no seat has the lock's state in hand.
 const HOME: u64 = 0;
 
 /// The value of the guard word while a seat has the lock's state.

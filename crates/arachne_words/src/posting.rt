@@ -1,4 +1,4 @@
-//! Posts: threads that are put at claimed places.
+//! Posts a thread: puts it at a place that the seat has claimed, ready to run.
 ghost use Rattle.std.specs.Prelude.{◌≡◌, ◌<◌, ◌∷◌, Some, None};
 ghost use Rattle.atomic_table.specs.Table.{rest};
 ghost use Rattle.arachne_rule.specs.declared.view.Carried.{Carried};

@@ -102,7 +102,7 @@ impl ArachneExec {
     pub const NULL: ArachneExec = ArachneExec { opaque: std::ptr::null_mut() };
 }
 
-/// The answer of the end of an executor.
+/// What C gets when an executor ends: a code, and the jobs that had not ended.
 #[repr(C)]
 #[derive(Clone, Copy, Debug, PartialEq, Eq)]
 pub struct ArachneExecLeft {

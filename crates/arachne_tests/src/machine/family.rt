@@ -14,14 +14,14 @@ use std::alloc::Global;
 /// The most attempts of a call, and the most calls.
 const MOST: u64 = 100_000;
 
-/// The way in which children run.
+/// Whether a test runs children in their parent's place, and from when on, or as threads of their own.
 #[derive(Clone, Copy, Debug, PartialEq, Eq)]
 pub(super) enum Way {
-    /// Children run in their parent's place: each is handed back at its fork.
+    /// Children run in their parent's place: the test puts each there at its fork.
     AtFork,
-    /// Like `AtFork`, but the root's first child is handed back only after a child was handed back to it.
+    /// Children run as with `AtFork`, but a child of the root's first child is put in that child's place first.
     GrownAtFork,
-    /// Children run in the place of the thread that awaits them: each is handed back at its join.
+    /// Children run in the place of the thread that awaits them: the test puts each there at its join.
     AtJoin,
     /// Like `AtJoin`, but the child has gone on before, with other threads in its place.
     GrownAtJoin,
