@@ -9,7 +9,7 @@ use arachne_policy::{OrderFault, OrderFaultKind};
 use arachne_run::{RunFault, WorkerFault};
 use std::alloc::AllocError;
 
-/// The reason why the program fails.
+/// The reason why `arachne` fails: a fault that one thread can meet, or a fault of a run.
 #[derive(Clone, Copy, Debug)]
 pub enum Fault {
     /// One of the faults that `eval`, `check` and `policy` can have.

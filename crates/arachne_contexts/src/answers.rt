@@ -49,7 +49,7 @@ pub enum Taken<T, H> {
     Lost(u64),
 }
 
-/// The state in which a thread was put back.
+/// Whether a thread that was put back is ready or blocked now.
 #[derive(Clone, Copy, Debug, PartialEq, Eq)]
 pub enum Rested {
     AsAsked,

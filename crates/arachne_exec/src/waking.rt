@@ -66,7 +66,8 @@ impl Executor {
         }
     }
 
-    /// Like `wake`, but a job that was blocked comes into the seat's hand, and nobody else can take it.
+    /// Wakes the job of a name like `wake`, but the seat gets a job that was blocked into its hand, so that nobody else
+    /// can take it.
     pub fn wake_here(&self, seat: &mut ExecSeat, name: u64) -> WokenHere
         requires own { seat.old.table ≡ self.now.table }
         ensures seat { seat.new ≡ record seat.old { known = seat.new.known } }

@@ -16,7 +16,7 @@ use arachne_core::{Rest, ThreadId};
 use arachne_lang::{Class, Name, Program};
 use std::alloc::{AllocError, Global};
 
-/// The reason why a job stops.
+/// Why a slice of a job has stopped: what the job wants, or that it has ended.
 #[derive(Drop)]
 pub enum Slice<Child> {
     /// The job goes on.

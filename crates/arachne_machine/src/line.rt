@@ -51,7 +51,7 @@ impl ThreadLine {
         }
     }
 
-    /// Takes the line out, and leaves a vacant one.
+    /// Returns this line, and leaves a line of no thread here.
     #[inline(always)]
     pub(crate) fn take(&mut self, alloc: Global) -> ThreadLine
         ensures { result ≡ self.old }

@@ -37,7 +37,7 @@ impl Own {
         }
     }
 
-    /// Takes out the thread's line.
+    /// Returns the thread's line, and leaves an empty name and no holds here.
     #[inline(always)]
     pub fn take_line(&mut self, alloc: Global) -> ThreadLine
         ensures line { result ≡ own_line self.old }

@@ -32,7 +32,8 @@ impl NoPlaces {
         self.closed
     }
 
-    /// Returns counts of 0 for a table whose cores have `slots` places. `core` is the first core to be asked.
+    /// Returns counts of 0 for a table whose cores have `slots` places. The call asks the core `core` for a place
+    /// first.
     pub(crate) fn before(core: u8, slots: u8) -> NoPlaces
         ensures seen { AreSeen core 0 slots result }
         ensures next { IsNext core result }

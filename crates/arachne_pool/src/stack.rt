@@ -34,7 +34,7 @@ impl<J: PoolJob> Model for JobFrame<J> {
 }
 
 impl<J: PoolJob> JobFrame<J> {
-    /// Begins a job in a frame of its own.
+    /// Returns the frame of a job that has made no step.
     fn begin(job: J) -> JobFrame<J>
         ensures { result ≡ record { asked = job; job = job; awaited = 0 } }
     {

@@ -13,13 +13,13 @@ use std::sync::{Arc, Wait};
 use std::thread::{sleep, yield_now};
 use std::time::{Clock, Duration};
 
-/// The number of looks that a kernel thread takes at once before it yields its processor.
+/// How often a kernel thread checks for something in a row before it yields its processor.
 const LOOKS: u32 = 1_000;
 
-/// The number of looks, one every 5 ms, for something that happens soon or never.
+/// How often a kernel thread checks, every 5 ms, for something that happens soon or never.
 const GLANCES: u32 = 2000;
 
-/// The work of one kernel thread.
+/// What one of a test case's kernel threads does.
 #[derive(Clone, Copy)]
 pub(crate) enum Spell {
     /// The kernel thread does nothing.

@@ -224,7 +224,7 @@ impl<'a> Access<'a> {
         }
     }
 
-    /// Makes one attempt to free a lock.
+    /// Tries once to free a lock; another kernel thread at the lock makes the attempt fail.
     fn try_free(
         &mut self,
         lock: u64,

@@ -54,7 +54,7 @@ pub(crate) enum Got {
     Contended,
 }
 
-/// Makes one attempt to ask for a lock.
+/// Tries once to ask for a lock; another kernel thread at the lock makes the attempt fail.
 #[inline(always)]
 pub(crate) fn ask(locks: &SleepLocks, seats: &mut LockSeats, lock: u8, who: Who) -> Got
     requires own { AreSeatsOf locks.now seats.old }

@@ -49,7 +49,7 @@ impl<T: Tagged + Drop> WordContexts<T> {
         Ok(())
     }
 
-    /// Puts the value of a thread that the seat has in hand into its slot, and puts the thread back.
+    /// Stores the value of a thread that the seat has in hand in its context's slot, and puts the thread back.
     fn rest_thread(
         &self,
         seat: &mut CallSeat<T>,

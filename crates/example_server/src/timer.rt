@@ -14,7 +14,7 @@ use std::sync::atomic::Ordering::SeqCst;
 /// The nanoseconds that the slow part of a request takes.
 pub const SLOW: u64 = 2_000_000;
 
-/// The alarm of the job in a context.
+/// When the timer must wake the job in a context, and which job that is.
 #[derive(Drop)]
 struct Alarm {
     /// The time at which the job must be woken, or 0 if no alarm is set.

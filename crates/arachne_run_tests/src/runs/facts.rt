@@ -97,7 +97,7 @@ fn count_of(report: &Report, ran: Ran) -> u64 {
     count
 }
 
-/// Selects the text that is made of a report.
+/// Which text a test makes of a report, to compare it with the expected one.
 #[derive(Clone, Copy)]
 pub(super) enum Telling {
     Nothing,
