@@ -1,5 +1,4 @@
-//! What clients can do (begin, ask for cores, leave) and their threads (join, wait, end), and the code that C gets for
-//! it.
+//! What clients (hello, ask, leave) and their threads (join, wait, end) can do, and the code that C gets for it.
 ghost use Rattle.std.specs.Prelude.{◌≡◌};
 ghost use Rattle.arachne_grants_c.specs.ArbiterTold.{asking, begun, ended, gone, joined, waiting, Changes, HasNumber, HasPlace, IsClient, IsVacant, MayJoin, MayWait};
 
