@@ -39,17 +39,17 @@ enum {
     ARACHNE_LOST = 4,
     /* `who` holds the lock. */
     ARACHNE_GRANTED = 5,
-    /* `who` waits for the lock, and holds it once a free hands it on to `who`. */
+    /* `who` waits for the lock, and will own it once all tasks before it in the queue have freed it. */
     ARACHNE_QUEUED = 6,
     /* `who` holds the lock or waits for it already. */
     ARACHNE_ALREADY_IN = 7,
-    /* The lock is free. */
+    /* `who` has freed the lock, and nobody waited for it. */
     ARACHNE_FREED = 8,
-    /* The lock was handed on to the task that had waited longest: wake that task. */
+    /* `who` has freed the lock, and the task that had waited longest owns it now: wake that task. */
     ARACHNE_HANDED_ON = 9,
     /* `who` doesn't hold the lock. As the answer to a withdrawal: `who` neither holds the lock nor waits for it. */
     ARACHNE_NOT_HOLDER = 10,
-    /* `who` waited for the lock, and waits no longer: the lock is not handed on to `who` any more. */
+    /* `who` waited for the lock, and waits no longer: `who` will not get the lock unless it asks again. */
     ARACHNE_LEFT = 11,
     /* No place of the block is free. */
     ARACHNE_FULL = 12,
@@ -72,11 +72,11 @@ enum {
     ARACHNE_ALREADY_MARKED = 19,
     /* No job has this name now. */
     ARACHNE_GONE = 20,
-    /* Keep the number of cores. */
+    /* The advice on a sample: keep the number of cores. */
     ARACHNE_STAY = 21,
-    /* Ask for a core. */
+    /* The advice on a sample: ask for one core more. */
     ARACHNE_ADD = 22,
-    /* Give a core back. */
+    /* The advice on a sample: give one core back. */
     ARACHNE_REMOVE = 23,
     /* The value of `unpark` in an answer if no worker must be unparked. */
     ARACHNE_NOBODY = 64,
@@ -91,14 +91,14 @@ typedef struct {
 } arachne_exec;
 #define ARACHNE_EXEC_NULL {0}
 
-/* The answer of the end of an executor. */
+/* What C gets when an executor ends: a code, and the jobs that had not ended. */
 typedef struct {
     /* The number of jobs that are left, which were written to the caller's array. */
     uint64_t count;
     uint32_t code;
 } arachne_exec_left;
 
-/* The answer of an executor. */
+/* The result of a call on an executor: a code, the job, and the worker whose thread the caller must unpark. */
 typedef struct {
     /* The name of the job that was spawned or is in hand: 20 bits for its place, and 44 for the place's
      * generation. */
@@ -432,7 +432,7 @@ typedef struct {
     uint64_t thresholds[64];
 } arachne_estimator;
 
-/* A sample in C's layout. */
+/* What a host has measured of its load in one period, on all cores together. */
 typedef struct {
     uint64_t cores;
     uint64_t runnable;

@@ -103,7 +103,7 @@ typedef struct {
     size_t place;
 } arachne_action;
 
-/* A client's share of the cores. */
+/* The number of cores that a client may have, and the number that its threads have. */
 typedef struct {
     /* The number of cores that the client may have. */
     uint32_t allowed;

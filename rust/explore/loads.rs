@@ -100,7 +100,7 @@ impl Wake for Count {
     }
 }
 
-/// Polls with this waker.
+/// Polls `future` once. The waker counts its wakes in `woken`.
 fn poll<F: Future + Unpin>(future: &mut F, woken: &Arc<Count>) -> Poll<F::Output> {
     Pin::new(future).poll(&mut Context::from_waker(&woken.clone().into()))
 }
@@ -296,7 +296,7 @@ fn stands() {
     stands_on(runtime(2 + choose(2)));
 }
 
-/// The same for the only worker with a core, for which another worker covers.
+/// As in `stands`, but the worker is the only one with a core, and another worker covers for it.
 fn covered() {
     let runtime = runtime(2 + choose(2));
     arachne::set_active(&runtime, 1);

@@ -1,4 +1,4 @@
-//! The standard library's types, each of whose steps is a point.
+//! The standard library's atomics, locks and threads for the explorer, which may switch threads at each of their steps.
 
 use super::*;
 use std::ops::{Deref, DerefMut};

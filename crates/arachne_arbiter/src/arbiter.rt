@@ -1,4 +1,4 @@
-//! The arbiter of a run: core 0's kernel thread applies the orders by which cores are taken back and granted again.
+//! The arbiter of a run: core 0's kernel thread carries out the orders to close cores and to open them again.
 ghost use Rattle.std.specs.Prelude.{◌≡◌, ℕ, ◌<◌, ◌≤◌, length, if◌then◌else◌, IfOk, MatchBool};
 ghost use Rattle.arachne_core.specs.declared.layout.TheConstants.{CORES};
 ghost use Rattle.arachne_policy.specs.Orders.{AreInOrder};
@@ -16,11 +16,11 @@ use std::alloc::{AllocError, Global};
 use std::marker::Model;
 use std::sync::Wait;
 
-/// Applies core orders to a table, and moves threads away from the cores that these orders close.
+/// Closes and opens cores of a table as orders say, and moves threads away from the cores that it has closed.
 ///
 /// Only one kernel thread has the arbiter, and nobody else closes or opens cores as long as it exists.
 ///
-/// Contracts see the orders, the number of cores, and the number of orders that were applied.
+/// Contracts see the orders, the number of cores, and the number of orders that the arbiter has carried out.
 #[derive(Debug, Drop)]
 pub struct Arbiter {
     orders: Orders,
@@ -40,7 +40,7 @@ impl Model for Arbiter {
 impl Arbiter {
     ghost use Rattle.arachne_arbiter.specs.Orders.{with_next, IsDue, IsNoneDue, HasAppliedDue};
 
-    /// Creates an arbiter for `cores` open cores, which has applied none of the orders `orders` yet.
+    /// Creates an arbiter for `cores` open cores, which has carried out none of the orders `orders` yet.
     ///
     /// The error is a refusal of memory.
     pub fn new(alloc: Global, orders: Vec<CoreOrder>, cores: u8) -> Result<Arbiter, AllocError>
@@ -53,7 +53,7 @@ impl Arbiter {
         Ok(Arbiter { orders, draining })
     }
 
-    /// Returns the number of orders that were applied.
+    /// Returns the number of orders that the arbiter has carried out.
     pub fn applied(&self) -> usize
         ensures applied { result ≡ self.now.applied }
         ensures within { result ≤ length self.now.list }
@@ -61,7 +61,7 @@ impl Arbiter {
         self.orders.applied()
     }
 
-    /// Applies the orders that are due, and moves threads away from one closed core.
+    /// Carries out the orders that are due, and moves threads away from one closed core.
     ///
     /// Returns the cores to which threads were moved, a bit for each. Core 0's kernel thread must call this before each
     /// of its slices, and while it finds nothing to run. `slices` (the counts of ended slices) is read only while an
@@ -87,7 +87,7 @@ impl Arbiter {
         self.drain(cores, seat)
     }
 
-    /// Applies the orders that are due once `ended` slices have ended.
+    /// Carries out the orders that are due once `ended` slices have ended.
     ///
     /// A release closes its core; a grant opens its core and unparks its kernel thread. A release of a closed core and
     /// a grant of an open one are counted, and change nothing.
@@ -109,7 +109,7 @@ impl Arbiter {
         while self.apply_next(cores, seat, parking, ended) {}
     }
 
-    /// Applies the next order, if it is due once `ended` slices have ended. Returns whether the order was due.
+    /// Carries out the next order, if it is due once `ended` slices have ended. Returns whether the order was due.
     fn apply_next<H: Wait, T: Tagged, C: Contexts<T>>(
         &mut self,
         cores: &Cores<'_, H, T, C>,

@@ -1,4 +1,4 @@
-//! The core that a new thread is offered first.
+//! Picks the core on which a worker first tries to claim a place for a new thread: the emptier of two random cores.
 ghost use Rattle.std.specs.Prelude.{◌≡◌, ◌<◌, ◌≤◌, ◌↔◌, length, IfSome, IsTrue};
 ghost use Rattle.arachne_arbiter.specs.Choice.{core_chosen, HasPlace, is_candidate_at, loads_of};
 

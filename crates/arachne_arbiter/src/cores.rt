@@ -1,4 +1,4 @@
-//! The cores of a context table, as a kernel thread uses them.
+//! Reads, for a kernel thread, which places of each core are occupied, and which cores are closed.
 ghost use Rattle.std.specs.Prelude.{◌≡◌, ◌<◌, ◌≤◌};
 ghost use Rattle.arachne_core.specs.declared.layout.TheConstants.{CORES, SLOTS};
 ghost use Rattle.arachne_contexts.specs.Out.{KeepsOut};

@@ -1,4 +1,4 @@
-//! Moving threads away from cores that orders have closed.
+//! Moves the threads of a core that an order has closed to other cores.
 ghost use Rattle.std.specs.Prelude.{◌≡◌, ◌<◌, ◌≤◌, true, false, replicate, slice_set, slice_index_or, vec_len, IfOk, IfSome};
 ghost use Rattle.arachne_arbiter.specs.Draining.{IsSettled, WaitsForNoMore};
 ghost use Rattle.arachne_contexts.specs.Out.{KeepsOut};

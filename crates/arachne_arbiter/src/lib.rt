@@ -1,4 +1,4 @@
-//! Cores that are added and removed while threads run.
+//! Takes cores from a table of running threads and gives cores to it, and claims places on them for new threads.
 //!
 //! Chooses the place of a new thread, applies the orders that close and open cores, drains closed cores, and parks
 //! their kernel threads until the core is opened again.

@@ -1,4 +1,4 @@
-//! Core orders (that a core is taken back, or granted again), which are taken one after another.
+//! Orders to close a core or to open it again, which a run or a pool carries out one after another.
 ghost use Rattle.std.specs.Prelude.{◌≡◌, ◌+◌, ◌<◌, ◌≤◌, ◌↔◌, length, IsTrue, IfOk, IfSome, MatchOption};
 ghost use Rattle.arachne_core.specs.declared.layout.TheConstants.{CORES};
 ghost use Rattle.arachne_policy.specs.Orders.{AreInOrder};
@@ -7,7 +7,7 @@ use arachne_policy::{CoreOrder, OrderKind};
 use std::alloc::{AllocError, Global};
 use std::marker::Model;
 
-/// The effect of an order.
+/// What an order changes: it closes a core, opens a core, or does nothing.
 #[derive(Clone, Copy, Debug, PartialEq, Eq)]
 pub enum Effect {
     /// The order closes this core.
@@ -18,9 +18,10 @@ pub enum Effect {
     Nothing,
 }
 
-/// A list of core orders, the number of orders that were applied, and the cores that the applied orders have closed.
+/// A list of orders to open or close cores, how many of them the arbiter has carried out, and which cores these have
+/// closed.
 ///
-/// Contracts see the list, the number of cores, and the number of orders that were applied.
+/// Contracts see the list, the number of cores, and the number of orders that the arbiter has carried out.
 #[derive(Debug, Drop)]
 pub struct Orders {
     list: Vec<CoreOrder>,
@@ -42,7 +43,7 @@ impl Model for Orders {
 impl Orders {
     ghost use Rattle.arachne_arbiter.specs.Orders.{is_closed_after, next_effect, with_next, IsDue, IsNoneDue, IsWithin};
 
-    /// Creates the orders of `list`, none of them applied yet, for `cores` cores, all of them open.
+    /// Creates the orders of `list`, of which none is carried out yet, for `cores` cores, which are all open.
     ///
     /// The error is a refusal of memory.
     pub fn new(alloc: Global, list: Vec<CoreOrder>, cores: u8) -> Result<Orders, AllocError>
@@ -58,7 +59,7 @@ impl Orders {
         })
     }
 
-    /// Returns the number of orders that were applied.
+    /// Returns the number of orders that the arbiter has carried out.
     pub fn applied(&self) -> usize
         ensures applied { result ≡ self.now.applied }
         ensures within { result ≤ length self.now.list }
@@ -66,14 +67,14 @@ impl Orders {
         self.applied
     }
 
-    /// Returns whether all orders were applied.
+    /// Returns whether the arbiter has carried out all orders.
     pub fn are_over(&self) -> bool
         ensures { IsTrue result ↔ (self.now.applied ≡ length self.now.list) }
     {
         self.applied == self.list.len()
     }
 
-    /// Returns whether the applied orders have left this core closed.
+    /// Returns whether the orders that the arbiter has carried out have left this core closed.
     pub fn has_closed(&self, core: u8) -> bool
         requires { core < self.now.cores }
         ensures { result ≡ is_closed_after self.now.list self.now.applied core }
@@ -81,9 +82,9 @@ impl Orders {
         self.closed[usize::from(core)]
     }
 
-    /// Counts the next order as applied and returns its effect, if it is due once `ended` slices have ended.
+    /// Counts the next order as carried out, and returns what it changes, if it is due once `ended` slices have ended.
     ///
-    /// Returns `None` and changes nothing if the next order is not due, or if all orders were applied.
+    /// Returns `None` and changes nothing if the next order is not due, or if no order is left.
     pub fn next_due(&mut self, ended: u64) -> Option<Effect>
         ensures due { MatchOption result (IsNoneDue self.old ended) (λ _. IsDue self.old ended) }
         ensures effect { IfSome result (λ effect. (effect ≡ next_effect self.old) × IsWithin self.old.cores effect) }

@@ -1,4 +1,4 @@
-//! Waiting of a core's kernel thread until other kernel threads have gone on.
+//! Decides whether a kernel thread that finds no work yields its processor or goes on looking.
 ghost use Rattle.std.specs.Prelude.{◌≡◌, ◌-◌, ◌↔◌, ◌⊎◌, ℕ, IsTrue};
 ghost use Rattle.arachne_arbiter.specs.declared.pace.TheConstants.{ROUNDS_WITHOUT_YIELDS};
 

@@ -1,4 +1,4 @@
-//! Places for new threads.
+//! Claims a place for a new thread: one place on a core with few threads, or a whole empty core.
 ghost use Rattle.std.specs.Prelude.{◌≡◌, ◌≢◌, ◌<◌, ◌≤◌};
 ghost use Rattle.rand_core.specs.Stream.{next_u64};
 ghost use Rattle.arachne_contexts.specs.Out.{KeepsOut};

@@ -1,4 +1,4 @@
-//! Counts of the slices that have ended.
+//! Counts the slices that have ended, for each core apart, so that an order can be due after a number of slices.
 ghost use Rattle.std.specs.Prelude.{◌≡◌, ◌<◌, IfOk};
 ghost use Rattle.arachne_arbiter.specs.KernelThreads.{counted_cores};
 

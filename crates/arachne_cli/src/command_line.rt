@@ -36,7 +36,7 @@ pub enum SerialRequest {
     Policy(Settings),
 }
 
-/// The settings of a run.
+/// What the command line says of a run: its cores, places, seed and steps per slice, and what it prints.
 #[derive(Debug, Drop)]
 pub struct RunSettings {
     /// The number of cores. The command line accepts any number; the run later refuses a number that it can't have.

@@ -12,9 +12,9 @@ use std::fmt;
 /// The program's status is 2 if an order word is malformed, else 1.
 #[derive(Clone, Copy, Debug)]
 pub enum Fault {
-    /// The text was refused.
+    /// The reader has refused the program's text, for this fault.
     InText(TextFault),
-    /// The program of the text was refused.
+    /// The checker has refused the program of the text, for this fault.
     InProgram(CheckFault),
     /// The first sample that cannot be judged is on this line.
     BadSample { line: usize },
@@ -65,7 +65,7 @@ impl Fault {
         }
     }
 
-    /// Returns the fault's number.
+    /// Returns the number by which the printed line names the fault.
     fn number(self) -> u8
         ensures { result ≡ fault_number self }
     {
@@ -92,7 +92,7 @@ impl Fault {
         }
     }
 
-    /// Returns the fault's place.
+    /// Returns where in its input the request has the fault, as the printed line says it.
     fn place(self) -> Place
         ensures { result ≡ fault_place self }
     {

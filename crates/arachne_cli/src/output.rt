@@ -1,4 +1,4 @@
-//! The printed output for the meaning of a program.
+//! Makes the text that `eval` prints: a program's value, the sums of its ledgers, and its threads.
 ghost use Rattle.std.specs.Prelude.{◌≡◌, ◌++◌, OnOk, IfOk, string_bytes};
 ghost use Rattle.std.specs.List.{flat_map};
 ghost use Rattle.arachne_cli.specs.Output.{output_of, summary_of, ledger_lines, thread_line, name_text};

@@ -1,4 +1,4 @@
-//! The words of the process's command line.
+//! Asks the system for the words of this process's command line.
 use std::alloc::{Alloc, Global};
 use std::env::{self, Env};
 use std::io;

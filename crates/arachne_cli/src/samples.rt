@@ -1,4 +1,4 @@
-//! Reads the text of samples.
+//! Reads the input of the command `policy`: one sample of a load per line, of five numbers each.
 
 ghost use Rattle.std.specs.Prelude.{◌≡◌, ◌⊎◌, List, IfOk, IfErr, IsErrAnd, MatchResult};
 ghost use Rattle.arachne_lang.specs.declared.text_fault.TextFault.{TextFault as Fault};

@@ -1,4 +1,4 @@
-//! The requests that one thread answers.
+//! Answers the commands `eval`, `check` and `policy` on one thread, and refuses the command `run`.
 ghost use Rattle.std.specs.Prelude.{◌≡◌, ◌≢◌, ◌≤◌, ◌+◌, Bool, List, ℕ, length, map, IfOk, IfErr, IfSome, None, true, string_bytes};
 ghost use Rattle.std.specs.Io.KnownBytes.{Consumes, Keeps};
 ghost use Rattle.arachne_lang.specs.Program.{source_of};

@@ -1,4 +1,4 @@
-//! The reasons why the program fails.
+//! The reasons why `arachne` fails, and the line that it prints for each.
 ghost use Rattle.std.specs.Prelude.{◌≡◌};
 ghost use Rattle.arachne_cli.specs.declared.fault.Fault.TheVariants.{Memory};
 ghost use Rattle.arachne_commands.specs.Fault.{line_of, run_number, run_place};
@@ -9,7 +9,7 @@ use arachne_policy::{OrderFault, OrderFaultKind};
 use arachne_run::{RunFault, WorkerFault};
 use std::alloc::AllocError;
 
-/// The reason why the program fails.
+/// The reason why `arachne` fails: a fault that one thread can meet, or a fault of a run.
 #[derive(Clone, Copy, Debug)]
 pub enum Fault {
     /// One of the faults that `eval`, `check` and `policy` can have.
@@ -43,7 +43,7 @@ impl From<AllocError> for Fault {
 }
 
 impl Fault {
-    /// Returns the line for the fault.
+    /// Returns the line that the program prints for the fault.
     pub fn line(self) -> FaultLine
         ensures { result ≡ line_of self }
     {

@@ -1,4 +1,4 @@
-//! The printed output for a run's report.
+//! Makes the text that `run` prints: the value, the sums of the ledgers and the threads of a run's report.
 ghost use Rattle.std.specs.Prelude.{◌≡◌, ◌++◌, IfOk, OnOk, map, string_bytes};
 ghost use Rattle.std.specs.List.{flat_map};
 ghost use Rattle.arachne_machine.specs.Outcome.{named_holds};

@@ -142,7 +142,7 @@ pub trait Contexts<T: Tagged>: Seats {
         ensures out { GetsThread (has self.now) T.tag_of seat.old seat.new result }
         ensures answer { TakesAt Self.Hold.place_of (record { core = core; index = index }) result };
 
-    /// Puts a thread back.
+    /// Puts a thread that the seat has in hand back at its place, ready or blocked.
     ///
     /// Returns the thread as an error if the table doesn't know it, or if its tag has changed.
     fn put_back<R: Wait>(

@@ -9,7 +9,7 @@ use arachne_core::{Place, ThreadId};
 pub trait Placed {
     ghost place_of: { Self → Place };
 
-    /// Returns the place.
+    /// Returns the core and the index of this thing in its table.
     fn place(&self) -> Place
         ensures { result ≡ place_of self.now };
 }

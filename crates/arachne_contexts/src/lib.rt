@@ -1,4 +1,4 @@
-//! Context tables: the trait of every form of table, for those who run threads.
+//! The trait of context tables, which workers call to create, take, wake and move threads, and its results.
 //!
 //! A table has contexts, one for each place of its cores. All calls go through a seat: to claim a place, put a thread
 //! there, take threads that are ready, and put them back or finish them. A thread is a value of the caller's type: the

@@ -1,4 +1,4 @@
-//! The seats of a table.
+//! The trait by which a table makes its first seat, splits a seat in two, and joins two seats into one.
 ghost use Rattle.std.specs.Prelude.{◌≡◌, ◌≤◌, ◌↔◌, ℕ, IfOk, IsTrue};
 ghost use Rattle.arachne_weights.specs.Weight.{whole, first_part, second_part, joined};
 
@@ -6,7 +6,7 @@ use arachne_core::{CORES, LAST_GENERATION, SLOTS};
 use std::alloc::{AllocError, Global};
 use std::sync::Wait;
 
-/// The seats of a table, through which all steps at it are made.
+/// A table that makes its first seat, splits seats and joins them. Each call on the table needs a seat.
 ///
 /// Each seat has a part of the whole weight, so whoever has the whole weight knows that no other seat is in use. A seat
 /// is used only with the table that it came from.

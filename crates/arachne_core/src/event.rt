@@ -69,11 +69,11 @@ pub enum Event {
         from: u32,
         to: u32,
     },
-    /// Nothing changes.
+    /// The event changes nothing in the table's state.
     Still,
 }
 
-/// The reason why an event was not applied. The state of the table (the World) is unchanged then.
+/// The reason why an event was refused, so that the table's state (the World) is unchanged.
 #[derive(Clone, Copy, Debug, PartialEq, Eq)]
 pub enum NotApplied {
     /// The state of the table does not allow the event, or has no such core or context.

@@ -1,4 +1,4 @@
-//! The size of the machine, and the widths of the fields that depend on it.
+//! The most cores and places that a table can have, and how many bits each field of a packed word has for them.
 
 /// The most cores that a table can have.
 pub const CORES: u8 = 64;

@@ -113,7 +113,7 @@ impl MarkWord {
         Mark::from_code(self.word & MARK_MASK)
     }
 
-    /// Returns the `alone` bit, which is set if the thread was put on a core that is exclusive to it.
+    /// Returns whether the thread was put on a core that is exclusive to it (the `alone` bit).
     pub fn is_alone(self) -> bool
         ensures { result ≡ self.alone }
     {

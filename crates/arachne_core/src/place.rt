@@ -1,9 +1,9 @@
-//! Places of the table, and their numbers.
+//! A place (a core and an index on it), and the number from 0 that each place of a table has.
 
 /// A place for one context: an index of a core.
 #[derive(Clone, Copy, Debug, PartialEq, Eq)]
 pub struct Place {
-    /// The core.
+    /// The number of the core, from 0.
     pub core: u8,
     /// The index on the core, below the number of places that each core has.
     pub index: u8,

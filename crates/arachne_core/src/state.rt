@@ -1,4 +1,4 @@
-//! The states of a context.
+//! The states of a context (free, claimed, ready, blocked, in a seat's hand), and what each state permits.
 
 use crate::layout::LAST_GENERATION;
 use crate::mark::Mark;
@@ -27,13 +27,13 @@ pub enum State {
 /// The ways in which a seat puts a thread back.
 #[derive(Clone, Copy, Debug, PartialEq, Eq)]
 pub enum Rest {
-    /// The thread may be taken again.
+    /// The thread is ready: any seat may take it and run it.
     Ready,
     /// The thread waits to be woken. If the thread was woken since it was taken, it is ready instead.
     Blocked,
 }
 
-/// A context of the table.
+/// What the table knows of a context: its place, how many threads it has had, and its state.
 #[derive(Clone, Copy, Debug, PartialEq, Eq)]
 pub struct Context {
     /// The place at which the context stands.

@@ -345,7 +345,7 @@ impl Tables {
 
     // ---- each event, if it is allowed
 
-    /// Applies the event. If memory is refused, nothing changes.
+    /// Changes the lists as the event says. If memory is refused, nothing changes.
     pub fn make(&mut self, event: Event) -> Result<(), NotApplied>
         requires { Allowed (world_of self.old) event }
         ensures { Answers event self.old self.new result }

@@ -71,7 +71,7 @@ impl World {
         self.tables.reserve(posts, retires)
     }
 
-    /// Applies the event, if it is allowed.
+    /// Changes the state as the event says, if the state allows the event.
     ///
     /// Returns `NotAllowed` if the event is not allowed, and `Memory` if memory was refused. After an error the World
     /// is unchanged. Only a post or a retire takes memory, if no memory was reserved for it.

@@ -1,4 +1,4 @@
-//! The results of an executor's calls.
+//! The results of an executor's calls: a job in hand, why a call was refused, or which worker the caller must unpark.
 
 /// A job that a seat has in hand: its place, its name, and its number.
 #[derive(Clone, Copy, Debug, PartialEq, Eq)]
@@ -16,7 +16,7 @@ pub struct PlacedJob {
     pub unpark: bool,
 }
 
-/// The result of `spawn`.
+/// Whether `spawn` has put the job at a place, and if not, why.
 #[derive(Clone, Copy, Debug, PartialEq, Eq)]
 pub enum JobSpawned {
     Placed(PlacedJob),
@@ -36,7 +36,7 @@ pub enum SpawnedHere {
     Lost,
 }
 
-/// The result of `rest_blocked`, by which a job waits.
+/// Whether the job that `rest_blocked` has put back waits now, or is ready since a wake had come.
 #[derive(Clone, Copy, Debug, PartialEq, Eq)]
 pub enum JobRested {
     Blocked,
@@ -44,7 +44,7 @@ pub enum JobRested {
     Ready { unpark: bool },
 }
 
-/// The next action of a worker.
+/// What a worker must do next: run a job, look again, or park.
 #[derive(Clone, Copy, Debug, PartialEq, Eq)]
 pub enum Next {
     Run(HeldJob),
@@ -55,7 +55,7 @@ pub enum Next {
     Again,
 }
 
-/// The result of `wake`.
+/// The effect of `wake` on the job of the given name.
 #[derive(Clone, Copy, Debug, PartialEq, Eq)]
 pub enum JobWoken {
     /// The job was blocked, and is ready now.

@@ -25,7 +25,8 @@ impl Executor {
         Ok(self.close_into(seat, left))
     }
 
-    /// Like `close`, but puts the jobs into `list`, which must be empty and have room for all places.
+    /// Ends the executor like `close`, but puts the numbers of the jobs that are left into `list`, which must be empty
+    /// and have room for all places.
     pub fn close_into(self, seat: ExecSeat, list: Vec<u64>) -> Vec<u64>
         requires own { seat.table ≡ self.table }
         requires whole { seat.weight ≡ whole }

@@ -1,4 +1,4 @@
-//! The executor and its seats.
+//! The executor: it is made with its first seat, and its seats are split and joined.
 ghost use Rattle.std.specs.Prelude.{◌≡◌, ◌*◌, ◌↔◌, ◌≤◌, [], IsTrue, IfOk};
 ghost use Rattle.arachne_weights.specs.Weight.{whole, first_part, second_part, joined};
 ghost use Rattle.arachne_exec.specs.Changes.{blank, splitting, together};
@@ -13,7 +13,8 @@ use atomic_table::Table;
 use std::alloc::{AllocError, Global};
 use std::marker::Model;
 
-/// An executor: the atomic words and slots of one table, which say at which place each job is.
+/// An executor: the atomic words of one table, which say at which place each job is, and a slot (a field for the job's
+/// number) for each place.
 ///
 /// Contracts see which table it is, and the number of its shards.
 // In the methods of this type a line `let _ = self.shards;` opens the table for the prover, which learns its sizes

@@ -44,7 +44,7 @@ pub fn ready_jobs_are_shown()
         → keepers_of place b ≡ 1 }
 {}
 
-/// A free place has no job in its slot.
+/// At a free place no job's number is stored.
 pub fn free_places_are_empty()
     ensures { (shards : ℕ) (b : Board) → IsLawful shards b → (place : ℕ) → place < 4096 * shards → is_free b.words place ≡ 1 → IsEmptyPlace place b }
 {}

@@ -1,8 +1,9 @@
 //! The core of an executor, on atomic words: where each job is, which thread has it in hand, and which worker to wake.
 //!
 //! A job stands at a *place*. A *block* has 64 places, and a *ready word* with a bit for each place whose job is ready.
-//! A *shard* has 64 blocks, and a *summary word* with a bit for each block that may have ready jobs. A seat *owes* a
-//! bit or a look while its call must still set the bit or take the look.
+//! A *shard* has 64 blocks, and a *summary word* with a bit for each block that may have ready jobs. After it has made
+//! a job ready, a call must still set the block's bit in the summary word, and then look at the idle word for a worker
+//! to wake. Until it has done so, its seat *owes* the bit or the look.
 #![tactic(auto)]
 
 mod answers;

@@ -1,4 +1,4 @@
-//! Looks at the words that show which places have ready jobs.
+//! Reads, by one load each, which blocks of a shard may have ready jobs, and which places of a block have one.
 ghost use Rattle.std.specs.Prelude.{◌≡◌, ◌*◌, ◌<◌};
 ghost use Rattle.arachne_exec.specs.Layout.{summary_at, ready_at};
 ghost use Rattle.arachne_exec.specs.Changes.{noted};

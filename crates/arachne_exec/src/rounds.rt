@@ -34,7 +34,7 @@ impl Round {
         }
     }
 
-    /// Returns the next shard.
+    /// Returns the next shard in which the search must look, or `None` after the last.
     #[inline(always)]
     pub(crate) fn next(&mut self) -> Option<usize>
         ensures same { (self.new.worker ≡ self.old.worker) × (self.new.count ≡ self.old.count) × (self.new.first ≡ self.old.first) }

@@ -57,7 +57,8 @@ impl Executor {
         self.show(seat, place / 64)
     }
 
-    /// Like `publish`, for the newest place after a new job was put there.
+    /// Makes the new job at the seat's newest place ready. Returns true if the caller must unpark the worker of that
+    /// place.
     pub(crate) fn publish_new(&self, seat: &mut SeatInCall, place: usize, job: u64) -> bool
         requires own { seat.old.table ≡ self.now.table }
         requires place { place < 4096 * self.now.shards }

@@ -1,4 +1,4 @@
-//! Several jobs of a block that are taken at once.
+//! Takes several ready jobs of a block into a seat's hand by one step.
 ghost use Rattle.std.specs.Prelude.{◌≡◌, ℕ, ◌*◌, ◌<◌};
 ghost use Rattle.std.specs.Int.RustNames.{bit_and};
 ghost use Rattle.arachne_exec.specs.Layout.{PicksLowest};

@@ -176,7 +176,7 @@ impl TakeTurn {
     }
 }
 
-/// The place at which the next search of a worker's blocks begins.
+/// The number of the place at which a worker's next search for ready jobs begins.
 #[derive(Clone, Copy, Drop)]
 pub(crate) struct SearchTurn {
     place: usize,

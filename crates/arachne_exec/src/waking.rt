@@ -1,4 +1,4 @@
-//! Wakes of a job by its name.
+//! Wakes a job by its name: a blocked job becomes ready, and any other job keeps a mark that it was woken.
 ghost use Rattle.std.specs.Prelude.{◌≡◌, ◌≢◌, ◌⊎◌, ℕ, ◌+◌, ◌*◌, ◌/◌, ◌%◌, ◌^◌, ◌<◌, ◌≤◌, ◌∷◌};
 ghost use Rattle.arachne_exec.specs.Layout.{mark_at, last_generation};
 ghost use Rattle.arachne_exec.specs.Calls.{HasWoken, HasWokenHere, HandsWoken, KeepsHand, IsFound};
@@ -66,7 +66,8 @@ impl Executor {
         }
     }
 
-    /// Like `wake`, but a job that was blocked comes into the seat's hand, and nobody else can take it.
+    /// Wakes the job of a name like `wake`, but the seat gets a job that was blocked into its hand, so that nobody else
+    /// can take it.
     pub fn wake_here(&self, seat: &mut ExecSeat, name: u64) -> WokenHere
         requires own { seat.old.table ≡ self.now.table }
         ensures seat { seat.new ≡ record seat.old { known = seat.new.known } }

@@ -29,7 +29,7 @@ impl Executor {
         self.table.shared.load::<LookAtWord>(&mut seat.seat, word)
     }
 
-    /// Exchanges the number in the slot of the seat's newest place for `new`. Returns the number that was in the slot
+    /// Exchanges the number that is stored for the seat's newest place for `new`. Returns the number that was stored
     /// before.
     pub(crate) fn lay(&self, seat: &mut SeatInCall, place: usize, new: u64) -> u64
         requires own { seat.old.table ≡ self.now.table }

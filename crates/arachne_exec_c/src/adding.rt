@@ -9,7 +9,7 @@ use std::alloc::{AllocError, Global};
 use std::marker::Model;
 use std::sync::Arc;
 
-/// The value behind a handle on ledgers.
+/// The value behind a handle on ledgers: a share, and the ledgers to which it adds.
 #[derive(Drop)]
 pub struct Adding {
     ledgers: Arc<Ledgers>,
@@ -128,7 +128,8 @@ pub(crate) fn cut(mine: &mut Option<Adding>, theirs: &mut Option<Adding>) -> boo
     }
 }
 
-/// Joins the share in `theirs` into the share in `mine`, if both are there.
+/// Joins the share in `theirs` into the share in `mine`. Returns false, with nothing changed, if one of them is
+/// missing.
 pub(crate) fn join_held(mine: &mut Option<Adding>, theirs: &mut Option<Adding>) -> bool
     requires { (a b : Adder) → mine.old ≡ Some a → theirs.old ≡ Some b → b.ledgers.table ≡ a.ledgers.table }
     ensures { IsJoined mine.old theirs.old mine.new theirs.new result }

@@ -19,22 +19,22 @@ pub(crate) const LOST: u32 = 4;
 /// `who` holds the lock.
 pub(crate) const GRANTED: u32 = 5;
 
-/// `who` waits for the lock, and holds it once a free hands it on to `who`.
+/// `who` waits for the lock, and will own it once all tasks before it in the queue have freed it.
 pub(crate) const QUEUED: u32 = 6;
 
 /// `who` holds the lock or waits for it already.
 pub(crate) const ALREADY_IN: u32 = 7;
 
-/// The lock is free.
+/// `who` has freed the lock, and nobody waited for it.
 pub(crate) const FREED: u32 = 8;
 
-/// The lock was handed on to the task that had waited longest: wake that task.
+/// `who` has freed the lock, and the task that had waited longest owns it now: wake that task.
 pub(crate) const HANDED_ON: u32 = 9;
 
 /// `who` doesn't hold the lock. As the answer to a withdrawal: `who` neither holds the lock nor waits for it.
 pub(crate) const NOT_HOLDER: u32 = 10;
 
-/// `who` waited for the lock, and waits no longer: the lock is not handed on to `who` any more.
+/// `who` waited for the lock, and waits no longer: `who` will not get the lock unless it asks again.
 pub(crate) const LEFT: u32 = 11;
 
 /// No place of the block is free.
@@ -66,13 +66,13 @@ pub(crate) const ALREADY_MARKED: u32 = 19;
 /// No job has this name now.
 pub(crate) const GONE: u32 = 20;
 
-/// Keep the number of cores.
+/// The advice on a sample: keep the number of cores.
 pub(crate) const STAY: u32 = 21;
 
-/// Ask for a core.
+/// The advice on a sample: ask for one core more.
 pub(crate) const ADD: u32 = 22;
 
-/// Give a core back.
+/// The advice on a sample: give one core back.
 pub(crate) const REMOVE: u32 = 23;
 
 /// The value of `unpark` in an answer if no worker must be unparked.

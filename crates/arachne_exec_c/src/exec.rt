@@ -1,4 +1,4 @@
-//! The exports for the executor.
+//! The C functions by which a host makes an executor, and spawns, takes, rests, wakes and finishes jobs.
 ghost use Rattle.std.specs.Prelude.{◌≡◌, ◌%◌, ◌^◌};
 ghost use Rattle.std.specs.declared.option.Option.TheVariants.{None};
 ghost use Rattle.arachne_exec.specs.Layout.{summary_at, ready_at};

@@ -1,4 +1,4 @@
-//! The answers of an executor, as C gets them.
+//! Turns the result of a call on an executor into a C struct: a code, a job, and the worker to unpark.
 ghost use Rattle.std.specs.Prelude.{◌≡◌, ◌%◌, ◌^◌};
 ghost use Rattle.arachne_exec_c.specs.ExecTold.{code_alone, code_unparking, told_job, told_next, told_rested, told_spawned, told_spawned_here, told_taken, told_woken, told_woken_here, whom};
 
@@ -10,7 +10,7 @@ use arachne_exec::{
     worker_of_place,
 };
 
-/// The answer of an executor.
+/// The result of a call on an executor: a code, the job, and the worker whose thread the caller must unpark.
 #[repr(C)]
 #[derive(Clone, Copy)]
 pub struct ArachneExecTold {
@@ -23,7 +23,7 @@ pub struct ArachneExecTold {
     pub unpark: u32,
 }
 
-/// The answer of the end of an executor.
+/// What C gets when an executor ends: a code, and the jobs that had not ended.
 #[repr(C)]
 #[derive(Clone, Copy)]
 pub struct ArachneExecLeft {

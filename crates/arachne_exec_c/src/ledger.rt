@@ -1,4 +1,4 @@
-//! The exports for ledgers.
+//! The C functions by which a host makes ledgers, adds to them, reads them and closes them.
 ghost use Rattle.std.specs.Prelude.{◌≡◌, ◌↔◌, IsTrue, MatchBool};
 ghost use Rattle.std.specs.Option.{option_map, IsSomeAnd};
 ghost use Rattle.std.specs.declared.option.Option.TheVariants.{None};

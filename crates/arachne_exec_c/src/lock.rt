@@ -1,4 +1,4 @@
-//! The exports for locks.
+//! The C functions by which a host makes a set of locks, and asks for a lock and frees it.
 ghost use Rattle.std.specs.Prelude.{◌≡◌};
 ghost use Rattle.std.specs.declared.option.Option.TheVariants.{None};
 ghost use Rattle.arachne_exec_c.specs.LockTold.{IsAskTold, IsFreeTold, IsWithdrawTold, IsCheckTold};

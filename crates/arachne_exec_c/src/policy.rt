@@ -1,4 +1,4 @@
-//! The exports for the core policy.
+//! The C functions that advise, from samples of the load, when to ask for a core and when to give one back.
 //!
 //! An estimator lies in the caller's memory, and no call allocates. Each call is defined whatever bytes are there.
 ghost use Rattle.std.specs.Prelude.{◌≡◌, ◌≢◌, ◌≤◌, ◌↔◌, List, [], IsTrue, MatchBool};
@@ -19,7 +19,7 @@ pub struct ArachneEstimator {
     pub thresholds: [u64; MAX_CORES],
 }
 
-/// A sample in C's layout.
+/// What a host has measured of its load in one period, on all cores together.
 #[repr(C)]
 #[derive(Clone, Copy)]
 pub struct ArachneSample {

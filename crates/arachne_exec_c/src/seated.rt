@@ -18,7 +18,7 @@ use std::alloc::{AllocError, Global};
 use std::marker::Model;
 use std::sync::Arc;
 
-/// The value behind a handle on locks.
+/// The value behind a handle on locks: a seat, and the set of locks at which it is.
 #[derive(Drop)]
 pub struct Seated {
     locks: Arc<Locks>,

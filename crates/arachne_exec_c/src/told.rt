@@ -1,4 +1,4 @@
-//! The answers of a lock, as C gets them.
+//! Turns the result of a call on a lock into a C struct: a code, and the number of an event.
 ghost use Rattle.std.specs.Prelude.{◌≡◌};
 ghost use Rattle.std.specs.declared.option.Option.{Option};
 ghost use Rattle.arachne_exec_c.specs.LockTold.{code_alone, code_at, told_asked, told_freed, told_withdrawn, told_checked};

@@ -1,4 +1,4 @@
-//! An executor for which memory is refused.
+//! Tests that an executor is not made, or not closed, if memory is refused, and that the call can be repeated then.
 use arachne_exec::Executor;
 use arachne_shortage::Hoard;
 use std::test::Fail;

@@ -1,4 +1,4 @@
-//! Executors of several sizes, up to the largest.
+//! Tests of executors of several sizes, up to the largest.
 ghost use Rattle.std.specs.Prelude.{◌<◌, ◌≤◌};
 
 use arachne_exec::{Executor, JobSpawned};

@@ -1,4 +1,4 @@
-//! A client, and its claim to one core more.
+//! Decides which of the daemon's clients goes first if several of them ask for one core more.
 ghost use Rattle.std.specs.Prelude.{◌≡◌};
 ghost use Rattle.arachne_grants.specs.Claims.{before_alike, claim_of, gets_before, goes_before, level_before, reserve_of};
 
@@ -23,7 +23,8 @@ pub(crate) struct Claim {
     pub priority: u8,
     /// The number of cores that the client gets already.
     pub gets: u32,
-    /// True if the client has no more than `gets` cores, so that the next core would be taken from elsewhere.
+    /// True if the client doesn't have the claimed core yet (it has at most `gets` cores), so that granting the claim
+    /// moves a core to it.
     pub moves: bool,
 }
 

@@ -1,4 +1,4 @@
-//! The number of cores that each client gets.
+//! Decides how many cores each client gets.
 ghost use Rattle.std.specs.Prelude.{◌≡◌, ◌+◌, ◌<◌, ◌≤◌, ◌↔◌, length, sum, IfSome, IsTrue};
 ghost use Rattle.arachne_grants.specs.Grants.{AreEnough, AreFilled, AreGrants, IsBounded, IsByPriority, IsDecided, IsFair, IsInOrder, IsInTurn, IsLeast, IsNext, IsReserved, IsUsed};
 

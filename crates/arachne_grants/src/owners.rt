@@ -1,4 +1,4 @@
-//! The cores that are taken from clients, and given to others.
+//! Decides which cores the daemon takes from clients, and which clients get them.
 ghost use Rattle.std.specs.Prelude.{◌≡◌, ℕ, ◌+◌, ◌^◌, ◌<◌, ◌≤◌, ◌⊎◌, true, if◌then◌else◌, is_some, None, length, max, slice_index, sum};
 ghost use Rattle.arachne_grants.specs.Grants.{target_at, IsHigher};
 ghost use Rattle.arachne_grants.specs.Owners.{is_of, held_by, owned, owner_at, AreAmong, AreHeld, GivesOnly, IsGiven, IsGivenByPriority, IsNextShort, IsSettled, IsShort, IsWithin, KeepsTargets, MovesLeast, TakesOnly};

@@ -25,10 +25,11 @@ pub enum ClientThread {
     FloatsOn(u16),
 }
 
-/// A client's place in the daemon.
+/// What the daemon keeps for each client: its priority, the cores that it reserves and asks for, and its threads'
+/// states.
 #[derive(Clone, Copy)]
 pub(crate) struct Session {
-    /// True if a client has this place.
+    /// True if there is a client of this number now.
     pub taken: bool,
     /// The client's priority; 0 goes first.
     pub priority: u8,

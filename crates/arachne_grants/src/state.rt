@@ -17,7 +17,7 @@ pub const MAX_CORES: usize = 1024;
 #[derive(Clone, Copy, Debug, PartialEq, Eq)]
 pub struct Refused;
 
-/// A core that was given to a thread.
+/// A core that the arbiter has given to a thread: the core, and the thread's client and place.
 #[derive(Clone, Copy, Debug, PartialEq, Eq)]
 pub struct Grant {
     pub client: usize,
@@ -27,7 +27,7 @@ pub struct Grant {
     pub waited: bool,
 }
 
-/// A core that was taken from a thread.
+/// A core that the arbiter has taken from a client's thread, and the thread's place.
 #[derive(Clone, Copy, Debug, PartialEq, Eq)]
 pub struct TakenCore {
     pub place: usize,
@@ -194,7 +194,7 @@ impl CoreArbiter {
         Ok(())
     }
 
-    /// Removes a thread.
+    /// Removes the thread that has ended at this place of the client.
     pub fn end(&mut self, client: usize, place: usize)
         ensures ends { client < 64 → place < 64 → self.new.sessions ≡ with_thread self.old.sessions client place Absent }
         ensures kept { KeepsAllowed self.old self.new }

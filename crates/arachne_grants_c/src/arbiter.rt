@@ -1,4 +1,4 @@
-//! The exports for an arbiter.
+//! The C functions by which a daemon makes an arbiter, tells it what its clients do, and asks what to do next.
 ghost use Rattle.std.specs.Prelude.{◌≡◌};
 ghost use Rattle.std.specs.declared.option.Option.TheVariants.{None};
 ghost use Rattle.arachne_grants_c.specs.ArbiterHeld.{held};

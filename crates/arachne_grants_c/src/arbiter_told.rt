@@ -1,4 +1,4 @@
-//! The results that C gets from an arbiter.
+//! Turns an arbiter's decision into a C struct: the action to take on a thread, or a client's number of cores.
 ghost use Rattle.std.specs.Prelude.{◌≡◌};
 ghost use Rattle.arachne_grants_c.specs.ArbiterTold.{action_alone, told_given, told_taken};
 
@@ -16,7 +16,7 @@ pub struct ArachneAction {
     pub place: usize,
 }
 
-/// A client's share of the cores.
+/// The number of cores that a client may have, and the number that its threads have.
 #[repr(C)]
 #[derive(Clone, Copy)]
 pub struct ArachneShare {

@@ -1,4 +1,4 @@
-//! The events that change an arbiter's state, and the code that each returns.
+//! What clients (hello, ask, leave) and their threads (join, wait, end) can do, and the code that C gets for it.
 ghost use Rattle.std.specs.Prelude.{◌≡◌};
 ghost use Rattle.arachne_grants_c.specs.ArbiterTold.{asking, begun, ended, gone, joined, waiting, Changes, HasNumber, HasPlace, IsClient, IsVacant, MayJoin, MayWait};
 

@@ -1,4 +1,4 @@
-//! The export for messages.
+//! The C function that reads a client's message from bytes.
 ghost use Rattle.std.specs.Prelude.{◌≡◌};
 ghost use Rattle.arachne_grants_c.specs.MessageTold.{code_of, message_alone, told_message, IsRead};
 

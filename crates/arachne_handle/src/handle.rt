@@ -1,4 +1,4 @@
-//! A box's pointer, or null.
+//! A handle for C: the pointer of a box, or null if the handle holds no box.
 ghost use Rattle.std.specs.Prelude.{◌≡◌, IfNone, IfSome};
 ghost use Rattle.std.specs.declared.option.Option.{Option};
 ghost use Rattle.std.specs.declared.option.Option.TheVariants.{None, Some};

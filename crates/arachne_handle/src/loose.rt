@@ -1,4 +1,4 @@
-//! A box turned into its pointer, and back.
+//! Turns a box into its pointer with the right to free it, and turns that pointer back into the box.
 ghost use Rattle.std.specs.Prelude.{◌≡◌};
 ghost use Rattle.std_alloc.specs.Box.Ownership.{box_owns};
 

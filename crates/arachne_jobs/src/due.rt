@@ -28,7 +28,8 @@ impl Due {
 impl Tallying for Due {
     ghost due_to = { due_to };
 
-    /// Takes an amount, unless an amount for another ledger is due.
+    /// Adds an amount to what is due for `ledger`. Returns false, with nothing changed, if an amount for another ledger
+    /// is due.
     #[inline(always)]
     fn take(&mut self, ledger: u64, amount: u64) -> bool
         ensures taken { result ≡ true → GainsAt (due_to self.old) ledger amount (due_to self.new) }

@@ -1,4 +1,4 @@
-//! The ends of cells that a job has.
+//! A job's ends of join cells: one at which it leaves its outcome, and those at which it gets its children's.
 use crate::left::LeftInCell;
 use crate::waiting::WaitCell;
 use crate::wanted::{OutcomeReceiver, OutcomeSender, Wanted};

@@ -465,7 +465,7 @@ impl<'p> Job<'p> {
     }
 }
 
-/// Makes room for one more in each of two lists.
+/// Reserves memory for one more item in each of two lists.
 fn reserve_both<A: Drop, B: Drop>(one: &mut Vec<A>, other: &mut Vec<B>) -> Result<(), AllocError>
     ensures one { one.new.items ≡ one.old.items }
     ensures other { other.new.items ≡ other.old.items }

@@ -23,7 +23,7 @@ pub struct Openings {
 const LARGE: u64 = 1024;
 
 impl Openings {
-    /// Returns means without a tag, with no word owed and nothing due.
+    /// Returns the means of a worker that has no tag left, need not draw a word, and has nothing to add to a ledger.
     pub fn new() -> Openings
         ensures { (result.tags.left ≡ 0) × (result.draws ≡ 0) × (result.is_large ≡ false) × (result.due.amount ≡ 0) }
     {

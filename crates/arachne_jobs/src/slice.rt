@@ -16,12 +16,12 @@ use arachne_core::{Rest, ThreadId};
 use arachne_lang::{Class, Name, Program};
 use std::alloc::{AllocError, Global};
 
-/// The reason why a job stops.
+/// Why a slice of a job has stopped: what the job wants, or that it has ended.
 #[derive(Drop)]
 pub enum Slice<Child> {
     /// The job goes on.
     Goes,
-    /// The job forks this child, and goes on once the fork has a reply.
+    /// The job forks this child, and goes on once its worker has said where the child runs.
     Forks(Class, Child),
     /// The job awaits a child that has not ended.
     Blocks,
@@ -169,7 +169,7 @@ pub trait RunJob: RunThread {
         ensures parent { IfOk result (λ parent. parent ≡ Self.parent_of self) };
 }
 
-/// The jobs of a program's threads.
+/// The jobs that stand for the threads of a task program: how the root's job is made.
 pub trait JobOf<'p>: RunJob {
     /// Returns the root's job, which has the tag 0, and the end of the cell from which its outcome is fetched.
     fn begin(

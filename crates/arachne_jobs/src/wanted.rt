@@ -1,4 +1,4 @@
-//! The outcome that a fork's child leaves for its parent.
+//! Says of a join cell which outcome it is for: that of a thread of a given name, for a given parent.
 ghost use Rattle.std.specs.Prelude.{◌≡◌};
 ghost use Rattle.arachne_jobs.specs.Cells.{IsFor};
 ghost use Rattle.arachne_jobs.specs.Threads.{tag_of};
@@ -45,8 +45,8 @@ impl Fits<Wanted> for DetachedOutcome {
     ghost fits = { IsWanted };
 }
 
-/// The end at which a thread's outcome is left.
+/// The end of a join cell at which a thread leaves its outcome.
 pub type OutcomeSender = Sender<DetachedOutcome, Wanted>;
 
-/// The end at which a thread's outcome is got.
+/// The end of a join cell at which a parent gets its child's outcome.
 pub type OutcomeReceiver = Receiver<DetachedOutcome, Wanted>;

@@ -21,7 +21,7 @@ pub(crate) type BlockSeat<T, K> = Seat<Content<T, K>, PartView<K>>;
 
 /// Cells that share one table.
 ///
-/// Each cell has a word, which flips whenever a value is left in the cell, and a slot.
+/// Each cell has a word, which flips whenever a value is left in the cell, and a slot, which is a field for the value.
 #[derive(Drop)]
 pub(crate) struct CellBlock<T: Fits<K>, K> {
     table: Table<Content<T, K>, PartView<K>, (), BlockRule, Global>,
@@ -99,7 +99,8 @@ impl<T: Fits<K>, K> CellBlock<T, K> {
         shared.split_seat::<PartEnds>(seat)
     }
 
-    /// Leaves the value in the sending end's cell: puts it into the slot, and flips the word.
+    /// Leaves the value in the sending end's cell: stores it in the cell's slot (the field for the value), and flips
+    /// the word.
     pub(crate) fn leave(&self, seat: BlockSeat<T, K>, index: usize, full: u64, value: T)
         requires own { seat.table_id ≡ self.now }
         requires inside { index < self.now.slots }

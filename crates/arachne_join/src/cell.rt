@@ -1,4 +1,4 @@
-//! The cell, and the calls of those who share it.
+//! A cell for one value, and its calls: the child leaves the value, and the parent fetches it.
 ghost use Rattle.std.specs.Prelude.{◌≡◌, ◌≢◌, [], ◌∷◌, IfOk, IfErr};
 ghost use Rattle.arachne_join.specs.States.{state_of};
 ghost use Rattle.arachne_join.specs.Steps.{Sends, Looks, HoldsValue};

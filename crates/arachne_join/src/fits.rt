@@ -1,4 +1,4 @@
-//! The relation between a cell's values and its key.
+//! The trait that says which values may be left in a cell that was made for a given key.
 
 /// A type whose values may fit a key. Both members are only for proofs.
 pub trait Fits<K> {

@@ -1,4 +1,4 @@
-//! The receipt of a step at a cell.
+//! What a call on a cell returns as evidence for contracts of what it did or saw there.
 ghost use Rattle.std.specs.Prelude.{◌≡◌, []};
 ghost use Rattle.arachne_join.specs.Views.{shown};
 

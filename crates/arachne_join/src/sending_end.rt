@@ -1,4 +1,4 @@
-//! The end of a cell by which the value is left.
+//! The end of a cell at which its owner leaves the value, once.
 ghost use Rattle.std.specs.Prelude.{◌≡◌};
 ghost use Rattle.arachne_join.specs.Steps.{Sends};
 ghost use Rattle.arachne_join.specs.Views.{shown};

@@ -1,4 +1,4 @@
-//! Unused cells that are kept for the next opening.
+//! Unused cells, which a worker keeps so that a later fork needs no memory for a new one.
 ghost use Rattle.std.specs.Prelude.{◌≡◌, IfOk};
 ghost use Rattle.arachne_join.specs.Openings.{awaited};
 

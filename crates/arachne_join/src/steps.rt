@@ -17,7 +17,7 @@ impl<T: Fits<K>, K> TableRule<Option<T>, View<K>, K> for CellRule {
     ghost first = { λ key. view (Some key) Maker };
 }
 
-/// The step by which the first seat takes the slot, and becomes the sending end.
+/// The step by which the first seat takes the slot (the field for the value), and becomes the sending end.
 pub(crate) struct TakeSlot;
 
 impl<T, K> Play<Option<T>, View<K>> for TakeSlot {

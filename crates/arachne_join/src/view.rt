@@ -7,7 +7,7 @@ use crate::state::CellState;
 pub enum Role {
     /// The role of the first seat, before the seat took the slot.
     Maker,
-    /// The role of the sending end, which has the slot.
+    /// The role of the sending end, which has the slot (the field for the value).
     Sender,
     /// The seat left the value.
     Left,

@@ -17,7 +17,7 @@ pub(crate) fn is_past(quantum: u32, steps: u32) -> bool
     steps > quantum
 }
 
-/// Returns whether the rule `Due` is broken: an order is applied before `after` slices have ended.
+/// Returns whether the rule `Due` is broken: the arbiter has carried out an order before `after` slices have ended.
 pub(crate) fn is_early(after: u64, ended: u64) -> bool
     ensures { IsTrue result ↔ (ended < after) }
 {

@@ -28,7 +28,7 @@ const UNTOLD: u64 = 2;
 
 const TURNS_PER_UNTOLD: u64 = 64;
 
-/// The state that a log has shown so far.
+/// What the judge knows of the run's cores, threads and places from the log's entries so far.
 #[derive(Drop)]
 struct Case<'r> {
     run: Run<'r>,
@@ -40,7 +40,7 @@ struct Case<'r> {
     root: Option<ThreadId>,
     /// True if the root has ended.
     is_over: bool,
-    /// The number of orders reported as applied.
+    /// The number of orders that core 0 has reported as carried out.
     applied: usize,
     /// The number of slices reported as ended.
     ended: u64,
@@ -234,7 +234,7 @@ impl<'r> Case<'r> {
         }
     }
 
-    /// Checks that all orders that are due were applied when core 0 begins a slice.
+    /// Checks that core 0, when it begins a slice, has carried out all orders that are due.
     fn look_due(&mut self) {
         let Some(order) = self.run.orders.get(self.applied) else {
             return;
@@ -469,7 +469,7 @@ impl<'r> Case<'r> {
         self.set_core(core, known);
     }
 
-    /// Checks the report that `orders` orders in all were applied. Only core 0 may report this.
+    /// Checks the report that `orders` orders in all are carried out. Only core 0 may report this.
     fn applied(&mut self, core: u8, orders: usize)
         ensures { core ≢ 0 → IsSome self.new.broken }
     {

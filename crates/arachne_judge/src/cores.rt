@@ -16,7 +16,7 @@ pub(crate) struct Core {
     pub(crate) is_in_slice: bool,
     /// The thread that has the core to itself.
     pub(crate) alone: Option<ThreadId>,
-    /// True if the orders reported as applied have closed the core.
+    /// True if the orders that core 0 has reported as carried out have closed the core.
     pub(crate) is_closed: bool,
     /// The number of the core's last entry.
     pub(crate) last: usize,

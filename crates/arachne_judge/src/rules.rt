@@ -5,7 +5,7 @@ ghost use Rattle.arachne_judge.specs.declared.rules.Rule.TheVariants.{OwnCore};
 
 use arachne_policy::CoreOrder;
 
-/// A rule of a run.
+/// A rule that the log of every run must keep.
 #[derive(Clone, Copy, Debug, PartialEq, Eq)]
 pub enum Rule {
     /// A thread continues on the core on which it was, unless a move was reported, or another core's worker has
@@ -17,7 +17,7 @@ pub enum Rule {
     Numbers,
     /// No slice has more steps than the quantum.
     Quantum,
-    /// Core 0 applies an order once it is due, not before, and before core 0's next slice.
+    /// Core 0 carries out an order to open or close a core once it is due, not before, and before core 0's next slice.
     Due,
     /// Only core 0 moves threads away from closed cores.
     CoreZero,
@@ -69,7 +69,7 @@ impl Rule {
     }
 }
 
-/// The number of times that each rule was checked.
+/// How often the judge has checked each rule.
 #[derive(Clone, Copy, Debug, PartialEq, Eq)]
 pub struct Counts {
     counts: [u64; RULES],
@@ -122,12 +122,12 @@ pub struct Broken {
     pub at: usize,
 }
 
-/// The result of judging a log.
+/// What the judge says of a log: how often it has checked each rule, and the first rule that the run has broken.
 #[derive(Clone, Copy, Debug, PartialEq, Eq)]
 pub struct Verdict {
-    /// The number of times that each rule was checked.
+    /// How often the judge has checked each rule.
     pub counts: Counts,
-    /// The first rule that was broken.
+    /// The first rule that the run has broken, if there is one.
     pub broken: Option<Broken>,
     /// The number of steps of all slices.
     pub steps: u64,

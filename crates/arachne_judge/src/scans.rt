@@ -26,7 +26,7 @@ pub(crate) struct Scans {
     scans: u32,
 }
 
-/// The findings of a turn.
+/// What the judge concludes from one turn of a thread: whether a new scan begins, and what the previous one left out.
 #[derive(Clone, Copy)]
 pub(crate) struct TurnFindings {
     /// True if a scan has begun.

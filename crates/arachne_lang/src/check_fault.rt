@@ -1,4 +1,4 @@
-//! The error of a program that may not run.
+//! The reasons for which the checker refuses a program.
 use thiserror::Error;
 
 /// The reason why a program was refused.

@@ -120,13 +120,14 @@ fn nodes_left(expr: &Expr, nodes: u64) -> Option<u64>
     }
 }
 
-/// The place of an expression in its program.
+/// What decides whether an expression may stand where it does: its program, the holds around it, and the bound
+/// variables.
 #[derive(Clone, Copy)]
 struct Scope<'p> {
     program: &'p Program,
-    /// True within a hold.
+    /// True if the expression stands within a hold of a lock.
     within: bool,
-    /// The number of bound variables.
+    /// The number of variables that the expressions around it bind.
     bound: u64,
 }
 

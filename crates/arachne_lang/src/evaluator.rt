@@ -67,7 +67,7 @@ fn unwritten_line(alloc: Global) -> Line {
     }
 }
 
-/// The state that all threads share.
+/// What the evaluator keeps for all threads: the running thread's variables, the ledgers' sums, and the lines so far.
 #[derive(Drop)]
 struct Shared {
     /// The variables of the thread that is being evaluated, the oldest first.

@@ -1,4 +1,4 @@
-//! Reads the text of a program.
+//! Turns the text of a program into the program, or says at which byte the text has a fault.
 
 ghost use Rattle.std.specs.Prelude.{◌≡◌, ◌⊎◌, Err, IfOk, IfErr, IsErrAnd, MatchResult};
 ghost use Rattle.arachne_lang.specs.declared.text_fault.TextFault.{TextFault as Fault};

@@ -1,4 +1,4 @@
-//! Ledgers, and the calls on them.
+//! Makes ledgers, adds to a ledger, reads it, and splits and joins the shares by which threads add.
 ghost use Rattle.std.specs.Prelude.{◌≡◌, ℕ, ◌+◌, ◌*◌, ◌%◌, ◌^◌, ◌<◌, [], map, length, replicate, vec_len, slice_index, Some, None, IfOk, IfErr};
 ghost use Rattle.arachne_weights.specs.Weight.{whole, first_part, second_part, joined};
 ghost use Rattle.arachne_ledger.specs.Sums.{raised, plus};

@@ -7,7 +7,7 @@ use atomic_table::Seat;
 use std::collections::LinkedList;
 use std::marker::Model;
 
-/// A number that was read from the word of a ledger.
+/// The number that a read has found in a ledger's word.
 pub struct Reading {
     pub ledger: usize,
     pub number: u64,

@@ -1,4 +1,4 @@
-//! The results of calls on a lock.
+//! The results of asking for a lock, freeing it, leaving its queue, or checking who holds it.
 use std::alloc::AllocError;
 use thiserror::Error;
 
@@ -19,10 +19,10 @@ pub enum Admitted {
     },
 }
 
-/// The result of one try at a lock.
+/// Whether a call on a lock was made, or another kernel thread was at the lock so that the caller may try again.
 #[derive(Clone, Copy, Debug, PartialEq, Eq)]
 pub enum Attempt<A> {
-    /// The result of the call, which was made on the lock's state.
+    /// No other kernel thread was at the lock, so the call was made. This is its result.
     Answered(A),
     /// Another kernel thread was at the lock. Nothing has changed, and the call may be repeated.
     Contended,
@@ -48,7 +48,7 @@ impl From<AllocError> for AskRefusal {
     }
 }
 
-/// The result of a free by the owner.
+/// The owner has freed the lock: the task that owns it next, if one waited.
 #[derive(Clone, Copy, Debug, PartialEq, Eq)]
 pub struct Released {
     /// The number of the task that holds the lock now and must be woken, if any task waited. It had waited longest.

@@ -1,4 +1,4 @@
-//! The events of a lock.
+//! What can happen at a lock: a task asks for it, gets it, frees it, or leaves its queue.
 
 /// An event of a lock, with the number of its task.
 ///
@@ -14,7 +14,7 @@ pub enum QueueEvent {
     Leave(u64),
 }
 
-/// The effect of a call on a lock.
+/// What a call has done at a lock, as contracts see it.
 #[derive(Clone, Copy)]
 pub enum LockDeed {
     Nothing,

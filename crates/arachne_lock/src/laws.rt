@@ -1,4 +1,4 @@
-//! Laws of locks, on functions with empty bodies.
+//! Laws that hold for each lock at any time. Each law is the contract of a function with an empty body.
 ghost use Rattle.std.specs.Prelude.{ℕ, List};
 ghost use Rattle.atomic_table.specs.Table.{Enters, Arrives};
 ghost use Rattle.arachne_lock.specs.declared.event.QueueEvent.{QueueEvent};

@@ -1,4 +1,4 @@
-//! The seat of a kernel thread at a set of locks.
+//! One kernel thread's right to call a set of locks.
 use crate::guarded_lock::GuardedLock;
 use crate::view::KnownLocks;
 use atomic_table::Seat;

@@ -21,14 +21,14 @@ use std::marker::Model;
 /// The number of words of two cache lines, which processors fetch together.
 const SPACING: usize = 16;
 
-/// The value of a lock's guard word while the lock's state is in its slot.
+/// The value of a lock's guard word (its atomic word) while no seat has the lock's state in hand.
 const HOME: u64 = 0;
 
 /// The value of a lock's guard word while a seat has the lock's state.
 const TAKEN: u64 = 1;
 
-/// A set of locks. Each lock has a guard word and a slot: the word is 0 while the lock's state is in the slot, and 1
-/// while a seat has the state.
+/// A set of locks. Each lock has a guard word: an atomic word that is 1 while a seat has the lock's state in hand, and
+/// otherwise 0.
 ///
 /// Each kernel thread uses all of the locks through one seat of its own. A task is identified by a number that the host
 /// chooses, such as its name or a number for each future. `ask`, `free`, `withdraw` and `check` try once to set the
@@ -72,7 +72,7 @@ fn first_words(alloc: Global, count: usize) -> Result<Vec<u64>, AllocError>
     Ok(words)
 }
 
-/// Returns the slots of `count` locks.
+/// Returns the states of `count` locks that nobody has asked for yet.
 fn first_slots(alloc: Global, count: usize) -> Result<Vec<GuardedLock>, AllocError>
     ensures { IfOk result (λ slots. AreFirstSlots count slots.items) }
 {

@@ -1,4 +1,4 @@
-//! The tasks that wait for a lock.
+//! The queue of the tasks that wait for a lock. No task is in it twice.
 ghost use Rattle.std.specs.Prelude.{◌≡◌, ◌↔◌, [], ◌∷◌, ◌++◌, drop, slice_get, Contains, IsTrue, OnOk, OnErr};
 ghost use Rattle.arachne_lock.specs.Law.{without};
 

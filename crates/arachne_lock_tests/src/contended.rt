@@ -1,4 +1,4 @@
-//! Two kernel threads that contend for two locks.
+//! A test in which two kernel threads contend for two locks.
 ghost use Rattle.std.specs.Prelude.{◌<◌};
 ghost use Rattle.arachne_lock.specs.Views.{IsSeatOf, IsLockAt};
 

@@ -7,7 +7,7 @@ use arachne_lock::{
 };
 use std::alloc::AllocError;
 
-/// The call of a row.
+/// The call on a lock that a test makes in this row.
 #[derive(Clone, Copy)]
 enum Call {
     Ask,

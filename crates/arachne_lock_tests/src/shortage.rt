@@ -16,7 +16,7 @@ const TRIES: u64 = 100_000;
 /// The number of tasks that wait for the lock.
 const CROWD: u64 = 900;
 
-/// Holds a lock that is free, and frees it.
+/// Asks for a free lock, and frees it. Returns true if the lock was granted at once, and nobody waited for it.
 fn is_held_and_freed(locks: &Locks, seat: &mut LockSetSeat, lock: usize) -> bool
     requires { IsLockAt locks.now seat.old.table lock }
     ensures { IsSeatOf locks.now seat.new }

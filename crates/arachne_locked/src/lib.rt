@@ -1,4 +1,4 @@
-//! A context table behind a lock.
+//! A context table whose whole state is behind one lock: simpler and slower than the table on atomic words.
 //!
 //! The lock protects the state of the table (a World) and the values of the threads that no seat has in hand. Each call
 //! applies its events to the state, one after another, so between any two calls no two threads share a context or a

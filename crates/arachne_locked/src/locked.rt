@@ -1,4 +1,4 @@
-//! A context table behind a lock.
+//! The calls on a table behind a lock: each takes the lock, makes its step on the state, and frees the lock.
 ghost use Rattle.std.specs.Prelude.{◌≡◌, ◌<◌, ◌≤◌, ◌*◌, ◌≢◌, ℕ, IsTrue, IfOk, IfErr};
 ghost use Rattle.arachne_core.specs.Occupancy.{IsOccupancyWord};
 ghost use Rattle.arachne_contexts.specs.Words.{HasNoPlace, ShowsFull, ShowsNoRoom};
@@ -18,7 +18,7 @@ use arachne_weights::Weight;
 use std::alloc::{AllocError, Global};
 use std::sync::{Mutex, Wait};
 
-/// A context table behind a lock.
+/// A context table whose whole state is behind one lock, which each call takes and frees.
 #[derive(Drop)]
 pub struct LockedContexts<T: Tagged> {
     state: Mutex<TableState<T>>,

@@ -1,4 +1,4 @@
-//! The seats of a locked table.
+//! One thread's right to call a locked table, with the number by which the table knows it.
 ghost use Rattle.std.specs.Prelude.{◌≡◌};
 ghost use Rattle.arachne_locked.specs.Seats.{one_more, one_fewer};
 

@@ -1,4 +1,4 @@
-//! The number of places of each core.
+//! The number of places of each core, kept where a call can read it without the lock.
 ghost use Rattle.std.specs.Prelude.{◌≡◌, ◌≤◌};
 
 use arachne_core::SLOTS;

@@ -1,4 +1,4 @@
-//! The answers to pauses that need no outcome of a child.
+//! The caller's answers to a thread that has paused at a fork, an ask, a free or a tally.
 use crate::frame::Control;
 use crate::state::State;
 use crate::tables::add_at;

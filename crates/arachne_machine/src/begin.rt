@@ -1,4 +1,4 @@
-//! The steps that begin an expression.
+//! Begins an expression: gives its value if that is known at once, and otherwise begins one of its parts.
 use crate::frame::{Control, Frame};
 use crate::lookup::{length_in, variable_in};
 use crate::placing::Placing;

@@ -1,4 +1,4 @@
-//! The contents of an outcome, without its program.
+//! The value, ledger sums and lines of an ended thread, without a reference to its program.
 ghost use Rattle.std.specs.Prelude.{◌≡◌, ◌∷◌, IfOk, OnErr};
 
 use crate::line::ThreadLine;

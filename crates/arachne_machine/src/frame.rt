@@ -11,7 +11,7 @@ pub struct Stretch<'p> {
     pub body: &'p Expr,
 }
 
-/// The next action of a thread.
+/// What a thread does at its next step.
 #[derive(Clone, Copy)]
 pub enum Control<'p> {
     /// The thread begins an expression.

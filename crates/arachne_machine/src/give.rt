@@ -1,4 +1,4 @@
-//! Hands a value from frame to frame.
+//! Gives a value to the frame that waits for it, and that frame's value to the next, until one must make a step.
 use crate::frame::{Control, Frame, Stretch};
 use crate::lookup::item_in;
 use crate::placing::Placing;
@@ -21,10 +21,11 @@ impl<'p> State<'p> {
     ghost use Rattle.arachne_machine.specs.Runs.{Comes, FoldsOn, HandsResult, IsOneStep, IsPoppedIn, RunsOn, SweepsOn, giving_in, seen_in};
     ghost use Rattle.arachne_machine.specs.declared.state.Progress.TheVariants as ways;
 
-    /// Hands a value from frame to frame, until a frame says what follows or no frame is left.
+    /// Gives a value to the newest frame, and that frame's value to the next, until a frame says what follows or none
+    /// is left.
     ///
-    /// The value of a child that ran in its parent's place is handed to the parent. If memory is refused, the value
-    /// must be handed on later.
+    /// The value of a child that ran in its parent's place goes to the parent. If memory is refused, the thread keeps
+    /// the value, and a later step gives it to the frame.
     #[inline(always)]
     pub fn give<P: Placing>(
         &mut self,
@@ -80,7 +81,8 @@ impl<'p> State<'p> {
         self.join_here(value, left)
     }
 
-    /// Records that the value must be handed on later, since memory was refused, and returns the error.
+    /// Records that the thread must give the value to its newest frame later, since memory was refused, and returns the
+    /// error.
     #[cold]
     #[inline(never)]
     pub fn refused(&mut self, value: u64) -> Result<Progress<'p>, AllocError>

@@ -10,7 +10,7 @@ use arachne_lang::{Name, Sequence};
 use std::alloc::AllocError;
 use std::mem::swap;
 
-/// The reason why an outcome was not joined.
+/// The reason why the thread could not join a child's outcome.
 #[derive(Clone, Copy)]
 pub enum Unjoined {
     /// It is not the outcome of the awaited child.
@@ -148,7 +148,7 @@ impl<'p> State<'p> {
 
     /// Ends the child that has run in this place: its parent joins it, with this value, and goes on.
     ///
-    /// If memory is refused, the value still has to be handed on.
+    /// If memory is refused, a later step gives the value to the parent.
     #[inline(always)]
     pub fn join_here(&mut self, value: u64, left: &mut u32) -> Result<Progress<'p>, AllocError>
         requires parent { HasParent self.old }

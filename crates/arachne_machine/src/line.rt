@@ -1,4 +1,4 @@
-//! The record of a thread that has ended.
+//! The line of a thread that has ended: its name, its tag, where it ran, and how often it held each lock.
 ghost use Rattle.std.specs.Prelude.{◌≡◌};
 ghost use Rattle.arachne_machine.specs.Lines.{HoldsOnceMore};
 
@@ -10,11 +10,11 @@ use std::mem::replace;
 /// The place at which a thread ran.
 #[derive(Clone, Copy, Debug, PartialEq, Eq)]
 pub enum Ran {
-    /// At a place that its fork found.
+    /// The thread ran at a place that its parent's worker found at the fork.
     Slot,
-    /// At a place that was found for it later, while it waited.
+    /// The thread ran at a place that a worker found for it later, while it waited.
     Spill,
-    /// In its parent's place.
+    /// The thread ran in its parent's place.
     InPlace,
 }
 
@@ -27,7 +27,7 @@ pub struct Label {
     pub ran: Ran,
 }
 
-/// The record of a thread that has ended.
+/// A line of a report, for a thread that has ended: its name, its tag, where it ran, and how often it held each lock.
 #[derive(Debug, Drop)]
 pub struct ThreadLine {
     pub name: Name,
@@ -51,7 +51,7 @@ impl ThreadLine {
         }
     }
 
-    /// Takes the line out, and leaves a vacant one.
+    /// Returns this line, and leaves a line of no thread here.
     #[inline(always)]
     pub(crate) fn take(&mut self, alloc: Global) -> ThreadLine
         ensures { result ≡ self.old }

@@ -30,7 +30,7 @@ impl<'p> Model for Outcome<'p> {
     ghost invariant = { λ o. IsOfItsName (finished o.program.now o.contents) };
 }
 
-/// The parts of an outcome.
+/// An ended thread's value, its ledger sums, and the lines of the thread and its descendants.
 #[derive(Debug, Drop)]
 pub struct OutcomeParts {
     pub value: u64,
@@ -41,7 +41,7 @@ pub struct OutcomeParts {
 }
 
 impl<'p> Outcome<'p> {
-    /// Returns the program.
+    /// Returns the program of the thread that has ended.
     pub fn program(&self) -> &'p Program
         ensures { result.now ≡ self.now.program }
     {

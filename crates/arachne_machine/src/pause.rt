@@ -23,7 +23,8 @@ pub enum Pause<'p> {
     Ended,
 }
 
-/// A pause that was not answered yet.
+/// Why a paused thread can't go on yet: it waits for its caller's answer to a fork, a join, an ask, a free or a tally,
+/// or it has ended.
 #[derive(Clone, Copy, Debug, PartialEq, Eq)]
 pub enum Pending {
     Forks,

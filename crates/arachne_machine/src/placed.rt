@@ -1,4 +1,4 @@
-//! Children that were handed back to run in their parent's place, and have not begun.
+//! The children that a thread's caller has put in the thread's place, and that have not begun.
 use crate::frame::Control;
 use crate::line::Ran;
 use crate::placing::Placing;
@@ -7,7 +7,7 @@ use crate::state::State;
 use arachne_lang::Class;
 use std::alloc::AllocError;
 
-/// A child that was not placed, with the reason.
+/// A child that could not be put in this thread's place, with the reason.
 #[derive(Drop)]
 pub enum Unplaced<'p> {
     /// The child is not the awaited child.
@@ -16,7 +16,8 @@ pub enum Unplaced<'p> {
     Memory(Box<State<'p>>),
 }
 
-/// The steps of a thread with the children that were handed back to it. The newest child is the last of `placed`.
+/// The steps of a thread with the children that its caller has put in its place. The newest child is the last of
+/// `placed`.
 impl<'p> State<'p> {
     ghost use Rattle.std.specs.Prelude.{◌≡◌, ◌≤◌, None, Some, true, All, IfOk, OnOk, OnErr};
     ghost use Rattle.arachne_machine.specs.declared.pause.Pending.TheVariants as pause;
@@ -117,11 +118,11 @@ impl<'p> State<'p> {
         Ok(true)
     }
 
-    /// Takes back a child to run it in this thread's place.
+    /// Puts a child, which the caller gives back, in this thread's place to run there.
     ///
-    /// A child that was just forked waits in this thread's place, and will begin before `others`, the children that
-    /// were handed back to it. An awaited child goes on at once, and `others` become the newest children of `placed`.
-    /// After an error nothing has changed but capacities.
+    /// A child that was just forked waits in this thread's place, and will begin before `others`, the children that the
+    /// caller had put in the child's place. An awaited child goes on at once, and `others` become the newest children
+    /// of `placed`. After an error nothing has changed but capacities.
     pub fn place(
         &mut self,
         placed: &mut Vec<Box<State<'p>>>,
@@ -142,8 +143,8 @@ impl<'p> State<'p> {
         }
     }
 
-    /// Takes back a child that was just forked. The child waits in this thread's place, and will begin before
-    /// `grandchildren`, the children that were handed back to it.
+    /// Puts a child that was just forked in this thread's place. The child waits there, and will begin before
+    /// `grandchildren`, the children that the caller had put in the child's place.
     fn wait_with(
         &mut self,
         placed: &mut Vec<Box<State<'p>>>,
@@ -165,8 +166,8 @@ impl<'p> State<'p> {
         Ok(())
     }
 
-    /// Lets the awaited child go on in this thread's place. `others`, the children that were handed back to the child,
-    /// become the newest of `placed`.
+    /// Lets the awaited child go on in this thread's place. `others`, the children that the caller had put in the
+    /// child's place, become the newest of `placed`.
     fn go_on_with(
         &mut self,
         placed: &mut Vec<Box<State<'p>>>,

@@ -15,7 +15,7 @@ pub trait Placing {
     fn is_any(&mut self, class: Class) -> bool
         ensures { gives_all ≡ true → IsTrue result };
 
-    /// Like `is_any`, for a child that has `turns` iterations of a sweep to make.
+    /// Returns whether a child that has `turns` iterations of a sweep to make may get a place of its own; see `is_any`.
     fn is_any_for(&mut self, class: Class, _turns: u64) -> bool
         ensures { gives_all ≡ true → IsTrue result }
     {
@@ -37,7 +37,7 @@ pub trait Tallying {
         ensures full { result ≡ false → self.new ≡ self.old };
 }
 
-/// A `Placing` with which each fork is a pause.
+/// Answers each fork's question with yes: each child may get a place of its own, so that each fork is a pause.
 #[derive(Clone, Copy, Debug)]
 pub struct Everywhere;
 

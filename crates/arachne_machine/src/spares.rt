@@ -1,4 +1,4 @@
-//! The memory that ended threads leave for new threads.
+//! Keeps the memory of ended threads, so that new threads need not ask the system for memory.
 use crate::contents::Contents;
 use crate::state::State;
 use arachne_lang::Program;

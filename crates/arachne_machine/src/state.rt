@@ -1,4 +1,4 @@
-//! The state of a thread between two steps.
+//! The state of a thread between two steps: what it does next, its variables, and what follows.
 use crate::contents::Contents;
 use crate::frame::{Control, Frame};
 use crate::level::{Level, Parent};
@@ -12,7 +12,7 @@ use arachne_lang::{Class, Expr, Name, Program, Sequence};
 use std::alloc::{AllocError, Global};
 use std::mem::replace;
 
-/// The data of which a thread's own line is made.
+/// The thread's name, its tag and place, and how often it held each lock: the data of its line in the report.
 #[derive(Drop)]
 pub struct Own {
     pub name: Name,
@@ -37,7 +37,7 @@ impl Own {
         }
     }
 
-    /// Takes out the thread's line.
+    /// Returns the thread's line, and leaves an empty name and no holds here.
     #[inline(always)]
     pub fn take_line(&mut self, alloc: Global) -> ThreadLine
         ensures line { result ≡ own_line self.old }
@@ -259,8 +259,8 @@ impl<'p> State<'p> {
     /// Makes a step, and at once those of the next ones that need only what is known by then, which are subtracted from
     /// `left`.
     ///
-    /// The step begins this expression. If there is none, it begins a part of a sweep, or takes a value that was left
-    /// over. A value that is known at once is handed on.
+    /// The step begins the expression `begins`. If there is none, it begins a part of a sweep, or takes a value that
+    /// was left over. If the step gives a value at once, the value goes to the expression that waits for it.
     #[inline(always)]
     fn make<P: Placing>(
         &mut self,

@@ -1,4 +1,4 @@
-//! Tables of numbers, one for each ledger or lock.
+//! Lists with a number for each ledger or each lock: how to make one of zeros, and to add to its numbers.
 ghost use Rattle.std.specs.Prelude.{◌≡◌, ℕ, ◌+◌, ◌==◌, if◌then◌else◌, length, IfOk};
 ghost use Rattle.arachne_lang.specs.Effects.{tabulated};
 

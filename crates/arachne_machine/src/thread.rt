@@ -39,7 +39,7 @@ use std::snapshot::Snapshot;
 pub struct Thread<'p> {
     /// The thread, and the threads that have begun in its place.
     state: Box<State<'p>>,
-    /// Children that were handed back to run in this thread's place and have not begun, the newest last.
+    /// Children that the caller has put in this thread's place and that have not begun, the newest last.
     placed: Vec<Box<State<'p>>>,
 }
 
@@ -89,7 +89,7 @@ impl<'p> Thread<'p> {
         &self.state.own.name
     }
 
-    /// Returns the program.
+    /// Returns the program of which this is a thread.
     pub fn program(&self) -> &'p Program
         ensures { result.now ≡ (whole self.now).program }
     {

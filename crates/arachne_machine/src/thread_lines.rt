@@ -91,7 +91,7 @@ fn move_lines(lists: Vec<Vec<ThreadLine>>, lines: &mut Vec<ThreadLine>)
 pub struct LinesLeft<'a> {
     /// The rest of the list that was begun.
     list: &'a [ThreadLine],
-    /// The lists behind it.
+    /// The lists behind that list.
     lists: &'a [Vec<ThreadLine>],
 }
 

@@ -93,7 +93,7 @@ fn value_at_once(
     }
 }
 
-/// Like `value_at_once`, for a part that is most often a number or a variable.
+/// Returns the value of a part like `value_at_once`, faster if the part is a number or a variable.
 #[inline(always)]
 #[cycle(recursion)]
 fn side_at_once(

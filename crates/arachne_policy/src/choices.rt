@@ -1,8 +1,8 @@
-//! The choice of the core for a new thread.
+//! Chooses the core for a new thread: of two random cores the one with fewer threads.
 ghost use Rattle.std.specs.Prelude.{◌≡◌, ◌<◌, length, Any};
 ghost use Rattle.arachne_policy.specs.Choice.{chosen_core};
 
-/// The number of threads that a core has.
+/// A core with the number of its threads, among which `two_choices` picks.
 #[derive(Clone, Copy, Debug, PartialEq, Eq)]
 pub struct CoreLoad {
     pub core: u8,

@@ -82,9 +82,10 @@ impl Estimator {
         &self.thresholds
     }
 
-    /// Returns the advice on a sample. If the advice is `Add`, the sample's utilisation is remembered.
+    /// Returns the advice on a sample. If the advice is `Add`, the estimator keeps the sample's utilisation, as the
+    /// threshold by which it later advises to give the core back.
     ///
-    /// A bad sample changes nothing.
+    /// A sample that cannot have been measured changes nothing.
     pub fn estimate(&mut self, sample: Sample) -> Result<Advice, BadSample>
         ensures good { is_ok result ≡ is_good self.old.settings.max sample }
         ensures advice { IfOk result (λ a. a ≡ advice_by self.old.settings (threshold_at self.old) sample) }

@@ -1,4 +1,4 @@
-//! The limits of samples and of the number of cores.
+//! The greatest number of cores, and the greatest counts in a sample, for which the estimator advises.
 
 /// The maximum number of cores that an estimator may advise.
 pub const MAX_CORES: usize = 64;

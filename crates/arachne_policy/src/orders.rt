@@ -4,7 +4,7 @@ ghost use Rattle.arachne_policy.specs.Orders.{order_fault, IsFirstFault, AreInOr
 
 use thiserror::Error;
 
-/// The kind of an order.
+/// Whether an order gives a core to the runtime or takes it back.
 #[derive(Clone, Copy, Debug, PartialEq, Eq)]
 pub enum OrderKind {
     /// The core is given to the runtime.
@@ -21,7 +21,7 @@ pub struct CoreOrder {
     pub core: u64,
 }
 
-/// The fault of an order.
+/// The reason why an order may not be in its list.
 #[derive(Clone, Copy, Debug, PartialEq, Eq, Error)]
 pub enum OrderFaultKind {
     #[error("no such core")]

@@ -1,4 +1,4 @@
-//! Samples of a load, and the advice on them.
+//! A sample (what was measured in one period on all cores), and the advice that the estimator gives on it.
 ghost use Rattle.std.specs.Prelude.{◌≡◌, ◌<◌, ◌≤◌, Some};
 ghost use Rattle.arachne_policy.specs.Advice.{advice_text};
 ghost use Rattle.arachne_policy.specs.Sample.{most_counted, load_of, utilisation_of, is_good};
@@ -22,12 +22,12 @@ pub struct Sample {
     pub elapsed: u64,
 }
 
-/// The advice on the number of cores.
+/// The advice on the number of cores: ask for one more, keep them, or give one back.
 #[derive(Clone, Copy, Debug, PartialEq, Eq)]
 pub enum Advice {
     /// Ask for one core more.
     Add,
-    /// Keep the cores.
+    /// Keep as many cores as there are.
     Stay,
     /// Give one core back.
     Remove,

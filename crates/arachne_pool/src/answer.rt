@@ -1,4 +1,4 @@
-//! The answer of a table to a wake.
+//! Evidence, for contracts, of what a table has answered to a wake.
 ghost use Rattle.std.specs.Prelude.{◌≡◌, IfSome};
 ghost use Rattle.arachne_contexts.specs.Out.{KeepsOut};
 ghost use Rattle.arachne_pool.specs.Waking.{Answers};
@@ -54,7 +54,7 @@ impl WakeAnswer {
         })
     }
 
-    /// Returns the answer.
+    /// Returns what the table has answered: whether it has woken the job.
     pub fn woken(&self) -> Woken
         ensures { result ≡ self.now.woken }
     {

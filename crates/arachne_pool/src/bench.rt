@@ -17,7 +17,7 @@ use std::collections::VecDeque;
 use std::mem::replace;
 use std::snapshot::Snapshot;
 
-/// The data of a worker beside its seat.
+/// A worker's jobs that wait for a place, its counts, its random choices and its unused cells.
 #[derive(Drop)]
 pub(crate) struct Bench<J: PoolJob> {
     pub(crate) alloc: Global,
@@ -138,7 +138,8 @@ impl<J: PoolJob> Bench<J> {
         self.told = self.tally;
     }
 
-    /// Takes the counts of spawned and ended jobs that the pool has not seen yet.
+    /// Returns how many jobs the worker has spawned, and how many have ended on its core, since the last call of
+    /// `news`.
     pub(crate) fn news(&mut self) -> Tally
         ensures same { self.new ≡ record self.old { told = self.new.tally } }
         ensures spawned { self.old.told.spawned ≤ self.old.tally.spawned → self.old.told.spawned + result.spawned ≡ self.old.tally.spawned }

@@ -81,8 +81,9 @@ impl<C: Seats> Pool<C> {
         }
     }
 
-    /// Makes one round on a core: orders that are due are applied, each job that is ready on the core has a slice, and
-    /// a job of the worker that waits for a place gets one. Returns whether there was anything to do.
+    /// Makes one round on a core: carries out the orders to open or close cores that are due, gives each job that is
+    /// ready on the core a slice, and gives a place to a job of the worker that waits for one. Returns whether there
+    /// was anything to do.
     ///
     /// If no job is ready, a job is moved to this core from another core, on which it is ready and was not reached yet
     /// by that core's worker (a kernel thread that has called `work`). If the round only moved a job to the core, a

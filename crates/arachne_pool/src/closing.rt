@@ -1,4 +1,4 @@
-//! Makes and closes a pool.
+//! Makes a pool with its first worker, replaces its orders, and closes it, which returns the jobs that are left.
 ghost use Rattle.std.specs.Prelude.{◌≡◌, ◌+◌, ◌<◌, ◌≤◌, ◌↔◌, [], IfErr, IfOk, IfSome, IsSome, IsTrue, MatchOption, OnErr, OnOk, Some};
 ghost use Rattle.arachne_core.specs.declared.layout.TheConstants.{CORES, SLOTS};
 ghost use Rattle.arachne_policy.specs.Orders.{AreInOrder};
@@ -40,7 +40,7 @@ impl<J: PoolJob> Left<J> {
     }
 }
 
-/// The reason why a pool was not closed.
+/// The reason why `close` has not closed the pool, with what it gives back.
 #[derive(Drop)]
 pub enum NotClosed<C: Seats, J: PoolJob> {
     /// Another worker or a waker has a part of the seat, or this worker has no seat. Pool and worker are returned.
@@ -91,9 +91,10 @@ impl<C: Seats> Pool<C> {
     ghost use Rattle.arachne_pool.specs.NotClosed.{ComesBack};
     ghost use Rattle.arachne_pool.specs.Workers.{ComeLast};
 
-    /// Replaces the orders of the pool, as a caller's policy does between two rounds. Old orders that are not applied
-    /// yet are forgotten. A core that old orders have closed stays closed until a new order grants it. All orders of a
-    /// pool must be given to the same worker. If memory is refused, the worker keeps its orders.
+    /// Replaces the pool's orders to open or close cores, as a caller's policy does between two rounds. The worker
+    /// forgets old orders that it has not carried out yet. A core that old orders have closed stays closed until a new
+    /// order grants it. The caller must give all orders of a pool to the same worker. If memory is refused, the worker
+    /// keeps its orders.
     pub fn order<H: Wait, J: PoolJob>(
         &self,
         rt: &H,
@@ -120,7 +121,8 @@ impl<C: Seats> Pool<C> {
         Ok(())
     }
 
-    /// Returns whether a core seems to be closed. Only orders close a core.
+    /// Returns whether the core's occupancy word, at this moment, says that the core is closed. Only orders close a
+    /// core.
     fn is_closed<H: Wait, J: PoolJob>(&self, rt: &H, core: u8) -> bool
     where
         C: Contexts<Spawned<J>>,
@@ -178,7 +180,7 @@ impl<C: Seats> Pool<C> {
     }
 }
 
-/// The order that closes a core, due at once.
+/// Returns the order that closes a core, due at once.
 fn closes_at_once(core: u8) -> CoreOrder
     ensures { result ≡ record { after = 0; kind = Release; core = core } }
 {

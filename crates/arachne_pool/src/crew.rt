@@ -1,4 +1,4 @@
-//! The kernel threads that run a job, one for each core.
+//! Starts one kernel thread for each core of a pool. They work until the caller's job and all that it forks have ended.
 ghost use Rattle.std.specs.Prelude.{◌≡◌};
 
 use crate::handle::Handle;
@@ -23,7 +23,8 @@ pub(crate) struct Crew<'p, C: Seats, J> {
     first_fault: Mutex<Option<RunFault>>,
 }
 
-/// A kernel thread's worker. The first kernel thread has the job too, and once it is spawned its handle.
+/// What one kernel thread of the crew starts with: its worker, and for the first kernel thread also the job. Once that
+/// thread has spawned the job, it has the job's handle instead.
 #[derive(Drop)]
 pub(crate) struct Share<S, J: PoolJob> {
     pub(crate) worker: Worker<S, J>,

@@ -1,4 +1,4 @@
-//! The handle of a job, which gives its result.
+//! The handle by which the caller that spawned a job gets the job's result, once.
 ghost use Rattle.std.specs.Prelude.{◌≡◌, IfErr, IfOk};
 
 use crate::job::PoolJob;

@@ -1,11 +1,11 @@
-//! Jobs: what a pool runs.
+//! The trait of jobs: a job says how it makes a step, takes a child's result, and how many steps a slice of it has.
 ghost use Rattle.std.specs.Prelude.{◌≡◌, List, [], ◌∷◌};
 ghost use Rattle.arachne_pool.specs.Jobs.{EndsWith, ForksFresh, HasJoined, IsAwaited, KeepsChildren, KeepsResults, KnowsChildren};
 
 use arachne_contexts::Tagged;
 use arachne_core::ThreadId;
 
-/// The request of a job after a step.
+/// What a job wants after a step: to go on, to fork a child, to join one, to sleep or to end.
 #[derive(Drop)]
 pub enum Step<J, O> {
     /// The job goes on.
@@ -24,7 +24,7 @@ pub enum Step<J, O> {
 
 /// A job. It goes on by steps, one after the other, each of which any worker may make.
 pub trait PoolJob: Tagged + Drop {
-    /// The type of the job's result.
+    /// The type of the value with which the job ends.
     type Output: Drop;
 
     /// True if this is a result of the job. A handle gives no other result.

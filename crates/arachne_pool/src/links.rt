@@ -64,7 +64,7 @@ impl<J: PoolJob> Links<J> {
         }
     }
 
-    /// Takes the newest child, if it has not begun.
+    /// Takes the newest child out of the list, if the child has not begun, and returns it.
     pub(crate) fn take_newest(&mut self) -> Option<J>
         ensures taken { MatchOption result ((self.new ≡ self.old) × (self.old.aside ≡ 0)) (λ child. LosesAside child self.old self.new) }
         ensures fresh { IfSome result (λ child. J.awaits child []) }

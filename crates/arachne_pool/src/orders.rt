@@ -14,11 +14,12 @@ use std::alloc::{AllocError, Global};
 use std::marker::Model;
 use std::sync::Wait;
 
-/// The orders of a pool, if a worker has them. Contracts see how many of the orders are applied.
+/// The orders to open or close cores of a pool, if a worker has them. Contracts see how many the worker has carried
+/// out.
 #[derive(Drop)]
 pub(crate) struct PoolOrders {
     arbiter: Option<Arbiter>,
-    /// The number of orders, applied or not.
+    /// The number of orders, also of those that the worker has carried out.
     count: usize,
 }
 
@@ -45,7 +46,7 @@ impl PoolOrders {
         }
     }
 
-    /// Returns `list` as orders for this number of cores, none of them applied yet.
+    /// Returns `list` as orders for this number of cores, of which the worker has carried out none yet.
     pub(crate) fn new(
         alloc: Global,
         orders: Vec<CoreOrder>,
@@ -78,7 +79,7 @@ impl PoolOrders {
         }
     }
 
-    /// Returns whether there is any order, applied or not.
+    /// Returns whether there is any order, also if the worker has carried it out.
     #[inline(always)]
     pub(crate) fn has_any(&self) -> bool
         ensures { IsTrue result ↔ (0 < count_orders self.now) }
@@ -86,7 +87,7 @@ impl PoolOrders {
         self.count != 0
     }
 
-    /// Returns whether an order is not applied yet.
+    /// Returns whether there is an order that the worker has not carried out yet.
     pub(crate) fn has_more(&self) -> bool
         ensures { IsTrue result ↔ IsOneLeft self.now }
     {
@@ -96,8 +97,8 @@ impl PoolOrders {
         }
     }
 
-    /// Applies the orders that are due, and moves jobs away from a closed core. Returns the number of orders applied in
-    /// all, if this call has applied an order, and the cores to which jobs were moved, a bit for each.
+    /// Carries out the orders that are due, and moves jobs away from a closed core. Returns the number of orders
+    /// carried out so far, if this call has carried out one, and the cores to which it has moved jobs, a bit for each.
     pub(crate) fn tend<H: Wait, T: Tagged, C: Contexts<T>>(
         &mut self,
         cores: &Cores<'_, H, T, C>,

@@ -25,7 +25,7 @@ impl<J: PoolJob> Fits<WantedResult<J>> for JobOutcome<J> {
 /// The end of a cell at which a job leaves its result, the sending end.
 pub(crate) type ResultSender<J> = Sender<JobOutcome<J>, WantedResult<J>>;
 
-/// The end of a cell at which a job's result arrives.
+/// The end of a join cell at which the job's handle or parent gets the job's result.
 pub(crate) type ResultReceiver<J> = Receiver<JobOutcome<J>, WantedResult<J>>;
 
 /// Join cells that a worker keeps for the next jobs.

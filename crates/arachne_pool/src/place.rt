@@ -1,4 +1,4 @@
-//! Gives jobs their places, and frees the places.
+//! Claims a free place for a job and puts the job there, and frees the place when the job has ended.
 //!
 //! The functions of this module may use the table, by the seat that they are given.
 ghost use Rattle.std.specs.Prelude.{◌≡◌, ◌<◌, [], ◌∷◌, ◌++◌, IfErr, IfOk, MatchOption, OnErr, OnOk};

@@ -1,4 +1,4 @@
-//! The state that the workers of a pool share.
+//! A pool's table, its counts of jobs, and the words by which its workers wake and stop one another.
 ghost use Rattle.std.specs.Prelude.{◌≡◌, ◌<◌, ◌≤◌, IfOk};
 ghost use Rattle.arachne_core.specs.declared.layout.TheConstants.{CORES, SLOTS, LAST_GENERATION};
 ghost use Rattle.arachne_weights.specs.Weight.{whole};
@@ -17,7 +17,7 @@ use std::sync::atomic::{AtomicU64, Ordering};
 /// The state that the workers of a pool share: the table, the counts of jobs, and the words that end all work.
 #[derive(Drop)]
 pub struct Pool<C: Seats> {
-    /// The table of contexts.
+    /// The table that says where each job is.
     pub table: C,
     /// The number of cores, 1 to 64.
     pub cores: u8,

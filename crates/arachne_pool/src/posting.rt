@@ -1,4 +1,4 @@
-//! Puts jobs at places that a seat has claimed.
+//! Puts a job at a place that the worker's seat has claimed, and signals the core's worker.
 //!
 //! This module may use the table, by the seat that it is given.
 ghost use Rattle.std.specs.Prelude.{◌≡◌, IfOk, IfSome, OnOk};

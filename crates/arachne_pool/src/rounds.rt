@@ -119,8 +119,8 @@ pub(crate) fn run_until<H: Wait + Clock, D: PoolDesk, J: PoolJob>(
     unreachable!()
 }
 
-/// Makes one round, and waits if it found nothing. `idle` is the number of consecutive rounds before this one that
-/// found nothing.
+/// Makes one round, and waits if it found nothing to do. Returns whether it found something. `idle` is the number of
+/// consecutive rounds before this one that found nothing.
 fn round<H: Wait + Clock, D: PoolDesk>(
     kernel: &mut CoreWorker<'_, H, D>,
     idle: u32,

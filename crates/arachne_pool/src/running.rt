@@ -22,7 +22,7 @@ use std::thread::{Threads, available_parallelism};
 use std::time::Clock;
 use thiserror::Error;
 
-/// The machine of a run.
+/// How many cores and places the pool has in which `Pool::run` runs a job.
 #[derive(Clone, Copy, Debug, PartialEq, Eq)]
 pub struct Setup {
     /// The number of cores, 1 to 64. Each has a kernel thread.
@@ -51,7 +51,7 @@ impl Setup {
 /// A job that was run to its end. All jobs that it has forked have ended too.
 #[derive(Drop)]
 pub struct Finished<O> {
-    /// Its result.
+    /// The job's result.
     pub output: O,
     /// The numbers of jobs that were spawned, this one with them, and that have ended.
     pub tally: Tally,
@@ -85,16 +85,16 @@ impl From<TeamFault> for RunFault {
     }
 }
 
-/// A job that was not run to its end.
+/// What `Pool::run` returns if the job has not ended: the fault, and what is left of the jobs.
 #[derive(Drop)]
 pub enum Unfinished<J: PoolJob> {
-    /// Memory or a kernel thread was refused before the job was spawned. It is returned.
+    /// Memory or a kernel thread was refused before the job was spawned. The job is returned.
     NotSpawned(RunFault, J),
     /// All kernel threads were stopped for a fault. The jobs that have not ended are returned; with those that have,
     /// they are as many as were spawned.
     Stopped(RunFault, Tally, Left<J>),
-    /// The same, but the jobs that have not ended are dropped: memory was refused once more as they were put together,
-    /// or the table didn't know a place or a job that a worker had of it.
+    /// All kernel threads were stopped for a fault, and the jobs that have not ended are dropped: memory was refused
+    /// once more as they were put together, or the table didn't know a place or a job that a worker had of it.
     Lost(RunFault),
 }
 

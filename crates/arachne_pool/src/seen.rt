@@ -1,4 +1,4 @@
-//! Cores that were asked for a place and have no free one.
+//! Counts why the cores that a call has asked for a place gave none: so many were full, and so many closed.
 ghost use Rattle.std.specs.Prelude.{◌≡◌, ◌+◌, ◌<◌};
 ghost use Rattle.arachne_contexts.specs.Words.{ShowsClosed, ShowsFull};
 
@@ -7,7 +7,7 @@ ghost use Rattle.arachne_contexts.specs.Words.{ShowsClosed, ShowsFull};
 /// shows that none of its places is free.
 #[derive(Clone, Copy, Debug, PartialEq, Eq)]
 pub struct NoPlaces {
-    /// The core that was asked first.
+    /// The first core that the call has asked for a place.
     first: u8,
     /// The number of places of each core.
     slots: u8,
@@ -32,7 +32,8 @@ impl NoPlaces {
         self.closed
     }
 
-    /// Returns counts of 0 for a table whose cores have `slots` places. `core` is the first core to be asked.
+    /// Returns counts of 0 for a table whose cores have `slots` places. The call asks the core `core` for a place
+    /// first.
     pub(crate) fn before(core: u8, slots: u8) -> NoPlaces
         ensures seen { AreSeen core 0 slots result }
         ensures next { IsNext core result }
@@ -45,7 +46,8 @@ impl NoPlaces {
         }
     }
 
-    /// Counts the next core, whose occupancy word shows that the core is full, or exclusive to one job.
+    /// Adds the next core to the count of full cores; its occupancy word shows that it is full, or exclusive to one
+    /// job.
     pub(crate) fn with_full(self, core: u8, word: u64) -> NoPlaces
         requires next { IsNext core self }
         requires below { core < u8.MAX }
@@ -59,7 +61,7 @@ impl NoPlaces {
         }
     }
 
-    /// Counts the next core, whose occupancy word shows that the core is closed.
+    /// Adds the next core to the count of closed cores; its occupancy word shows that it is closed.
     pub(crate) fn with_closed(self, core: u8, word: u64) -> NoPlaces
         requires next { IsNext core self }
         requires below { core < u8.MAX }

@@ -32,7 +32,7 @@ pub enum Refusal {
     NoSeat,
 }
 
-/// A job that was not spawned.
+/// A job that could not be spawned, which is returned to the caller, with the reason.
 #[derive(Drop)]
 pub struct Refused<J: PoolJob> {
     pub job: J,

@@ -1,4 +1,4 @@
-//! A job and the jobs that run in its place.
+//! A job and the jobs that run in its place. Each of them was forked by the one before it, and the newest runs first.
 ghost use Rattle.std.specs.Prelude.{◌≡◌, ◌+◌, ◌<◌, ◌≤◌, [], ◌∷◌, List, None, IfSome, IsSome, MatchOption, length, false, true};
 ghost use Rattle.arachne_pool.specs.Frames.{CountsEach, IsServed, KeepsMany, count_none, unless_ended};
 ghost use Rattle.arachne_pool.specs.Jobs.{children_of};
@@ -34,7 +34,7 @@ impl<J: PoolJob> Model for JobFrame<J> {
 }
 
 impl<J: PoolJob> JobFrame<J> {
-    /// Begins a job in a frame of its own.
+    /// Returns the frame of a job that has made no step.
     fn begin(job: J) -> JobFrame<J>
         ensures { result ≡ record { asked = job; job = job; awaited = 0 } }
     {
@@ -90,7 +90,7 @@ impl<J: PoolJob> Model for Stack<J> {
 }
 
 impl<J: PoolJob> Stack<J> {
-    /// Begins a job.
+    /// Returns a stack with this job, which has made no step, as its only one.
     pub(crate) fn begin(alloc: Global, job: J) -> Stack<J>
         requires { J.awaits job [] }
         ensures { result ≡ record { asked = job; many = 1; jobs = job ∷ []; child = None; ended = None; waits = false } }

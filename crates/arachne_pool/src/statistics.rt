@@ -1,4 +1,4 @@
-//! Statistics of a core's workers.
+//! What the workers of a core report of their work, as sums since the pool was made.
 ghost use Rattle.std.specs.Prelude.{◌≡◌};
 ghost use Rattle.arachne_pool.specs.Done.{nothing_done};
 

@@ -1,4 +1,4 @@
-//! The end of a slice of a job, and how the job rests after it.
+//! Why a slice of a job stops, and whether the job then goes back to its place as ready or as blocked.
 ghost use Rattle.std.specs.Prelude.{◌≡◌, if◌then◌else◌};
 ghost use Rattle.arachne_pool.specs.Stops.{blocks_after, rests_as};
 

@@ -1,4 +1,4 @@
-//! Counts of jobs that were spawned and have ended.
+//! A worker's two counts: the jobs that it has spawned, and the jobs that have ended on its core.
 ghost use Rattle.std.specs.Prelude.{◌≡◌, ◌+◌, ◌≤◌, min};
 
 /// The number of jobs that a worker has spawned, and of jobs that have ended on its core. Each count stays at 2^64 - 1.

@@ -1,4 +1,4 @@
-//! Two kernel threads work for a pool, whatever its table is.
+//! Has two kernel threads work for a pool, over any form of table, as a test case says.
 ghost use Rattle.std.specs.Prelude.{◌≡◌, ◌<◌, IfSome};
 ghost use Rattle.arachne_pool.specs.Workers.{IsWorkerOf};
 

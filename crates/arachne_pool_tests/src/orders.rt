@@ -1,4 +1,4 @@
-//! Orders of the tests.
+//! Makes the list of orders to open and close cores from a test's table of numbers.
 ghost use Rattle.std.specs.Prelude.{IfSome};
 ghost use Rattle.arachne_policy.specs.Orders.{AreInOrder};
 

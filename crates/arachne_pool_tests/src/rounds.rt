@@ -105,7 +105,7 @@ pub(crate) enum Comes {
     NoSeat,
 }
 
-/// The result of a wake.
+/// Whether a test's wake must find a job that sleeps, one that is awake, or none.
 #[derive(Clone, Copy, PartialEq)]
 pub(crate) enum Wakes {
     /// The job slept.
@@ -116,7 +116,7 @@ pub(crate) enum Wakes {
     Nobody,
 }
 
-/// The state of a core.
+/// The state that a test expects of a core: open, closed, or exclusive to one job.
 #[derive(Clone, Copy, PartialEq)]
 pub(crate) enum Is {
     Open,

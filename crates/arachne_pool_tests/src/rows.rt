@@ -1,4 +1,4 @@
-//! Rows of acts, over the table on words.
+//! Test cases for a pool over the table on atomic words: what its workers do, and how many jobs must be left.
 use crate::board::Board;
 use crate::crew::{Crew, Share};
 use crate::orders::{GRANT, Order, RELEASE};
@@ -14,7 +14,7 @@ use std::test::Fail;
 use std::thread::Threads;
 use std::time::Clock;
 
-/// The pool's table.
+/// The form of table that these pools use: the table on atomic words.
 type Table = WordContexts<Spawned<Task>>;
 
 /// A job that has a core for itself, the first empty core.

@@ -10,7 +10,7 @@ use std::test::Fail;
 use std::thread::Threads;
 use std::time::Clock;
 
-/// The result of a run.
+/// How a test's run must end: with its result, with its job returned, or with a fault.
 #[derive(Clone, Copy, PartialEq)]
 enum Comes {
     /// The job ends, and has counted this many jobs, which have made this many steps.

@@ -1,4 +1,4 @@
-//! The work of a row's two kernel threads.
+//! What each of a test case's two kernel threads does: it works, makes rounds, or waits for the other.
 ghost use Rattle.std.specs.Prelude.{◌≡◌, ◌<◌, IfSome};
 ghost use Rattle.arachne_pool.specs.Workers.{IsWorkerOf};
 
@@ -13,20 +13,20 @@ use std::sync::{Arc, Wait};
 use std::thread::{sleep, yield_now};
 use std::time::{Clock, Duration};
 
-/// The number of looks that a kernel thread takes at once before it yields its processor.
+/// How often a kernel thread checks for something in a row before it yields its processor.
 const LOOKS: u32 = 1_000;
 
-/// The number of looks, one every 5 ms, for something that happens soon or never.
+/// How often a kernel thread checks, every 5 ms, for something that happens soon or never.
 const GLANCES: u32 = 2000;
 
-/// The work of one kernel thread.
+/// What one of a test case's kernel threads does.
 #[derive(Clone, Copy)]
 pub(crate) enum Spell {
     /// The kernel thread does nothing.
     Not,
     /// The kernel thread works on its core until no job is left, or the pool is stopped.
     ToTheEnd,
-    /// Like `ToTheEnd`, on this core.
+    /// Works on this core until all jobs have ended, as `ToTheEnd` does on the thread's own core.
     ToTheEndOn(u8),
     /// The kernel thread works as in `ToTheEnd` each time that the turn is passed to it, until the pool is stopped.
     ToTheStop,

@@ -26,7 +26,7 @@ pub struct Carried {
 
 /// The kinds of step on a word of the table.
 ///
-/// A slot is in the table, or with a seat.
+/// Each context has a slot, which is the field for a thread's value. A slot is in the table, or with a seat.
 pub enum Kind {
     /// A load of an occupancy word or of a mark word.
     Look,

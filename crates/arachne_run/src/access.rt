@@ -25,7 +25,7 @@ use std::marker::Model;
 use std::sync::Wait;
 use std::time::Clock;
 
-/// A thread's request.
+/// What a thread asks of a lock or a ledger: to get the lock, to free it, or to add to the ledger.
 #[derive(Clone, Copy)]
 pub(crate) enum Want {
     /// The thread asks for this lock.
@@ -38,7 +38,7 @@ pub(crate) enum Want {
     Tallies(u64, u64),
 }
 
-/// The result of a thread's request.
+/// What the lock or the ledger has answered to a thread's request.
 pub(crate) enum Served {
     /// The thread waits for this lock.
     Waits(u64),
@@ -224,7 +224,7 @@ impl<'a> Access<'a> {
         }
     }
 
-    /// Makes one attempt to free a lock.
+    /// Tries once to free a lock; another kernel thread at the lock makes the attempt fail.
     fn try_free(
         &mut self,
         lock: u64,

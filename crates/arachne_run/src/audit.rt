@@ -1,4 +1,4 @@
-//! The audit of a run that is over.
+//! Checks, at the end of a run, that no two threads have one tag, and that each lock's grants are those of its threads.
 ghost use Rattle.std.specs.Prelude.{◌≡◌, ◌⊎◌, ℕ, ◌<◌, ◌≤◌, false, true, Contains, IfErr, IfNone, IfOk, IfSome, Ok, OnOk, List, length, map, slice_index, slice_index_or};
 ghost use Rattle.arachne_sleep.specs.declared.event.LockEvent.TheVariants.{Grant};
 ghost use Rattle.arachne_sleep.specs.declared.who.Who.{Who};
@@ -83,7 +83,8 @@ fn are_grants_holds(
     Ok(true)
 }
 
-/// Like `are_grants_holds`, of one lock, in a time that grows with its events and the threads.
+/// Returns whether this lock was granted to each thread as often as the thread held it, and to no other thread. The
+/// time grows with the lock's events and the threads.
 fn is_granted_as_held(
     alloc: Global,
     threads: &ThreadLines,

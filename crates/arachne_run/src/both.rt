@@ -1,4 +1,4 @@
-//! Decides which of two faults is reported at a run's end.
+//! Decides which of two faults a run reports at its end.
 ghost use Rattle.std.specs.Prelude.{◌≡◌, ◌⊎◌, Err, IfErr, IfOk, IfSome, None, Ok, Some};
 ghost use Rattle.arachne_run.specs.declared.fault.WorkerFault.TheVariants.{Token};
 

@@ -1,4 +1,4 @@
-//! The reasons why a run has no report.
+//! The reasons why a run ends without a report, made from the faults of its workers.
 use arachne_jobs::JobFault;
 use arachne_policy::OrderFault;
 use arachne_sleep::{AskFault, NotHolder};

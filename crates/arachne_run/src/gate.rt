@@ -1,4 +1,4 @@
-//! A caller's hook into a run.
+//! The observer of a run: methods that a run's workers call before each slice and at each event of their cores.
 use arachne_core::ThreadId;
 use arachne_lang::Name;
 use arachne_workers::WorkerEvent;

@@ -11,7 +11,7 @@ ghost use Rattle.arachne_run.specs.declared.granted.Granted.{Granted};
 use arachne_sleep::{AskFault, Asked, LockSeats, Pass, SleepLocks, Tried, Who};
 use std::snapshot::Snapshot;
 
-/// The call by which a lock was tried.
+/// Whether the thread asked for the lock now, or had asked before and checks whether it has the lock.
 #[derive(Clone, Copy)]
 pub(crate) enum LockCall {
     /// The thread asks for the lock.
@@ -54,7 +54,7 @@ pub(crate) enum Got {
     Contended,
 }
 
-/// Makes one attempt to ask for a lock.
+/// Tries once to ask for a lock; another kernel thread at the lock makes the attempt fail.
 #[inline(always)]
 pub(crate) fn ask(locks: &SleepLocks, seats: &mut LockSeats, lock: u8, who: Who) -> Got
     requires own { AreSeatsOf locks.now seats.old }

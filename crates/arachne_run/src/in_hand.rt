@@ -1,10 +1,10 @@
-//! The thread that a worker has in hand.
+//! The thread that a worker has taken to run, and whether a lock was granted to it since.
 ghost use Rattle.std.specs.Prelude.{◌≡◌, false, MatchOption};
 
 use arachne_contexts::{Held, Rested};
 use arachne_core::Rest;
 
-/// A thread in hand.
+/// The thread that a worker has taken to run, and whether it was granted a lock since.
 #[derive(Drop)]
 pub(crate) struct InHand<T, H> {
     pub(crate) held: Held<T, H>,

@@ -1,4 +1,4 @@
-//! The state that the workers of a run share.
+//! What the workers of a run share (table, ledgers, locks, ticket queue), and how all of it is closed at the end.
 ghost use Rattle.std.specs.Prelude.{◌≡◌, ◌≢◌, ◌≤◌, ◌⊎◌, ◌↔◌, ◌%◌, ◌^◌, [], false, true, All, Err, IfErr, IfOk, IfSome, IsOk, IsSome, IsTrue, None, OnOk, length, map};
 ghost use Rattle.arachne_lang.specs.Program.{tree_of};
 ghost use Rattle.arachne_core.specs.Occupancy.{count_of};
@@ -44,7 +44,7 @@ pub(crate) struct Machine<C, K: Tagged + Drop> {
     /// The number of places of each core.
     pub(crate) slots: u8,
     pub(crate) quantum: u32,
-    /// The number of orders.
+    /// The number of orders to open or close cores that the run was given.
     pub(crate) orders: usize,
     /// Set if workers may keep places.
     pub(crate) may_keep: bool,
@@ -127,8 +127,8 @@ impl<C: Seats + Drop, K: Tagged + Drop> Machine<C, K> {
         Ok((machine, tokens))
     }
 
-    /// Returns what is left once all workers have ended, and how many orders were applied. The error is the first
-    /// fault, if there was one.
+    /// Returns what is left once all workers have ended, and how many orders the arbiter has carried out. The error is
+    /// the first fault, if there was one.
     pub(crate) fn close<H: Wait, T>(
         self,
         rt: &H,

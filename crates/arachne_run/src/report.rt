@@ -1,4 +1,4 @@
-//! The report of a run.
+//! What a run returns: the program's value, ledgers and threads, and all that has happened at its locks.
 ghost use Rattle.std.specs.Prelude.{◌≡◌, ◌≢◌, [], All, Err, IfOk, length, map};
 ghost use Rattle.arachne_lang.specs.Program.{source_of};
 ghost use Rattle.arachne_lang.specs.Meaning.{meaning_of};
@@ -15,18 +15,18 @@ use arachne_machine::{DetachedOutcome, ThreadLines};
 use arachne_sleep::History;
 use std::alloc::Global;
 
-/// The result of a run.
+/// What a run returns of a program that has ended: its value, the sums of its ledgers, and its threads.
 #[derive(Debug, Drop)]
 pub struct Report {
     /// The value of the program.
     pub value: u64,
     /// For each ledger the sum of what was tallied to it, modulo 2^64.
     pub totals: Sequence<u64>,
-    /// Its threads, the root first.
+    /// The program's threads, the root first.
     pub threads: ThreadLines,
     /// For each lock all that was asked, granted and freed, oldest first.
     pub histories: Vec<History>,
-    /// The number of orders that were applied.
+    /// The number of orders to open or close a core that the run has carried out.
     pub applied: usize,
 }
 

@@ -1,4 +1,4 @@
-//! A run of a program.
+//! The function `run`: it starts the workers of a program's run, waits for their end, and makes the report.
 ghost use Rattle.std.specs.Prelude.{◌≡◌, true, IfErr, IfOk, IsOk, None, Some, Err, length, vec_len};
 ghost use Rattle.arachne_lang.specs.Program.{source_of};
 ghost use Rattle.arachne_lang.specs.Checked.{IsChecked};

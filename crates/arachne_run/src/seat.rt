@@ -40,8 +40,8 @@ pub(crate) struct RunSeat<'a, H, T: RunJob, C: Contexts<T>, R, G> {
     pub(crate) alloc: Global,
     pub(crate) machine: &'a Machine<C, T::Ticket>,
     pub(crate) core: u8,
-    /// Set if the table did not know a place or a thread of the worker. Then something else may be claimed or taken
-    /// through the seats, and the worker ends.
+    /// Set if the table did not know a place or a thread of the worker. Then the record here of what the seats have
+    /// claimed and taken (`held`, `kept`) may be wrong, so the worker ends.
     pub(crate) is_broken: bool,
     /// The seat by which the worker took the thread in hand.
     pub(crate) seat: C::Seat,
@@ -424,8 +424,8 @@ impl<'a, H: Wait + Clock, T: RunJob, C: Contexts<T>, R: Rng + Drop, G: Gate> Des
     }
 }
 
-/// Applies the orders that are due, and moves threads away ([`Arbiter::tend`]). Returns the number of orders applied in
-/// all, if this call has applied an order, and the cores to which threads were moved.
+/// Carries out the orders to open or close cores that are due, and moves threads away ([`Arbiter::tend`]). Returns the
+/// number of orders carried out so far, if this call has carried out one, and the cores to which it has moved threads.
 #[inline(always)]
 fn tend_by<H: Wait, T: Tagged, C: Contexts<T>>(
     arbiter: &mut Arbiter,
@@ -452,7 +452,7 @@ fn tend_by<H: Wait, T: Tagged, C: Contexts<T>>(
     }
 }
 
-/// Returns whether there is an arbiter that has not applied all orders.
+/// Returns whether there is an arbiter that has not carried out all orders.
 fn has_orders_left(arbiter: &Option<Arbiter>, orders: usize) -> bool
     ensures { MatchOption arbiter.now (result ≡ false) (λ progress. IsTrue result ↔ (progress.applied < orders)) }
 {

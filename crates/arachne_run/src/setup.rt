@@ -1,4 +1,4 @@
-//! Sets up a run.
+//! The numbers with which a run begins (its cores, places and steps per slice) and its orders, and their check.
 ghost use Rattle.std.specs.Prelude.{◌≡◌, None, Some, Err, IfErr, IsOk, vec_len};
 ghost use Rattle.arachne_policy.specs.Orders.{AreInOrder};
 ghost use Rattle.arachne_run.specs.declared.fault.RunFault.{RunFault};

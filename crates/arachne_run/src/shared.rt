@@ -1,4 +1,4 @@
-//! The words that all workers of a run share.
+//! The words by which the workers of a run wake and stop one another, and the first fault that one of them met.
 ghost use Rattle.std.specs.Prelude.{◌≡◌, IfOk, MatchOption, Some};
 ghost use Rattle.arachne_run.specs.Setups.{numbered};
 

@@ -1,4 +1,4 @@
-//! Values that are taken one at a time, the newest first.
+//! A stack of values: a worker takes the newest first.
 ghost use Rattle.std.specs.Prelude.{◌≡◌, [], ◌∷◌, IfErr, MatchOption, OnErr, OnOk, length};
 
 use std::alloc::Global;
@@ -57,7 +57,7 @@ impl<T> Stack<T> {
         Ok(())
     }
 
-    /// Takes the next value, if there is one.
+    /// Removes the newest value from the stack and returns it, if there is one.
     pub(crate) fn pop(&mut self) -> Option<T>
         ensures { MatchOption result (self.old ≡ [] × self.new ≡ []) (λ first. self.old ≡ first ∷ self.new) }
     {

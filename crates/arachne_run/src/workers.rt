@@ -1,4 +1,4 @@
-//! The kernel threads of a run, one for each core.
+//! Starts one kernel thread for each core of a run, and gives each the seats with which it works.
 ghost use Rattle.std.specs.Prelude.{◌≡◌, ◌<◌, None, IfErr, IfOk, IfSome, IsErr, IsNone};
 ghost use Rattle.arachne_run.specs.Choosers.{IsFirstOf};
 ghost use Rattle.arachne_run.specs.Tokens.{AreIdle, IsSetUp, ground_of};

@@ -22,7 +22,7 @@ const THREE: u64 = 0b111;
 /// The calls that a table answers by itself instead of passing them on.
 #[derive(Clone, Copy)]
 enum Alteration {
-    /// Passes on every call.
+    /// The table answers every call as the table behind the lock does.
     None,
     /// `finish` hands the thread back instead of ending it.
     HandsBack,

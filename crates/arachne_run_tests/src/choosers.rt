@@ -5,7 +5,7 @@ ghost use Rattle.rand_core.specs.Steps.{stream_of, steps_u64_high};
 use rand_core::Rng;
 use rand_core::utils::{NextWord, fill_bytes_via_u64};
 
-/// The words that the choosers of a machine draw.
+/// The words that the choosers (random generators) of a test's run draw.
 #[derive(Clone, Copy)]
 pub struct Draws {
     /// The first word of core 0's chooser.

@@ -36,13 +36,14 @@ pub enum Watching {
     /// core 1 has entered slice b.
     Meeting(u64, u64),
     /// `(n)`: core 0 waits in slice n - 1 until core 1 has entered slice 0. Core 1 waits at the end of slice 0 until
-    /// core 0 has entered slice n. No order may be applied before core 0 has entered slice n.
+    /// core 0 has entered slice n. No order to open or close a core may be carried out before core 0 has entered slice
+    /// n; otherwise `is_over` is false.
     Holding(u64),
     /// `(n)`: core 1 waits in slice 0 until core 0 has entered n slices.
     Lead(u64),
     /// Core 0 waits in slice 0 for a while, in which core 1 must not enter a slice.
     First,
-    /// `(n)`: core 1 waits in slice n until orders were applied.
+    /// `(n)`: core 1 waits in slice n until the run has carried out orders to open or close cores.
     Applying(u64),
     /// `(a, b)`: core 0 waits in slice a until core 1 is about to park, and in slice b until core 1 has entered slice
     /// 0.

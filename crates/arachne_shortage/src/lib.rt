@@ -17,10 +17,10 @@ const KEPT: usize = 1024;
 
 const APART: usize = 16;
 
-/// The size of the smallest blocks that are taken.
+/// The size, in bytes, of the smallest blocks that a hoard takes.
 const SMALLEST: usize = 16;
 
-/// The maximum number of blocks that are taken.
+/// The maximum number of blocks that a hoard takes.
 const BLOCKS: usize = 150_000;
 
 /// The number of small blocks, which lie next to each other and can be given back. Each has `SMALL_SIZE` bytes.
@@ -28,7 +28,7 @@ const SMALL: usize = 20_000;
 
 const SMALL_SIZE: usize = 40;
 
-/// The size of the largest block that is taken again from the memory that was given back.
+/// The size, in bytes, of the first block that `take_again` tries. It takes no larger ones.
 const PIECE: usize = 1 << 20;
 
 /// All memory that a process can get, except for what was given back. The blocks are not written to, so they use little

@@ -36,7 +36,7 @@ pub fn a_try_keeps_the_rule()
 
 /// A store of 0 to a lock's guard word keeps the rule, the invariant of the lock's table.
 ///
-/// The lock's state is in its slot again, with a history that begins with the history that the seat took.
+/// The table has the lock's state again, with a history that begins with the history that the seat took.
 pub fn giving_back_keeps_the_rule()
     ensures { (number slots id : ℕ) (me : Mine) (guarded : Guarded) (before : List LockEvent) → slots ≡ 1 → IsReturnable me guarded before
         → Allows (IsKept number) slots id me guard_word (λ _. 0) (λ _ after. GivesBack me after) }

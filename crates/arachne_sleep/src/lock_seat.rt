@@ -1,4 +1,4 @@
-//! The seat of a kernel thread at a lock.
+//! One kernel thread's right to call a sleep lock.
 ghost use Rattle.std.specs.Prelude.{◌↔◌, IsTrue};
 ghost use Rattle.arachne_sleep.specs.Views.{IsWhole};
 

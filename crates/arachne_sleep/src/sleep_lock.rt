@@ -28,13 +28,13 @@ const WORDS: usize = 32;
 /// The index of the guard word.
 const GUARD: usize = 16;
 
-/// The value of the guard word while the lock's state is in its slot.
+/// The value of the guard word (the lock's atomic word) while no seat has the lock's state in hand.
 const HOME: u64 = 0;
 
 /// The value of the guard word while a seat has the lock's state.
 const TAKEN: u64 = 1;
 
-/// A sleep lock with a guard word, which is 0 while the lock's state is in its slot, and 1 while a seat has the state.
+/// A sleep lock with a guard word: an atomic word that is 1 while a seat has the lock's state in hand, and otherwise 0.
 ///
 /// Each kernel thread uses the lock through a seat of its own. `ask`, `free` and `check` try once to set the guard
 /// word. If the guard word is set already, a call returns `Contended`, and nothing has changed. If not, the call does
@@ -56,7 +56,7 @@ impl Model for SleepLock {
     ghost invariant = { λ l. IsLaidOut l.table.shared.table_id l.table.shared.key l.number };
 }
 
-/// Returns the slots of a new lock.
+/// Returns the state of a new lock, as the only one of a list.
 fn first_slots(alloc: Global, number: u8) -> Result<Vec<GuardedState>, AllocError>
     ensures { IfOk result (λ slots. IsFirstSlot number slots.items) }
 {

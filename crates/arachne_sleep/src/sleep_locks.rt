@@ -1,4 +1,4 @@
-//! All sleep locks of a run.
+//! Several sleep locks, numbered from 0, with calls that name the lock by its number.
 ghost use Rattle.std.specs.Prelude.{◌≡◌, ◌<◌, ◌↔◌, All, IsTrue, IsOk, IfOk, IfErr, IfSome, length, map};
 ghost use Rattle.std.specs.List.{AllZip};
 ghost use Rattle.arachne_sleep.specs.History.{IsSound};

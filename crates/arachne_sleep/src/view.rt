@@ -13,7 +13,7 @@ pub struct PlacedEvent {
 pub enum Kind {
     /// A compare-exchange from 0 to 1. If the exchange succeeds, the seat has the lock's state.
     Take,
-    /// A store of 0. The lock's state is in its slot again.
+    /// A store of 0. The seat has given the lock's state back.
     GiveBack,
 }
 

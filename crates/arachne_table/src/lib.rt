@@ -1,4 +1,4 @@
-//! Context tables: the trait that all forms implement, and the forms.
+//! Context tables: the trait of all of them, the table on atomic words, and the table behind a lock.
 //!
 //! This crate has no code of its own. The crate re-exports four others: the trait `Contexts` with its seats and answers
 //! (`arachne_contexts`), the form behind a lock (`arachne_locked`), the form on atomic words (`arachne_words`), and a

@@ -1,4 +1,4 @@
-//! The weight that a token carries at run time.
+//! A part of the whole weight 2^127, which is halved when a holder is split and added when two are joined.
 ghost use Rattle.std.specs.Prelude.{◌≡◌, ◌↔◌, IsTrue};
 ghost use Rattle.arachne_weights.specs.Weight.{whole, first_part, second_part, joined};
 

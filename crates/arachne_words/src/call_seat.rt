@@ -3,7 +3,7 @@ use arachne_rule::View;
 use atomic_table::Seat;
 use std::marker::Model;
 
-/// A seat while a call runs, which may have taken slots out of the table.
+/// A seat while a call runs. It may have taken slots (the fields for threads' values) out of the table.
 ///
 /// Contracts see the seat's table, its weight, what it knows, and those slots.
 #[derive(Drop)]

@@ -1,4 +1,4 @@
-//! Claims of places, and their release.
+//! Claims a free place of a core, or a whole empty core, and gives a claimed place back.
 ghost use Rattle.std.specs.Prelude.{◌≡◌, ◌<◌, true, false, slice_index_or, IfSome, IfNone, IfOk, IfErr};
 ghost use Rattle.arachne_core.specs.Occupancy.{occupancy_word};
 ghost use Rattle.arachne_rule.specs.Layout.{occ_index};

@@ -1,4 +1,4 @@
-//! Cores that close and open.
+//! Closes a core, which then takes no more threads, and opens it again.
 ghost use Rattle.std.specs.Prelude.{◌≡◌, ◌-◌, ◌^◌, ◌<◌, bit_and, bit_or};
 ghost use Rattle.arachne_core.specs.Occupancy.{IsOccupancyWord};
 ghost use Rattle.arachne_rule.specs.declared.view.Kind.TheVariants as kind;

@@ -1,4 +1,4 @@
-//! The table on words as a form of context table.
+//! Implements the trait of context tables for the table on atomic words.
 //!
 //! Each call of the trait makes the inherent call of the same name. No call waits, and only `new` and `close` take
 //! memory. The contract of a call has the clauses of the inherent call besides those of the trait.

@@ -1,4 +1,4 @@
-//! Ends of threads.
+//! Ends a thread that a seat has in hand, and frees its place for another.
 ghost use Rattle.std.specs.Prelude.{◌≡◌, ℕ, ◌<◌};
 ghost use Rattle.arachne_rule.specs.Views.{without};
 ghost use Rattle.arachne_words.specs.Seats.{HasThread};

@@ -1,4 +1,4 @@
-//! The words of a new table.
+//! The value of each atomic word of a new table, in which all places are free.
 ghost use Rattle.std.specs.Prelude.{◌≡◌, ◌+◌, ◌*◌, ◌<◌, ◌≤◌, ℕ, IfOk, vec_len, slice_index};
 ghost use Rattle.arachne_core.specs.declared.layout.TheConstants.{CORES, LAST_GENERATION, SLOTS};
 ghost use Rattle.arachne_words.specs.FirstWords.{first_word};

@@ -1,4 +1,4 @@
-//! The context table on atomic words.
+//! The context table on atomic words: each call reads and changes a few words, and takes no lock.
 //!
 //! Each core has an occupancy word, each context a mark word and a slot for its thread's value, and each place a word
 //! that names its context. A seat changes these words by single atomic steps, which neither wait nor allocate. Between

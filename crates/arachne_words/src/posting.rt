@@ -1,4 +1,4 @@
-//! Posts: threads that are put at claimed places.
+//! Posts a thread: puts it at a place that the seat has claimed, ready to run.
 ghost use Rattle.std.specs.Prelude.{◌≡◌, ◌<◌, ◌∷◌, Some, None};
 ghost use Rattle.atomic_table.specs.Table.{rest};
 ghost use Rattle.arachne_rule.specs.declared.view.Carried.{Carried};
@@ -17,7 +17,8 @@ use arachne_contexts::Tagged;
 use arachne_core::{Mark, MarkWord, Place, ThreadId};
 
 impl<T: Tagged + Drop> WordContexts<T> {
-    /// Reads which context stands at a place that the seat has claimed, and takes the context's empty slot.
+    /// Reads which context stands at a place that the seat has claimed, and takes the context's slot (the field for a
+    /// thread's value), which is empty.
     pub(crate) fn take_slot(&self, seat: &mut CallSeat<T>, place: Place) -> usize
         requires own { seat.old.table ≡ self.now.table }
         requires place { IsPlaceIn self.now.shape place }
@@ -28,7 +29,7 @@ impl<T: Tagged + Drop> WordContexts<T> {
         shared.load::<TakeSlot>(&mut seat.seat, self.name_word(place)) as usize
     }
 
-    /// Puts a value into the empty slot that was taken last.
+    /// Puts a thread's value into the empty slot that the seat has taken last.
     pub(crate) fn lay_in(&self, seat: &mut CallSeat<T>, context: usize, value: T)
         requires own { seat.old.table ≡ self.now.table }
         requires slot { seat.old.slots ≡ (context, None) ∷ rest seat.old.slots }

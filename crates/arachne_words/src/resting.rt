@@ -1,4 +1,4 @@
-//! Threads that are put back.
+//! Puts a thread that a seat has in hand back at its place, ready to run or blocked.
 ghost use Rattle.std.specs.Prelude.{◌≡◌, ◌<◌, IfOk, IfErr};
 ghost use Rattle.atomic_table.specs.Table.{rest};
 ghost use Rattle.arachne_core.specs.declared.mark.Mark.TheVariants as Mark;
@@ -49,7 +49,7 @@ impl<T: Tagged + Drop> WordContexts<T> {
         Ok(())
     }
 
-    /// Puts the value of a thread that the seat has in hand into its slot, and puts the thread back.
+    /// Stores the value of a thread that the seat has in hand in its context's slot, and puts the thread back.
     fn rest_thread(
         &self,
         seat: &mut CallSeat<T>,

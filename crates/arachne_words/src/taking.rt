@@ -1,4 +1,4 @@
-//! Takes threads that are ready.
+//! Takes the ready thread at a place into a seat's hand, with the thread's value.
 ghost use Rattle.std.specs.Prelude.{◌≡◌, ◌↔◌, IsTrue, ◌<◌, ◌∷◌, Some, None, IfOk, IfErr};
 ghost use Rattle.atomic_table.specs.Table.{rest};
 ghost use Rattle.arachne_core.specs.declared.mark.Mark.TheVariants as Mark;
@@ -44,7 +44,7 @@ impl<T: Tagged + Drop> WordContexts<T> {
         Ok(())
     }
 
-    /// Takes the value out of the slot that was taken last.
+    /// Takes the thread's value out of the slot that the seat has taken last.
     fn take_out(&self, seat: &mut CallSeat<T>, context: usize) -> T
         requires own { seat.old.table ≡ self.now.table }
         requires value { (value : T) × HasLast seat.old.slots context (Some value) }

@@ -1,4 +1,4 @@
-//! Wakes of threads.
+//! Wakes a thread by its id: a blocked thread becomes ready, and one in a worker's hand is marked as woken.
 ghost use Rattle.std.specs.Prelude.{◌≡◌, ◌<◌, IfOk, IfErr};
 ghost use Rattle.arachne_core.specs.declared.mark.Mark.TheVariants as Mark;
 ghost use Rattle.arachne_core.specs.declared.layout.TheConstants.{CORE_BITS};

@@ -39,7 +39,7 @@ impl Halted {
         Halted { halt }
     }
 
-    /// Returns the cause.
+    /// Returns the reason why the worker's loop has ended.
     #[inline(always)]
     pub fn halt(self) -> Halt
         ensures { result ≡ self }
@@ -94,7 +94,7 @@ pub trait Desk {
     fn give_one_back(&mut self) -> Result<bool, Halt>
         ensures { self.new ≡ self.old };
 
-    /// Returns the core's occupancy.
+    /// Returns which places of the worker's core are occupied, and whether the core is closed or exclusive.
     fn look(&mut self) -> OccWord
         ensures { self.new ≡ self.old };
 
@@ -120,18 +120,19 @@ pub trait Desk {
     fn take_ticket(&mut self) -> Result<TicketResult, Halt>
         ensures { self.new ≡ self.old };
 
-    /// Applies the orders that are due, and moves threads away from closed cores, if this worker applies orders.
+    /// Carries out the orders to open or close cores that are due, and moves threads away from closed cores, if this
+    /// worker has the orders.
     ///
-    /// Returns the number of orders that were applied in all, if this call applied an order, and the cores to which
-    /// threads were moved, a bit for each.
+    /// Returns the number of orders carried out so far, if this call has carried out one, and the cores to which it has
+    /// moved threads, a bit for each.
     fn tend(&mut self) -> (Option<usize>, u64)
         ensures { self.new ≡ self.old };
 
     /// Returns whether the run has orders. `tend` is called only if there are orders.
     fn has_orders(&self) -> bool;
 
-    /// Returns whether others may wait for this worker: it has orders that are not applied yet, or threads that wait
-    /// for a place. If so, the worker's sleeps are short, and it doesn't park.
+    /// Returns whether others may wait for this worker: it has orders that it has not carried out yet, or threads that
+    /// wait for a place. If so, the worker's sleeps are short, and it doesn't park.
     fn is_waited_for(&self) -> bool;
 
     /// Returns whether the core is closed and empty. The worker parks only if the result is true.
@@ -185,7 +186,7 @@ pub enum TicketResult {
     Posted(PostedThread),
 }
 
-/// An event that a worker reports.
+/// What a worker reports that it has just done or is about to do, such as to wake a thread or to park.
 #[derive(Clone, Copy, Debug, PartialEq, Eq)]
 pub enum WorkerEvent {
     /// A slice has ended, after this many steps. A slice that meets a fault is not reported.
@@ -208,13 +209,14 @@ pub enum WorkerEvent {
     /// The worker's sleep timed out, and then the worker found something that nobody had signalled. Threads and tickets
     /// that are not signalled at once cause a few such events; many of them show that a signal is missing.
     Overslept,
-    /// The worker that applies orders has applied an order: this is the number of all applied orders now.
+    /// The worker has carried out an order to open or close a core. The number is that of all orders carried out so
+    /// far.
     Applied(usize),
-    /// The worker that applies orders has moved threads away from a closed core to these cores, a bit for each.
+    /// The worker that has the orders has moved threads away from a closed core to these cores, a bit for each.
     MovedAway(u64),
 }
 
-/// The end of a slice.
+/// Why a slice of a thread has ended.
 #[derive(Clone, Copy, Debug, PartialEq, Eq)]
 pub enum SliceEnd {
     /// The thread can go on: its steps are used up, or another thread must run.

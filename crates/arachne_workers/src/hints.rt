@@ -29,7 +29,7 @@ pub(crate) fn bit_of(index: u8) -> u64
     }
 }
 
-/// Returns the bits of a word for these indexes.
+/// Returns a core's word in which the bits of these indexes are set.
 #[inline(always)]
 fn hint_of(indexes: u64) -> u64
     ensures { result ≡ indexes * 2 % 2 ^ 64 }

@@ -1,4 +1,4 @@
-//! Every constant and every choice of the scheduler.
+//! The scheduler's constants and choices: how long a worker searches, when it sleeps, and when it signals others.
 //!
 //! Pure functions: their results change when and where threads run, and how fast, and never what a run computes. Each
 //! contract says the exact result, so no function has a test of its own.

@@ -21,7 +21,7 @@ pub struct PostedThread {
     pub place: Place,
 }
 
-/// A worker's notes.
+/// Where a worker looks for its next threads, and which workers it must still signal.
 #[derive(Drop)]
 pub struct Agenda {
     /// The indexes that the current scan (pass over the core's indexes) has not reached yet, a bit for each.
@@ -165,7 +165,7 @@ impl Agenda {
         None
     }
 
-    /// Takes the newest post whose signal was delayed.
+    /// Removes the newest post whose signal the worker has delayed, and returns it.
     pub(crate) fn take_newest(&mut self) -> Option<PostedThread>
         ensures newest { MatchOption result ((self.old.posts.items ≡ []) × (self.new.posts.items ≡ [])) (λ newest. self.old.posts.items ≡ self.new.posts.items ++ newest ∷ []) }
         ensures others { self.new ≡ record self.old { posts = self.new.posts } }

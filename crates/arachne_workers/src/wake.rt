@@ -158,7 +158,7 @@ pub(crate) fn posted(agenda: &mut Agenda, shared: &SharedWords, core: u8, post: 
     }
 }
 
-/// Sends all delayed signals.
+/// Signals all workers whose signals the worker has delayed.
 pub(crate) fn tell_all(agenda: &mut Agenda, shared: &SharedWords)
     ensures others { agenda.new ≡ record agenda.old { posts = agenda.new.posts } }
     ensures all { length agenda.old.posts.items ≤ MOST_KEPT_BACK → agenda.new.posts.items ≡ [] }

@@ -12,7 +12,7 @@ use arachne_core::Place;
 use std::sync::Wait;
 use std::time::{Clock, Duration};
 
-/// The worker of one core.
+/// The kernel thread of one core, with what it needs to find, run and wait for threads.
 #[derive(Drop)]
 pub struct CoreWorker<'a, H, D> {
     pub rt: &'a H,
@@ -82,7 +82,7 @@ impl<'a, H: Wait + Clock, D: Desk> CoreWorker<'a, H, D> {
         Ok(found)
     }
 
-    /// Applies the orders that are due, and waits.
+    /// Carries out the orders to open or close cores that are due, and waits.
     ///
     /// `idle` is the number of consecutive rounds that found nothing, without the last one.
     pub fn rest_for(&mut self, idle: u32)
@@ -214,7 +214,7 @@ impl<'a, H: Wait + Clock, D: Desk> CoreWorker<'a, H, D> {
         }
     }
 
-    /// Applies the orders that are due, if this worker has them.
+    /// Carries out the orders to open or close cores that are due, if this worker has them.
     #[inline(always)]
     pub fn tend(&mut self)
         ensures desk { self.new.desk ≡ self.old.desk }
@@ -225,7 +225,7 @@ impl<'a, H: Wait + Clock, D: Desk> CoreWorker<'a, H, D> {
         }
     }
 
-    /// Applies the orders that are due, and wakes the workers that they concern.
+    /// Carries out the orders to open or close cores that are due, and wakes the workers that they concern.
     fn apply_orders(&mut self)
         ensures desk { self.new.desk ≡ self.old.desk }
         ensures same { (self.new.agenda ≡ self.old.agenda) × (self.new.slices ≡ self.old.slices) }

@@ -1,4 +1,4 @@
-//! A request as a job of the pool.
+//! The job that serves one request of the list.
 ghost use Rattle.std.specs.Prelude.{◌≡◌, ◌≤◌, IfSome};
 ghost use Rattle.example_server.specs.Work.{earliest, mixed};
 
@@ -10,7 +10,7 @@ use arachne_table::Tagged;
 use std::rt::Clock;
 use std::sync::Arc;
 
-/// A request that was taken from the list.
+/// A request that the sender has taken from the list.
 #[derive(Clone, Copy)]
 pub struct Request {
     /// The request's place in the list.

@@ -1,4 +1,4 @@
-//! The output of the server.
+//! Prints the server's report, and a log of when each request was sent, began and ended.
 use crate::keeper::Judged;
 use crate::requests::Class;
 use crate::send::Report;

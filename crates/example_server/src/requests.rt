@@ -11,7 +11,7 @@ pub enum Class {
     Slow,
 }
 
-/// A request of the list.
+/// A request: when it is due, its class, and its work.
 #[derive(Clone, Copy)]
 pub struct Due {
     /// The time at which the request is due, in nanoseconds since the server began.

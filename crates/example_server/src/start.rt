@@ -1,4 +1,4 @@
-//! Starts the server, and ends it.
+//! Makes the server's pool, starts its kernel threads, and closes the pool at the end.
 ghost use Rattle.std.specs.Prelude.{◌≡◌, ◌+◌, ◌≤◌, IfOk, IfSome, None, Some, length, vec_len};
 ghost use Rattle.arachne_pool.specs.Workers.{IsWorkerOf};
 
@@ -17,7 +17,7 @@ use std::sync::{Arc, Wait};
 use std::thread::Threads;
 use std::time::Clock;
 
-/// The pool's table.
+/// The form of table that the server's pool uses.
 type Table = WordContexts<Spawned<Job>>;
 
 /// The number of places of a core.

@@ -14,7 +14,7 @@ use std::sync::atomic::Ordering::SeqCst;
 /// The nanoseconds that the slow part of a request takes.
 pub const SLOW: u64 = 2_000_000;
 
-/// The alarm of the job in a context.
+/// When the timer must wake the job in a context, and which job that is.
 #[derive(Drop)]
 struct Alarm {
     /// The time at which the job must be woken, or 0 if no alarm is set.
@@ -23,7 +23,7 @@ struct Alarm {
     generation: AtomicU64,
 }
 
-/// An alarm for each context.
+/// For each context of the pool's table, the time at which the timer must wake its job.
 #[derive(Drop)]
 pub struct Timer {
     alarms: Vec<Alarm>,

@@ -33,22 +33,22 @@ pub const LOST: u32 = 4;
 /// `who` holds the lock.
 pub const GRANTED: u32 = 5;
 
-/// `who` waits for the lock, and holds it once a free hands it on to `who`.
+/// `who` waits for the lock, and will own it once all tasks before it in the queue have freed it.
 pub const QUEUED: u32 = 6;
 
 /// `who` holds the lock or waits for it already.
 pub const ALREADY_IN: u32 = 7;
 
-/// The lock is free.
+/// `who` has freed the lock, and nobody waited for it.
 pub const FREED: u32 = 8;
 
-/// The lock was handed on to the task that had waited longest: wake that task.
+/// `who` has freed the lock, and the task that had waited longest owns it now: wake that task.
 pub const HANDED_ON: u32 = 9;
 
 /// `who` doesn't hold the lock. As the answer to a withdrawal: `who` neither holds the lock nor waits for it.
 pub const NOT_HOLDER: u32 = 10;
 
-/// `who` waited for the lock, and waits no longer: the lock is not handed on to `who` any more.
+/// `who` waited for the lock, and waits no longer: `who` will not get the lock unless it asks again.
 pub const LEFT: u32 = 11;
 
 /// No place of the block is free.
@@ -81,13 +81,13 @@ pub const ALREADY_MARKED: u32 = 19;
 /// No job has this name now.
 pub const GONE: u32 = 20;
 
-/// Keep the number of cores.
+/// The advice on a sample: keep the number of cores.
 pub const STAY: u32 = 21;
 
-/// Ask for a core.
+/// The advice on a sample: ask for one core more.
 pub const ADD: u32 = 22;
 
-/// Give a core back.
+/// The advice on a sample: give one core back.
 pub const REMOVE: u32 = 23;
 
 /// The value of `unpark` in an answer if no worker must be unparked.
@@ -103,7 +103,7 @@ impl ArachneExec {
     pub const NULL: ArachneExec = ArachneExec { opaque: std::ptr::null_mut() };
 }
 
-/// The answer of the end of an executor.
+/// What C gets when an executor ends: a code, and the jobs that had not ended.
 #[repr(C)]
 #[derive(Clone, Copy, Debug, PartialEq, Eq)]
 pub struct ArachneExecLeft {
@@ -112,7 +112,7 @@ pub struct ArachneExecLeft {
     pub code: u32,
 }
 
-/// The answer of an executor.
+/// The result of a call on an executor: a code, the job, and the worker whose thread the caller must unpark.
 #[repr(C)]
 #[derive(Clone, Copy, Debug, PartialEq, Eq)]
 pub struct ArachneExecTold {
@@ -167,7 +167,7 @@ pub struct ArachneEstimator {
     pub thresholds: [u64; 64],
 }
 
-/// A sample in C's layout.
+/// What a host has measured of its load in one period, on all cores together.
 #[repr(C)]
 #[derive(Clone, Copy, Debug, PartialEq, Eq)]
 pub struct ArachneSample {

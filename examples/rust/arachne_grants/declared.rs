@@ -103,7 +103,7 @@ pub struct ArachneAction {
     pub place: usize,
 }
 
-/// A client's share of the cores.
+/// The number of cores that a client may have, and the number that its threads have.
 #[repr(C)]
 #[derive(Clone, Copy, Debug, PartialEq, Eq)]
 pub struct ArachneShare {

@@ -37,7 +37,7 @@ impl Hand {
     }
 }
 
-/// Storage for one job.
+/// The memory for one job of a local queue.
 #[derive(Default)]
 struct Slot {
     name: AtomicU64,
@@ -153,7 +153,7 @@ impl<const ROOM: usize> Jobs<ROOM> {
         has_room
     }
 
-    /// Takes the first job.
+    /// Takes the first job of this queue.
     #[inline]
     pub(crate) fn take(&self, alone: bool) -> Option<Job> {
         let mut taken = self.taken.load(Acquire);

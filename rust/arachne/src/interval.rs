@@ -1,4 +1,4 @@
-//! Intervals: ticks at a fixed period.
+//! An interval: a task waits for its next tick, at a fixed period.
 
 use crate::block_on::poll_fn;
 use crate::sync::Instant;

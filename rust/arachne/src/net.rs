@@ -1,4 +1,4 @@
-//! Sockets and other descriptors over the runtime's epoll.
+//! Sockets and other descriptors: a task that can't read or write yet waits for an event of the runtime's epoll.
 //!
 //! A socket belongs to the runtime in which it first waits. Once that runtime has ended, a wait for the socket fails in
 //! any runtime; `from_std(socket.into_std()?)` makes a new socket of it.

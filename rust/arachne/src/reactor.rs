@@ -264,7 +264,7 @@ pub(crate) struct Reactor {
     sources: Mutex<Sources>,
 }
 
-/// The key of a descriptor in its reactor.
+/// The number by which a reactor finds a descriptor: its index, and a count of the index's uses.
 #[derive(Clone, Copy)]
 pub(crate) struct Key(u64);
 

@@ -40,7 +40,7 @@ static ALL: [AtomicPtr<Shared>; TABLES] = [NO_TABLE; TABLES];
 /// A `Shared` is never freed, since a waker may be kept for ever.
 static POOL: Mutex<(usize, Vec<&'static Shared>)> = Mutex::new((0, Vec::new()));
 
-/// The state that a runtime's kernel threads share.
+/// What a runtime's kernel threads share: the core, the epoll, the workers, and the words by which they sleep and stop.
 pub(crate) struct Shared {
     pub(crate) table: usize,
     pub(crate) root: Mutex<Root>,
@@ -128,9 +128,9 @@ pub(crate) struct Worker {
     pub(crate) takes: AtomicU64,
     pub(crate) wakes: AtomicU64,
     pub(crate) parks: AtomicU64,
-    /// The number of looks at the ready jobs that were counted for the policy.
+    /// How often the worker has counted its ready jobs, for the policy.
     pub(crate) scans: AtomicU64,
-    /// The sum of the numbers of ready jobs at these looks.
+    /// The sum of these counts of ready jobs.
     pub(crate) runnable: AtomicU64,
     /// Nanoseconds that the worker was without work.
     pub(crate) idle: AtomicU64,

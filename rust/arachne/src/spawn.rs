@@ -28,7 +28,7 @@ const IN_A_ROW: usize = 16;
 /// runtime.spawn(refused.0);       // begins once the aborted task has ended
 /// ```
 pub struct Refused<F>(
-    /// The future.
+    /// The future that was not spawned.
     pub F,
 );
 

@@ -146,7 +146,7 @@ pub(crate) fn raise(event: RawFd) {
     told();
 }
 
-/// Clears an event.
+/// Resets an eventfd to 0, so that the epoll no longer reports it.
 pub(crate) fn lower(event: RawFd) {
     let mut count = [0; 8];
     // SAFETY: there is room for eight bytes.
@@ -236,7 +236,7 @@ pub(crate) fn affinity() -> Vec<usize> {
     (0..1024).filter(|cpu| mask[cpu / 64] >> (cpu % 64) & 1 == 1).collect()
 }
 
-/// Keeps the calling thread on one processor.
+/// Keeps the calling thread on one processor. Returns true if the call succeeds.
 pub(crate) fn pin(cpu: usize) -> bool {
     set_affinity(0, &[cpu])
 }

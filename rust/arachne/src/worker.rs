@@ -657,7 +657,8 @@ impl Shared {
         turn.helps = turn.first != 0;
     }
 
-    /// Takes up to `most` ready jobs of one of another worker's blocks. The jobs run next on this worker.
+    /// Takes up to `most` ready jobs of one of the blocks of the worker `other`. The jobs run next on this worker.
+    /// Returns true if it took any.
     fn help(&self, context: &Context, turn: &mut Turn, other: usize, most: usize) -> bool {
         let (hands, stale) = (&context.hands, &mut 0);
         let start = context.random() as usize % (self.workers[other].0.used_shards().len() * SHARD);
@@ -668,8 +669,8 @@ impl Shared {
         self.has_taken(context, turn, got)
     }
 
-    /// Takes up to `most` jobs out of another worker's hand. The jobs run next on this worker. With `next`, also takes
-    /// the job that would run next on the other worker.
+    /// Takes up to `most` jobs out of the local queues of the worker `other`. The jobs run next on this worker. With
+    /// `next`, also takes the job that would run next on the other worker. Returns true if it took any.
     fn take_out(&self, context: &Context, turn: &mut Turn, other: usize, most: usize, next: bool) -> bool {
         let most = most.min(FIRST - context.worker.hand.first.len());
         let jobs = (0..most).map_while(|_| self.workers[other].0.hand.take(next));

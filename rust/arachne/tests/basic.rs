@@ -1,4 +1,4 @@
-//! The crate used as docs/rust.md says.
+//! Tests of the crate by programs like those in docs/rust.md.
 use arachne::*;
 use std::sync::atomic::*;
 use std::sync::Arc;

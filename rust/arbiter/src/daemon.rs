@@ -76,7 +76,7 @@ struct Client {
     threads: BTreeMap<u32, Thread>,
 }
 
-/// The threads that are still to be looked at.
+/// The threads that the daemon must still check, to move them off the granted cores.
 struct Look {
     threads: Threads,
     /// True if all these threads are moved to `rest` (the processors of threads without a core). If false, only those

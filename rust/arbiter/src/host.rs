@@ -61,7 +61,8 @@ impl Host {
 }
 
 impl Processor {
-    /// Returns true if this look changes whether the processor counts as taken.
+    /// Compares the processor's stolen time and its whole time with those of the last call. Returns true if this
+    /// changes whether the processor counts as taken.
     fn looks(&mut self, stolen: u64, all: u64) -> bool {
         let (took, time) = (stolen.saturating_sub(self.stolen), all.saturating_sub(self.all));
         let is_first = self.all == 0;

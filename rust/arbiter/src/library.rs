@@ -62,7 +62,7 @@ extern "C" {
     fn arachne_arbiter_share(arbiter: *mut Handle, client: usize) -> Share;
 }
 
-/// A message of a client.
+/// What a client tells the daemon: how it begins, how many cores it asks for, or what one of its threads does.
 #[derive(Clone, Copy, PartialEq, Eq, Debug)]
 pub enum Message {
     Hello { priority: u32, reserved: u32, most: u32 },

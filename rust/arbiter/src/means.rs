@@ -76,10 +76,10 @@ fn numbers(file: PathBuf) -> Vec<u32> {
 }
 
 impl Means {
-    /// Makes cpusets of these processors below `parent`, if one is given; otherwise keeps `groups` on these processors.
+    /// If `parent` is given, makes cpusets below it: one for each of `cpus`, and one for the rest. Otherwise restricts
+    /// each control group in `groups` to `cpus`, by its `cpuset.cpus`.
     ///
-    /// If an arbiter was killed and has left cpusets below `parent`, these are removed first, and their threads moved
-    /// back.
+    /// If an arbiter was killed and has left cpusets below `parent`, first moves their threads back and removes them.
     pub fn new(parent: Option<&Path>, groups: &[PathBuf], cpus: &[usize]) -> io::Result<Means> {
         let parent = match parent {
             Some(parent) => parent,

@@ -1,4 +1,4 @@
-//! The words of the command `run`.
+//! Reads the words of the command `run`: the processors, the sockets, and the means to keep threads on cores.
 
 use crate::{sys, topology};
 use std::fs;

@@ -1,4 +1,4 @@
-//! Threads of other processes, by the kernel's account in /proc.
+//! Reads from /proc which threads other processes have.
 
 use std::fs;
 use std::io::Read;

@@ -1,4 +1,4 @@
-//! The hyperthreads of each core, by the kernel's account.
+//! Reads from the kernel's files which processors are hyperthreads of one core.
 
 use std::fs;
 use std::path::PathBuf;

@@ -1,4 +1,4 @@
-//! The texts that the tables of the tests spell.
+//! Makes a long text from a short spelling in a test's table, such as one in which a part is repeated.
 use std::alloc::{AllocError, Global};
 
 /// Appends a piece. `PART*N]TAIL` (without a `[`) is PART, N times, and then TAIL. A piece without `]` stands for

@@ -1,4 +1,4 @@
-//! Reads the word with which a form begins.
+//! Reads the word at the front of an expression, which says what kind of expression it is.
 ghost use Rattle.arachne_lang.specs.Reading.{Gives, Behind, End, words_at, form_words, words_in_f, words_in_i, words_in_l, words_in_m, words_in_s, words_of_sweeps, sweeps_in_m};
 
 use super::stop::Stop;

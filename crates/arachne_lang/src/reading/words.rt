@@ -1,4 +1,4 @@
-//! Reads one given word.
+//! Checks that a given word is at the front of the text, and returns the text after it.
 ghost use Rattle.std.specs.Prelude.{◌≢◌, IfErr};
 ghost use Rattle.arachne_lang.specs.Reading.{Gives, word_at};
 

@@ -1,4 +1,4 @@
-//! The cores on which threads run. The choosers decide to which cores a run's threads are forked.
+//! Tests of the cores on which threads run. The choosers decide to which cores a run's threads are forked.
 use super::facts::{Fact, Telling};
 use super::rows::{Row, rows_hold};
 use super::{FORMS, Source};

@@ -12,7 +12,7 @@ use std::test::Fail;
 #[derive(Clone, Copy)]
 pub(super) enum Fact {
     Value,
-    /// The number of threads.
+    /// The number of threads in the report.
     Threads,
     /// The number of threads that got a place when they were forked.
     Slot,
@@ -24,11 +24,11 @@ pub(super) enum Fact {
     InPlace,
     /// At most this number of threads ran in the places of their parents.
     InPlaceUpTo(u64),
-    /// The first ledger's total.
+    /// The sum in the first ledger of the report.
     Total,
-    /// The number of applied orders.
+    /// The number of orders to open or close a core that the run has carried out.
     Applied,
-    /// At most this number of orders was applied.
+    /// The run has carried out at most this number of orders.
     AppliesUpTo(u64),
     /// The cores that have entered a slice, a bit for each.
     Cores,
@@ -97,7 +97,7 @@ fn count_of(report: &Report, ran: Ran) -> u64 {
     count
 }
 
-/// Selects the text that is made of a report.
+/// Which text a test makes of a report, to compare it with the expected one.
 #[derive(Clone, Copy)]
 pub(super) enum Telling {
     Nothing,

@@ -1,4 +1,4 @@
-//! A thread that is left in the table after the root has ended.
+//! Tests that a run ends with a fault if a thread is left in the table after the root has ended.
 use super::Form;
 use super::cores::FORK;
 use super::facts::Telling;

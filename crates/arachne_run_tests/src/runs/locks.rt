@@ -1,4 +1,4 @@
-//! Which threads held a lock, and in which order.
+//! Tests of which threads of a run hold a lock, and in which order.
 use super::facts::{Fact, Telling};
 use super::rows::{MACHINES, Row, rows_hold};
 use super::{FORMS, Machine, Source};

@@ -1,4 +1,4 @@
-//! Runs in which orders close and open cores.
+//! Tests of runs in which orders close and open cores.
 use super::cores::{ALONE, FORK};
 use super::facts::{Fact, Telling};
 use super::programs::{SWEEP, SWEPT};

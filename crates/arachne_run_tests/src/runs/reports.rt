@@ -1,4 +1,4 @@
-//! Programs with more threads than places.
+//! Tests of the reports of programs that have more threads than the cores have places.
 use super::facts::{Fact, Telling};
 use super::rows::{MACHINES, Row, rows_hold};
 use super::{FORMS, Source};

@@ -1,4 +1,4 @@
-//! Tests that a run uses its table.
+//! Tests that a run puts its threads into the table that it was given, and ends with the fault that the table met.
 use super::cores::FORK;
 use super::facts::{Fact, Telling};
 use super::rows::{Row, rows_hold};

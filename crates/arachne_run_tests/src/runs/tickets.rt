@@ -1,4 +1,4 @@
-//! Children that wait for a place, and workers that have a place for them.
+//! Tests of children that wait for a place, and of the workers that find a place for them.
 use super::facts::{Fact, Telling};
 use super::rows::{Row, rows_hold};
 use super::{FORMS, LOCKED, Source};

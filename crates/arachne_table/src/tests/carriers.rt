@@ -11,7 +11,7 @@ use std::test::Fail;
 
 type Locked = LockedContexts<TagOnly>;
 
-/// Two of four seats.
+/// Which two of a test's four seats take part in a step.
 #[derive(Clone, Copy, Debug)]
 enum Pair {
     FirstAndSecond,

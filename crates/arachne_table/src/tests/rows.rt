@@ -266,7 +266,7 @@ pub(super) fn close<C: Contexts<TagOnly> + Drop, R: Wait>(
     table.close(rt, alloc, seat).ok()
 }
 
-/// Makes a run on a new table.
+/// Makes a new table, does the steps of `run` on it, and checks the answer of each.
 fn take<C: Contexts<TagOnly> + Drop, R: Wait>(
     rt: &R,
     alloc: Global,

@@ -55,7 +55,7 @@ fn is_read_and_printed(alloc: Global, text: &[u8]) -> Result<bool, TextFault> {
     is_printed_as(alloc, &program, text)
 }
 
-/// Returns the same, and tries once more if memory is refused.
+/// Returns the result of `is_read_and_printed`, after a second try if memory is refused.
 fn answer(alloc: Global, text: &[u8]) -> Result<bool, TextFault> {
     match is_read_and_printed(alloc, text) {
         Err(TextFault::Memory) => is_read_and_printed(alloc, text),

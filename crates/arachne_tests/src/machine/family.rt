@@ -14,14 +14,14 @@ use std::alloc::Global;
 /// The most attempts of a call, and the most calls.
 const MOST: u64 = 100_000;
 
-/// The way in which children run.
+/// Whether a test runs children in their parent's place, and from when on, or as threads of their own.
 #[derive(Clone, Copy, Debug, PartialEq, Eq)]
 pub(super) enum Way {
-    /// Children run in their parent's place: each is handed back at its fork.
+    /// Children run in their parent's place: the test puts each there at its fork.
     AtFork,
-    /// Like `AtFork`, but the root's first child is handed back only after a child was handed back to it.
+    /// Children run as with `AtFork`, but a child of the root's first child is put in that child's place first.
     GrownAtFork,
-    /// Children run in the place of the thread that awaits them: each is handed back at its join.
+    /// Children run in the place of the thread that awaits them: the test puts each there at its join.
     AtJoin,
     /// Like `AtJoin`, but the child has gone on before, with other threads in its place.
     GrownAtJoin,
@@ -150,7 +150,8 @@ fn are_same(some: &Program, other: &Program) -> bool
     *some == *other
 }
 
-/// Puts a child in its parent's place, with the next tag. Tries once more if memory is refused.
+/// Puts a child in its parent's place, with the next tag. Tries once more if memory is refused. Returns true if the
+/// child is there then.
 fn place<'p>(thread: &mut Thread<'p>, child: Thread<'p>, round: &mut Round) -> bool
     requires forks { pending_in thread.old ≡ Some pause.Forks }
     requires child { IsChildOf thread.old child }
@@ -170,7 +171,8 @@ fn place<'p>(thread: &mut Thread<'p>, child: Thread<'p>, round: &mut Round) -> b
     }
 }
 
-/// Runs a thread to its next pause. A forked child is handed back to the thread immediately.
+/// Runs a thread to its next pause. If the thread forks a child, puts the child in the thread's place immediately.
+/// Returns false if `round.budget` is 0, the thread has a pause without an answer, or the child can't be put there.
 fn go_on_in_place(thread: &mut Thread, round: &mut Round) -> bool {
     if round.budget == 0 || thread.pending().is_some() {
         return false;
@@ -186,7 +188,8 @@ fn go_on_in_place(thread: &mut Thread, round: &mut Round) -> bool {
     }
 }
 
-/// Runs a thread to its next pause. A forked child is added to `children`.
+/// Runs a thread to its next pause. If the thread forks a child, adds the child to `children`. Returns false if
+/// `round.budget` is 0, the thread has a pause without an answer, or there is no memory for the child.
 fn go_on_apart<'p>(
     alloc: Global,
     thread: &mut Thread<'p>,
@@ -219,7 +222,8 @@ fn answer(thread: &mut Thread) {
     }
 }
 
-/// Runs a child until two threads were handed back to it, so that one runs in the place of the other.
+/// Runs a child until two threads run in its place, one of them in the place of the other. Returns false if a call
+/// fails, or `MOST` calls are not enough.
 fn grow(child: &mut Thread, round: &mut Round) -> bool {
     for _ in 0..MOST {
         if round.heard.next == 12 {
@@ -243,7 +247,8 @@ fn lose_outcome(_outcome: Outcome) -> bool {
     false
 }
 
-/// Hands the newest child to the thread that awaits it. The child then runs in that thread's place.
+/// Gives the newest child to the thread that awaits it. The child then runs in that thread's place. Returns false if
+/// the thread awaits no child, or there is no child that may run there.
 ///
 /// If memory is refused, the child is put back among `children`.
 fn begin<'p>(thread: &mut Thread<'p>, children: &mut Vec<Thread<'p>>, round: &mut Round) -> bool {
@@ -263,7 +268,8 @@ fn begin<'p>(thread: &mut Thread<'p>, children: &mut Vec<Thread<'p>>, round: &mu
     }
 }
 
-/// Hands a child's outcome to the thread that awaits it.
+/// Gives a child's outcome to the thread that awaits it. Returns false if the thread awaits no outcome, or the outcome
+/// is of another program.
 ///
 /// If memory is refused, the outcome is put back among `outcomes`.
 fn join<'p>(
@@ -288,7 +294,8 @@ fn join<'p>(
     }
 }
 
-/// Starts the newest child on its own.
+/// Makes the newest child a thread of its own, instead of running it in its parent's place. Returns false if there is
+/// no child or memory is refused.
 fn begin_apart(family: &mut Family) -> bool {
     match family.children.pop() {
         Some(child) => family.threads.push(child).is_ok(),
@@ -296,7 +303,8 @@ fn begin_apart(family: &mut Family) -> bool {
     }
 }
 
-/// Starts the awaited child, on its own or in the place of the thread that awaits it.
+/// Starts the awaited child, on its own or in the place of the thread that awaits it, as `round.way` says. Returns
+/// false if there is no child, or it can't begin.
 fn await_child(family: &mut Family, round: &mut Round) -> bool {
     if round.way == Way::Alone || round.way == Way::AloneIfExclusive {
         return begin_apart(family);
@@ -315,7 +323,7 @@ fn await_child(family: &mut Family, round: &mut Round) -> bool {
     begin(thread, children, round)
 }
 
-/// Takes the outcome of the last thread, if it has ended.
+/// Takes the outcome of the last thread. Returns false if the thread has not ended, or memory is refused.
 fn end(family: &mut Family) -> bool {
     let Some(thread) = family.threads.pop() else {
         return false;
@@ -326,7 +334,7 @@ fn end(family: &mut Family) -> bool {
     family.outcomes.push(thread.finish()).is_ok()
 }
 
-/// Makes one call on the last thread.
+/// Makes one call on the last thread. Returns false if the call fails, so that the run can't go on.
 fn step(alloc: Global, family: &mut Family, round: &mut Round) -> bool {
     let Family {
         threads,
@@ -353,7 +361,8 @@ fn step(alloc: Global, family: &mut Family, round: &mut Round) -> bool {
     }
 }
 
-/// Hands a thread's first child back at its fork, after that child's own first child was handed back to it.
+/// Puts a thread's first child in the thread's place at its fork, after that child's own first child was put in its
+/// place. Returns false if one of them does not fork, or memory is refused.
 fn hand_grown(thread: &mut Thread) -> bool {
     if thread.pending().is_some() {
         return false;
@@ -378,7 +387,8 @@ fn start<'p>(alloc: Global, program: &'p Program, round: &mut Round) -> Option<T
     None
 }
 
-/// Starts the root thread, and hands its first child back to it if the way is `GrownAtFork`.
+/// Starts the root thread. If the way is `GrownAtFork`, also puts its first child in its place. Returns false if one of
+/// the two fails.
 fn set_off<'p>(
     alloc: Global,
     program: &'p Program,

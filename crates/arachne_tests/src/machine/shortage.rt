@@ -33,7 +33,7 @@ impl Memory {
         Some(())
     }
 
-    /// Gives all memory back.
+    /// Gives all memory back that the test has taken from the process.
     pub(super) fn give_all_back(&mut self) {
         self.hoard = None;
     }

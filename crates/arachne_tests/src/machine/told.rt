@@ -1,4 +1,4 @@
-//! The text of an outcome, with an entry for each thread.
+//! Writes an outcome as a text, with an entry for each thread, to compare it with an expected text.
 use arachne_lang::Name;
 use arachne_machine::{OutcomeParts, Ran, ThreadLine};
 use std::alloc::Global;

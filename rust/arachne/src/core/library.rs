@@ -219,7 +219,8 @@ impl Hands {
     /// Records that this thread has stolen a job from another thread's hand. The seat by which the job was taken comes
     /// with the job.
     ///
-    /// Returns false if the job must be made ready at once, so that the owner of the seat keeps enough seats.
+    /// Returns false if other threads already use `AWAY` seats of the thread `of`, to which this seat belongs. The
+    /// caller must then make the job ready at once, which gives the seat back to its owner.
     pub(crate) fn gets(&self, job: &Job, of: usize) -> bool {
         let owner = owner(job.seat).0;
         let away = &self.crew.members[owner].0.away;

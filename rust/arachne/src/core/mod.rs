@@ -34,7 +34,7 @@ pub(crate) const PLACE_BITS: u32 = 20;
 /// The most shards, as a name has 20 bits for a place.
 pub(crate) const MOST_SHARDS: usize = (1 << PLACE_BITS) / (BLOCK * SHARD);
 
-/// A job in a seat's hand.
+/// A job that this thread may run, with the seat that has it in hand.
 #[derive(Clone, Copy, PartialEq, Eq, Debug)]
 pub(crate) struct Job {
     pub(crate) name: u64,
@@ -55,7 +55,7 @@ pub(crate) fn place_of(name: u64) -> usize {
     name as usize & ((1 << PLACE_BITS) - 1)
 }
 
-/// The result of spawning a job.
+/// Whether a job was put at a place of the block, and if so, whether it is ready or in a seat's hand.
 #[derive(Clone, Copy, PartialEq, Eq, Debug)]
 pub(crate) enum Spawned {
     /// The job is ready in its block. If `unpark`, the caller must wake the worker of the block's shard.
@@ -79,7 +79,7 @@ pub(crate) enum Rested {
     Ready { unpark: bool },
 }
 
-/// The result of a wake.
+/// The effect that a wake had on the job.
 #[derive(Clone, Copy, PartialEq, Eq, Debug)]
 pub(crate) enum Woken {
     /// The job waited, and is now in a seat's hand.

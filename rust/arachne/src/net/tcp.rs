@@ -1,4 +1,4 @@
-//! TCP.
+//! TCP listeners and connections, whose calls wait in the runtime's epoll.
 
 use super::{accept, Source, BACKLOG};
 use crate::sys;
@@ -48,8 +48,8 @@ impl TcpListener {
 
     /// Waits for a connection. Returns the connection with the other side's address.
     ///
-    /// Fails once the runtime's end has begun and all connections that had arrived are accepted; `is_stopping` is true
-    /// then. See the example at `TcpListener`.
+    /// Fails once the runtime's end has begun and all connections that had arrived are accepted; [`crate::is_stopping`]
+    /// returns true then. See the example at `TcpListener`.
     pub async fn accept(&self) -> io::Result<(TcpStream, SocketAddr)> {
         let (stream, from) = accept(&self.0, |listener| listener.accept()).await?;
         Ok((TcpStream::from_std(stream)?, from))

@@ -1,4 +1,4 @@
-//! UDP.
+//! UDP sockets, whose sends and receives wait in the runtime's epoll.
 
 use super::Source;
 use std::io;

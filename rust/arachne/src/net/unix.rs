@@ -1,4 +1,4 @@
-//! Unix stream sockets.
+//! Listeners and connections on Unix stream sockets, whose calls wait in the runtime's epoll.
 
 use super::{accept, Source, BACKLOG};
 use crate::sys;

@@ -115,8 +115,8 @@ impl Shared {
         self.ready(&context.hands, me) != 0 || self.lodgers(me).any(|other| self.ready(&context.hands, other) != 0)
     }
 
-    /// Asks the core if this worker may sleep: as the worker of its own shards, and of the shards of the workers that
-    /// it looks after.
+    /// Returns whether this worker may sleep. It asks the core so for its own shards, and for the shards of the workers
+    /// that it looks after.
     fn may_park(&self, context: &Context) -> bool {
         std::iter::once(context.me).chain(self.lodgers(context.me)).all(|owner| {
             let parking = self.workers[owner].0.parking.lock().unwrap();

@@ -12,7 +12,8 @@ use std::sync::atomic::{AtomicU64, Ordering::Relaxed};
 use std::thread;
 use std::time::{Duration, Instant, SystemTime};
 
-/// A request and its answer: when it was due, and the microseconds that it takes.
+/// The number of bytes of a request, and of its answer. Each has the time at which the request was due, and the
+/// microseconds that its work takes.
 const SIZE: usize = 16;
 
 fn spin(time: Duration) {
