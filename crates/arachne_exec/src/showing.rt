@@ -43,7 +43,8 @@ impl Executor {
         self.pay(seat, block / 64)
     }
 
-    /// Makes the job at the seat's newest place ready. Returns true if the caller must unpark the worker of that place.
+    /// Makes the job at `place` ready, which must be the place that the seat took last of those it has in hand. Returns
+    /// true if the caller must unpark the worker of that place.
     pub(crate) fn publish(&self, seat: &mut SeatInCall, place: usize) -> bool
         requires own { seat.old.table ≡ self.now.table }
         requires place { place < 4096 * self.now.shards }

@@ -82,7 +82,7 @@ impl WordList {
         }
     }
 
-    /// Returns the numbers with `number` appended, in a `Vec`, which holds a number of any size.
+    /// Returns a `Vec` of the list's numbers and then `number`. It may have more and larger numbers than the list.
     pub fn widened(&self, alloc: Global, number: u64) -> Result<Vec<u64>, AllocError>
         ensures { IfOk result (λ longer. longer.items ≡ self.now ++ number ∷ []) }
     {

@@ -10,8 +10,8 @@ const MOST: usize = 64;
 
 /// The memory that ended threads leave for new threads, for the threads of one core.
 ///
-/// The memory consists of the states of ended threads, with the capacity of their environments and frames, and of the
-/// boxes of joined outcomes.
+/// It keeps the boxed states of ended threads, whose environment and frame vectors keep their capacity, and the boxes
+/// in which outcomes were that a join has read.
 #[derive(Drop)]
 pub struct Spares<'p> {
     most: usize,

@@ -62,8 +62,8 @@ impl<'p, C: Seats, J: PoolJob> Crew<'p, C, J> {
         first_fault.into_inner()
     }
 
-    /// Spawns the job, if this kernel thread has it, after which no more come, and returns its handle. If the kernel
-    /// threads are stopped, since one of them was refused, or memory is refused, the job is returned.
+    /// Spawns the job, if this kernel thread has it, after which no more come, and returns its handle. Returns the job
+    /// instead if memory is refused, or if the pool was stopped since the system refused to start a kernel thread.
     fn spawn<R: Wait>(
         &self,
         rt: &R,

@@ -28,7 +28,8 @@ enum Refused {
     Memory(#[from(alloc)] AllocError),
 }
 
-/// Returns the meaning of the program that a text spells.
+/// Parses and checks the program in `text`, and evaluates it: returns its value, the totals of its ledgers and its
+/// threads.
 fn meaning(alloc: Global, text: &[u8]) -> Result<Meaning, Refused>
     ensures { IfOk result (λ meaning. (program : Source) × (text_of program ≡ text.now) × (meaning ≡ meaning_of program)) }
 {

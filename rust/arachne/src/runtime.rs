@@ -62,7 +62,8 @@ impl fmt::Debug for Builder {
 }
 
 impl Builder {
-    /// Returns the defaults for a runtime of `cores` workers, each a kernel thread: 1 for 0, and 64 for more than 64.
+    /// Returns a builder with the default settings, for `cores` workers (kernel threads). 0 counts as 1, and more than
+    /// 64 as 64.
     ///
     /// `available_cores` returns the number of processors.
     ///

@@ -304,7 +304,7 @@ impl Shared {
         self.ready_up_to(hands, worker, 8)
     }
 
-    /// Returns the number of jobs that seem ready in a worker's blocks. The count stops at `most`.
+    /// Returns the number of jobs at a worker's places that seem ready. The count stops at `most`.
     fn ready_up_to(&self, hands: &Hands, worker: usize, most: u32) -> u32 {
         let mut count = 0;
         for &shard in self.workers[worker].0.used_shards() {

@@ -273,8 +273,8 @@ impl Hands {
     ///
     /// A job that has become ready since the sweep of the block began may come before those at `wanted` places. A place
     /// is wanted until the sweep has passed it, so that a job which is ready again and again keeps no other waiting.
-    /// The sweep uses one seat as long as that seat is free: in the library each seat goes round a block by itself, so
-    /// several seats would follow one another over the same jobs.
+    /// A sweep takes all its jobs by one seat, unless that seat is in use: the library keeps for each seat where in a
+    /// block it looks next, so several seats would look at the same places several times.
     #[inline]
     pub(crate) fn take_next(&self, block: usize, wanted: &mut u64) -> Option<Job> {
         let seat = self.sweeping()?;
