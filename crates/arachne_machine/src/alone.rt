@@ -18,9 +18,9 @@ use std::alloc::{AllocError, Global};
 
 /// Returns the meaning of a program, which runs on the calling kernel thread.
 ///
-/// All threads are in one list. The newest thread runs for at most `budget` steps at a time; a budget of 0 counts as 1.
-/// A lock that a thread asks for is granted at once, and the thread runs on until it frees the lock: no thread of a
-/// checked program forks while it holds a lock.
+/// All threads are in one list. The newest one runs for at most `budget` steps at a time; a budget of 0 counts as 1. A
+/// lock that it asks for is granted at once, and it runs on until it releases the lock, since no thread of a checked
+/// program forks while it holds one.
 pub fn run_alone(alloc: Global, program: &Program, budget: u32) -> Result<Meaning, AllocError>
     ensures { IfOk result (λ meaning. meaning ≡ meaning_of (source_of program.now)) }
 {
@@ -91,7 +91,7 @@ fn take_turn<'p>(
     }
 }
 
-/// Advances the newest thread by at most `budget` steps and serves the request at which it pauses, unless it has ended.
+/// Advances the newest thread by at most `budget` steps and answers its pause, unless it has ended.
 fn go_on<'p>(
     thread: &mut Thread<'p>,
     outcomes: &mut Vec<DetachedOutcome>,
@@ -136,7 +136,7 @@ fn go_on<'p>(
     }
 }
 
-/// Returns the meaning of the program whose root ended with `outcome`.
+/// Returns the meaning that an outcome has.
 fn meaning(alloc: Global, outcome: DetachedOutcome) -> Result<Meaning, AllocError>
     ensures means { IfOk result (λ meaning. meaning ≡ meaning_in outcome) }
     ensures of_its_name { IsOfItsName outcome }
@@ -155,7 +155,7 @@ fn meaning(alloc: Global, outcome: DetachedOutcome) -> Result<Meaning, AllocErro
     })
 }
 
-/// Returns the name and the holds of a thread's line.
+/// Returns the name and the holds of a line.
 fn line_of_thread(line: ThreadLine) -> Line
     ensures { result ≡ named_holds line }
 {

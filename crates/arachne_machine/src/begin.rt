@@ -23,8 +23,7 @@ impl<'p> State<'p> {
     ghost use Rattle.arachne_machine.specs.Steps.{beginning, Changes, IsSame, LeavesOthers, OnStops, Pushes, Reaches, top};
     ghost use Rattle.arachne_machine.specs.Runs.{beginning_in, Comes};
 
-    /// Begins an expression. If the value of the expression is known at once, returns the value and changes nothing
-    /// else.
+    /// Begins this expression. If its value is known at once, it is returned, and nothing else has changed.
     #[inline(always)]
     pub fn begin<P: Placing>(
         &mut self,
@@ -67,8 +66,8 @@ impl<'p> State<'p> {
         }
     }
 
-    /// Begins an operation. If at least two steps are left, evaluates operands that are numbers or variables at once,
-    /// by one step each.
+    /// Begins an operation. If two steps are left, sides that are numbers or variables are evaluated with it, by a step
+    /// each.
     #[inline(always)]
     fn operate(
         &mut self,
@@ -112,7 +111,7 @@ impl<'p> State<'p> {
         }
     }
 
-    /// Begins a part of an expression. `frame` says what follows once the value of the part is known.
+    /// Begins a part of an expression. `frame` says what comes after the part.
     #[inline(always)]
     fn enter(&mut self, frame: Frame<'p>, part: &'p Expr) -> Result<Progress<'p>, AllocError>
         ensures begins { IfOk result (λ begun. begun ≡ ways.Begin part.entry) }

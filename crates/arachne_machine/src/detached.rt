@@ -10,10 +10,10 @@ use std::snapshot::Snapshot;
 
 /// An outcome in a box, without a reference to its program.
 ///
-/// Contracts still see the program, as for an `Outcome`.
+/// Contracts still see the program, and see the same of it as of an `Outcome`.
 #[derive(Drop)]
 pub struct DetachedOutcome {
-    /// The thread's program. The field takes no bytes, since only contracts see it.
+    /// Takes no bytes: only contracts see it.
     pub(crate) program: Snapshot<Program>,
     pub(crate) contents: Box<Contents>,
 }
@@ -36,7 +36,7 @@ impl Model for DetachedOutcome {
 impl DetachedOutcome {
     /// Returns the value, the sums and the lines.
     ///
-    /// Takes memory for a list of the lists of lines. If that memory is refused, the outcome is the error.
+    /// Takes memory for a list of the lists of lines. If that is refused, the outcome is the error.
     pub fn into_parts(self) -> Result<OutcomeParts, DetachedOutcome>
         ensures value { IfOk result (λ parts. parts.value ≡ self.value) }
         ensures sums { IfOk result (λ parts. parts.sums ≡ self.sums) }

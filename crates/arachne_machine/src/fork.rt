@@ -19,7 +19,7 @@ impl<'p> State<'p> {
     ghost use Rattle.arachne_machine.specs.Runs.{Comes};
     ghost use Rattle.arachne_machine.specs.Steps.{CountsFork, HasLine, IsForkOf, IsSame, IsSpawned};
 
-    /// Forks a child of this class. The child's number is the number of the fork. The thread goes on with `during`.
+    /// Forks a child of this class, whose number is that of the fork. The thread goes on with `during`.
     pub fn fork(
         &mut self,
         class: Class,
@@ -44,7 +44,7 @@ impl<'p> State<'p> {
         )
     }
 
-    /// Makes a fork whose child will run in this thread's place.
+    /// Makes a fork whose child will run in this place.
     #[inline(always)]
     pub fn fork_here(
         &mut self,
@@ -68,9 +68,7 @@ impl<'p> State<'p> {
         Ok(Progress::Begin(during))
     }
 
-    /// Forks a child of this class that begins with `begins`. The thread keeps `frame` for the time after the join, and
-    /// goes on with `next`.
-    #[inline(always)]
+    /// Forks a child of this class that begins with `begins`. The thread gets the frame, and goes on with `next`.
     fn spawn(
         &mut self,
         class: Class,
@@ -102,7 +100,7 @@ impl<'p> State<'p> {
         Ok(Progress::Forks(class, state))
     }
 
-    /// Begins a part of a sweep. If the part is longer than the grain, its left half is forked.
+    /// Begins a part of a sweep. If it is longer than the grain, its left half is forked.
     #[inline(always)]
     pub fn cover<P: Placing>(
         &mut self,
@@ -138,8 +136,7 @@ impl<'p> State<'p> {
         ))
     }
 
-    /// Forks a child for those numbers of a part of a sweep that are below `middle`. The thread goes on with the
-    /// numbers from `middle` on.
+    /// Forks a child for the numbers of a part of a sweep below `middle`. The thread goes on with the others.
     fn halve(
         &mut self,
         stretch: Stretch<'p>,
@@ -173,8 +170,8 @@ impl<'p> State<'p> {
         )
     }
 
-    /// Splits a part of a sweep, whose left half will run as a child in this thread's place. The thread goes on with
-    /// the right half.
+    /// Splits a part of a sweep, whose left half will run in this place, as a child. The thread goes on with the right
+    /// half.
     #[inline(always)]
     fn halve_here(&mut self, stretch: Stretch<'p>, middle: u64) -> Result<Progress<'p>, AllocError>
         requires number { self.old.level.forks + 1 < 2 ^ 64 }

@@ -1,4 +1,4 @@
-//! The next action of a thread, and the frames that say what follows it.
+//! The next action of a thread, and the frames that say what comes after it.
 use arachne_program::{Expr, Operation, Reduction};
 
 /// A part of a sweep: the numbers from `first` to below `end`.
@@ -14,47 +14,46 @@ pub struct Stretch<'p> {
 /// The next action of a thread.
 #[derive(Clone, Copy)]
 pub enum Control<'p> {
-    /// The thread begins an expression.
+    /// It begins an expression.
     Begin(&'p Expr),
-    /// The thread hands a value to the newest frame.
+    /// It hands a value to the newest frame.
     Give(u64),
-    /// The thread begins a part of a sweep.
+    /// It begins a part of a sweep.
     Cover(Stretch<'p>),
-    /// The thread has forked a child, and begins this expression once the child has been taken out of the thread.
+    /// It has forked a child, and begins this expression once the child has been taken.
     Forked(&'p Expr),
-    /// The thread has forked the left half of a part of a sweep, and begins the right half once the child for the left
-    /// half has been taken out of the thread.
+    /// It has forked the left half of a part of a sweep, and begins the right half once the child has been taken.
     Halved(Stretch<'p>),
-    /// The thread awaits the outcome of its child of this number, and goes on with the expression `after`. `during` is
-    /// the value of the expression that the thread has evaluated meanwhile.
+    /// It awaits the outcome of its child of this number, and goes on with the expression `after`. `during` is the
+    /// value of the expression that it has evaluated meanwhile.
     Awaits {
         number: u64,
         during: u64,
         after: &'p Expr,
     },
-    /// The thread awaits the value of the left half of a part of a sweep. `right` is the value of the right half.
+    /// It awaits the value of the left half of a part of a sweep. `right` is the value of the right half.
     AwaitsHalf {
         number: u64,
         right: u64,
         reduction: Reduction,
     },
-    /// The thread asks for a lock, and begins this expression once it holds the lock.
+    /// It asks for a lock, and begins this expression once it holds it.
     Asks {
         lock: u64,
         body: &'p Expr,
     },
-    /// The thread releases a lock, and then hands the value to the next frame.
+    /// It releases a lock, and then hands this value on.
     Frees {
         lock: u64,
         value: u64,
     },
-    /// The thread adds an amount to a ledger, and then begins this expression.
+    /// It adds an amount to a ledger, and then begins this expression.
     Tallies {
         ledger: u64,
         amount: u64,
         body: &'p Expr,
     },
-    /// The thread has ended with this value.
+    /// It has ended with this value.
     Ended(u64),
 }
 
@@ -73,20 +72,19 @@ pub enum Frame<'p> {
     Extend(&'p Expr),
     /// The value is an amount for this ledger, and the expression is next.
     Amount(u64, &'p Expr),
-    /// This lock is released, and the value is handed to the next frame.
+    /// This lock is released, and the value handed on.
     Release(u64),
     /// The child of this number is joined, and this expression is next.
     Join {
         number: u64,
         after: &'p Expr,
     },
-    /// The value is that of the right half of a part of a sweep. The child of this number has the left half, and is
-    /// joined.
+    /// The value is that of the right half of a part of a sweep. The child of this number has the left half.
     Merge {
         number: u64,
         reduction: Reduction,
     },
-    /// The child of this number begins in its parent's place. Once the child has ended, the expression `after` is next.
+    /// The child of this number begins in its parent's place. Once it has ended, the expression `after` is next.
     JoinHere {
         number: u64,
         child: &'p Expr,
@@ -114,8 +112,8 @@ pub enum Frame<'p> {
     SweepTo(Reduction, u64, &'p Expr, &'p Expr),
     /// The value is the end of a sweep from this number on, with this body.
     SweepStart(Reduction, u64, u64, &'p Expr),
-    /// The value is that of a sweep's body for one number, and is reduced with the value so far. The newest variable is
-    /// this number.
+    /// The value is that of a number of a sweep, and is reduced with the value so far. The newest variable is that
+    /// number.
     SweepTurn {
         reduction: Reduction,
         next: u64,
@@ -123,6 +121,6 @@ pub enum Frame<'p> {
         so_far: u64,
         body: &'p Expr,
     },
-    /// The environment is truncated to this length, and the value is handed to the next frame.
+    /// The environment is truncated to this length, and the value handed on.
     Restore(usize),
 }

@@ -1,4 +1,4 @@
-//! Hands a value from frame to frame.
+//! Hands a value on from frame to frame.
 use crate::frame::{Control, Frame, Stretch};
 use crate::lookup::item_in;
 use crate::placing::Placing;
@@ -21,10 +21,10 @@ impl<'p> State<'p> {
     ghost use Rattle.arachne_machine.specs.Runs.{Comes, FoldsOn, HandsResult, IsOneStep, IsPoppedIn, RunsOn, SweepsOn, giving_in, seen_in};
     ghost use Rattle.arachne_machine.specs.declared.state.Progress.TheVariants as ways;
 
-    /// Hands a value from frame to frame, until a frame says what follows or no frame is left.
+    /// Hands a value on from frame to frame until one of them says what is next, or none is left.
     ///
-    /// The value of a child that ran in its parent's place is handed to the parent. If memory is refused, the value
-    /// must be handed on later.
+    /// A value of a child that ran in this place goes on to its parent. If memory is refused, the value still has
+    /// to be handed on.
     #[inline(always)]
     pub fn give<P: Placing>(
         &mut self,
@@ -49,8 +49,8 @@ impl<'p> State<'p> {
         }
     }
 
-    /// Hands a value to the newest frame of the innermost thread. If the innermost thread has no frame, it has ended,
-    /// and its parent goes on.
+    /// Hands a value to the newest frame of the innermost thread. If it has no frame, the thread has ended, and its
+    /// parent goes on.
     #[inline(always)]
     fn hand_newest<P: Placing>(
         &mut self,
@@ -80,7 +80,7 @@ impl<'p> State<'p> {
         self.join_here(value, left)
     }
 
-    /// Records that the value must be handed on later, since memory was refused, and returns the error.
+    /// Records that the value still has to be handed on, since memory was refused, and returns the error.
     #[cold]
     #[inline(never)]
     pub fn refused(&mut self, value: u64) -> Result<Progress<'p>, AllocError>
@@ -91,7 +91,7 @@ impl<'p> State<'p> {
         Err(AllocError)
     }
 
-    /// Reserves room for the variables and the frame that may come with a value.
+    /// Reserves the room for the variables and the frame that a value begins.
     pub fn reserve_turn(&mut self) -> Result<(), AllocError>
         ensures same { IsSame self.old self.new }
         ensures environment { OnOk result (vec_len self.new.environment + 2 ≤ vec_capacity self.new.environment) }
@@ -101,8 +101,8 @@ impl<'p> State<'p> {
         self.frames.try_reserve(1)
     }
 
-    /// Hands a value to `frame`, which was the newest frame and was popped. If memory is refused, `frame` is the newest
-    /// frame again.
+    /// Hands a value to this frame, which was the newest and was taken off. If memory is refused, it is the newest
+    /// again.
     #[inline(always)]
     fn hand<P: Placing>(
         &mut self,
@@ -157,7 +157,7 @@ impl<'p> State<'p> {
         }
     }
 
-    /// Undoes the step in which this value was handed to this frame.
+    /// Goes back to before the step in which this value was handed to this frame.
     #[cold]
     #[inline(never)]
     fn stand_before(&mut self, frame: Frame<'p>, value: u64)
@@ -298,8 +298,8 @@ impl<'p> State<'p> {
         }
     }
 
-    /// Begins an expression after a frame was popped. `frame` takes the memory of that frame, and says what follows
-    /// once the value of the expression is known.
+    /// Begins an expression after a frame was taken off. `frame` takes its room, and says what comes after the
+    /// expression.
     #[inline(always)]
     pub fn go_on(&mut self, frame: Frame<'p>, part: &'p Expr) -> Progress<'p>
         requires { vec_len self.old.frames + 1 ≤ vec_capacity self.old.frames }
@@ -325,8 +325,8 @@ impl<'p> State<'p> {
         Progress::Begin(body)
     }
 
-    /// Hands on the result of a fold, of a part of a sweep or of its two halves. This is a step of its own, and is made
-    /// at once if a step is left.
+    /// Hands on the result of a fold, of a part of a sweep or of two halves, which is a step of its own. It is made at
+    /// once if a step is left.
     #[inline(always)]
     pub fn hand_result(&mut self, value: u64, left: &mut u32) -> Progress<'p>
         ensures same { Changes self.old (seen_in result self.new) self.old.environment.items self.old.frames.items (control.Give value) }

@@ -7,12 +7,11 @@ use crate::frame::Control;
 /// The part of a state that belongs to one of the threads that run in its place.
 #[derive(Clone, Copy)]
 pub struct Level {
-    /// The number of frames below the thread's own.
+    /// The number of frames below its own.
     pub start: usize,
-    /// The number of threads that the thread has forked.
+    /// The number of threads that it has forked.
     pub forks: u64,
-    /// The index of the thread's line among the lines below the outermost thread. The line of the outermost thread is
-    /// kept apart.
+    /// The place of its line among those below the outermost thread, whose own line is apart.
     pub place: usize,
 }
 
@@ -30,8 +29,7 @@ impl Level {
 
     /// Returns the level with `start` more frames before its own.
     ///
-    /// The line of the outermost thread, which was kept apart, is then at `place`, and the lines of the others are
-    /// behind this line.
+    /// The line of the outermost thread, which was apart, is at `place` then, and those of the others are behind it.
     #[inline(always)]
     pub fn moved(self, outermost: bool, start: usize, place: usize) -> Level
         requires start { start + self.start < 2 ^ 64 }
@@ -52,17 +50,17 @@ impl Level {
     }
 }
 
-/// A thread that waits for the thread that runs in its place.
+/// A thread that waits for the one that runs in its place.
 #[derive(Clone, Copy)]
 pub struct Parent<'p> {
     pub level: Level,
-    /// The child that the thread awaits, and the thread's action after the join.
+    /// The child that it awaits, and its action after the join.
     pub control: Control<'p>,
 }
 
-/// Appends `others`, the threads of another state that wait, to `parents`, the outermost first.
+/// Adds the threads that wait in another state, the outermost first, behind these.
 ///
-/// `start` frames come before the frames of `others`, whose lines begin at `place`. There must be room for `others`.
+/// `start` frames come before theirs, and their lines are from `place` on. There must be room for them.
 pub fn move_parents<'p>(
     parents: &mut Vec<Parent<'p>>,
     others: &[Parent<'p>],

@@ -1,4 +1,4 @@
-//! The values of variables and of items of arrays: 0 for a variable or an item that doesn't exist.
+//! The values of variables and arrays, which are 0 if there is none.
 ghost use Rattle.std.specs.Prelude.{◌≡◌, length, slice_index};
 ghost use Rattle.arachne_program.specs.Program.{source_of};
 ghost use Rattle.arachne_program.specs.Value.{array_at};

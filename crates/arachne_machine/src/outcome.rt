@@ -7,8 +7,8 @@ use crate::thread_lines::ThreadLines;
 use arachne_program::{Name, Program, Sequence};
 use std::marker::Model;
 
-/// The outcome of a thread that has ended: its value, the ledger sums, and the lines of the thread and of its
-/// descendants. It is the outcome that the program's meaning gives for the thread of that name.
+/// The outcome of a thread that has ended: its value, the ledger sums, and the lines of itself and of all threads below
+/// it. It is the one that the program's meaning has for the thread of that name.
 #[derive(Debug, Drop)]
 pub struct Outcome<'p> {
     pub(crate) program: &'p Program,
@@ -36,7 +36,7 @@ pub struct OutcomeParts {
     pub value: u64,
     /// For each ledger, its sum, modulo 2^64.
     pub sums: Sequence<u64>,
-    /// The thread's own line, then the lines of its descendants.
+    /// The thread's own line, then those of the threads below it.
     pub lines: ThreadLines,
 }
 
@@ -65,7 +65,7 @@ impl<'p> Outcome<'p> {
 
     /// Returns the value, the sums and the lines.
     ///
-    /// Takes memory for a list of the lists of lines. If that memory is refused, the outcome is the error.
+    /// Takes memory for a list of the lists of lines. If that is refused, the outcome is the error.
     pub fn into_parts(self) -> Result<OutcomeParts, Outcome<'p>>
         ensures value { IfOk result (λ parts. parts.value ≡ self.entry.value) }
         ensures sums { IfOk result (λ parts. parts.sums ≡ self.entry.sums) }

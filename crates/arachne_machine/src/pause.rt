@@ -9,38 +9,38 @@ use thiserror::Error;
 pub enum Pause<'p> {
     /// The budget is used up. Advance the thread again.
     Budget,
-    /// The thread forks a child of this class. Take the child and call `forked`, or hand the child to `in_place`.
+    /// It forks a child of this class. Give the child away and call `forked`, or hand it to `in_place`.
     Forks(Class, Thread<'p>),
-    /// The thread awaits the outcome of a child. Hand that outcome to `joined`, or hand the child to `in_place`.
+    /// It awaits the outcome of a child. Hand that to `joined`, or hand the child to `in_place`.
     Joins,
-    /// The thread asks for this lock. Call `granted` once it has the lock.
+    /// It asks for this lock. Call `granted` once the thread has it.
     Asks(u64),
-    /// The thread releases this lock. Call `freed`.
+    /// It releases this lock. Call `freed`.
     Frees(u64),
-    /// The thread adds the second number to the ledger whose number is the first. Call `tallied`.
+    /// It adds to the ledger of the first number the second number. Call `tallied`.
     Tallies(u64, u64),
-    /// The thread has ended. Call `finish`.
+    /// It has ended. Call `finish`.
     Ended,
 }
 
-/// A pause that was not answered yet.
+/// A pause that is not answered yet.
 #[derive(Clone, Copy, Debug, PartialEq, Eq)]
 pub enum Pending {
     Forks,
     Joins,
-    /// The thread asks for the lock of this number.
+    /// The lock's number.
     Asks(u64),
-    /// The thread releases the lock of this number.
+    /// The lock's number.
     Frees(u64),
-    /// The thread adds an amount to a ledger: the ledger's number, and the amount.
+    /// The ledger's number, and the amount.
     Tallies(u64, u64),
     Ended,
 }
 
-/// The reason why an outcome was not joined. The outcome is returned with the reason.
+/// The reason why an outcome was not joined. The outcome is returned with it.
 #[derive(Drop, Error)]
 pub enum NotJoined<O> {
-    /// The outcome is not that of the awaited child.
+    /// It is not the outcome of the awaited child.
     #[error("the outcome of another thread")]
     Foreign(O),
     /// Memory was refused.
@@ -58,10 +58,10 @@ impl<O> fmt::Debug for NotJoined<O> {
     }
 }
 
-/// The reason why a child was not placed. The child is returned with the reason.
+/// The reason why a child was not placed. The child is returned with it.
 #[derive(Drop, Error)]
 pub enum NotPlaced<'p> {
-    /// The child is not the awaited child.
+    /// It is not the awaited child.
     #[error("another thread")]
     Foreign(Thread<'p>),
     /// Memory was refused.

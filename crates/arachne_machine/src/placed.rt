@@ -1,4 +1,4 @@
-//! Children that were handed back to run in their parent's place, and have not begun.
+//! Children that were handed back to run in their parent's place, and have not begun there.
 use crate::frame::Control;
 use crate::line::Ran;
 use crate::placing::Placing;
@@ -10,13 +10,13 @@ use std::alloc::AllocError;
 /// A child that was not placed, with the reason.
 #[derive(Drop)]
 pub enum Unplaced<'p> {
-    /// The child is not the awaited child.
+    /// It is not the awaited child.
     Foreign(Box<State<'p>>),
     /// Memory was refused.
     Memory(Box<State<'p>>),
 }
 
-/// The steps of a thread with the children that were handed back to it. The newest child is the last of `placed`.
+/// The steps of a thread with the children that were handed back to it. The newest is the last.
 impl<'p> State<'p> {
     ghost use Rattle.std.specs.Prelude.{◌≡◌, ◌≤◌, None, Some, true, All, IfOk, OnOk, OnErr};
     ghost use Rattle.arachne_machine.specs.declared.pause.Pending.TheVariants as pause;
@@ -28,8 +28,8 @@ impl<'p> State<'p> {
 
     /// Advances by at most `left` steps, until the thread pauses, and subtracts the steps that were made from `left`.
     ///
-    /// If the innermost thread begins to await the newest child of `placed`, that child goes on in its place. Returns
-    /// the child if the thread pauses for a fork. If memory is refused, the thread is left before the step that was
+    /// If the innermost thread comes to await the newest of these children, that child goes on in its place. Returns
+    /// the child if the thread pauses for a fork. If memory is refused, the thread stands before the step that was
     /// refused, which is not subtracted.
     pub fn advance_with<P: Placing>(
         &mut self,
@@ -44,8 +44,8 @@ impl<'p> State<'p> {
         ensures err { OnErr result (Went (P.gives_all ≡ true) left.old left.new self.old placed.old.items self.new placed.new.items) }
         ensures err_left { OnErr result (1 ≤ left.new) }
     {
-        // Only the proof uses it: the steps that are left at first fit into 32 bits, so the steps that are left later
-        // do too.
+        // Only the proof uses it: the steps that are left at first fit into 32 bits, so those that are left later do
+        // too.
         let _had = *left;
         while *left > 0 {
             if let Some(forked) = self.advance(left, spares, places)? {
@@ -63,8 +63,8 @@ impl<'p> State<'p> {
         Ok(None)
     }
 
-    /// If the innermost thread awaits the newest child of `placed`, lets that child go on in its place. Returns whether
-    /// the child goes on.
+    /// If the innermost thread awaits the newest of these children, lets that child go on in its place. Returns whether
+    /// it did.
     #[inline(always)]
     fn take_up(
         &mut self,
@@ -83,10 +83,10 @@ impl<'p> State<'p> {
         }
     }
 
-    /// Lets the newest child of `placed` go on in this thread's place, if the innermost thread awaits it. Returns
-    /// whether the child goes on.
+    /// Lets the newest of these children go on in this place if the innermost thread, which awaits a child, awaits that
+    /// one. Returns whether it did.
     ///
-    /// If memory is refused, the thread is left before the step in which it began to await the child.
+    /// If memory is refused, the thread stands before the step in which it began to await the child.
     #[cold]
     #[inline(never)]
     fn take_newest(
@@ -117,11 +117,11 @@ impl<'p> State<'p> {
         Ok(true)
     }
 
-    /// Takes back a child to run it in this thread's place.
+    /// Takes back a child to run it in this place.
     ///
-    /// A child that was just forked waits in this thread's place, and will begin before `others`, the children that
-    /// were handed back to it. An awaited child goes on at once, and `others` become the newest children of `placed`.
-    /// After an error nothing has changed but capacities.
+    /// A child that was just forked waits, and begins before the children `others` that were handed back to it. An
+    /// awaited child goes on here at once, and `others` are the newest of these children. After an error nothing has
+    /// changed but capacities.
     pub fn place(
         &mut self,
         placed: &mut Vec<Box<State<'p>>>,
@@ -142,8 +142,8 @@ impl<'p> State<'p> {
         }
     }
 
-    /// Takes back a child that was just forked. The child waits in this thread's place, and will begin before
-    /// `grandchildren`, the children that were handed back to it.
+    /// Takes back a child that was just forked. It waits to run here, and begins before the children that were handed
+    /// back to it.
     fn wait_with(
         &mut self,
         placed: &mut Vec<Box<State<'p>>>,
@@ -165,8 +165,7 @@ impl<'p> State<'p> {
         Ok(())
     }
 
-    /// Lets the awaited child go on in this thread's place. `others`, the children that were handed back to the child,
-    /// become the newest of `placed`.
+    /// Lets the awaited child go on here. The children that were handed back to it are the newest of these.
     fn go_on_with(
         &mut self,
         placed: &mut Vec<Box<State<'p>>>,

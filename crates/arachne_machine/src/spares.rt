@@ -1,17 +1,16 @@
-//! The memory that ended threads leave for new threads.
+//! The memory that ended threads leave for new ones.
 use crate::contents::Contents;
 use crate::state::State;
 use arachne_program::Program;
 use std::alloc::{AllocError, Global};
 use std::marker::Model;
 
-/// The maximum number of states of ended threads that are kept, and of boxes of outcomes that are kept.
+/// The maximum number of states that are kept, and that of boxes.
 const MOST: usize = 64;
 
-/// The memory that ended threads leave for new threads, for the threads of one core.
+/// The memory that ended threads leave for new ones, for the threads of one core.
 ///
-/// The memory consists of the states of ended threads, with the capacity of their environments and frames, and of the
-/// boxes of joined outcomes.
+/// It consists of their states, with the room of their environments and frames, and of the boxes of joined outcomes.
 #[derive(Drop)]
 pub struct Spares<'p> {
     most: usize,
@@ -48,7 +47,7 @@ impl<'p> Spares<'p> {
         }
     }
 
-    /// Returns the state of an ended thread, or a new state if there is none.
+    /// Returns the state of an ended thread, or a new one if there is none.
     pub(crate) fn take(
         &mut self,
         alloc: Global,
@@ -60,7 +59,7 @@ impl<'p> Spares<'p> {
         }
     }
 
-    /// Returns the box of a joined outcome, or a new box if there is none.
+    /// Returns the box of a joined outcome, or a new one if there is none.
     #[inline(always)]
     pub fn take_contents(&mut self) -> Result<Box<Contents>, AllocError> {
         match self.contents.pop() {
@@ -69,7 +68,7 @@ impl<'p> Spares<'p> {
         }
     }
 
-    /// Keeps the box of a joined outcome, or a box that was taken and not used, unless `MOST` are kept already.
+    /// Keeps the box of a joined outcome, or one that was taken and not used, unless enough are kept.
     #[inline(always)]
     pub fn keep_contents(&mut self, contents: Box<Contents>) {
         if self.contents.len() < self.most {
@@ -77,7 +76,7 @@ impl<'p> Spares<'p> {
         }
     }
 
-    /// Keeps the state of an ended thread, unless `MOST` are kept already.
+    /// Keeps the state of an ended thread, unless enough are kept.
     #[inline(always)]
     pub(crate) fn keep(&mut self, state: Box<State<'p>>) {
         if self.states.len() < self.most {

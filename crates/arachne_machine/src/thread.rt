@@ -1,4 +1,4 @@
-//! A thread with the threads that run in its place, and the calls that advance, answer and join it.
+//! A thread with those that run in its place, with the calls that advance, answer and join it.
 ghost use Rattle.std.specs.Prelude.{◌≡◌, ◌≢◌, ◌↔◌, ◌≤◌, ◌+◌, ◌-◌, ℕ, ◌∷◌, [], ◌++◌, true, false, Err, None, Some, IfOk, IfSome, OnOk, IfErr, OnErr, IsTrue};
 ghost use Rattle.arachne_program.specs.Effects.{tabulated};
 ghost use Rattle.arachne_machine.specs.Suspended.{IsAnswered, IsAsk, IsFree, IsFresh, IsNext, IsTally, Joined, SameThread, added, awaited, own_line_of, raised};
@@ -33,13 +33,13 @@ use std::snapshot::Snapshot;
 
 /// A thread of a program between two steps, with the threads that run in its place.
 ///
-/// A child that was placed in this thread runs once its parent awaits it, and the parent goes on once the child has
-/// ended. A thread is not `Clone`: each thread runs once.
+/// A child that was placed here runs once its parent awaits it, and its parent goes on once it has ended. A thread is
+/// not `Clone`: each thread runs once.
 #[derive(Drop)]
 pub struct Thread<'p> {
     /// The thread, and the threads that have begun in its place.
     state: Box<State<'p>>,
-    /// Children that were handed back to run in this thread's place and have not begun, the newest last.
+    /// Children that were handed back to run here and have not begun here, the newest last.
     placed: Vec<Box<State<'p>>>,
 }
 
@@ -96,8 +96,8 @@ impl<'p> Thread<'p> {
         self.state.program
     }
 
-    /// Returns the tag of the innermost thread that runs in this thread's place. That thread makes the next step, and
-    /// if a pause is pending, it is that thread's.
+    /// Returns the tag of the innermost thread that runs in this one's place. It makes the next step, and a pending
+    /// pause is its pause.
     pub fn running_tag(&self) -> u64
         ensures { result ≡ self.now.running.label.tag }
     {
@@ -123,8 +123,7 @@ impl<'p> Thread<'p> {
         self.state.own.label.ran = Ran::Spill;
     }
 
-    /// Returns the pending pause, if there is one. It is the pause of the innermost thread, which runs in this thread's
-    /// place.
+    /// Returns the pending pause, if there is one. It is that of the innermost thread.
     pub fn pending(&self) -> Option<Pending>
         ensures pending { result ≡ pending_in self.now }
         ensures next { IsNext self.now.running.pending self.now.running.trace }
@@ -134,11 +133,9 @@ impl<'p> Thread<'p> {
         self.state.pending()
     }
 
-    /// Advances by at most `budget` steps. To begin a node of an expression is a step of its own, and each fork is a
-    /// pause.
+    /// Advances by at most `budget` steps. Each beginning of a node is a step of its own, and each fork is a pause.
     ///
-    /// If memory is refused, the thread is left before the step that was refused, and the same call goes on from this
-    /// step.
+    /// If memory is refused, the thread stands before the step that was refused, and the same call goes on from there.
     pub fn advance(&mut self, budget: u32) -> Result<Pause<'p>, AllocError>
         requires not_paused { pending_in self.old ≡ None }
         requires some { 1 ≤ budget }
@@ -157,12 +154,12 @@ impl<'p> Thread<'p> {
         self.advance_within(&mut left, &mut spares, &mut Everywhere)
     }
 
-    /// Advances by at most `left` steps, and subtracts the steps that were made: all of them if the pause is `Budget`,
-    /// at least one at any other pause.
+    /// Advances by at most `left` steps, and subtracts those that were made: all at `Budget`, at least one at another
+    /// pause.
     ///
-    /// If there is no place for the child of a fork, the fork is no pause: the child runs in this thread's place, once
-    /// it is awaited. Any other child begins with memory that ended threads have left. If memory is refused, the thread
-    /// is left before the step that was refused, as with `advance`.
+    /// A fork for whose child there is no place is no pause: the child runs in this thread's place, once it is awaited.
+    /// Any other child begins with memory that ended threads have left. If memory is refused, the thread stands before
+    /// the step that was refused, as with `advance`.
     pub fn advance_within<P: Placing>(
         &mut self,
         left: &mut u32,
@@ -223,8 +220,7 @@ impl<'p> Thread<'p> {
         Ok(Pause::Budget)
     }
 
-    /// Makes the tally at which the thread has paused. Returns whether the thread has paused at a tally and `due` has
-    /// taken the tally's amount.
+    /// Makes the tally at which the thread has paused. Returns whether there is one and `due` has taken its amount.
     #[inline(always)]
     fn tally<D: Tallying>(&mut self, due: &mut D) -> bool
         ensures made { result ≡ true → (ledger amount : ℕ) × IsTallied ledger amount self.old self.new × GainsAt (D.due_to due.old) ledger amount (D.due_to due.new) }
@@ -240,7 +236,7 @@ impl<'p> Thread<'p> {
         true
     }
 
-    /// Advances until the thread pauses. Returns the child if the thread pauses for a fork.
+    /// Advances until the thread pauses. Returns the child if it pauses for a fork.
     #[inline(always)]
     fn stop<P: Placing>(
         &mut self,
@@ -262,7 +258,7 @@ impl<'p> Thread<'p> {
         Ok(forked)
     }
 
-    /// Replies to a fork pause whose child will run elsewhere. Takes no memory.
+    /// Answers a fork whose child was given away. Takes no memory.
     pub fn forked(&mut self)
         requires { pending_in self.old ≡ Some pause.Forks }
         ensures whole { SameWhole self.old self.new }
@@ -279,8 +275,8 @@ impl<'p> Thread<'p> {
 
     /// Runs a child in this thread's place.
     ///
-    /// At a fork the child must be the one that was forked, and runs once it is awaited. At a join the child must be
-    /// the awaited child, and runs at once. After an error nothing has changed, and the child is returned.
+    /// At a fork the child must be the one that was forked, and runs once it is awaited. At a join it must be the
+    /// awaited one, and runs at once. After an error nothing has changed, and the child is returned.
     pub fn in_place(&mut self, child: Thread<'p>) -> Result<(), NotPlaced<'p>>
         requires pending { IsPlacing (pending_in self.old) }
         requires child { MayBePlaced self.old child }
@@ -371,7 +367,7 @@ impl<'p> Thread<'p> {
         }
     }
 
-    /// Joins the outcome of the awaited child, like `joined`, from a box. The box is kept for new threads.
+    /// Joins the outcome of the awaited child, like `joined`, from a box. The box is left to new threads.
     pub fn joined_into(
         &mut self,
         outcome: DetachedOutcome,
@@ -440,8 +436,8 @@ impl<'p> Thread<'p> {
         }
     }
 
-    /// Returns the outcome of a thread that has ended, in the box `contents`. Memory that the thread no longer needs is
-    /// kept for new threads.
+    /// Returns the outcome of a thread that has ended, in this box. Memory that the thread no longer needs is left to
+    /// new threads.
     pub fn finish_into(self, contents: Box<Contents>, spares: &mut Spares<'p>) -> DetachedOutcome
         requires { pending_in self ≡ Some pause.Ended }
         ensures program { result.program ≡ (whole self.entry).program }
@@ -458,7 +454,7 @@ impl<'p> Thread<'p> {
     }
 }
 
-/// Returns a thread in whose place no other thread runs.
+/// Returns a thread in whose place no other runs.
 fn thread_of<'p>(state: Box<State<'p>>) -> Thread<'p>
     requires { IsSoundChild state.value }
     ensures { result ≡ nested state.entry.value [] }
@@ -470,7 +466,7 @@ fn thread_of<'p>(state: Box<State<'p>>) -> Thread<'p>
     }
 }
 
-/// Returns the pause that callers see: the fork if a child was forked, and the pending pause otherwise.
+/// Returns the pause that callers see, given the child if one was forked, and the pending pause otherwise.
 #[inline(always)]
 fn pause_of<'p>(forked: Option<(Class, Box<State<'p>>)>, pending: Option<Pending>) -> Pause<'p>
     requires { IfSome forked (λ f. IsSoundChild f.1.value) }

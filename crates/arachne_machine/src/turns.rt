@@ -126,7 +126,6 @@ impl<'p> State<'p> {
 
     /// Goes on with a sweep over the numbers from `next` to below `end`, whose value so far is `so_far`, like
     /// `turn_fold`.
-    #[inline(always)]
     pub fn turn_sweep(
         &mut self,
         reduction: Reduction,

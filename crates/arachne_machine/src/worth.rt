@@ -9,7 +9,7 @@ use arachne_program::{Expr, Program};
 
 /// Returns the value of the body of an iteration, if it has no effects and needs no more steps than are left.
 ///
-/// Each step of the body is subtracted from `left`.
+/// Each of its steps is subtracted from `left`.
 #[inline(always)]
 pub fn body_at_once(
     program: &Program,
@@ -32,10 +32,10 @@ pub fn body_at_once(
     Some(value)
 }
 
-/// Returns the value of an expression, if its parts need no more steps than are left.
+/// Returns the value of an expression, if it needs no more steps than are left beside its own.
 ///
-/// The expression may consist of numbers, variables, lengths, items, operations, choices and bindings. The result is
-/// `None` for any other expression. The environment is unchanged.
+/// It may consist of numbers, variables, lengths, items, operations, choices and bindings; for others it returns
+/// `None`. The environment is unchanged.
 #[cycle(recursion)]
 fn value_at_once(
     program: &Program,
@@ -115,8 +115,7 @@ fn side_at_once(
     }
 }
 
-/// Like `value_at_once`, with `newest` as the newest variable. Also returns `None` if there is no room for that
-/// variable.
+/// Like `value_at_once`, with `newest` as the newest variable. Returns `None` too if there is no room for it.
 #[cycle(recursion)]
 fn bound_at_once(
     program: &Program,

@@ -10,8 +10,8 @@ ghost use Rattle.arachne_run.specs.Reports.{histories_in, meaning_in, tags_of};
 use crate::audit::audit;
 use crate::fault::WorkerFault;
 use crate::resources::Remains;
-use arachne_machine::{DetachedOutcome, ThreadLines};
 use arachne_program::Sequence;
+use arachne_machine::{DetachedOutcome, ThreadLines};
 use arachne_sleep::History;
 use std::alloc::Global;
 
@@ -22,17 +22,17 @@ pub struct Report {
     pub value: u64,
     /// For each ledger the sum of what was tallied to it, modulo 2^64.
     pub totals: Sequence<u64>,
-    /// The program's threads, the root first.
+    /// Its threads, the root first.
     pub threads: ThreadLines,
-    /// For each lock the history of its asks, grants and frees, oldest first.
+    /// For each lock all that was asked, granted and freed, oldest first.
     pub histories: Vec<History>,
     /// The number of orders that were applied.
     pub applied: usize,
 }
 
 impl Report {
-    /// Returns the report of the root's outcome. The sums of the outcome must be equal to the words of the ledgers, no
-    /// two threads may have the same tag, and the grants of the locks must match the threads' holds.
+    /// Returns the report of the root's outcome. Its sums must be the words of the ledgers, no two threads may have one
+    /// tag, and the grants of the locks must be the threads' holds.
     pub(crate) fn of(
         alloc: Global,
         outcome: DetachedOutcome,
