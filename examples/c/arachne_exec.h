@@ -91,7 +91,7 @@ typedef struct {
 } arachne_exec;
 #define ARACHNE_EXEC_NULL {0}
 
-/* What C gets when an executor ends: a code, and the jobs that had not ended. */
+/* The result of an executor's end, for C: a code, and the jobs that had not ended. */
 typedef struct {
     /* The number of jobs that are left, which were written to the caller's array. */
     uint64_t count;
@@ -432,7 +432,7 @@ typedef struct {
     uint64_t thresholds[64];
 } arachne_estimator;
 
-/* What a host has measured of its load in one period, on all cores together. */
+/* A host's measurements of its load in one period, on all cores together. */
 typedef struct {
     uint64_t cores;
     uint64_t runnable;

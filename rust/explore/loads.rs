@@ -807,7 +807,7 @@ fn crowd() {
     assert!(read == 3 || leaves && read == 2);
 }
 
-/// A lock that three tasks want, one of which may leave the line of waiters; and work on the blocking pool.
+/// A lock that three tasks want, one of them may leave the line of waiters; and work on the blocking pool.
 fn locks() {
     let (runtime, lock, inside) = (runtime(2), Arc::new(Lock::new(0)), Arc::new(Mutex::new(false)));
     let tasks: Vec<_> = (0..3)

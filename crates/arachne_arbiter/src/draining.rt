@@ -20,7 +20,7 @@ pub(crate) struct Draining {
 }
 
 impl Draining {
-    /// Creates the record for `cores` cores, none of which is closed. The error is a refusal of memory.
+    /// Creates the record for `cores` cores, all of them open. The error is a refusal of memory.
     pub(crate) fn new(alloc: Global, cores: u8) -> Result<Draining, AllocError>
         ensures { IfOk result (λ draining. draining.waiting.items ≡ replicate cores false) }
     {

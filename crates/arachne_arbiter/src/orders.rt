@@ -7,7 +7,7 @@ use arachne_policy::{CoreOrder, OrderKind};
 use std::alloc::{AllocError, Global};
 use std::marker::Model;
 
-/// What an order changes: it closes a core, opens a core, or does nothing.
+/// The effect of an order: it closes a core, opens a core, or changes nothing.
 #[derive(Clone, Copy, Debug, PartialEq, Eq)]
 pub enum Effect {
     /// The order closes this core.
@@ -43,7 +43,7 @@ impl Model for Orders {
 impl Orders {
     ghost use Rattle.arachne_arbiter.specs.Orders.{is_closed_after, next_effect, with_next, IsDue, IsNoneDue, IsWithin};
 
-    /// Creates the orders of `list`, of which none is carried out yet, for `cores` cores, which are all open.
+    /// Creates the orders of `list`, none of them carried out yet, for `cores` cores, all of them open.
     ///
     /// The error is a refusal of memory.
     pub fn new(alloc: Global, list: Vec<CoreOrder>, cores: u8) -> Result<Orders, AllocError>

@@ -36,7 +36,7 @@ pub enum SerialRequest {
     Policy(Settings),
 }
 
-/// What the command line says of a run: its cores, places, seed and steps per slice, and what it prints.
+/// The settings of a run on the command line: its cores, places, seed, steps per slice, and the form of the output.
 #[derive(Debug, Drop)]
 pub struct RunSettings {
     /// The number of cores. The command line accepts any number; the run later refuses a number that it can't have.

@@ -5,7 +5,7 @@ ghost use Rattle.arachne_contexts.specs.Answers.{settled_claim, settled_wake};
 
 use crate::held::Held;
 
-/// Whether a call has claimed a place on a core, and if not, why.
+/// The result of a claim: a place on the core, or the reason why there is none.
 #[derive(Drop)]
 pub enum Claimed<C> {
     /// The caller has the place, and must put a thread there or give the place back.
@@ -36,7 +36,7 @@ impl<C> Claimed<C> {
     }
 }
 
-/// Whether a call has taken a ready thread, to run it, and if not, why.
+/// The result of a take: a ready thread to run, or the reason why there is none.
 #[derive(Drop)]
 pub enum Taken<T, H> {
     /// The caller has the thread, to run it.
@@ -49,7 +49,7 @@ pub enum Taken<T, H> {
     Lost(u64),
 }
 
-/// Whether a thread that was put back is ready or blocked now.
+/// The state of a thread that was put back: ready or blocked.
 #[derive(Clone, Copy, Debug, PartialEq, Eq)]
 pub enum Rested {
     AsAsked,
@@ -57,7 +57,7 @@ pub enum Rested {
     WokenMeanwhile,
 }
 
-/// Whether a call has woken a thread, and if not, why.
+/// The result of a wake: the thread is ready now, or the reason why the call didn't wake it.
 #[derive(Clone, Copy, Debug, PartialEq, Eq)]
 pub enum Woken {
     /// The thread was woken. Either it was blocked and is ready now, or a worker has it in hand, and it will be ready
@@ -87,7 +87,7 @@ impl Woken {
     }
 }
 
-/// Whether a call has moved a thread to another core, and if not, why.
+/// The result of a move to another core: the thread was moved, or the reason why none was.
 #[derive(Clone, Copy, Debug, PartialEq, Eq)]
 pub enum Moved {
     Moved,

@@ -33,7 +33,7 @@ pub enum Rest {
     Blocked,
 }
 
-/// What the table knows of a context: its place, how many threads it has had, and its state.
+/// The record that the table keeps of a context: its place, the number of threads that it has had, and its state.
 #[derive(Clone, Copy, Debug, PartialEq, Eq)]
 pub struct Context {
     /// The place at which the context stands.

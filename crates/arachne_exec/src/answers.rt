@@ -16,7 +16,7 @@ pub struct PlacedJob {
     pub unpark: bool,
 }
 
-/// Whether `spawn` has put the job at a place, and if not, why.
+/// The result of `spawn`: the job's place and name, or the reason why it has none.
 #[derive(Clone, Copy, Debug, PartialEq, Eq)]
 pub enum JobSpawned {
     Placed(PlacedJob),
@@ -36,7 +36,7 @@ pub enum SpawnedHere {
     Lost,
 }
 
-/// Whether the job that `rest_blocked` has put back waits now, or is ready since a wake had come.
+/// The state of the job that `rest_blocked` has put back: it waits, or is ready since a wake had come.
 #[derive(Clone, Copy, Debug, PartialEq, Eq)]
 pub enum JobRested {
     Blocked,
@@ -44,7 +44,7 @@ pub enum JobRested {
     Ready { unpark: bool },
 }
 
-/// What a worker must do next: run a job, look again, or park.
+/// The next action of a worker: run a job, look again, or park.
 #[derive(Clone, Copy, Debug, PartialEq, Eq)]
 pub enum Next {
     Run(HeldJob),

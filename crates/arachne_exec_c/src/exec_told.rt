@@ -23,7 +23,7 @@ pub struct ArachneExecTold {
     pub unpark: u32,
 }
 
-/// What C gets when an executor ends: a code, and the jobs that had not ended.
+/// The result of an executor's end, for C: a code, and the jobs that had not ended.
 #[repr(C)]
 #[derive(Clone, Copy)]
 pub struct ArachneExecLeft {

@@ -19,7 +19,7 @@ pub struct ArachneEstimator {
     pub thresholds: [u64; MAX_CORES],
 }
 
-/// What a host has measured of its load in one period, on all cores together.
+/// A host's measurements of its load in one period, on all cores together.
 #[repr(C)]
 #[derive(Clone, Copy)]
 pub struct ArachneSample {

@@ -19,7 +19,7 @@ const WAIT: u32 = 3;
 
 const ASK: u32 = 4;
 
-/// What a client tells the daemon: how it begins, how many cores it asks for, or what one of its threads does.
+/// A client's message to the daemon: it begins, asks for a number of cores, or reports an act of one of its threads.
 #[derive(Clone, Copy, Debug, PartialEq, Eq)]
 pub enum ClientMessage {
     /// A client's first message: its priority (0 goes first), the number of cores that it reserves, and the most cores

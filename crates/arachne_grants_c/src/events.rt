@@ -1,4 +1,4 @@
-//! What clients (hello, ask, leave) and their threads (join, wait, end) can do, and the code that C gets for it.
+//! The acts of clients (hello, ask, leave) and of their threads (join, wait, end), with the code that C gets for each.
 ghost use Rattle.std.specs.Prelude.{◌≡◌};
 ghost use Rattle.arachne_grants_c.specs.ArbiterTold.{asking, begun, ended, gone, joined, waiting, Changes, HasNumber, HasPlace, IsClient, IsVacant, MayJoin, MayWait};
 

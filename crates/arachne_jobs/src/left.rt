@@ -28,7 +28,7 @@ impl<'p> Fits<Wanted> for LeftInCell<'p> {
     ghost may_wait = { MayWait };
 }
 
-/// What a parent finds when it looks into the cell of a child that it awaits.
+/// The content that a parent finds in the cell of a child that it awaits.
 #[derive(Drop)]
 pub enum Found<'p> {
     /// The child has ended.

@@ -26,7 +26,7 @@ pub struct PartView<K> {
     pub passed: u64,
 }
 
-/// What is stored beside a cell's word: nothing, the key of the next value, or a value.
+/// The content beside a cell's word: nothing, the key of the next value, or a value.
 #[derive(Drop)]
 pub enum Content<T, K> {
     /// No value.

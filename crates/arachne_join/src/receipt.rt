@@ -1,4 +1,4 @@
-//! What a call on a cell returns as evidence for contracts of what it did or saw there.
+//! The evidence that a call on a cell returns, for contracts, of its effect and of what it saw.
 ghost use Rattle.std.specs.Prelude.{◌≡◌, []};
 ghost use Rattle.arachne_join.specs.Views.{shown};
 

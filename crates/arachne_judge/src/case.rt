@@ -28,7 +28,7 @@ const UNTOLD: u64 = 2;
 
 const TURNS_PER_UNTOLD: u64 = 64;
 
-/// What the judge knows of the run's cores, threads and places from the log's entries so far.
+/// The judge's knowledge of the run's cores, threads and places, from the log's entries so far.
 #[derive(Drop)]
 struct Case<'r> {
     run: Run<'r>,

@@ -122,7 +122,7 @@ pub struct Broken {
     pub at: usize,
 }
 
-/// What the judge says of a log: how often it has checked each rule, and the first rule that the run has broken.
+/// The verdict on a log: the number of checks of each rule, and the first rule that the run has broken.
 #[derive(Clone, Copy, Debug, PartialEq, Eq)]
 pub struct Verdict {
     /// How often the judge has checked each rule.

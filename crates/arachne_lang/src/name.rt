@@ -24,7 +24,7 @@ const _: () = prove!(size_of::<Name>() == 32);
 #[derive(Debug, Drop)]
 enum Forks {
     Bytes(ByteList),
-    /// Numbers of which at least one is 256 or more.
+    /// Numbers, at least one of them 256 or more.
     Words(WordList),
     Heap(Vec<u64>),
 }

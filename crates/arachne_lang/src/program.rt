@@ -8,7 +8,7 @@ ghost use Rattle.arachne_lang.specs.Same.{same_tree, same_source};
 ghost use Rattle.arachne_lang.specs.Value.{apply, operation_of, unit_of};
 ghost use Rattle.arachne_lang.specs.SameDecides.{same_tree-Decides, same_source-Decides};
 
-/// Whether a forked thread shares its core with others, or has a core to itself.
+/// The class of a forked thread: it shares its core with others, or has a core to itself.
 #[derive(Clone, Copy, Debug, PartialEq, Eq)]
 pub enum Class {
     /// The thread runs on a core that it shares with others.

@@ -15,7 +15,7 @@ use std::marker::Model;
 // The words of two cache lines, since processors fetch lines in pairs.
 const SPACING: usize = 16;
 
-/// Several ledgers (sums that many threads add to), each of which begins at 0.
+/// Several ledgers (sums that many threads add to), which begin at 0.
 #[derive(Drop)]
 pub struct Ledgers {
     table: Table<(), View, usize, Balanced, Global>,

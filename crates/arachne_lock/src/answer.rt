@@ -19,7 +19,7 @@ pub enum Admitted {
     },
 }
 
-/// Whether a call on a lock was made, or another kernel thread was at the lock so that the caller may try again.
+/// The result of a try at a lock: the call was made, or another kernel thread was at the lock: try again.
 #[derive(Clone, Copy, Debug, PartialEq, Eq)]
 pub enum Attempt<A> {
     /// No other kernel thread was at the lock, so the call was made. This is its result.

@@ -1,4 +1,4 @@
-//! What can happen at a lock: a task asks for it, gets it, frees it, or leaves its queue.
+//! The events at a lock: a task asks for it, gets it, frees it, or leaves its queue.
 
 /// An event of a lock, with the number of its task.
 ///
@@ -14,7 +14,7 @@ pub enum QueueEvent {
     Leave(u64),
 }
 
-/// What a call has done at a lock, as contracts see it.
+/// The effect of a call on a lock, as contracts see it.
 #[derive(Clone, Copy)]
 pub enum LockDeed {
     Nothing,

@@ -1,4 +1,4 @@
-//! What the lock of a locked table protects: where each thread is, and the values of threads that no seat has in hand.
+//! The data behind the lock of a locked table: the place of each thread, and the values of threads in no seat's hand.
 ghost use Rattle.std.specs.Prelude.{◌≡◌, ◌≢◌, ◌*◌, ◌<◌, ◌≤◌, ◌↔◌, ℕ, [], ◌∷◌, Ok, IfOk, OnOk, OnErr, IfErr, IfSome, IfNone, MatchBool, IsTrue, true, false, Some, slice_set};
 ghost use Rattle.arachne_core.specs.ContextTable.{world_of, ShowsCore, IsVacantFrom, Answers, marked};
 ghost use Rattle.arachne_core.specs.World.{Allowed, IsContext, IsPlace, HasClaimed, HoldsIn, IsAtRest, id_of};

@@ -45,7 +45,7 @@ fn run_all<'p>(alloc: Global, root: Thread<'p>, budget: u32) -> Result<DetachedO
     Ok(outcomes.pop().unwrap())
 }
 
-/// What a thread does at the end of its turn: it goes on, forks a child or ends.
+/// The action of a thread at the end of its turn: it goes on, forks a child or ends.
 #[derive(Drop)]
 enum Turn<'p> {
     /// The thread goes on.

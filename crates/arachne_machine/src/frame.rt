@@ -11,7 +11,7 @@ pub struct Stretch<'p> {
     pub body: &'p Expr,
 }
 
-/// What a thread does at its next step.
+/// The action of a thread at its next step.
 #[derive(Clone, Copy)]
 pub enum Control<'p> {
     /// The thread begins an expression.

@@ -89,7 +89,7 @@ impl<'p> Thread<'p> {
         &self.state.own.name
     }
 
-    /// Returns the program of which this is a thread.
+    /// Returns the thread's program.
     pub fn program(&self) -> &'p Program
         ensures { result.now ≡ (whole self.now).program }
     {

@@ -4,7 +4,7 @@ ghost use Rattle.arachne_policy.specs.Orders.{order_fault, IsFirstFault, AreInOr
 
 use thiserror::Error;
 
-/// Whether an order gives a core to the runtime or takes it back.
+/// The kind of an order: it gives a core to the runtime, or takes it back.
 #[derive(Clone, Copy, Debug, PartialEq, Eq)]
 pub enum OrderKind {
     /// The core is given to the runtime.

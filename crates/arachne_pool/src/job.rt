@@ -5,7 +5,7 @@ ghost use Rattle.arachne_pool.specs.Jobs.{EndsWith, ForksFresh, HasJoined, IsAwa
 use arachne_contexts::Tagged;
 use arachne_core::ThreadId;
 
-/// What a job wants after a step: to go on, to fork a child, to join one, to sleep or to end.
+/// The wish of a job after a step: to go on, to fork a child, to join one, to sleep or to end.
 #[derive(Drop)]
 pub enum Step<J, O> {
     /// The job goes on.
@@ -22,7 +22,7 @@ pub enum Step<J, O> {
     Done(O),
 }
 
-/// A job. It goes on by steps, one after the other, each of which any worker may make.
+/// A job. It goes on by steps, one after the other; any worker may make each.
 pub trait PoolJob: Tagged + Drop {
     /// The type of the value with which the job ends.
     type Output: Drop;

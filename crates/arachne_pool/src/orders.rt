@@ -46,7 +46,7 @@ impl PoolOrders {
         }
     }
 
-    /// Returns `list` as orders for this number of cores, of which the worker has carried out none yet.
+    /// Returns `list` as orders for this number of cores, none of them carried out yet.
     pub(crate) fn new(
         alloc: Global,
         orders: Vec<CoreOrder>,

@@ -22,7 +22,7 @@ use std::thread::{Threads, available_parallelism};
 use std::time::Clock;
 use thiserror::Error;
 
-/// How many cores and places the pool has in which `Pool::run` runs a job.
+/// The numbers of cores and places of the pool in which `Pool::run` runs a job.
 #[derive(Clone, Copy, Debug, PartialEq, Eq)]
 pub struct Setup {
     /// The number of cores, 1 to 64. Each has a kernel thread.
@@ -85,7 +85,7 @@ impl From<TeamFault> for RunFault {
     }
 }
 
-/// What `Pool::run` returns if the job has not ended: the fault, and what is left of the jobs.
+/// The error of `Pool::run` if the job has not ended: the fault, and the jobs that are left.
 #[derive(Drop)]
 pub enum Unfinished<J: PoolJob> {
     /// Memory or a kernel thread was refused before the job was spawned. The job is returned.

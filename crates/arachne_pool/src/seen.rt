@@ -1,4 +1,4 @@
-//! Counts why the cores that a call has asked for a place gave none: so many were full, and so many closed.
+//! Counts the cores that gave a call no place: those that were full, and those that were closed.
 ghost use Rattle.std.specs.Prelude.{◌≡◌, ◌+◌, ◌<◌};
 ghost use Rattle.arachne_contexts.specs.Words.{ShowsClosed, ShowsFull};
 

@@ -1,4 +1,4 @@
-//! What the workers of a core report of their work, as sums since the pool was made.
+//! Counts of the work of a core's workers since the pool was made.
 ghost use Rattle.std.specs.Prelude.{◌≡◌};
 ghost use Rattle.arachne_pool.specs.Done.{nothing_done};
 

@@ -105,7 +105,7 @@ pub(crate) enum Comes {
     NoSeat,
 }
 
-/// Whether a test's wake must find a job that sleeps, one that is awake, or none.
+/// The state in which a test's wake must find a job: asleep, awake, or gone.
 #[derive(Clone, Copy, PartialEq)]
 pub(crate) enum Wakes {
     /// The job slept.

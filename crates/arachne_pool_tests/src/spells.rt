@@ -1,4 +1,4 @@
-//! What each of a test case's two kernel threads does: it works, makes rounds, or waits for the other.
+//! The acts of a test case's two kernel threads: each works, makes rounds, or waits for the other.
 ghost use Rattle.std.specs.Prelude.{◌≡◌, ◌<◌, IfSome};
 ghost use Rattle.arachne_pool.specs.Workers.{IsWorkerOf};
 
@@ -19,7 +19,7 @@ const LOOKS: u32 = 1_000;
 /// How often a kernel thread checks, every 5 ms, for something that happens soon or never.
 const GLANCES: u32 = 2000;
 
-/// What one of a test case's kernel threads does.
+/// An act of one of a test case's kernel threads.
 #[derive(Clone, Copy)]
 pub(crate) enum Spell {
     /// The kernel thread does nothing.

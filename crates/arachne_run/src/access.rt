@@ -25,7 +25,7 @@ use std::marker::Model;
 use std::sync::Wait;
 use std::time::Clock;
 
-/// What a thread asks of a lock or a ledger: to get the lock, to free it, or to add to the ledger.
+/// A thread's request to a lock or a ledger: to get the lock, to free it, or to add to the ledger.
 #[derive(Clone, Copy)]
 pub(crate) enum Want {
     /// The thread asks for this lock.
@@ -38,7 +38,7 @@ pub(crate) enum Want {
     Tallies(u64, u64),
 }
 
-/// What the lock or the ledger has answered to a thread's request.
+/// The answer of the lock or the ledger to a thread's request.
 pub(crate) enum Served {
     /// The thread waits for this lock.
     Waits(u64),

@@ -11,7 +11,7 @@ ghost use Rattle.arachne_run.specs.declared.granted.Granted.{Granted};
 use arachne_sleep::{AskFault, Asked, LockSeats, Pass, SleepLocks, Tried, Who};
 use std::snapshot::Snapshot;
 
-/// Whether the thread asked for the lock now, or had asked before and checks whether it has the lock.
+/// The kind of a request for a lock: the thread asks for it now, or checks for the lock that it asked for before.
 #[derive(Clone, Copy)]
 pub(crate) enum LockCall {
     /// The thread asks for the lock.

@@ -1,4 +1,4 @@
-//! What the workers of a run share (table, ledgers, locks, ticket queue), and how all of it is closed at the end.
+//! The objects that the workers of a run share (table, ledgers, locks, ticket queue), and their end.
 ghost use Rattle.std.specs.Prelude.{◌≡◌, ◌≢◌, ◌≤◌, ◌⊎◌, ◌↔◌, ◌%◌, ◌^◌, [], false, true, All, Err, IfErr, IfOk, IfSome, IsOk, IsSome, IsTrue, None, OnOk, length, map};
 ghost use Rattle.arachne_lang.specs.Program.{tree_of};
 ghost use Rattle.arachne_core.specs.Occupancy.{count_of};

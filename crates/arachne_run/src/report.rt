@@ -1,4 +1,4 @@
-//! What a run returns: the program's value, ledgers and threads, and all that has happened at its locks.
+//! The report of a run: the program's value, ledgers and threads, and all that has happened at its locks.
 ghost use Rattle.std.specs.Prelude.{◌≡◌, ◌≢◌, [], All, Err, IfOk, length, map};
 ghost use Rattle.arachne_lang.specs.Program.{source_of};
 ghost use Rattle.arachne_lang.specs.Meaning.{meaning_of};
@@ -15,7 +15,7 @@ use arachne_machine::{DetachedOutcome, ThreadLines};
 use arachne_sleep::History;
 use std::alloc::Global;
 
-/// What a run returns of a program that has ended: its value, the sums of its ledgers, and its threads.
+/// The report of a program that has ended: its value, the sums of its ledgers, and its threads.
 #[derive(Debug, Drop)]
 pub struct Report {
     /// The value of the program.

@@ -43,7 +43,7 @@ const C: Who = Who {
     },
 };
 
-/// What a thread does at a lock in a test: it asks, checks or frees.
+/// An act of a thread at a lock in a test: it asks, checks or frees.
 #[derive(Clone, Copy)]
 enum Call {
     Ask,

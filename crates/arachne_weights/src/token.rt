@@ -1,4 +1,4 @@
-//! What contracts know of one holder of a shared object: its part of the whole weight, and what it knows.
+//! One holder of a shared object, as contracts see it: its part of the whole weight, and its knowledge.
 
 /// The view that the rule (the invariant) of a shared object has of one holder, with the holder's knowledge of the
 /// object. Only contracts use this type: no value of it is made.

@@ -186,7 +186,7 @@ pub enum TicketResult {
     Posted(PostedThread),
 }
 
-/// What a worker reports that it has just done or is about to do, such as to wake a thread or to park.
+/// An act that a worker reports, before or after it, such as to wake a thread or to park.
 #[derive(Clone, Copy, Debug, PartialEq, Eq)]
 pub enum WorkerEvent {
     /// A slice has ended, after this many steps. A slice that meets a fault is not reported.

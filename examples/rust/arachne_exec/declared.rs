@@ -103,7 +103,7 @@ impl ArachneExec {
     pub const NULL: ArachneExec = ArachneExec { opaque: std::ptr::null_mut() };
 }
 
-/// What C gets when an executor ends: a code, and the jobs that had not ended.
+/// The result of an executor's end, for C: a code, and the jobs that had not ended.
 #[repr(C)]
 #[derive(Clone, Copy, Debug, PartialEq, Eq)]
 pub struct ArachneExecLeft {
@@ -167,7 +167,7 @@ pub struct ArachneEstimator {
     pub thresholds: [u64; 64],
 }
 
-/// What a host has measured of its load in one period, on all cores together.
+/// A host's measurements of its load in one period, on all cores together.
 #[repr(C)]
 #[derive(Clone, Copy, Debug, PartialEq, Eq)]
 pub struct ArachneSample {

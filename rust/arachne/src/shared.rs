@@ -40,7 +40,7 @@ static ALL: [AtomicPtr<Shared>; TABLES] = [NO_TABLE; TABLES];
 /// A `Shared` is never freed, since a waker may be kept for ever.
 static POOL: Mutex<(usize, Vec<&'static Shared>)> = Mutex::new((0, Vec::new()));
 
-/// What a runtime's kernel threads share: the core, the epoll, the workers, and the words by which they sleep and stop.
+/// The objects that a runtime's kernel threads share: core, epoll, workers, and the words of sleep and stop.
 pub(crate) struct Shared {
     pub(crate) table: usize,
     pub(crate) root: Mutex<Root>,

@@ -62,7 +62,7 @@ extern "C" {
     fn arachne_arbiter_share(arbiter: *mut Handle, client: usize) -> Share;
 }
 
-/// What a client tells the daemon: how it begins, how many cores it asks for, or what one of its threads does.
+/// A client's message to the daemon: it begins, asks for a number of cores, or reports an act of one of its threads.
 #[derive(Clone, Copy, PartialEq, Eq, Debug)]
 pub enum Message {
     Hello { priority: u32, reserved: u32, most: u32 },

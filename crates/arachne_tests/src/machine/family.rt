@@ -14,7 +14,7 @@ use std::alloc::Global;
 /// The most attempts of a call, and the most calls.
 const MOST: u64 = 100_000;
 
-/// Whether a test runs children in their parent's place, and from when on, or as threads of their own.
+/// The way in which a test runs children: in their parent's place from some time on, or as threads of their own.
 #[derive(Clone, Copy, Debug, PartialEq, Eq)]
 pub(super) enum Way {
     /// Children run in their parent's place: the test puts each there at its fork.

@@ -55,7 +55,7 @@ pub(crate) fn place_of(name: u64) -> usize {
     name as usize & ((1 << PLACE_BITS) - 1)
 }
 
-/// Whether a job was put at a place of the block, and if so, whether it is ready or in a seat's hand.
+/// The result of a spawn into a block: the job is ready, is in a seat's hand, or has no place.
 #[derive(Clone, Copy, PartialEq, Eq, Debug)]
 pub(crate) enum Spawned {
     /// The job is ready in its block. If `unpark`, the caller must wake the worker of the block's shard.
