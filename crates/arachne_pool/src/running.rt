@@ -182,7 +182,6 @@ fn end<C: Contexts<Spawned<J>> + Drop, R: Wait, J: PoolJob>(
     ensures all { IfOk result (λ done. done.tally.ended ≡ done.tally.spawned) }
     ensures handed_back { IfErr result (HandsBackRun asked.now.value) }
 {
-    let _ = asked;
     let why = fault.unwrap_or(RunFault::Worker(PoolFault::Stopped));
     let Some(share) = share else {
         return Err(Unfinished::Lost(why));
