@@ -2,7 +2,7 @@
 use Rattle.std.specs.Prelude.{ℕ, Bool, ◌≡◌, ◌<◌, ◌≤◌, List, [], ◌∷◌, ◌++◌, codes, length, Err, ⊤}
 use Rattle.arachne_lang.specs.declared.text_fault.TextFault.{TextFault}
 use Rattle.arachne_lang.specs.declared.text_fault.TextFault.TheVariants as text
-use Rattle.arachne_lang.specs.declared.check_fault.CheckFault.{CheckFault}
+use Rattle.arachne_program.specs.declared.check_fault.CheckFault.{CheckFault}
 use Rattle.arachne_lang.specs.Tree.{Source}
 use Rattle.arachne_lang.specs.Spelling.{text_of}
 use Rattle.arachne_lang.specs.Text.{IsAccepted, IsFirstFault}

@@ -1,7 +1,7 @@
 -- The line that is printed for a fault.
 use Rattle.std.specs.Prelude.{ℕ, List, [], ◌∷◌, ◌++◌, codes, decimal}
 use Rattle.arachne_lang.specs.declared.text_fault.TextFault.TheVariants as text
-use Rattle.arachne_lang.specs.declared.check_fault.CheckFault.TheVariants as check
+use Rattle.arachne_program.specs.declared.check_fault.CheckFault.TheVariants as check
 use Rattle.arachne_cli.specs.declared.fault.Place.{Place}
 use Rattle.arachne_cli.specs.declared.fault.Place.TheVariants as place
 use Rattle.arachne_cli.specs.declared.fault.FaultLine.{FaultLine}

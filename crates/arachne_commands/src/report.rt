@@ -27,7 +27,7 @@ fn write_threads(text: &mut String, threads: &ThreadLines) -> Result<(), AllocEr
     ensures { OnOk result (string_bytes text.new ≡ string_bytes text.old ++ flat_map thread_line (map named_holds threads.now)) }
 {
     for thread in threads.iter() {
-        write_thread(text, &thread.name, thread.holds.as_slice())?;
+        write_thread(text, thread.name(), thread.holds())?;
     }
     Ok(())
 }

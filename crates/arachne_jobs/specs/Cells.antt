@@ -1,7 +1,7 @@
 -- The purpose and the content of the cells of a run.
 use Rattle.std.specs.Prelude.{◌≡◌, None, Some}
-use Rattle.arachne_lang.specs.declared.program.Program.{Program}
-use Rattle.arachne_lang.specs.Program.{source_of}
+use Rattle.arachne_program.specs.declared.program.Program.{Program}
+use Rattle.arachne_program.specs.Program.{source_of}
 use Rattle.arachne_machine.specs.Outcome.{Finished}
 use Rattle.arachne_jobs.specs.Threads.{Thread, program_of, name_of, tag_of}
 use Rattle.arachne_machine.specs.Nested.{IsAlone}

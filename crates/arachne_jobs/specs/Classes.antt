@@ -1,8 +1,8 @@
 -- Which classes of threads an expression forks.
 use Rattle.std.specs.Prelude.{Bool, true, false, ◌||◌}
-use Rattle.arachne_lang.specs.declared.program.Class.{Class}
-use Rattle.arachne_lang.specs.declared.program.Class.TheVariants.{Normal, Exclusive}
-use Rattle.arachne_lang.specs.Tree.{Tree, Number, Variable, Length, Item, Binary, Choose, Bind, Tally, Hold, Fork, Fold, Sweep}
+use Rattle.arachne_program.specs.declared.program.Class.{Class}
+use Rattle.arachne_program.specs.declared.program.Class.TheVariants.{Normal, Exclusive}
+use Rattle.arachne_program.specs.Tree.{Tree, Number, Variable, Length, Item, Binary, Choose, Bind, Tally, Hold, Fork, Fold, Sweep}
 
 abbrev pub is_exclusive : Class → Bool
 is_exclusive Normal = false

@@ -1,6 +1,6 @@
 -- The purpose of a job's ends of cells.
 use Rattle.std.specs.Prelude.{◌≡◌, ℕ, List, MatchOption}
-use Rattle.arachne_lang.specs.declared.program.Program.{Program}
+use Rattle.arachne_program.specs.declared.program.Program.{Program}
 use Rattle.arachne_jobs.specs.Cells.{IsOf}
 use Rattle.arachne_jobs.specs.declared.wanted.Wanted.{Wanted}
 use Rattle.arachne_jobs.specs.declared.ends.End.{End}

@@ -1,7 +1,7 @@
 -- The view of a thread in a run, with those that run in its place.
 use Rattle.std.specs.Prelude.{◌≡◌, ℕ, List, Option, None, Some}
 use Rattle.arachne_core.specs.declared.thread_id.ThreadId.{ThreadId}
-use Rattle.arachne_lang.specs.declared.program.Program.{Program}
+use Rattle.arachne_program.specs.declared.program.Program.{Program}
 use Rattle.arachne_machine.specs.declared.pause.Pending.{Pending}
 use Rattle.arachne_machine.specs.declared.pause.Pending.TheVariants as pause
 use Rattle.arachne_machine.specs.declared.line.Ran.TheVariants.{Spill}

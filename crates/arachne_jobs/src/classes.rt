@@ -1,9 +1,9 @@
 //! Finds which classes of threads a program forks: normal, exclusive.
 ghost use Rattle.std.specs.Prelude.{◌≡◌};
-ghost use Rattle.arachne_lang.specs.Program.{tree_of};
+ghost use Rattle.arachne_program.specs.Program.{tree_of};
 ghost use Rattle.arachne_jobs.specs.Classes.{forks_exclusive};
 
-use arachne_lang::{Class, Expr};
+use arachne_program::{Class, Expr};
 
 /// Returns whether an expression forks a thread that has a core for itself.
 pub fn has_exclusive(expr: &Expr) -> bool

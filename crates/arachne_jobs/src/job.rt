@@ -1,8 +1,8 @@
 //! The value of a context in a run: a thread of the program.
 ghost use Rattle.std.specs.Prelude.{◌≡◌, ◌≤◌, ◌<◌, ℕ, List, [], false, true, vec_capacity, vec_len, IfErr, IfNone, IfOk, IfSome, IsSome, OnErr, OnOk, None, Some};
-ghost use Rattle.arachne_lang.specs.declared.program.Program.{Program};
-ghost use Rattle.arachne_lang.specs.Program.{source_of};
-ghost use Rattle.arachne_lang.specs.Checked.{IsChecked};
+ghost use Rattle.arachne_program.specs.declared.program.Program.{Program};
+ghost use Rattle.arachne_program.specs.Program.{source_of};
+ghost use Rattle.arachne_program.specs.Checked.{IsChecked};
 ghost use Rattle.arachne_machine.specs.Advance.{IsSpentAt, Moves};
 ghost use Rattle.arachne_machine.specs.Nested.{IsPlacing, MayBePlaced, begun_in, with_tag};
 ghost use Rattle.arachne_machine.specs.Suspended.{awaited};
@@ -26,23 +26,24 @@ use crate::waiting::{Ticket, WaitCell};
 use crate::wanted::{OutcomeReceiver, Wanted};
 use arachne_contexts::Tagged;
 use arachne_core::{Rest, ThreadId};
-use arachne_lang::{Name, Program};
 use arachne_machine::{Contents, Pause, Pending, Thread};
+use arachne_program::{Name, Program};
 use std::alloc::{AllocError, Global};
 use std::marker::Model;
 
-/// A thread of the program, with its ends of join cells: in the first it leaves its own outcome; from the others it
-/// gets those of the children that it has forked and not joined, the newest last.
+/// A thread of the program, with its ends of join cells. In the first cell the thread leaves its own outcome. In each
+/// other cell it gets the outcome of a child that it has forked and not joined, the newest child's last.
 ///
 /// Contracts see the thread, and the id under which its parent runs.
 #[derive(Drop)]
 pub struct Job<'p> {
     thread: Thread<'p>,
-    /// Its ties to other jobs, without a lifetime.
+    /// The job's ties to other jobs, without a lifetime.
     ties: Box<Ties>,
-    /// The box into which its outcome is written.
+    /// The box into which the job's outcome is written.
     contents: Box<Contents>,
-    /// The cells in which threads wait or have waited, one for each of its ends of that kind, in their order.
+    /// The cells in which children wait or have waited: one for each end `End::Waits` in `ties`, in the order of these
+    /// ends.
     waits: Vec<WaitEnd<'p>>,
 }
 
@@ -54,7 +55,7 @@ impl<'p> Model for Job<'p> {
     ghost Value = { Posted };
 
     ghost use Rattle.std.specs.Coded.{codes};
-    ghost use Rattle.arachne_lang.specs.contracts.program.Expr as expr;
+    ghost use Rattle.arachne_program.specs.contracts.program.Expr as expr;
 
     ghost coded = { Prim.hlevel (codes, expr.the_row.coded) };
 
@@ -200,7 +201,7 @@ impl<'p> RunJob for Job<'p> {
             self.place(child)?;
             return Ok(None);
         }
-        // Room comes first: the child can't be taken back once its ticket is out.
+        // Room is reserved first: the child can't be taken back once its ticket is in the queue.
         if reserve_both(&mut self.ties.ends, &mut self.waits).is_err() {
             self.place(child)?;
             return Ok(None);
@@ -228,7 +229,8 @@ impl<'p> RunJob for Job<'p> {
         let mut waits = Vec::with_capacity(alloc, 1).ok()?;
         let mut ties = spares.ties.take(alloc, None).ok()?;
         let contents = spares.threads.take_contents().ok()?;
-        // The child is taken last: if memory is refused before, it waits on for its parent.
+        // The child is taken out of its cell last: if memory is refused before, the child goes on waiting for its
+        // parent.
         let Some((waiting, cell, end)) = ticket.take() else {
             spares.ties.keep(ties);
             spares.threads.keep_contents(contents);
@@ -321,7 +323,7 @@ impl<'p> Job<'p> {
         Ok((job, receiver))
     }
 
-    /// Runs it for at most `left` steps, over tallies whose amounts are due then.
+    /// Runs the job for at most `left` steps. A tally whose amount can be noted as due doesn't stop the job.
     #[inline(always)]
     fn advance_over(
         &mut self,
@@ -350,7 +352,7 @@ impl<'p> Job<'p> {
         Ok(paused?)
     }
 
-    /// Runs it for at most `left` steps.
+    /// Runs the job for at most `left` steps.
     fn advance(
         &mut self,
         left: &mut u32,
@@ -383,7 +385,8 @@ impl<'p> Job<'p> {
         }
     }
 
-    /// Has the child run in this thread's place once it is awaited, or at once if it is.
+    /// Lets the child run in this thread's place: at once if the thread awaits the child, otherwise once it awaits the
+    /// child.
     fn place(&mut self, child: Thread<'p>) -> Result<(), JobFault>
         requires pending { IsPlacing (pause_of self.old.thread) }
         requires child { MayBePlaced self.old.thread child }
@@ -397,7 +400,7 @@ impl<'p> Job<'p> {
         Ok(())
     }
 
-    /// Awaits the outcome of one more child, at this end.
+    /// Adds the end at which the job gets the outcome of one more child.
     fn expect(&mut self, receiver: OutcomeReceiver) -> Result<(), JobFault>
         requires { IsOf (program_of self.old.thread) receiver.opening.key }
         ensures { self.new ≡ self.old }
@@ -407,8 +410,8 @@ impl<'p> Job<'p> {
         Ok(())
     }
 
-    /// Joins the child that it awaits if that has ended, or runs it in place if it still waits. Returns whether it did
-    /// either: if not, the job can't go on.
+    /// Joins the awaited child if the child has ended, or runs the child in this job's place if it still waits. Returns
+    /// false if neither is so: then the job can't go on.
     fn join(&mut self, spares: &mut JobSpares<'p>) -> Result<bool, JobFault>
         requires { IsAwaiting self.old.thread }
         ensures tag { tag_of self.new.thread ≡ tag_of self.old.thread }
@@ -430,7 +433,7 @@ impl<'p> Job<'p> {
         }
     }
 
-    /// Takes what is in the cell of the child that it awaits, and uses it up. If nothing is there, the cell stays.
+    /// Takes the content of the awaited child's cell. The cell is then used up; if it had no content, it stays.
     fn find(&mut self, spares: &mut JobSpares<'p>) -> Result<Found<'p>, JobFault>
         ensures same { self.new ≡ self.old }
         ensures found { IfOk result (IsFoundOf (program_of self.old.thread)) }

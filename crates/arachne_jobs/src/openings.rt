@@ -1,25 +1,26 @@
-//! A worker's means for the slices of its threads: the answers at their forks, and the amount that they tallied.
+//! The data that a worker needs for the slices of its threads: the answers at their forks, and the amount that the
+//! threads tallied.
 ghost use Rattle.std.specs.Prelude.{◌≡◌, ◌↔◌, ◌≤◌, ◌+◌, ◌%◌, ◌^◌, false, true, if◌then◌else◌, IsTrue};
 ghost use Rattle.arachne_jobs.specs.declared.openings.TheConstants.{LARGE};
 
 use crate::due::Due;
 use crate::room::Room;
 use crate::tags::Tags;
-use arachne_lang::Class;
 use arachne_machine::Placing;
+use arachne_program::Class;
 
-/// A worker's means for the slices of its threads: its tags, the number of forks without a pause for which the
-/// chooser's word must still be drawn, and the amount that is due to a ledger.
+/// The data that a worker needs for the slices of its threads: its tags, the number of forks without a pause for which
+/// the chooser's word must still be drawn, and the amount that must still be added to a ledger.
 #[derive(Drop)]
 pub struct Openings {
     pub tags: Tags,
     pub draws: u64,
-    /// Set if the child that was forked last has much to do.
+    /// True if the child that was forked last is large: it has at least `LARGE` iterations of a sweep to make.
     pub is_large: bool,
     pub due: Due,
 }
 
-/// The least number of turns of a sweep for which a child is worth room in the queue.
+/// The least number of iterations of a sweep for which a child is worth room in the queue.
 const LARGE: u64 = 1024;
 
 impl Openings {
@@ -35,8 +36,8 @@ impl Openings {
         }
     }
 
-    /// Records that a word of the chooser must still be drawn, unless the child `may` have a place: without one the
-    /// fork is no pause, so nothing draws it now.
+    /// Records that a word of the chooser (the core's random generator) must still be drawn, unless the child `may`
+    /// have a place. If the child gets no place, the fork is no pause, so that no word is drawn now.
     #[inline(always)]
     fn owe_unless(&mut self, may: bool)
         ensures { self.new ≡ record self.old { draws = if may then self.old.draws else (self.old.draws + 1) % 2 ^ 64 } }
@@ -46,7 +47,7 @@ impl Openings {
         }
     }
 
-    /// Notes how many turns the child that is forked has to make.
+    /// Notes how many iterations of a sweep the child that is forked has to make.
     #[inline(always)]
     fn note_turns(&mut self, turns: u64)
         ensures others { self.new ≡ record self.old { is_large = self.new.is_large } }
@@ -56,7 +57,8 @@ impl Openings {
     }
 }
 
-/// The answers to a thread at its forks: whether its child may get a place or wait for one, and otherwise a tag for it.
+/// The answers to a thread at its forks: whether the forked child may get a place or wait for one; if not, a tag for
+/// the child.
 #[derive(Drop)]
 pub(crate) struct ForkPlacing<'a> {
     pub(crate) room: &'a Room,
@@ -64,7 +66,7 @@ pub(crate) struct ForkPlacing<'a> {
 }
 
 impl<'a> ForkPlacing<'a> {
-    /// Returns whether a child with this many turns to make may get a place or wait for one. If not, records that a
+    /// Returns whether a child with `turns` iterations to make may get a place or wait for one. If not, records that a
     /// word of the chooser must still be drawn for the fork.
     #[inline(always)]
     fn may_have_a_place(&mut self, class: Class, turns: u64) -> bool

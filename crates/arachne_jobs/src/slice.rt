@@ -1,7 +1,7 @@
 //! The traits by which workers see jobs: a worker runs a part of a job's slice, and replies to its pause.
 ghost use Rattle.std.specs.Prelude.{◌≡◌, ◌≤◌, ℕ, List, [], Option, false, IfOk, IfSome, IsSome, None, OnOk, Some};
-ghost use Rattle.arachne_lang.specs.Program.{source_of};
-ghost use Rattle.arachne_lang.specs.Checked.{IsChecked};
+ghost use Rattle.arachne_program.specs.Program.{source_of};
+ghost use Rattle.arachne_program.specs.Checked.{IsChecked};
 ghost use Rattle.arachne_core.specs.declared.thread_id.ThreadId.{ThreadId};
 ghost use Rattle.arachne_machine.specs.declared.pause.Pending.{Pending};
 ghost use Rattle.arachne_machine.specs.declared.pause.Pending.TheVariants as pause;
@@ -13,7 +13,7 @@ use crate::room::Room;
 use crate::wanted::OutcomeReceiver;
 use arachne_contexts::Tagged;
 use arachne_core::{Rest, ThreadId};
-use arachne_lang::{Class, Name, Program};
+use arachne_program::{Class, Name, Program};
 use std::alloc::{AllocError, Global};
 
 /// Why a slice of a job has stopped: what the job wants, or that it has ended.

@@ -35,7 +35,7 @@ impl<'p> Model for WaitCell<'p> {
     ghost Value = { Cell Wanted };
 
     ghost use Rattle.std.specs.Coded.{codes};
-    ghost use Rattle.arachne_lang.specs.contracts.program.Expr as expr;
+    ghost use Rattle.arachne_program.specs.contracts.program.Expr as expr;
 
     ghost coded = { Prim.hlevel (codes, expr.the_row.coded) };
 
@@ -58,7 +58,7 @@ impl<'p> Model for Ticket<'p> {
     ghost Value = { Cell Wanted };
 
     ghost use Rattle.std.specs.Coded.{codes};
-    ghost use Rattle.arachne_lang.specs.contracts.program.Expr as expr;
+    ghost use Rattle.arachne_program.specs.contracts.program.Expr as expr;
 
     ghost coded = { Prim.hlevel (codes, expr.the_row.coded) };
 

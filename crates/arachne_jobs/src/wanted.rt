@@ -5,25 +5,25 @@ ghost use Rattle.arachne_jobs.specs.Threads.{tag_of};
 
 use arachne_core::ThreadId;
 use arachne_join::{Fits, Receiver, Sender};
-use arachne_lang::{Name, Program};
 use arachne_machine::{DetachedOutcome, Thread};
+use arachne_program::{Name, Program};
 use std::snapshot::Snapshot;
 
-/// The purpose of a cell: the outcome of the thread of this name in this program. It has no bytes.
+/// The purpose of a cell: the outcome of the thread of this name in this program. A value of this type has no bytes.
 #[derive(Drop)]
 pub struct Wanted {
-    /// The program that the thread is of.
+    /// The thread's program.
     pub program: Snapshot<Program>,
     /// The thread's name.
     pub name: Snapshot<Name>,
     /// The tag under which the thread begins.
     pub tag: Snapshot<u64>,
-    /// The id under which its parent runs, if it has one.
+    /// The id under which the thread's parent runs, if it has one.
     pub parent: Snapshot<Option<ThreadId>>,
 }
 
 impl Wanted {
-    /// Returns the purpose of a cell for the outcome of this thread, which this parent awaits.
+    /// Returns the purpose of the cell for the outcome of `thread`, which `parent` awaits.
     #[inline(always)]
     pub(crate) fn of(thread: &Thread<'_>, parent: Option<ThreadId>) -> Wanted
         ensures thread { IsFor thread.now result }

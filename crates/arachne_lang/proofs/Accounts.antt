@@ -10,9 +10,9 @@ use Rattle.std.proofs.lemmas.List.{ext_get_or, get_or-set_same, get_or-set_other
 use Rattle.std.proofs.Math.Nat.{mod-add-mod}
 use Rattle.std.proofs.lemmas.Grind.{replicate_next}
 use Rattle.arachne_lang.specs.declared.evaluator.Own.{Own}
-use Rattle.arachne_lang.specs.declared.meaning.Line.{Line}
-use Rattle.arachne_lang.specs.Value.{wrapped}
-use Rattle.arachne_lang.specs.Effects.{Effects, Child, nothing, ◌⨾◌, tallied, held, forked, tabulated, line_of}
+use Rattle.arachne_program.specs.declared.meaning.Line.{Line}
+use Rattle.arachne_program.specs.Value.{wrapped}
+use Rattle.arachne_program.specs.Effects.{Effects, Child, nothing, ◌⨾◌, tallied, held, forked, tabulated, line_of}
 use Rattle.arachne_lang.specs.Evaluation.{Gains, HasDone, HasEnded}
 
 pub tabulated-same : (count : ℕ) (f g : ℕ → ℕ) → ((k : ℕ) → f k ≡ g k) → tabulated count f ≡ tabulated count g

@@ -7,15 +7,15 @@ use Rattle.std.proofs.Math.Nat.{two-pow-succ}
 use Rattle.std.proofs.lemmas.Bool.Decides.{nat_tests}
 use Rattle.arachne_lang.specs.declared.evaluator.Own.{Own}
 use Rattle.arachne_lang.specs.declared.evaluator.Shared.{Shared}
-use Rattle.arachne_lang.specs.declared.meaning.Line.{Line}
-use Rattle.arachne_lang.specs.declared.program.Class.{Class}
-use Rattle.arachne_lang.specs.declared.program.Operation.{Operation}
-use Rattle.arachne_lang.specs.declared.program.Reduction.{Reduction}
-use Rattle.arachne_lang.specs.Tree.{Tree, Source, Binary, Choose, Bind, Tally, Hold, Fork, Fold, Sweep}
-use Rattle.arachne_lang.specs.Value.{Environment, apply, operation_of, unit_of, value_of, with_newest}
-use Rattle.arachne_lang.specs.Effects.{Effects, Evaluate, half, effects_of, ◌⨾◌, tallied, held, forked, tabulated, line_of}
-use Rattle.arachne_lang.specs.Text.{nesting}
-use Rattle.arachne_lang.specs.Meaning.{meaning_of}
+use Rattle.arachne_program.specs.declared.meaning.Line.{Line}
+use Rattle.arachne_program.specs.declared.program.Class.{Class}
+use Rattle.arachne_program.specs.declared.program.Operation.{Operation}
+use Rattle.arachne_program.specs.declared.program.Reduction.{Reduction}
+use Rattle.arachne_program.specs.Tree.{Tree, Source, Binary, Choose, Bind, Tally, Hold, Fork, Fold, Sweep}
+use Rattle.arachne_program.specs.Value.{Environment, apply, operation_of, unit_of, value_of, with_newest}
+use Rattle.arachne_program.specs.Effects.{Effects, Evaluate, half, effects_of, ◌⨾◌, tallied, held, forked, tabulated, line_of}
+use Rattle.arachne_program.specs.Nesting.{nesting}
+use Rattle.arachne_program.specs.Meaning.{meaning_of}
 use Rattle.arachne_lang.specs.Evaluation.{Gains, HasDone, HasEnded, IsEvaluated, IsRun, folded, folded_effects, IsFolded, reduced, reduced_effects, IsReduced, halved_effects, IsHalved, IsHalfRun, MaySplit}
 use Rattle.arachne_lang.proofs.Accounts.{Gains-all, HasDone-nothing, HasDone-then, HasDone-tallied, HasDone-held, HasDone-forked, HasEnded-line}
 use Rattle.arachne_lang.proofs.Reductions.{over-halves}

@@ -5,7 +5,7 @@ use Rattle.std.proofs.lemmas.Bool.{eqb-true, eqb-false}
 use Rattle.std.proofs.lemmas.List.{append_cancel_left}
 use Rattle.arachne_lang.specs.declared.reading.heads.Head.{Head}
 use Rattle.arachne_lang.specs.declared.reading.heads.Head.TheVariants as head
-use Rattle.arachne_lang.specs.Tree.{Tree, Number}
+use Rattle.arachne_program.specs.Tree.{Tree, Number}
 use Rattle.arachne_lang.specs.Spelling.{spelling}
 use Rattle.arachne_lang.specs.Text.{NumbersFit}
 use Rattle.arachne_lang.specs.Reading.{Departs, TooDeep, Reading, words_at, form_words, behind_word_at, form_at, expression_at}

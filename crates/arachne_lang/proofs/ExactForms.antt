@@ -2,7 +2,7 @@
 use Rattle.std.proofs.Common.{◌≡◌, ℕ, zero, suc, ◌^◌, ◌<◌, List, [], ◌++◌, Some, Ok, refl, sym, ap, subst, ◌∙◌, append_assoc, lit<}
 use Rattle.std.specs.Prelude.{codes}
 use Rattle.std.proofs.lemmas.List.{append-nil}
-use Rattle.arachne_lang.specs.Tree.{Tree, Number}
+use Rattle.arachne_program.specs.Tree.{Tree, Number}
 use Rattle.arachne_lang.specs.Spelling.{numeral, spelling}
 use Rattle.arachne_lang.specs.Text.{NumbersFit}
 use Rattle.arachne_lang.specs.Reading.{Reading, ◌>>=◌, word_at, number_at, part_at}

@@ -4,7 +4,7 @@ use Rattle.std.specs.Prelude.{◌==◌, Bool, true, false, codes}
 use Rattle.std.specs.List.{AllByRecursion, flat_map}
 use Rattle.std.proofs.lemmas.Bool.{eqb-true, eqb-false}
 use Rattle.std.proofs.lemmas.List.{append-nil, append_cancel_left}
-use Rattle.arachne_lang.specs.Tree.{Tree, Number, Source}
+use Rattle.arachne_program.specs.Tree.{Tree, Number, Source}
 use Rattle.arachne_lang.specs.Spelling.{numeral, spelling, line, header, text_of}
 use Rattle.arachne_lang.specs.Text.{NumbersFit, IsInRange, IsAccepted, StartsWith}
 use Rattle.arachne_lang.specs.Reading.{Halt, Reading, ◌>>=◌, word_at, number_at, expression_at, items_at, arrays_at, lines_at, source_at}

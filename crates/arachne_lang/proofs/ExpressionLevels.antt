@@ -1,7 +1,7 @@
 -- Reading an expression with no level left, and with one more.
 use Rattle.std.proofs.Common.{◌≡◌, ℕ, zero, suc, ◌-◌, ◌≤◌, List, [], ◌∷◌, Err, length, get_or, take, drop, refl, arith}
 use Rattle.std.proofs.Math.Seq.{take-length}
-use Rattle.arachne_lang.specs.Tree.{Tree}
+use Rattle.arachne_program.specs.Tree.{Tree}
 use Rattle.arachne_lang.specs.Reading.{TooDeep, Reading, opened, form_at, expression_at}
 
 -- the reading of the text behind the opening bracket

@@ -3,7 +3,7 @@ use Rattle.std.proofs.Common.{◌≡◌, ℕ, zero, suc, List, [], ◌∷◌, �
 use Rattle.std.specs.Prelude.{codes}
 use Rattle.std.proofs.lemmas.List.{append_cancel_left}
 use Rattle.arachne_lang.specs.declared.reading.heads.Head.{Head}
-use Rattle.arachne_lang.specs.Tree.{Tree, Number}
+use Rattle.arachne_program.specs.Tree.{Tree, Number}
 use Rattle.arachne_lang.specs.Spelling.{numeral, spelling}
 use Rattle.arachne_lang.specs.Text.{NumbersFit}
 use Rattle.arachne_lang.proofs.Numerals.{NoDigit, bracket_is_no_digit, space_is_no_digit}

@@ -6,11 +6,11 @@ use Rattle.std.proofs.lemmas.Bool.{eq-eqb, eqb-true, cases_lt, cases_order}
 use Rattle.std.proofs.lemmas.List.{append-nil, append_cancel_left, take-append-drop, take-append-le}
 use Rattle.arachne_lang.specs.declared.text_fault.TextFault.{TextFault}
 use Rattle.arachne_lang.specs.declared.text_fault.TextFault.TheVariants as fault
-use Rattle.arachne_lang.specs.declared.program.Program.{Program}
+use Rattle.arachne_program.specs.declared.program.Program.{Program}
 use Rattle.arachne_lang.specs.declared.reading.stop.Stop.{Stop}
 use Rattle.arachne_lang.specs.declared.reading.stop.Stop.TheVariants as stop
-use Rattle.arachne_lang.specs.Tree.{Source}
-use Rattle.arachne_lang.specs.Program.{source_of}
+use Rattle.arachne_program.specs.Tree.{Source}
+use Rattle.arachne_program.specs.Program.{source_of}
 use Rattle.arachne_lang.specs.Spelling.{header, text_of}
 use Rattle.arachne_lang.specs.Text.{IsInRange, IsAccepted, Begins, BeginsInRange, StartsWith, level, HasFault, byte_of, IsFirstFault}
 use Rattle.arachne_lang.specs.Reading.{Fails, fault_within, Halt, Departs, Overflows, TooDeep, ◌>>=◌, word_at, source_at, ended, program_at}

@@ -4,9 +4,10 @@ use Rattle.std.specs.Prelude.{codes, max}
 use Rattle.std.proofs.lemmas.List.{append-nil}
 use Rattle.arachne_lang.specs.declared.reading.heads.Head.{Head}
 use Rattle.arachne_lang.specs.declared.reading.heads.Head.TheVariants as head
-use Rattle.arachne_lang.specs.Tree.{Tree, Number, Variable, Length, Item, Binary, Choose, Bind, Tally, Hold, Fork, Fold, Sweep}
+use Rattle.arachne_program.specs.Tree.{Tree, Number, Variable, Length, Item, Binary, Choose, Bind, Tally, Hold, Fork, Fold, Sweep}
 use Rattle.arachne_lang.specs.Spelling.{numeral, spelling, operation_word, class_word, reduction_word, after_spaces}
-use Rattle.arachne_lang.specs.Text.{NumbersFit, nesting}
+use Rattle.arachne_program.specs.Nesting.{nesting}
+use Rattle.arachne_lang.specs.Text.{NumbersFit}
 
 -- ---- k + 1 trees
 

@@ -2,9 +2,9 @@
 use Rattle.std.proofs.Common.{◌≡◌, ℕ, List, [], ◌++◌, Some, Result, Ok, refl, sym, subst, ◌∙◌}
 use Rattle.std.specs.Prelude.{true}
 use Rattle.std.proofs.lemmas.List.{append-nil}
-use Rattle.arachne_lang.specs.declared.program.Class.TheVariants as class
-use Rattle.arachne_lang.specs.declared.program.Operation.TheVariants as operation
-use Rattle.arachne_lang.specs.declared.program.Reduction.TheVariants as reduction
+use Rattle.arachne_program.specs.declared.program.Class.TheVariants as class
+use Rattle.arachne_program.specs.declared.program.Operation.TheVariants as operation
+use Rattle.arachne_program.specs.declared.program.Reduction.TheVariants as reduction
 use Rattle.arachne_lang.specs.declared.reading.heads.Head.{Head}
 use Rattle.arachne_lang.specs.declared.reading.heads.Head.TheVariants as head
 use Rattle.arachne_lang.specs.Reading.{Halt, words_at, form_words, words_in_f, words_in_i, words_in_l, words_in_m, words_in_s, words_of_sweeps, sweeps_in_m}

@@ -5,9 +5,10 @@ use Rattle.std.proofs.lemmas.Bool.{eqb-true, ne_eqb, eq-eqb}
 use Rattle.std.proofs.lemmas.List.{take-append-le, take-append-drop}
 use Rattle.std.proofs.lemmas.List.Sums.{sum_by-cons, count_by_more_no, count_by_more_yes}
 use Rattle.arachne_lang.specs.declared.reading.heads.Head.{Head}
-use Rattle.arachne_lang.specs.Tree.{Tree}
+use Rattle.arachne_program.specs.Tree.{Tree}
 use Rattle.arachne_lang.specs.Spelling.{numeral, spelling}
-use Rattle.arachne_lang.specs.Text.{nesting, level}
+use Rattle.arachne_program.specs.Nesting.{nesting}
+use Rattle.arachne_lang.specs.Text.{level}
 use Rattle.arachne_lang.proofs.Numerals.{AreDigits, numeral-AreDigits}
 use Rattle.arachne_lang.proofs.Languages.{level_behind, levels_then, levels_behind, levels_behind-append, levels_between}
 use Rattle.arachne_lang.proofs.ExactNumber.{level_behind_digit}

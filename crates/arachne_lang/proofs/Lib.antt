@@ -2,7 +2,6 @@ mod WorkedRows
 pub mod EvaluationSteps
 pub mod NodesJudged
 pub mod NamesDiffer
-pub mod SameParts
 pub mod ExpressionLevels
 pub mod Languages
 pub mod Numerals
@@ -23,4 +22,3 @@ pub mod ExactWords
 pub mod Forms
 pub mod HeadWords
 pub mod WordSteps
-pub mod NumberLists

@@ -4,11 +4,11 @@ use Rattle.std.proofs.Common.{◌≡◌, ◌≢◌, ℕ, zero, suc, ◌+◌, ◌
 use Rattle.std.specs.Prelude.{map, max, nat_le, ◌==◌, if◌then◌else◌, slice_index_or}
 use Rattle.std.specs.List.{AllByRecursion, AllPairs}
 use Rattle.std.proofs.lemmas.List.{append_cancel_left, map-append}
-use Rattle.arachne_lang.specs.declared.meaning.Line.{Line}
-use Rattle.arachne_lang.specs.Tree.{Tree, Number, Variable, Length, Item, Binary, Choose, Bind, Tally, Hold, Fork, Fold, Sweep, Source}
-use Rattle.arachne_lang.specs.Value.{Environment, turns, value_of, with_newest}
-use Rattle.arachne_lang.specs.Effects.{Child, Evaluate, Effects, effects_of, ◌⨾◌, tallied, held, forked, half, turns_effects, halves, line_of}
-use Rattle.arachne_lang.specs.Meaning.{meaning_of}
+use Rattle.arachne_program.specs.declared.meaning.Line.{Line}
+use Rattle.arachne_program.specs.Tree.{Tree, Number, Variable, Length, Item, Binary, Choose, Bind, Tally, Hold, Fork, Fold, Sweep, Source}
+use Rattle.arachne_program.specs.Value.{Environment, turns, value_of, with_newest}
+use Rattle.arachne_program.specs.Effects.{Child, Evaluate, Effects, effects_of, ◌⨾◌, tallied, held, forked, half, turns_effects, halves, line_of}
+use Rattle.arachne_program.specs.Meaning.{meaning_of}
 
 abbrev Name : Type 0
 Name = List ℕ

@@ -4,13 +4,13 @@ use Rattle.std.specs.List.{fold}
 use Rattle.std.proofs.lemmas.List.{length-map}
 use Rattle.std.proofs.lemmas.Bool.Decides.{nat_tests}
 use Rattle.std.specs.Prelude.{nat_lt, Option, None, Some, Result, Ok, Err}
-use Rattle.arachne_lang.specs.declared.check_fault.CheckFault.{CheckFault}
-use Rattle.arachne_lang.specs.Tree.{Tree, Number, Variable, Length, Item, Binary, Choose, Bind, Tally, Hold, Fork, Fold, Sweep, Source}
-use Rattle.arachne_lang.specs.Text.{nesting}
-use Rattle.arachne_lang.specs.Checked.{NodeFault, node_faults, first_fault, node_count, is_within_limits, verdict_of}
-use Rattle.arachne_lang.specs.Program.{tree_of, source_of}
-use Rattle.arachne_lang.specs.declared.check_fault.CheckFault.TheVariants as fault
-use Rattle.arachne_lang.specs.declared.program.Program.{Program}
+use Rattle.arachne_program.specs.declared.check_fault.CheckFault.{CheckFault}
+use Rattle.arachne_program.specs.Tree.{Tree, Number, Variable, Length, Item, Binary, Choose, Bind, Tally, Hold, Fork, Fold, Sweep, Source}
+use Rattle.arachne_program.specs.Nesting.{nesting}
+use Rattle.arachne_program.specs.Checked.{NodeFault, node_faults, first_fault, node_count, is_within_limits, verdict_of}
+use Rattle.arachne_program.specs.Program.{tree_of, source_of}
+use Rattle.arachne_program.specs.declared.check_fault.CheckFault.TheVariants as fault
+use Rattle.arachne_program.specs.declared.program.Program.{Program}
 use Rattle.arachne_lang.specs.Judgement.{judged, KeepsLimits}
 
 pub nesting_positive : (tree : Tree) → 0 < nesting tree

@@ -3,9 +3,9 @@ use Rattle.std.proofs.Common.{◌≡◌, ℕ, zero, suc, ◌+◌, ◌*◌, ◌^�
 use Rattle.std.specs.Int.Bits.{xor_assoc, xor_zero_r}
 use Rattle.std.proofs.Math.Nat.{mul_assoc, mod-eq_of_lt, mod-add-mod, add-mod-mod}
 use Rattle.std.proofs.lemmas.Nat.{mul-mod_first, mul-mod_second}
-use Rattle.arachne_lang.specs.declared.program.Reduction.{Reduction}
-use Rattle.arachne_lang.specs.declared.program.Reduction.TheVariants.{Sum, Product, Parity, Least, Greatest}
-use Rattle.arachne_lang.specs.Value.{wrapped, apply, operation_of, unit_of, turns}
+use Rattle.arachne_program.specs.declared.program.Reduction.{Reduction}
+use Rattle.arachne_program.specs.declared.program.Reduction.TheVariants.{Sum, Product, Parity, Least, Greatest}
+use Rattle.arachne_program.specs.Value.{wrapped, apply, operation_of, unit_of, turns}
 
 apply-assoc : (r : Reduction) (a b c : ℕ) → apply (operation_of r) (apply (operation_of r) a b) c ≡ apply (operation_of r) a (apply (operation_of r) b c)
 apply-assoc Sum a b c = mod-add-mod (a + b) (2 ^ 64) c ∙ ap wrapped (add_assoc a b c) ∙ sym (add-mod-mod a (b + c) (2 ^ 64))

@@ -2,8 +2,8 @@
 use Rattle.std.proofs.Common.{◌≡◌, ℕ, suc, ◌-◌, ◌≤◌, List, [], ◌∷◌, length, get_or, take, drop, refl, arith}
 use Rattle.std.specs.Prelude.{codes}
 use Rattle.std.proofs.Math.Seq.{take-length}
-use Rattle.arachne_lang.specs.declared.program.Operation.TheVariants as operation
-use Rattle.arachne_lang.specs.declared.program.Reduction.TheVariants as reduction
+use Rattle.arachne_program.specs.declared.program.Operation.TheVariants as operation
+use Rattle.arachne_program.specs.declared.program.Reduction.TheVariants as reduction
 use Rattle.arachne_lang.specs.declared.reading.heads.Head.TheVariants as head
 use Rattle.arachne_lang.specs.Reading.{words_at, ending, form_words, words_of_sweeps}
 

@@ -2,12 +2,12 @@
 use Rattle.std.specs.Prelude.{ℕ, ◌≡◌, ◌+◌, ◌*◌, ◌^◌, ◌<◌, ◌≤◌, List, [], ◌∷◌, ◌++◌, length, replicate}
 use Rattle.arachne_lang.specs.declared.evaluator.Own.{Own}
 use Rattle.arachne_lang.specs.declared.evaluator.Shared.{Shared}
-use Rattle.arachne_lang.specs.declared.meaning.Line.{Line}
-use Rattle.arachne_lang.specs.declared.program.Reduction.{Reduction}
-use Rattle.arachne_lang.specs.Tree.{Tree, Source}
-use Rattle.arachne_lang.specs.Text.{nesting}
-use Rattle.arachne_lang.specs.Value.{Environment, value_of, turns, apply, operation_of, unit_of, with_newest}
-use Rattle.arachne_lang.specs.Effects.{Effects, half, effects_of, turns_effects, halves, tabulated, line_of}
+use Rattle.arachne_program.specs.declared.meaning.Line.{Line}
+use Rattle.arachne_program.specs.declared.program.Reduction.{Reduction}
+use Rattle.arachne_program.specs.Tree.{Tree, Source}
+use Rattle.arachne_program.specs.Nesting.{nesting}
+use Rattle.arachne_program.specs.Value.{Environment, value_of, turns, apply, operation_of, unit_of, with_newest}
+use Rattle.arachne_program.specs.Effects.{Effects, half, effects_of, turns_effects, halves, tabulated, line_of}
 
 -- Each number of an account has grown, modulo 2 ^ 64, by the amount for its index.
 abbrev pub Gains : (ℕ → ℕ) → List ℕ → List ℕ → Type 0

@@ -3,14 +3,14 @@
 use Rattle.std.specs.Prelude.{ℕ, zero, suc, ◌≡◌, ◌+◌, ◌-◌, ◌*◌, ◌^◌, nat_lt, nat_le, ◌==◌, ◌&&◌, if◌then◌else◌, List, [], ◌∷◌, ◌++◌, length, Result, Ok, Err, codes}
 use Rattle.arachne_lang.specs.declared.reading.stop.Stop.{Stop}
 use Rattle.arachne_lang.specs.declared.reading.stop.Stop.TheVariants as stop
-use Rattle.arachne_lang.specs.declared.program.Class.TheVariants as class
+use Rattle.arachne_program.specs.declared.program.Class.TheVariants as class
 use Rattle.arachne_lang.specs.declared.text_fault.TextFault.{TextFault}
 use Rattle.arachne_lang.specs.declared.text_fault.TextFault.TheVariants as fault
-use Rattle.arachne_lang.specs.declared.program.Operation.TheVariants as operation
-use Rattle.arachne_lang.specs.declared.program.Reduction.TheVariants as reduction
+use Rattle.arachne_program.specs.declared.program.Operation.TheVariants as operation
+use Rattle.arachne_program.specs.declared.program.Reduction.TheVariants as reduction
 use Rattle.arachne_lang.specs.declared.reading.heads.Head.{Head}
 use Rattle.arachne_lang.specs.declared.reading.heads.Head.TheVariants as head
-use Rattle.arachne_lang.specs.Tree.{Tree, Number, Variable, Length, Item, Binary, Choose, Bind, Tally, Hold, Fork, Fold, Sweep, Source}
+use Rattle.arachne_program.specs.Tree.{Tree, Number, Variable, Length, Item, Binary, Choose, Bind, Tally, Hold, Fork, Fold, Sweep, Source}
 
 -- the reason why reading stops, with the bytes that are left there
 pub data Halt : Type 0 where

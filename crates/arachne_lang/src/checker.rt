@@ -1,12 +1,11 @@
 //! Checks that a program may run: its nesting, the limits, and each node in the order of the text.
 ghost use Rattle.std.specs.Prelude.{◌≡◌, ◌+◌, ◌-◌, ◌*◌, ◌^◌, ◌<◌, ◌≤◌, ◌↔◌, ◌++◌, IsTrue, IfOk, SomeIff, length, sum_by, take};
-ghost use Rattle.arachne_lang.specs.Program.{tree_of, source_of};
-ghost use Rattle.arachne_lang.specs.Text.{nesting};
-ghost use Rattle.arachne_lang.specs.Checked.{node_faults, first_fault, node_count, verdict_of};
+ghost use Rattle.arachne_program.specs.Program.{tree_of, source_of};
+ghost use Rattle.arachne_program.specs.Nesting.{nesting};
+ghost use Rattle.arachne_program.specs.Checked.{node_faults, first_fault, node_count, verdict_of};
 ghost use Rattle.arachne_lang.specs.Judgement.{judged, KeepsLimits};
 
-use crate::check_fault::CheckFault;
-use crate::program::{Expr, Program};
+use arachne_program::{CheckFault, Expr, Program};
 
 /// The maximum number of levels of an expression. The root is at level 1.
 const MOST_LEVELS: u32 = 64;
@@ -24,8 +23,8 @@ const MOST_LOCKS: u8 = 16;
 
 /// Checks that a program may run.
 ///
-/// Checks first its nesting, then the limits, then its nodes in the order of the text, a node before its parts. Returns
-/// the first fault. Takes no memory, and no stack for what is nested deeper than is allowed.
+/// Checks first the program's nesting, then the limits, then its nodes in the order of the text, a node before its
+/// parts. Returns the first fault. Takes no memory. Parts that are nested deeper than is allowed take no stack.
 pub fn check(program: &Program) -> Result<(), CheckFault>
     ensures { result ≡ verdict_of (source_of program.now) }
 {
@@ -44,7 +43,7 @@ pub fn check(program: &Program) -> Result<(), CheckFault>
     Ok(())
 }
 
-/// Returns whether an expression has at most `levels` levels. Goes no deeper than that.
+/// Returns whether an expression has at most `levels` levels. Looks at no deeper level.
 #[tactic(auto, using(crate::proofs::NodesJudged::nesting_positive))]
 fn nests_within(expr: &Expr, levels: u32) -> bool
     ensures { IsTrue result ↔ (nesting (tree_of expr.now) ≤ levels) }
@@ -98,8 +97,8 @@ fn have_items_within(arrays: &[Vec<u64>], items: usize) -> bool
     true
 }
 
-/// Returns `nodes` less the number of nodes of an expression, or `None` if the expression has more. Stops at the node
-/// that is one too many.
+/// Returns `nodes` less the number of nodes of an expression, or `None` if the expression has more nodes. Stops at the
+/// first node that is too many.
 #[tactic(auto, using(crate::proofs::NodesJudged::node_count_positive))]
 fn nodes_left(expr: &Expr, nodes: u64) -> Option<u64>
     ensures { SomeIff result (node_count (tree_of expr.now) ≤ nodes) (nodes - node_count (tree_of expr.now)) }
@@ -149,7 +148,7 @@ impl<'p> Scope<'p> {
         array < self.program.arrays.len() as u64
     }
 
-    /// Checks the root of an expression, which is the node of number `node`, and none of its parts.
+    /// Checks the root of an expression, which is the node number `node`, and none of its parts.
     fn judge(self, expr: &Expr, node: u64) -> Result<(), CheckFault>
         ensures { result ≡ first_fault node (take 1
             (node_faults (source_of self.entry.program.now) self.entry.within self.entry.bound (tree_of expr.now))) }
@@ -172,8 +171,8 @@ impl<'p> Scope<'p> {
         }
     }
 
-    /// Checks the nodes of an expression, of which the first has the number `node`. Returns the number of the node that
-    /// follows them.
+    /// Checks the nodes of an expression whose first node has the number `node`. Returns the number of the node that
+    /// follows these nodes.
     #[cycle(judging)]
     #[tactic(auto, using(crate::proofs::NodesJudged::judged_parts, crate::proofs::NodesJudged::some_faults))]
     fn check(self, expr: &Expr, node: u64) -> Result<u64, CheckFault>
@@ -204,7 +203,8 @@ impl<'p> Scope<'p> {
         }
     }
 
-    /// Checks the nodes of two parts, `a` and then `b`, which stands in the scope `last`, like `check`.
+    /// Checks the nodes of two parts, like `check`: the nodes of `a`, and then those of `b`, which is in the scope
+    /// `last`.
     #[cycle(judging)]
     fn two(self, a: &Expr, last: Scope, b: &Expr, node: u64) -> Result<u64, CheckFault>
         requires nodes { node + node_count (tree_of a.now) + node_count (tree_of b.now) ≤ MOST_NODES }
@@ -219,7 +219,7 @@ impl<'p> Scope<'p> {
         last.check(b, second)
     }
 
-    /// Checks the nodes of three parts, of which `c` stands in the scope `last`, like `check`.
+    /// Checks the nodes of three parts, like `check`; `c` is in the scope `last`.
     #[cycle(judging)]
     fn three(self, a: &Expr, b: &Expr, last: Scope, c: &Expr, node: u64) -> Result<u64, CheckFault>
         requires nodes { node + node_count (tree_of a.now) + node_count (tree_of b.now) + node_count (tree_of c.now) ≤ MOST_NODES }
@@ -237,7 +237,7 @@ impl<'p> Scope<'p> {
         last.check(c, second)
     }
 
-    /// Checks the nodes of four parts, of which `d` stands in the scope `last`, like `check`.
+    /// Checks the nodes of four parts, like `check`; `d` is in the scope `last`.
     #[cycle(judging)]
     fn four(
         self,

@@ -1,19 +1,16 @@
 //! Evaluates a program on one thread, with its ledger sums, holds and lines.
 ghost use Rattle.std.specs.Prelude.{◌≡◌, ◌+◌, ◌^◌, ◌<◌, [], ◌∷◌, ◌++◌, IfOk, length, slice_index};
-ghost use Rattle.arachne_lang.specs.declared.program.Class.{Class};
-ghost use Rattle.arachne_lang.specs.declared.program.Class.TheVariants.{Normal};
-ghost use Rattle.arachne_lang.specs.Tree.{Binary, Choose, Bind, Tally, Hold, Fork, Fold, Sweep};
-ghost use Rattle.arachne_lang.specs.Program.{tree_of, source_of};
-ghost use Rattle.arachne_lang.specs.Value.{array_at, with_newest};
-ghost use Rattle.arachne_lang.specs.Effects.{tallied};
-ghost use Rattle.arachne_lang.specs.Checked.{IsChecked};
-ghost use Rattle.arachne_lang.specs.Meaning.{meaning_of};
+ghost use Rattle.arachne_program.specs.declared.program.Class.{Class};
+ghost use Rattle.arachne_program.specs.declared.program.Class.TheVariants.{Normal};
+ghost use Rattle.arachne_program.specs.Tree.{Binary, Choose, Bind, Tally, Hold, Fork, Fold, Sweep};
+ghost use Rattle.arachne_program.specs.Program.{tree_of, source_of};
+ghost use Rattle.arachne_program.specs.Value.{array_at, with_newest};
+ghost use Rattle.arachne_program.specs.Effects.{tallied};
+ghost use Rattle.arachne_program.specs.Checked.{IsChecked};
+ghost use Rattle.arachne_program.specs.Meaning.{meaning_of};
 ghost use Rattle.arachne_lang.specs.Evaluation.{Gains, IsFresh, MayFork, MaySplit, HasLines, IsEvaluated, IsFolded, IsReduced, IsHalved, IsRun, IsHalfRun};
 
-use crate::meaning::{Line, Meaning};
-use crate::name::Name;
-use crate::program::{Expr, Operation, Program, Reduction};
-use crate::sequence::Sequence;
+use arachne_program::{Expr, Line, Meaning, Name, Operation, Program, Reduction, Sequence};
 use std::alloc::{AllocError, Global};
 
 /// The account of the thread that is being evaluated: its own actions, without those of its children.
@@ -22,7 +19,7 @@ struct Own {
     name: Name,
     /// For each lock, the number of times that the thread held it.
     holds: Vec<u64>,
-    /// The number of threads that it forked, which is the number of its next child.
+    /// The number of threads that the thread has forked, which is the number of its next child.
     forks: u64,
 }
 
@@ -38,7 +35,7 @@ impl Own {
         })
     }
 
-    /// Returns the name of the thread's next child, and counts it.
+    /// Returns the name of the thread's next child, and counts the child.
     fn fork(&mut self, alloc: Global) -> Result<Name, AllocError>
         requires { self.old.forks + 1 < 2 ^ 64 }
         ensures name { IfOk result (λ name. name ≡ self.old.name ++ self.old.forks ∷ []) }
@@ -59,7 +56,7 @@ impl Own {
     }
 }
 
-/// Returns a line that holds the place of a thread's own line until the thread has ended.
+/// Returns a placeholder for a thread's own line, which is written when the thread has ended.
 fn unwritten_line(alloc: Global) -> Line {
     Line {
         name: Name::root(alloc),
@@ -86,7 +83,7 @@ struct Reducer<'p> {
     body: &'p Expr,
 }
 
-/// Adds `amount` to the number at `place`, modulo 2^64. Does nothing if there is no such place.
+/// Adds `amount` to the number at index `place`, modulo 2^64. Does nothing if there is no such index.
 fn add_at(numbers: &mut [u64], place: u64, amount: u64)
     ensures { Gains (tallied place amount).sums numbers.old numbers.new }
 {
@@ -99,7 +96,7 @@ fn add_at(numbers: &mut [u64], place: u64, amount: u64)
 
 /// Evaluates the expressions of a program, by plain recursion in one thread.
 ///
-/// The only error is that memory was refused. After it the accounts have no meaning.
+/// The only error is that memory was refused. After this error the sums, the holds and the lines have no meaning.
 #[derive(Clone, Copy)]
 struct Evaluator<'p> {
     alloc: Global,
@@ -127,8 +124,8 @@ impl Evaluator<'_> {
         }
     }
 
-    /// Evaluates an expression in a new thread. The thread's line is the next one, and the lines of the threads below
-    /// it follow.
+    /// Evaluates an expression in a new thread. The thread's line comes next in the list, and the lines of its
+    /// descendants follow.
     #[cycle(evaluation)]
     fn run(&self, shared: &mut Shared, name: Name, expr: &Expr) -> Result<u64, AllocError>
         requires { MayFork (tree_of expr.now) 0 shared.old.lines.items }
@@ -144,7 +141,7 @@ impl Evaluator<'_> {
         Ok(value)
     }
 
-    /// Reduces the `n` numbers from `first` on in a new thread, which has its lines as in `run`.
+    /// Reduces the `n` numbers from `first` on in a new thread, whose lines are placed as by `run`.
     #[cycle(evaluation)]
     fn run_half(
         &self,
@@ -410,8 +407,8 @@ impl Evaluator<'_> {
 
     /// Evaluates `n` iterations of a fold, over the numbers from `from` on, with `first` as the first value.
     ///
-    /// In each iteration the two newest variables are its number and the value so far. They overwrite those of the
-    /// iteration before.
+    /// In each iteration the two newest variables are the iteration's number and the value so far. These overwrite the
+    /// two variables of the previous iteration.
     #[cycle(evaluation)]
     fn turns(
         &self,
@@ -468,8 +465,8 @@ impl Evaluator<'_> {
 
     /// Reduces the `n` numbers from `first` on.
     ///
-    /// If there are more than the grain, the left half is a child thread. It is run after the right half, so that each
-    /// line is pushed at its final place.
+    /// If `n` is greater than the grain, the left half of the numbers is reduced by a child thread. The child runs
+    /// after the right half is reduced, so that each thread's line is pushed at its final place.
     #[cycle(evaluation)]
     fn halves(
         &self,
@@ -530,8 +527,8 @@ impl Evaluator<'_> {
 
 /// Evaluates a checked program on one thread.
 ///
-/// The only error is that memory was refused. It is a plain recursion, which goes no deeper than the program's 64
-/// levels and the 64 halvings of each sweep.
+/// The only error is that memory was refused. The evaluation is a plain recursion, which goes no deeper than the
+/// program's 64 levels and the 64 halvings of each sweep.
 pub fn eval(alloc: Global, program: &Program) -> Result<Meaning, AllocError>
     requires { IsChecked (source_of program.now) }
     ensures { IfOk result (λ meaning. meaning ≡ meaning_of (source_of program.now)) }

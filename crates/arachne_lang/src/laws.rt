@@ -2,8 +2,8 @@
 ghost use Rattle.std.specs.Prelude.{◌≡◌, ◌≢◌, ◌⊎◌, ℕ, List, map};
 ghost use Rattle.std.specs.List.{AllPairs};
 ghost use Rattle.arachne_lang.specs.declared.text_fault.TextFault.{TextFault};
-ghost use Rattle.arachne_lang.specs.Tree.{Source};
-ghost use Rattle.arachne_lang.specs.Meaning.{meaning_of};
+ghost use Rattle.arachne_program.specs.Tree.{Source};
+ghost use Rattle.arachne_program.specs.Meaning.{meaning_of};
 ghost use Rattle.arachne_lang.specs.Spelling.{text_of};
 ghost use Rattle.arachne_lang.specs.Text.{IsAccepted, HasFault, IsFirstFault};
 

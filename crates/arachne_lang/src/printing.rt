@@ -2,15 +2,16 @@
 
 ghost use Rattle.std.specs.Prelude.{◌≡◌, ◌^◌, ◌<◌, ◌≤◌, ◌++◌, ◌∷◌, [], codes, map, option_to_list, IfOk, OnOk};
 ghost use Rattle.std.specs.List.{AllByRecursion};
-ghost use Rattle.arachne_lang.specs.Text.{nesting, NumbersFit, IsAccepted};
-ghost use Rattle.arachne_lang.specs.Program.{tree_of, source_of};
+ghost use Rattle.arachne_program.specs.Nesting.{nesting};
+ghost use Rattle.arachne_lang.specs.Text.{NumbersFit, IsAccepted};
+ghost use Rattle.arachne_program.specs.Program.{tree_of, source_of};
 ghost use Rattle.arachne_lang.specs.Spelling.{numeral, after_spaces, bracketed, line, operation_word, reduction_word, class_word, text_of, spelling};
 
-use crate::program::{Class, Expr, Operation, Program, Reduction};
+use arachne_program::{Class, Expr, Operation, Program, Reduction};
 use itoa::Buffer;
 use std::alloc::{AllocError, Global};
 
-/// Returns the text of a program, of which there is only one.
+/// Returns the text of a program. Each program has exactly one text.
 ///
 /// The time is linear in the bytes of the text. Memory is taken only for the text, as it grows.
 pub fn print(alloc: Global, program: &Program) -> Result<Vec<u8>, AllocError>
@@ -56,7 +57,7 @@ fn push_number(text: &mut Vec<u8>, number: u64) -> Result<(), AllocError>
     Ok(())
 }
 
-/// Returns the word that the form of an operation begins with.
+/// Returns the word with which the form of an operation begins.
 fn word_of(operation: Operation) -> &'static [u8]
     ensures { result.now ≡ operation_word operation }
 {
@@ -112,7 +113,7 @@ fn push_part(text: &mut Vec<u8>, part: &Expr) -> Result<(), AllocError>
     Ok(())
 }
 
-/// Appends the form of a word and a number.
+/// Appends a form that consists of a word and a number.
 fn push_leaf(text: &mut Vec<u8>, word: &[u8], number: u64) -> Result<(), AllocError>
     ensures { OnOk result (text.new.items ≡ text.old.items ++ bracketed word.now (numeral number ∷ [])) }
 {
@@ -121,7 +122,7 @@ fn push_leaf(text: &mut Vec<u8>, word: &[u8], number: u64) -> Result<(), AllocEr
     Ok(())
 }
 
-/// Appends the form of a word, a number and a part.
+/// Appends a form that consists of a word, a number and a part.
 #[cycle(expression)]
 fn push_with_one(text: &mut Vec<u8>, word: &[u8], number: u64, a: &Expr) -> Result<(), AllocError>
     ensures text { OnOk result (text.new.items ≡ text.old.items ++ bracketed word.now (numeral number ∷ spelling (tree_of a.now) ∷ [])) }
@@ -133,7 +134,7 @@ fn push_with_one(text: &mut Vec<u8>, word: &[u8], number: u64, a: &Expr) -> Resu
     Ok(())
 }
 
-/// Appends the form of a word, a number if it has one, and two parts.
+/// Appends a form that consists of a word, a number if it has one, and two parts.
 #[cycle(expression)]
 fn push_with_two(
     text: &mut Vec<u8>,
@@ -153,7 +154,7 @@ fn push_with_two(
     Ok(())
 }
 
-/// Appends the form of a word, a number if it has one, and three parts.
+/// Appends a form that consists of a word, a number if it has one, and three parts.
 #[cycle(expression)]
 fn push_with_three(
     text: &mut Vec<u8>,
@@ -176,7 +177,7 @@ fn push_with_three(
     Ok(())
 }
 
-/// Appends the form of a word and four parts.
+/// Appends a form that consists of a word and four parts.
 #[cycle(expression)]
 fn push_with_four(
     text: &mut Vec<u8>,
@@ -211,7 +212,7 @@ fn push_opening(text: &mut Vec<u8>, word: &[u8], number: Option<u64>) -> Result<
     Ok(())
 }
 
-/// Returns the words that a fork begins with.
+/// Returns the words with which a fork begins.
 fn fork_words(class: Class) -> &'static [u8]
     ensures { result.now ≡ codes "fork" ++ 32 ∷ class_word class }
 {
@@ -221,7 +222,7 @@ fn fork_words(class: Class) -> &'static [u8]
     }
 }
 
-/// Returns the words that a sweep begins with.
+/// Returns the words with which a sweep begins.
 fn sweep_words(reduction: Reduction) -> &'static [u8]
     ensures { result.now ≡ codes "sweep" ++ 32 ∷ reduction_word reduction }
 {

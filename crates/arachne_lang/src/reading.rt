@@ -2,8 +2,8 @@
 
 ghost use Rattle.std.specs.Prelude.{◌≡◌, ◌⊎◌, Err, IfOk, IfErr, IsErrAnd, MatchResult};
 ghost use Rattle.arachne_lang.specs.declared.text_fault.TextFault.{TextFault as Fault};
-ghost use Rattle.arachne_lang.specs.Tree.{Source};
-ghost use Rattle.arachne_lang.specs.Program.{source_of};
+ghost use Rattle.arachne_program.specs.Tree.{Source};
+ghost use Rattle.arachne_program.specs.Program.{source_of};
 ghost use Rattle.arachne_lang.specs.Spelling.{header, text_of};
 ghost use Rattle.arachne_lang.specs.Text.{IsAccepted, IsFirstFault, StartsWith};
 ghost use Rattle.arachne_lang.specs.Reading.{Gives, program_at};
@@ -15,8 +15,8 @@ mod numbers;
 mod stop;
 mod words;
 
-use crate::program::Program;
 use crate::text_fault::TextFault;
+use arachne_program::Program;
 use arrays::array_lines;
 use expressions::expression;
 use numbers::small_number;
@@ -37,11 +37,11 @@ pub fn parse(alloc: Global, text: &[u8]) -> Result<Program, TextFault>
     // The text of an accepted program is read as that program, unless memory is refused.
     ensures every_text { (source : Source) → IsAccepted source → text_of source ≡ text.now
         → MatchResult result (λ program. source_of program ≡ source) (λ fault. fault ≡ TextFault.Memory) }
-    // If the header is missing, that fault is returned, even if memory is refused.
+    // If the header is missing, the fault says so, even if memory is refused.
     ensures no_header { ¬ StartsWith header text.now → result ≡ Err (Fault.Header 0) }
-    // The fault that is returned is the first one of the text, or that memory was refused.
+    // A fault that is returned is the first fault of the text, or says that memory was refused.
     ensures first_fault { IfErr result (λ fault. (fault ≡ TextFault.Memory) ⊎ IsFirstFault text.now fault) }
-    // If the text has a first fault, that fault is returned, or that memory was refused.
+    // If the text has a first fault, the result is that fault, or says that memory was refused.
     ensures every_fault { (first : Fault) → IsFirstFault text.now first → IsErrAnd result (λ fault. (fault ≡ TextFault.Memory) ⊎ (fault ≡ first)) }
 {
     let Ok(rest) = word(text, b"arachne 1\n") else {
@@ -53,7 +53,7 @@ pub fn parse(alloc: Global, text: &[u8]) -> Result<Program, TextFault>
     }
 }
 
-/// Returns the program whose text, without the header, this is.
+/// Returns the program that a text spells. `text` is the part behind the header.
 #[tactic(auto, unfolding(crate::specs::Reading::program_at, crate::specs::Reading::source_at, crate::specs::Reading::lines_at))]
 fn program(alloc: Global, text: &[u8]) -> Result<Program, Stop<'_>>
     ensures { Gives source_of result (program_at text.now) }

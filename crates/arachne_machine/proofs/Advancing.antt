@@ -2,8 +2,8 @@
 use Rattle.std.proofs.Common.{ℕ, ◌+◌, List, [], ◌∷◌, ◌++◌, Option, None, Some, inl, inr, ◌≡◌, refl, ap, sym, ◌∙◌, arith}
 use Rattle.std.specs.Prelude.{max}
 use Rattle.std.proofs.lemmas.Bool.{cases_lt}
-use Rattle.arachne_lang.specs.Tree.{Tree, Source, Number, Variable, Length, Item, Binary, Choose, Bind, Tally, Hold, Fork, Fold, Sweep}
-use Rattle.arachne_lang.specs.Effects.{Task, Evaluate, Reduce}
+use Rattle.arachne_program.specs.Tree.{Tree, Source, Number, Variable, Length, Item, Binary, Choose, Bind, Tally, Hold, Fork, Fold, Sweep}
+use Rattle.arachne_program.specs.Effects.{Task, Evaluate, Reduce}
 use Rattle.arachne_machine.specs.Trace.{Event, At, trace_of, task_trace}
 use Rattle.arachne_machine.proofs.Halves.{trace_whole, trace_split}
 use Rattle.arachne_machine.specs.declared.frame.Frame.{Frame}
@@ -17,8 +17,8 @@ use Rattle.arachne_machine.specs.declared.pause.Pending.{Pending}
 use Rattle.arachne_machine.specs.Advance.{Advanced, pause_at}
 use Rattle.arachne_machine.specs.Account.{Account}
 use Rattle.arachne_machine.specs.Steps.{AfterSteps, pending_of, suspended}
-use Rattle.arachne_lang.specs.Program.{source_of, tree_of}
-use Rattle.arachne_lang.specs.Checked.{IsChecked}
+use Rattle.arachne_program.specs.Program.{source_of, tree_of}
+use Rattle.arachne_program.specs.Checked.{IsChecked}
 use Rattle.arachne_machine.specs.Faultless.{PausesWithin}
 use Rattle.arachne_machine.specs.Sound.{IsSound}
 use Rattle.arachne_machine.proofs.Faultlessness.{pauses_within}

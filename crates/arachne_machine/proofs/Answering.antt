@@ -4,8 +4,8 @@ use Rattle.std.specs.Prelude.{map, reverse}
 use Rattle.std.specs.Borrow.{Bor}
 use Rattle.std.specs.Global.{Box}
 use Rattle.std.proofs.lemmas.List.{append-nil}
-use Rattle.arachne_lang.specs.declared.program.Expr.{Expr}
-use Rattle.arachne_lang.specs.Program.{source_of}
+use Rattle.arachne_program.specs.declared.program.Expr.{Expr}
+use Rattle.arachne_program.specs.Program.{source_of}
 use Rattle.arachne_machine.specs.declared.frame.Stretch.{Stretch}
 use Rattle.arachne_machine.specs.declared.frame.Frame.{Frame}
 use Rattle.arachne_machine.specs.declared.frame.Control.{Control}
@@ -22,7 +22,7 @@ use Rattle.arachne_machine.specs.Steps.{Becomes, Goes, LeavesOthers, Changes, Tu
 use Rattle.arachne_machine.specs.Sound.{IsSoundState, AreSound}
 use Rattle.arachne_machine.specs.Kept.{IsKept, IsSoundChild, nested}
 use Rattle.arachne_machine.specs.Outcome.{IsOfItsName}
-use Rattle.arachne_lang.specs.Effects.{tabulated}
+use Rattle.arachne_program.specs.Effects.{tabulated}
 use Rattle.arachne_machine.proofs.Tabulated.{tabulated-same}
 use Rattle.arachne_machine.specs.Runs.{after_fork}
 use Rattle.arachne_machine.proofs.Soundness.{sound_end, sound_goes}

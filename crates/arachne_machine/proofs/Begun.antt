@@ -4,8 +4,8 @@ use Rattle.std.specs.Prelude.{map, reverse, All}
 use Rattle.std.specs.Global.{Box}
 use Rattle.std.proofs.lemmas.List.{map-append, reverse-append}
 use Rattle.std.proofs.lemmas.List.Elements.{All-append}
-use Rattle.arachne_lang.specs.Tree.{Source}
-use Rattle.arachne_lang.specs.Program.{source_of}
+use Rattle.arachne_program.specs.Tree.{Source}
+use Rattle.arachne_program.specs.Program.{source_of}
 use Rattle.arachne_machine.specs.declared.line.Label.{Label}
 use Rattle.arachne_machine.specs.declared.line.ThreadLine.{ThreadLine}
 use Rattle.arachne_machine.specs.declared.pause.Pending.{Pending}

@@ -1,9 +1,9 @@
 -- Threads that differ only in their label, or in the program, of which they have equal texts.
 use Rattle.std.proofs.Common.{◌≡◌, length, ℕ, List, [], ◌∷◌, ◌++◌, refl, ap, sym, ◌∙◌, arith}
 use Rattle.std.specs.Prelude.{map}
-use Rattle.arachne_lang.specs.Program.{source_of}
-use Rattle.arachne_lang.specs.Tree.{Source}
-use Rattle.arachne_lang.specs.Value.{Environment}
+use Rattle.arachne_program.specs.Program.{source_of}
+use Rattle.arachne_program.specs.Tree.{Source}
+use Rattle.arachne_program.specs.Value.{Environment}
 use Rattle.arachne_machine.specs.declared.frame.Frame.{Frame}
 use Rattle.arachne_machine.specs.declared.frame.Control.{Control}
 use Rattle.arachne_machine.specs.declared.line.Label.{Label}

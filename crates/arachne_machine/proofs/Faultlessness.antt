@@ -2,12 +2,12 @@
 use Rattle.std.proofs.Common.{◌≡◌, ◌≤◌, ◌<◌, ℕ, ◌+◌, Bool, true, false, List, [], ◌∷◌, ◌++◌, length, Option, None, Some, Ok, Err, Result, refl, ap, sym, subst, arith, rules, length-append}
 use Rattle.std.specs.Prelude.{nat_lt, if◌then◌else◌}
 use Rattle.std.proofs.lemmas.List.{nil_from_length}
-use Rattle.arachne_lang.specs.Tree.{Source}
-use Rattle.arachne_lang.specs.Program.{source_of}
-use Rattle.arachne_lang.specs.Text.{nesting}
-use Rattle.arachne_lang.specs.Checked.{NodeFault, node_faults, unless, or_else, first_fault, is_within_limits, IsChecked}
-use Rattle.arachne_lang.specs.declared.check_fault.CheckFault.{CheckFault}
-use Rattle.arachne_lang.specs.declared.check_fault.CheckFault.TheVariants as fault
+use Rattle.arachne_program.specs.Tree.{Source}
+use Rattle.arachne_program.specs.Program.{source_of}
+use Rattle.arachne_program.specs.Nesting.{nesting}
+use Rattle.arachne_program.specs.Checked.{NodeFault, node_faults, unless, or_else, first_fault, is_within_limits, IsChecked}
+use Rattle.arachne_program.specs.declared.check_fault.CheckFault.{CheckFault}
+use Rattle.arachne_program.specs.declared.check_fault.CheckFault.TheVariants as fault
 use Rattle.arachne_machine.specs.declared.frame.Frame.{Frame}
 use Rattle.arachne_machine.specs.declared.frame.Frame.TheVariants.{Release}
 use Rattle.arachne_machine.specs.declared.frame.Control.{Control}

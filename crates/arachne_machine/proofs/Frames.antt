@@ -1,13 +1,13 @@
 -- Laws of the frames: the newest is the last.
 use Rattle.std.proofs.Common.{◌≡◌, ◌≤◌, length-append, ℕ, zero, suc, ◌+◌, List, [], ◌∷◌, ◌++◌, length, refl, ap, sym, ◌∙◌, arith, append_assoc}
 use Rattle.std.proofs.lemmas.List.{append-nil}
-use Rattle.arachne_lang.specs.Tree.{Source}
-use Rattle.arachne_lang.specs.Effects.{Child, Effects, effects_of}
+use Rattle.arachne_program.specs.Tree.{Source}
+use Rattle.arachne_program.specs.Effects.{Child, Effects, effects_of}
 use Rattle.arachne_machine.specs.declared.frame.Frame.{Frame}
 use Rattle.arachne_machine.specs.declared.frame.Frame.TheVariants.{Index, Right, Apply, Branch, Extend, Amount, Release, Join, Merge, JoinHere, MergeHere, FoldTo, FoldFirst, FoldStart, FoldTurn, SweepTo, SweepStart, SweepTurn, Restore}
 use Rattle.arachne_machine.specs.Account.{Account, after, with_join}
 use Rattle.arachne_machine.specs.Ending.{Status, unwind, accounted, account_joined, frame_work, frame_trace, resume, resume_account, resume_work, resume_trace, fork_of, forks_of, fork_here, forks_here, lock_of, releases}
-use Rattle.arachne_lang.specs.Program.{tree_of}
+use Rattle.arachne_program.specs.Program.{tree_of}
 use Rattle.arachne_machine.specs.Trace.{Event, with_steps}
 
 pub resume-append : (source : Source) (name : List ℕ) (fs gs : List Frame) (s : Status) →

@@ -6,16 +6,16 @@ use Rattle.std.specs.Global.{Box}
 use Rattle.std.proofs.lemmas.Bool.{cases_lt}
 use Rattle.std.proofs.lemmas.List.{append-nil, drop-append-le, take-append-drop, take-append-le}
 use Rattle.std.proofs.Math.Seq.{drop-length}
-use Rattle.arachne_lang.specs.declared.program.Class.{Class}
-use Rattle.arachne_lang.specs.declared.program.Expr.{Expr}
-use Rattle.arachne_lang.specs.declared.program.Reduction.{Reduction}
-use Rattle.arachne_lang.specs.Program.{source_of, tree_of}
-use Rattle.arachne_lang.specs.Value.{apply, operation_of}
-use Rattle.arachne_lang.specs.Effects.{Child, Evaluate, tabulated}
-use Rattle.arachne_lang.specs.Meaning.{task_of}
-use Rattle.arachne_lang.specs.Checked.{IsChecked}
-use Rattle.arachne_lang.specs.Value.{Environment}
-use Rattle.arachne_lang.specs.declared.program.Program.{Program}
+use Rattle.arachne_program.specs.declared.program.Class.{Class}
+use Rattle.arachne_program.specs.declared.program.Expr.{Expr}
+use Rattle.arachne_program.specs.declared.program.Reduction.{Reduction}
+use Rattle.arachne_program.specs.Program.{source_of, tree_of}
+use Rattle.arachne_program.specs.Value.{apply, operation_of}
+use Rattle.arachne_program.specs.Effects.{Child, Evaluate, tabulated}
+use Rattle.arachne_program.specs.Meaning.{task_of}
+use Rattle.arachne_program.specs.Checked.{IsChecked}
+use Rattle.arachne_program.specs.Value.{Environment}
+use Rattle.arachne_program.specs.declared.program.Program.{Program}
 use Rattle.arachne_machine.specs.Faultless.{IsFaultlessNext}
 use Rattle.arachne_machine.specs.declared.frame.Stretch.{Stretch}
 use Rattle.arachne_machine.specs.declared.frame.Frame.{Frame}

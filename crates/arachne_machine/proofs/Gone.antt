@@ -1,9 +1,9 @@
 -- Advances over tallies that are made as the thread comes to them.
 use Rattle.std.proofs.Common.{◌≡◌, ◌≤◌, ℕ, ◌+◌, ◌-◌, [], ◌∷◌, None, refl, ap, sym, ◌∙◌, subst, arith}
 use Rattle.std.specs.Prelude.{◌==◌, if◌then◌else◌}
-use Rattle.arachne_lang.specs.Value.{wrapped}
-use Rattle.arachne_lang.specs.Program.{source_of}
-use Rattle.arachne_lang.specs.Checked.{IsChecked}
+use Rattle.arachne_program.specs.Value.{wrapped}
+use Rattle.arachne_program.specs.Program.{source_of}
+use Rattle.arachne_program.specs.Checked.{IsChecked}
 use Rattle.arachne_machine.specs.declared.pause.Pause.{Pause}
 use Rattle.arachne_machine.specs.declared.pause.Pause.TheVariants as pauses
 use Rattle.arachne_machine.specs.Suspended.{SameThread}

@@ -6,13 +6,13 @@ use Rattle.std.proofs.Math.Nat.{min-le_left, min-eq_left, max-zero, mod-mod, add
 use Rattle.std.proofs.lemmas.Nat.{mul-mod_first, mul-mod_second}
 use Rattle.std.proofs.lemmas.Bool.{cases_lt}
 use Rattle.std.proofs.Math.Path.{fun_ext}
-use Rattle.arachne_lang.specs.declared.program.Reduction.{Reduction}
-use Rattle.arachne_lang.specs.declared.program.Reduction.TheVariants.{Sum, Product, Parity, Least, Greatest}
-use Rattle.arachne_lang.specs.Tree.{Tree}
-use Rattle.arachne_lang.specs.Value.{Environment, turns, with_newest, value_of, apply, operation_of, unit_of, wrapped}
-use Rattle.arachne_lang.specs.Effects.{Reduce, Child, Effects, forked, half, turns_effects, effects_of, task_value, task_effects}
+use Rattle.arachne_program.specs.declared.program.Reduction.{Reduction}
+use Rattle.arachne_program.specs.declared.program.Reduction.TheVariants.{Sum, Product, Parity, Least, Greatest}
+use Rattle.arachne_program.specs.Tree.{Tree}
+use Rattle.arachne_program.specs.Value.{Environment, turns, with_newest, value_of, apply, operation_of, unit_of, wrapped}
+use Rattle.arachne_program.specs.Effects.{Reduce, Child, Effects, forked, half, turns_effects, effects_of, task_value, task_effects}
 use Rattle.arachne_machine.specs.declared.pause.Pending.TheVariants as pause
-use Rattle.arachne_lang.specs.Parts.{by_halves}
+use Rattle.arachne_program.specs.Parts.{by_halves}
 use Rattle.arachne_machine.specs.Turns.{swept, swept_effects, swept_work, swept_trace}
 use Rattle.arachne_machine.specs.Work.{task_work}
 use Rattle.arachne_machine.specs.Trace.{Step, At, task_trace}

@@ -5,13 +5,13 @@ use Rattle.std.specs.Borrow.{Bor}
 use Rattle.std.proofs.lemmas.Bool.{cases_lt}
 use Rattle.std.proofs.lemmas.List.{append-nil}
 use Rattle.std.proofs.Math.Seq.{take-append_seam}
-use Rattle.arachne_lang.specs.declared.program.Expr.{Expr}
-use Rattle.arachne_lang.specs.declared.program.Operation.{Operation}
-use Rattle.arachne_lang.specs.declared.program.Reduction.{Reduction}
-use Rattle.arachne_lang.specs.Tree.{Tree, Source}
-use Rattle.arachne_lang.specs.Program.{source_of, tree_of}
-use Rattle.arachne_lang.specs.Value.{apply, operation_of, unit_of, value_of, array_at, with_newest}
-use Rattle.arachne_lang.specs.Effects.{effects_of}
+use Rattle.arachne_program.specs.declared.program.Expr.{Expr}
+use Rattle.arachne_program.specs.declared.program.Operation.{Operation}
+use Rattle.arachne_program.specs.declared.program.Reduction.{Reduction}
+use Rattle.arachne_program.specs.Tree.{Tree, Source}
+use Rattle.arachne_program.specs.Program.{source_of, tree_of}
+use Rattle.arachne_program.specs.Value.{apply, operation_of, unit_of, value_of, array_at, with_newest}
+use Rattle.arachne_program.specs.Effects.{effects_of}
 use Rattle.arachne_machine.specs.declared.frame.Stretch.{Stretch}
 use Rattle.arachne_machine.specs.declared.frame.Frame.{Frame}
 use Rattle.arachne_machine.specs.declared.frame.Frame.TheVariants.{Index, Right, Apply, Branch, Extend, Amount, Release, Join, Merge, FoldTo, FoldFirst, FoldStart, FoldTurn, SweepTo, SweepStart, SweepTurn, Restore}

@@ -5,8 +5,8 @@ use Rattle.std.specs.Borrow.{Bor}
 use Rattle.std.specs.Global.{Box}
 use Rattle.std.proofs.lemmas.Bool.{cases_lt}
 use Rattle.std.proofs.lemmas.List.{reverse-append, reverse-reverse}
-use Rattle.arachne_lang.specs.declared.program.Class.{Class}
-use Rattle.arachne_lang.specs.declared.program.Expr.{Expr}
+use Rattle.arachne_program.specs.declared.program.Class.{Class}
+use Rattle.arachne_program.specs.declared.program.Expr.{Expr}
 use Rattle.arachne_machine.specs.declared.frame.Control.{Control}
 use Rattle.arachne_machine.specs.declared.frame.Control.TheVariants.{Give, Cover}
 use Rattle.arachne_machine.specs.declared.pause.Pending.{Pending}

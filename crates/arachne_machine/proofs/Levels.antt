@@ -4,20 +4,20 @@ use Rattle.std.specs.Prelude.{reverse}
 use Rattle.std.specs.Borrow.{Bor}
 use Rattle.std.proofs.lemmas.List.{drop-append-le, append-nil, drop_more, get_or-take, length-take-le, reverse-append, take-append-drop, take-append-le}
 use Rattle.std.proofs.Math.Seq.{drop-append-add, drop-length, get_or-append_seam, take-append_seam, take-length}
-use Rattle.arachne_lang.specs.declared.program.Program.{Program}
-use Rattle.arachne_lang.specs.Program.{source_of}
-use Rattle.arachne_lang.specs.Effects.{Child, tabulated, task_effects}
-use Rattle.arachne_lang.specs.Meaning.{task_of}
-use Rattle.arachne_lang.specs.Checked.{IsChecked}
-use Rattle.arachne_lang.specs.Value.{Environment, apply, operation_of}
+use Rattle.arachne_program.specs.declared.program.Program.{Program}
+use Rattle.arachne_program.specs.Program.{source_of}
+use Rattle.arachne_program.specs.Effects.{Child, tabulated, task_effects}
+use Rattle.arachne_program.specs.Meaning.{task_of}
+use Rattle.arachne_program.specs.Checked.{IsChecked}
+use Rattle.arachne_program.specs.Value.{Environment, apply, operation_of}
 use Rattle.arachne_machine.specs.declared.frame.Frame.{Frame}
 use Rattle.arachne_machine.specs.declared.frame.Control.{Control}
 use Rattle.arachne_machine.specs.declared.frame.Control.TheVariants.{Begin, Give, Cover, Awaits, AwaitsHalf}
 use Rattle.arachne_machine.specs.declared.frame.Frame.TheVariants.{Restore}
 use Rattle.arachne_machine.specs.declared.state.Progress.{Progress}
 use Rattle.arachne_machine.specs.declared.state.Progress.TheVariants as progress
-use Rattle.arachne_lang.specs.declared.program.Expr.{Expr}
-use Rattle.arachne_lang.specs.declared.program.Reduction.{Reduction}
+use Rattle.arachne_program.specs.declared.program.Expr.{Expr}
+use Rattle.arachne_program.specs.declared.program.Reduction.{Reduction}
 use Rattle.arachne_machine.specs.declared.level.Parent.{Parent}
 use Rattle.arachne_machine.specs.declared.line.ThreadLine.{ThreadLine}
 use Rattle.arachne_machine.specs.declared.pause.Pending.TheVariants as pause

@@ -1,6 +1,7 @@
 pub mod Listing
 pub mod Accounts
 pub mod Tabulated
+pub mod Holding
 pub mod Names
 pub mod Ranges
 pub mod Halves

@@ -4,9 +4,9 @@ use Rattle.std.specs.Prelude.{zero, suc, Bool, IsTrue, map, reverse}
 use Rattle.std.specs.Borrow.{Bor}
 use Rattle.std.proofs.lemmas.List.{drop_more, get_or-append-add, length-reverse, length-take-le, reverse-append, take-append-drop, take_more}
 use Rattle.std.proofs.Math.Seq.{drop-append-add, take-append-add, take-append_seam}
-use Rattle.arachne_lang.specs.declared.program.Program.{Program}
-use Rattle.arachne_lang.specs.Program.{source_of}
-use Rattle.arachne_lang.specs.Value.{Environment}
+use Rattle.arachne_program.specs.declared.program.Program.{Program}
+use Rattle.arachne_program.specs.Program.{source_of}
+use Rattle.arachne_program.specs.Value.{Environment}
 use Rattle.arachne_machine.specs.declared.frame.Frame.{Frame}
 use Rattle.arachne_machine.specs.declared.frame.Control.{Control}
 use Rattle.arachne_machine.specs.declared.level.Level.{Level}

@@ -3,7 +3,7 @@ use Rattle.std.proofs.Common.{◌≡◌, ℕ, List, [], ◌∷◌, ◌++◌, Opt
 use Rattle.std.proofs.lemmas.Option.{slice_get-get_or}
 use Rattle.std.proofs.Math.Seq.{get_or-append_seam}
 use Rattle.std.specs.Prelude.{option_and_then, option_map, slice_get}
-use Rattle.arachne_lang.specs.Effects.{Task, Child, task_effects, task_below}
+use Rattle.arachne_program.specs.Effects.{Task, Child, task_effects, task_below}
 
 then_some : (o : Option Child) → option_and_then (λ child. Some child.task) o ≡ option_map (λ child. child.task) o
 then_some None = refl

@@ -3,10 +3,10 @@ use Rattle.std.proofs.Common.{◌≡◌, ◌+◌, List, [], ◌∷◌, refl, ap,
 use Rattle.std.specs.Prelude.{map, reverse}
 use Rattle.std.specs.Borrow.{Bor}
 use Rattle.std.specs.Global.{Box}
-use Rattle.arachne_lang.specs.declared.program.Program.{Program}
-use Rattle.arachne_lang.specs.Program.{source_of}
-use Rattle.arachne_lang.specs.Checked.{IsChecked}
-use Rattle.arachne_lang.specs.Value.{Environment}
+use Rattle.arachne_program.specs.declared.program.Program.{Program}
+use Rattle.arachne_program.specs.Program.{source_of}
+use Rattle.arachne_program.specs.Checked.{IsChecked}
+use Rattle.arachne_program.specs.Value.{Environment}
 use Rattle.arachne_machine.specs.declared.frame.Frame.{Frame}
 use Rattle.arachne_machine.specs.declared.frame.Control.{Control}
 use Rattle.arachne_machine.specs.declared.level.Level.{Level}

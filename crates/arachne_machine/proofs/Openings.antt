@@ -3,14 +3,14 @@ use Rattle.std.proofs.Common.{◌≡◌, ℕ, ◌+◌, ◌-◌, List, [], ◌∷
 use Rattle.std.proofs.lemmas.List.{append-nil}
 use Rattle.std.specs.Prelude.{slice_index, nat_lt, ◌==◌, if◌then◌else◌, Bool}
 use Rattle.std.specs.Borrow.{Bor}
-use Rattle.arachne_lang.specs.declared.check_fault.CheckFault.TheVariants as fault
-use Rattle.arachne_lang.specs.declared.program.Expr.{Expr}
-use Rattle.arachne_lang.specs.declared.program.Operation.{Operation}
-use Rattle.arachne_lang.specs.declared.program.Reduction.{Reduction}
-use Rattle.arachne_lang.specs.Tree.{Tree, Number, Variable, Length, Item, Binary, Choose, Bind, Tally, Hold, Fold, Sweep, Source}
-use Rattle.arachne_lang.specs.Program.{source_of, tree_of}
-use Rattle.arachne_lang.specs.Value.{apply, value_of, array_at, with_newest}
-use Rattle.arachne_lang.specs.Effects.{Reduce, ◌⨾◌, tallied, held, effects_of, task_effects}
+use Rattle.arachne_program.specs.declared.check_fault.CheckFault.TheVariants as fault
+use Rattle.arachne_program.specs.declared.program.Expr.{Expr}
+use Rattle.arachne_program.specs.declared.program.Operation.{Operation}
+use Rattle.arachne_program.specs.declared.program.Reduction.{Reduction}
+use Rattle.arachne_program.specs.Tree.{Tree, Number, Variable, Length, Item, Binary, Choose, Bind, Tally, Hold, Fold, Sweep, Source}
+use Rattle.arachne_program.specs.Program.{source_of, tree_of}
+use Rattle.arachne_program.specs.Value.{apply, value_of, array_at, with_newest}
+use Rattle.arachne_program.specs.Effects.{Reduce, ◌⨾◌, tallied, held, effects_of, task_effects}
 use Rattle.arachne_machine.specs.declared.frame.Frame.{Frame}
 use Rattle.arachne_machine.specs.declared.frame.Frame.TheVariants.{Index, Right, Apply, Branch, Extend, Amount, Release, FoldTo, SweepTo}
 use Rattle.arachne_machine.specs.declared.frame.Control.{Control}
@@ -23,7 +23,7 @@ use Rattle.arachne_machine.specs.Pure.{IsLeaf, IsPure}
 use Rattle.arachne_machine.specs.Turns.{folded_effects}
 use Rattle.arachne_machine.specs.Account.{Account, after}
 use Rattle.arachne_machine.specs.Ending.{resume, resume_account, resume_work, resume_trace, begun, begun_account, begun_work, begun_trace, fork_awaited, forks_of, releases, frames_left}
-use Rattle.arachne_lang.specs.Checked.{node_faults, unless}
+use Rattle.arachne_program.specs.Checked.{node_faults, unless}
 use Rattle.arachne_machine.specs.Faultless.{IsFaultless, GoesWithoutFault}
 use Rattle.arachne_machine.specs.Steps.{Becomes, AfterSteps}
 use Rattle.arachne_machine.proofs.Accounts.{after-nothing, after-sequence}

@@ -2,9 +2,9 @@
 use Rattle.std.proofs.Common.{◌≡◌, ℕ, ◌+◌, Bool, false, List, [], ◌∷◌, ◌++◌, None, refl, subst, ap, sym, ◌∙◌, arith, append_assoc}
 use Rattle.std.proofs.lemmas.List.{append-nil}
 use Rattle.std.specs.Borrow.{Bor}
-use Rattle.arachne_lang.specs.declared.program.Expr.{Expr}
-use Rattle.arachne_lang.specs.Tree.{Source}
-use Rattle.arachne_lang.specs.Program.{source_of}
+use Rattle.arachne_program.specs.declared.program.Expr.{Expr}
+use Rattle.arachne_program.specs.Tree.{Source}
+use Rattle.arachne_program.specs.Program.{source_of}
 use Rattle.arachne_machine.specs.declared.frame.Frame.{Frame}
 use Rattle.arachne_machine.specs.declared.frame.Frame.TheVariants.{Join, Merge, JoinHere, MergeHere}
 use Rattle.arachne_machine.specs.declared.frame.Control.{Control}

@@ -1,10 +1,10 @@
 -- Pure expressions, and their values.
 use Rattle.std.proofs.Common.{◌≡◌, ℕ, suc, ◌+◌, List, [], ◌∷◌, ◌++◌, length, Bool, true, false, refl, ap, sym, ◌∙◌, subst, arith}
 use Rattle.std.specs.Prelude.{◌==◌, if◌then◌else◌, slice_index, Option, None, Some, IfSome}
-use Rattle.arachne_lang.specs.declared.program.Operation.{Operation}
-use Rattle.arachne_lang.specs.Tree.{Tree, Number, Variable, Length, Item, Binary, Choose, Bind, Source}
-use Rattle.arachne_lang.specs.Value.{apply, array_at, value_of, with_newest}
-use Rattle.arachne_lang.specs.Effects.{Effects, nothing, ◌⨾◌, effects_of}
+use Rattle.arachne_program.specs.declared.program.Operation.{Operation}
+use Rattle.arachne_program.specs.Tree.{Tree, Number, Variable, Length, Item, Binary, Choose, Bind, Source}
+use Rattle.arachne_program.specs.Value.{apply, array_at, value_of, with_newest}
+use Rattle.arachne_program.specs.Effects.{Effects, nothing, ◌⨾◌, effects_of}
 use Rattle.arachne_machine.specs.Pure.{IsLeaf, IsPure, IsWorth}
 use Rattle.arachne_machine.specs.Work.{work_of}
 use Rattle.arachne_machine.specs.Trace.{Event, Step, with_steps, trace_of}

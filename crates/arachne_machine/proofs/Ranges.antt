@@ -2,10 +2,10 @@
 use Rattle.std.proofs.Common.{◌≡◌, ◌≤◌, ◌<◌, ℕ, zero, suc, ◌+◌, ◌-◌, List, [], ◌++◌, refl, ap, sym, ◌∙◌, arith, append_assoc}
 use Rattle.std.proofs.lemmas.List.{append-nil}
 use Rattle.std.proofs.Math.Path.{fun_ext}
-use Rattle.arachne_lang.specs.declared.program.Reduction.{Reduction}
-use Rattle.arachne_lang.specs.Tree.{Tree}
-use Rattle.arachne_lang.specs.Value.{Environment, turns, with_newest, value_of, apply, operation_of}
-use Rattle.arachne_lang.specs.Effects.{Effects, nothing, turns_effects, effects_of}
+use Rattle.arachne_program.specs.declared.program.Reduction.{Reduction}
+use Rattle.arachne_program.specs.Tree.{Tree}
+use Rattle.arachne_program.specs.Value.{Environment, turns, with_newest, value_of, apply, operation_of}
+use Rattle.arachne_program.specs.Effects.{Effects, nothing, turns_effects, effects_of}
 use Rattle.arachne_machine.specs.Account.{Account, after}
 use Rattle.arachne_machine.specs.Work.{total, work_of}
 use Rattle.arachne_machine.specs.Trace.{Event, in_turn, trace_of}

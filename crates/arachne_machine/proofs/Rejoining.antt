@@ -4,10 +4,10 @@ use Rattle.std.specs.Prelude.{map, reverse}
 use Rattle.std.specs.Borrow.{Bor}
 use Rattle.std.specs.Global.{Box}
 use Rattle.std.proofs.lemmas.List.{drop-append-le, get_or_append_left, take-append-le}
-use Rattle.arachne_lang.specs.declared.program.Program.{Program}
-use Rattle.arachne_lang.specs.Program.{source_of}
-use Rattle.arachne_lang.specs.Value.{Environment, apply, operation_of}
-use Rattle.arachne_lang.specs.Effects.{tabulated, task_effects}
+use Rattle.arachne_program.specs.declared.program.Program.{Program}
+use Rattle.arachne_program.specs.Program.{source_of}
+use Rattle.arachne_program.specs.Value.{Environment, apply, operation_of}
+use Rattle.arachne_program.specs.Effects.{tabulated, task_effects}
 use Rattle.arachne_machine.specs.declared.frame.Frame.{Frame}
 use Rattle.arachne_machine.specs.declared.frame.Frame.TheVariants.{Restore}
 use Rattle.arachne_machine.specs.declared.frame.Control.{Control}

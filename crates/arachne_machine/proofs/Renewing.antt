@@ -2,10 +2,10 @@
 use Rattle.std.proofs.Common.{◌≡◌, [], ◌∷◌, ◌++◌, None, false, refl, ap, ◌∙◌, arith}
 use Rattle.std.specs.Borrow.{Bor}
 use Rattle.std.proofs.lemmas.List.{append-nil}
-use Rattle.arachne_lang.specs.declared.program.Program.{Program}
-use Rattle.arachne_lang.specs.Program.{source_of}
-use Rattle.arachne_lang.specs.Effects.{tabulated, task_effects, task_value}
-use Rattle.arachne_lang.specs.Value.{Environment}
+use Rattle.arachne_program.specs.declared.program.Program.{Program}
+use Rattle.arachne_program.specs.Program.{source_of}
+use Rattle.arachne_program.specs.Effects.{tabulated, task_effects, task_value}
+use Rattle.arachne_program.specs.Value.{Environment}
 use Rattle.arachne_machine.specs.declared.frame.Control.{Control}
 use Rattle.arachne_machine.specs.declared.frame.Control.TheVariants.{Begin, Cover}
 use Rattle.arachne_machine.specs.Strands.{Owned, Strand}

@@ -2,11 +2,11 @@
 use Rattle.std.proofs.Common.{◌≡◌, ◌-◌, ◌≤◌, ℕ, ◌+◌, List, [], ◌∷◌, ◌++◌, None, Some, Option, refl, ap, sym, ◌∙◌, subst, arith}
 use Rattle.std.specs.Prelude.{map, option_map, slice_get}
 use Rattle.std.specs.Global.{Box}
-use Rattle.arachne_lang.specs.declared.program.Class.{Class}
-use Rattle.arachne_lang.specs.Program.{source_of}
-use Rattle.arachne_lang.specs.Checked.{IsChecked}
-use Rattle.arachne_lang.specs.Meaning.{child_of}
-use Rattle.arachne_lang.specs.Effects.{Child, tabulated}
+use Rattle.arachne_program.specs.declared.program.Class.{Class}
+use Rattle.arachne_program.specs.Program.{source_of}
+use Rattle.arachne_program.specs.Checked.{IsChecked}
+use Rattle.arachne_program.specs.Meaning.{child_of}
+use Rattle.arachne_program.specs.Effects.{Child, tabulated}
 use Rattle.arachne_machine.specs.declared.pause.Pending.{Pending}
 use Rattle.arachne_machine.specs.declared.pause.Pending.TheVariants as pause
 use Rattle.arachne_machine.specs.declared.pause.Pause.{Pause}

@@ -2,13 +2,13 @@
 use Rattle.std.proofs.Common.{◌≡◌, ◌≤◌, ℕ, ◌+◌, List, [], ◌∷◌, ◌++◌, length, map, Option, None, Some, refl, ap, sym, ◌∙◌, subst, arith, rules, length-append}
 use Rattle.std.specs.Prelude.{option_map, option_and_then, slice_get, IsSome}
 use Rattle.std.proofs.lemmas.List.{append-nil, map-append}
-use Rattle.arachne_lang.specs.declared.program.Program.{Program}
-use Rattle.arachne_lang.specs.declared.meaning.Meaning.{Meaning}
-use Rattle.arachne_lang.specs.declared.meaning.Line.{Line}
-use Rattle.arachne_lang.specs.Tree.{Source}
-use Rattle.arachne_lang.specs.Program.{source_of}
-use Rattle.arachne_lang.specs.Effects.{Task, Evaluate, Child, Effects, task_value, task_effects, line_of, tabulated}
-use Rattle.arachne_lang.specs.Meaning.{task_of, child_of}
+use Rattle.arachne_program.specs.declared.program.Program.{Program}
+use Rattle.arachne_program.specs.declared.meaning.Meaning.{Meaning}
+use Rattle.arachne_program.specs.declared.meaning.Line.{Line}
+use Rattle.arachne_program.specs.Tree.{Source}
+use Rattle.arachne_program.specs.Program.{source_of}
+use Rattle.arachne_program.specs.Effects.{Task, Evaluate, Child, Effects, task_value, task_effects, line_of, tabulated}
+use Rattle.arachne_program.specs.Meaning.{task_of, child_of}
 use Rattle.arachne_machine.specs.declared.frame.Control.{Control}
 use Rattle.arachne_machine.specs.declared.frame.Control.TheVariants.{Begin, Give, Cover, Forked as Forks, Halved, Awaits, AwaitsHalf, Asks, Frees, Tallies, Ended}
 use Rattle.arachne_machine.specs.declared.pause.Pending.{Pending}
@@ -20,7 +20,7 @@ use Rattle.arachne_machine.specs.Outcome.{Finished, named_holds, meaning_as, mea
 use Rattle.arachne_machine.specs.Account.{Account, untouched, after, with_fork, with_join}
 use Rattle.arachne_machine.specs.Ending.{child_task, account_joined, ending, account_at_end, work_left, trace_left, unjoined_of, locks_of, forks_here, KeepsForks, resume, resume_account, frames_left, begun, begun_account, fork_awaited, forks_of, lock_freed, releases}
 use Rattle.arachne_machine.specs.Steps.{Goes, GoesWithin, GoesToFork, GivesChild, AwaitsHere, IsNew, IsNumbered, Joins, KeepsOverJoin, Counts, AfterSteps, IsUnchanged, pending_of, suspended, untagged}
-use Rattle.arachne_lang.specs.Checked.{IsChecked}
+use Rattle.arachne_program.specs.Checked.{IsChecked}
 use Rattle.arachne_machine.specs.Faultless.{IsWithoutFault}
 use Rattle.arachne_machine.specs.Sound.{IsSound}
 use Rattle.arachne_machine.specs.Trace.{Event, with_steps}

@@ -3,14 +3,14 @@ use Rattle.std.proofs.Common.{◌≡◌, ◌<◌, ℕ, ◌+◌, ◌-◌, ◌/◌
 use Rattle.std.specs.Prelude.{unwrap_or, max}
 use Rattle.std.specs.Borrow.{Bor}
 use Rattle.std.proofs.lemmas.List.{append-nil}
-use Rattle.arachne_lang.specs.declared.program.Class.{Class}
-use Rattle.arachne_lang.specs.declared.program.Class.TheVariants.{Normal}
-use Rattle.arachne_lang.specs.declared.program.Expr.{Expr}
-use Rattle.arachne_lang.specs.Tree.{Fork, Number, Source}
-use Rattle.arachne_lang.specs.Program.{source_of, tree_of}
-use Rattle.arachne_lang.specs.Value.{value_of, with_newest, apply, operation_of}
-use Rattle.arachne_lang.specs.Effects.{Task, Evaluate, Reduce, Child, forked, half, effects_of, task_effects, task_value}
-use Rattle.arachne_lang.specs.Meaning.{task_of}
+use Rattle.arachne_program.specs.declared.program.Class.{Class}
+use Rattle.arachne_program.specs.declared.program.Class.TheVariants.{Normal}
+use Rattle.arachne_program.specs.declared.program.Expr.{Expr}
+use Rattle.arachne_program.specs.Tree.{Fork, Number, Source}
+use Rattle.arachne_program.specs.Program.{source_of, tree_of}
+use Rattle.arachne_program.specs.Value.{value_of, with_newest, apply, operation_of}
+use Rattle.arachne_program.specs.Effects.{Task, Evaluate, Reduce, Child, forked, half, effects_of, task_effects, task_value}
+use Rattle.arachne_program.specs.Meaning.{task_of}
 use Rattle.arachne_machine.specs.declared.frame.Stretch.{Stretch}
 use Rattle.arachne_machine.specs.declared.frame.Frame.{Frame}
 use Rattle.arachne_machine.specs.declared.frame.Frame.TheVariants.{Join, Merge, JoinHere, MergeHere}
@@ -22,8 +22,8 @@ use Rattle.arachne_machine.specs.Account.{Account, after, with_fork, with_join}
 use Rattle.arachne_machine.specs.Work.{work_of, task_work}
 use Rattle.arachne_machine.specs.Trace.{Event, Step, At, trace_of, task_trace}
 use Rattle.arachne_machine.specs.Ending.{child_task, stretch_task, resume_account, begun, begun_account, fork_awaited, lock_freed, forks_of, forks_here, releases, work_left}
-use Rattle.arachne_lang.specs.Checked.{node_faults}
-use Rattle.arachne_lang.specs.declared.check_fault.CheckFault.TheVariants as fault
+use Rattle.arachne_program.specs.Checked.{node_faults}
+use Rattle.arachne_program.specs.declared.check_fault.CheckFault.TheVariants as fault
 use Rattle.arachne_machine.specs.Faultless.{IsFaultless, IsFaultlessNext, held_by}
 use Rattle.arachne_machine.specs.Steps.{PushesFork, SpawnsChild, GoesToFork, GivesChild, PlacesChild, task_begun, pending_of}
 use Rattle.arachne_machine.proofs.Accounts.{after-sequence, after-forked, after-children}

@@ -7,8 +7,8 @@ use Rattle.std.proofs.lemmas.List.{ext_get_or, get_or_append_left, get_or-set_ot
 use Rattle.std.proofs.Math.Seq.{get_or-append_seam}
 use Rattle.std.proofs.Math.Nat.{add-mod, mod-add-mod, eq-or-lt_of_le}
 use Rattle.std.proofs.lemmas.Grind.{replicate_next, get_or-set_at}
-use Rattle.arachne_lang.specs.Value.{wrapped}
-use Rattle.arachne_lang.specs.Effects.{tabulated}
+use Rattle.arachne_program.specs.Value.{wrapped}
+use Rattle.arachne_program.specs.Effects.{tabulated}
 use Rattle.arachne_machine.specs.Suspended.{raised, added}
 
 pub length-tabulated : (n : ℕ) (f : ℕ → ℕ) → length (tabulated n f) ≡ n

@@ -2,10 +2,10 @@
 use Rattle.std.proofs.Common.{◌≡◌, length, length-append, ℕ, ◌+◌, List, [], ◌∷◌, ◌++◌, false, None, Some, refl, ap, sym, ◌∙◌, subst, arith}
 use Rattle.std.specs.Prelude.{map, reverse}
 use Rattle.std.proofs.lemmas.List.{map-append}
-use Rattle.arachne_lang.specs.Program.{source_of}
-use Rattle.arachne_lang.specs.Tree.{Source}
-use Rattle.arachne_lang.specs.Effects.{Task, tabulated}
-use Rattle.arachne_lang.specs.Meaning.{task_of}
+use Rattle.arachne_program.specs.Program.{source_of}
+use Rattle.arachne_program.specs.Tree.{Source}
+use Rattle.arachne_program.specs.Effects.{Task, tabulated}
+use Rattle.arachne_program.specs.Meaning.{task_of}
 use Rattle.arachne_machine.specs.declared.frame.Frame.{Frame}
 use Rattle.arachne_machine.specs.declared.frame.Frame.TheVariants.{Join, Merge}
 use Rattle.arachne_machine.specs.declared.frame.Control.{Control}

@@ -1,11 +1,11 @@
 -- Iterations that are made at once.
 use Rattle.std.proofs.Common.{◌≡◌, ◌≤◌, ◌<◌, ℕ, ◌+◌, ◌-◌, List, [], ◌∷◌, ◌++◌, None, refl, ap, sym, subst, ◌∙◌, arith}
 use Rattle.std.specs.Borrow.{Bor}
-use Rattle.arachne_lang.specs.declared.program.Expr.{Expr}
-use Rattle.arachne_lang.specs.declared.program.Reduction.{Reduction}
-use Rattle.arachne_lang.specs.Tree.{Source, Tree}
-use Rattle.arachne_lang.specs.Program.{source_of, tree_of}
-use Rattle.arachne_lang.specs.Value.{apply, operation_of, with_newest}
+use Rattle.arachne_program.specs.declared.program.Expr.{Expr}
+use Rattle.arachne_program.specs.declared.program.Reduction.{Reduction}
+use Rattle.arachne_program.specs.Tree.{Source, Tree}
+use Rattle.arachne_program.specs.Program.{source_of, tree_of}
+use Rattle.arachne_program.specs.Value.{apply, operation_of, with_newest}
 use Rattle.arachne_machine.specs.declared.frame.Frame.TheVariants.{FoldTurn, SweepTurn}
 use Rattle.arachne_machine.specs.declared.frame.Control.{Control}
 use Rattle.arachne_machine.specs.declared.frame.Control.TheVariants.{Begin, Give}

@@ -9,7 +9,7 @@ use Rattle.arachne_machine.specs.declared.pause.NotJoined.TheVariants as refused
 use Rattle.arachne_machine.specs.declared.pause.NotPlaced.{NotPlaced}
 use Rattle.arachne_machine.specs.declared.pause.NotPlaced.TheVariants as unplaced
 use Rattle.std.specs.Global.{Box}
-use Rattle.arachne_lang.specs.declared.program.Class.{Class}
+use Rattle.arachne_program.specs.declared.program.Class.{Class}
 use Rattle.arachne_machine.specs.declared.state.State.{State}
 use Rattle.arachne_machine.specs.Kept.{nested}
 use Rattle.arachne_machine.specs.Faultless.{PausesWithin}

@@ -1,6 +1,6 @@
 -- The way in which the threads of a program wait for each other if only one of them goes on at a time.
 use Rattle.std.specs.Prelude.{◌≡◌, ℕ, ◌+◌, ◌*◌, List, [], ◌∷◌, ◌++◌, None}
-use Rattle.arachne_lang.specs.declared.program.Program.{Program}
+use Rattle.arachne_program.specs.declared.program.Program.{Program}
 use Rattle.arachne_machine.specs.Outcome.{Finished}
 use Rattle.arachne_machine.specs.Nested.{Nested, IsAlone, pending_in, whole}
 use Rattle.arachne_machine.specs.declared.alone.Turn.{Turn}

@@ -1,11 +1,11 @@
 -- The result that a suspended thread will have.
 use Rattle.std.specs.Prelude.{◌≡◌, ℕ, ◌+◌, ◌-◌, ◌==◌, if◌then◌else◌, List, [], ◌∷◌, ◌++◌, Some, unwrap_or, take, length, slice_index}
-use Rattle.arachne_lang.specs.declared.program.Operation.{Operation}
-use Rattle.arachne_lang.specs.Tree.{Tree, Source, Number}
-use Rattle.arachne_lang.specs.Program.{source_of, tree_of}
-use Rattle.arachne_lang.specs.Value.{Environment, with_newest, value_of, array_at, apply, operation_of}
-use Rattle.arachne_lang.specs.Effects.{Task, Evaluate, Reduce, task_value, task_effects, effects_of, tallied, held}
-use Rattle.arachne_lang.specs.Meaning.{task_of}
+use Rattle.arachne_program.specs.declared.program.Operation.{Operation}
+use Rattle.arachne_program.specs.Tree.{Tree, Source, Number}
+use Rattle.arachne_program.specs.Program.{source_of, tree_of}
+use Rattle.arachne_program.specs.Value.{Environment, with_newest, value_of, array_at, apply, operation_of}
+use Rattle.arachne_program.specs.Effects.{Task, Evaluate, Reduce, task_value, task_effects, effects_of, tallied, held}
+use Rattle.arachne_program.specs.Meaning.{task_of}
 use Rattle.arachne_machine.specs.declared.frame.Stretch.{Stretch}
 use Rattle.arachne_machine.specs.declared.frame.Frame.{Frame}
 use Rattle.arachne_machine.specs.declared.frame.Frame.TheVariants.{Index, Right, Apply, Branch, Extend, Amount, Release, Join, Merge, JoinHere, MergeHere, FoldTo, FoldFirst, FoldStart, FoldTurn, SweepTo, SweepStart, SweepTurn, Restore}

@@ -5,8 +5,8 @@ use Rattle.arachne_machine.specs.declared.line.Ran.TheVariants as ways
 use Rattle.arachne_machine.specs.declared.placed.Unplaced.{Unplaced}
 use Rattle.arachne_machine.specs.declared.placed.Unplaced.TheVariants.{Foreign, Memory}
 use Rattle.arachne_machine.specs.declared.state.State.{State}
-use Rattle.arachne_lang.specs.declared.program.Class.{Class}
-use Rattle.arachne_lang.specs.Effects.{tabulated}
+use Rattle.arachne_program.specs.declared.program.Class.{Class}
+use Rattle.arachne_program.specs.Effects.{tabulated}
 use Rattle.arachne_machine.specs.declared.pause.Pending.{Pending}
 use Rattle.arachne_machine.specs.declared.pause.Pending.TheVariants as pause
 use Rattle.arachne_machine.specs.Suspended.{awaited}

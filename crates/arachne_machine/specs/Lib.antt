@@ -17,10 +17,10 @@ pub mod Runs
 pub mod Kept
 pub mod Alone
 pub mod Faultless
-pub use Rattle.arachne_lang.specs.Tree
-pub use Rattle.arachne_lang.specs.Program
-pub use Rattle.arachne_lang.specs.Value
-pub use Rattle.arachne_lang.specs.Parts
-pub use Rattle.arachne_lang.specs.Effects
-pub use Rattle.arachne_lang.specs.Meaning
-pub use Rattle.arachne_lang.specs.Checked
+pub use Rattle.arachne_program.specs.Tree
+pub use Rattle.arachne_program.specs.Program
+pub use Rattle.arachne_program.specs.Value
+pub use Rattle.arachne_program.specs.Parts
+pub use Rattle.arachne_program.specs.Effects
+pub use Rattle.arachne_program.specs.Meaning
+pub use Rattle.arachne_program.specs.Checked

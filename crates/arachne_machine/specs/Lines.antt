@@ -1,16 +1,39 @@
 -- The lines of threads in the form in which they are kept until a run is over.
-use Rattle.std.specs.Prelude.{◌≡◌, ◌≤◌, ◌<◌, ℕ, ◌+◌, ◌^◌, ◌==◌, if◌then◌else◌, List, [], ◌∷◌, ◌++◌, get_or, length, set}
-use Rattle.arachne_lang.specs.Effects.{tabulated}
-use Rattle.std.specs.Global.{Vec}
+use Rattle.std.specs.Prelude.{◌≡◌, ◌≤◌, ◌<◌, ℕ, ◌+◌, ◌*◌, ◌^◌, ◌==◌, if◌then◌else◌, List, [], ◌∷◌, ◌++◌, drop, get_or, length, set, take}
+use Rattle.arachne_program.specs.Effects.{tabulated}
 use Rattle.arachne_machine.specs.declared.line.ThreadLine.{ThreadLine}
+use Rattle.arachne_machine.specs.declared.line_list.Mark.{Mark}
+
+-- a list of lines of threads of a program with this number of locks
+pub record Listed : Type 0 where
+  pub locks : ℕ
+  pub lines : List ThreadLine
+
+-- the line of this thread, with these holds
+abbrev pub line_with : Mark → List ℕ → ThreadLine
+line_with mark holds = record { name = mark.name; tag = mark.label.tag; holds = holds; ran = mark.label.ran }
+
+-- the lines of these threads: `holds` has as many numbers for each of them in turn as there are locks
+abbrev pub with_holds : ℕ → List Mark → List ℕ → List ThreadLine
+with_holds locks [] holds = []
+with_holds locks (mark ∷ marks) holds = line_with mark (take locks holds) ∷ with_holds locks marks (drop locks holds)
+
+-- there are as many numbers for each thread as there are locks
+abbrev pub AreHoldsOf : ℕ → List Mark → List ℕ → Type 0
+AreHoldsOf locks marks holds = length holds ≡ length marks * locks
 
 -- the lines in these lists
-abbrev pub lines_in : List (Vec ThreadLine) → List ThreadLine
+abbrev pub lines_in : List Listed → List ThreadLine
 lines_in [] = []
-lines_in (list ∷ lists) = list.items ++ lines_in lists
+lines_in (list ∷ lists) = list.lines ++ lines_in lists
+
+-- the lines in these lists, from this place of the first one on
+abbrev pub lines_from : ℕ → List Listed → List ThreadLine
+lines_from place [] = []
+lines_from place (list ∷ lists) = drop place list.lines ++ lines_in lists
 
 -- these lists have `count` lines, and together with those of the last list they are fewer than 2 ^ 63
-pub record IsCounted (earlier : List (Vec ThreadLine)) (count last : ℕ) : Type 0 where
+pub record IsCounted (earlier : List Listed) (count last : ℕ) : Type 0 where
   pub counted : count ≡ length (lines_in earlier)
   pub few : count + last < 2 ^ 63
 

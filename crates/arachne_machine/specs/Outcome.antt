@@ -1,12 +1,12 @@
 -- The outcome of a thread.
 use Rattle.std.specs.Prelude.{◌≡◌, ℕ, List, ◌∷◌, map, Option, Some, option_map}
-use Rattle.arachne_lang.specs.declared.program.Program.{Program}
-use Rattle.arachne_lang.specs.declared.meaning.Line.{Line}
-use Rattle.arachne_lang.specs.declared.meaning.Meaning.{Meaning}
-use Rattle.arachne_lang.specs.Tree.{Source}
-use Rattle.arachne_lang.specs.Program.{source_of}
-use Rattle.arachne_lang.specs.Effects.{Task, task_value, task_effects, line_of, tabulated}
-use Rattle.arachne_lang.specs.Meaning.{task_of}
+use Rattle.arachne_program.specs.declared.program.Program.{Program}
+use Rattle.arachne_program.specs.declared.meaning.Line.{Line}
+use Rattle.arachne_program.specs.declared.meaning.Meaning.{Meaning}
+use Rattle.arachne_program.specs.Tree.{Source}
+use Rattle.arachne_program.specs.Program.{source_of}
+use Rattle.arachne_program.specs.Effects.{Task, task_value, task_effects, line_of, tabulated}
+use Rattle.arachne_program.specs.Meaning.{task_of}
 use Rattle.arachne_machine.specs.declared.line.ThreadLine.{ThreadLine}
 use Rattle.arachne_machine.specs.declared.contents.Contents.{Contents}
 

@@ -1,9 +1,9 @@
 -- Sound threads: those that will end with the outcome of their name, and without fault in a checked program.
 use Rattle.std.specs.Prelude.{◌≡◌, ◌<◌, ◌^◌, ℕ, ◌+◌, List, [], ◌∷◌, ◌++◌, length, map, reverse, Some}
-use Rattle.arachne_lang.specs.Program.{source_of}
-use Rattle.arachne_lang.specs.Effects.{Task, task_value, task_effects, tabulated}
-use Rattle.arachne_lang.specs.Meaning.{task_of}
-use Rattle.arachne_lang.specs.Checked.{IsChecked}
+use Rattle.arachne_program.specs.Program.{source_of}
+use Rattle.arachne_program.specs.Effects.{Task, task_value, task_effects, tabulated}
+use Rattle.arachne_program.specs.Meaning.{task_of}
+use Rattle.arachne_program.specs.Checked.{IsChecked}
 use Rattle.arachne_machine.specs.declared.line.Ran.TheVariants as ways
 use Rattle.arachne_machine.specs.declared.state.State.{State}
 use Rattle.arachne_machine.specs.Outcome.{named_holds}

@@ -1,15 +1,15 @@
 -- The changes that a thread's steps make to it.
 use Rattle.std.specs.Prelude.{◌≡◌, ◌≤◌, ◌<◌, ℕ, ◌+◌, ◌^◌, false, List, [], ◌∷◌, ◌++◌, length, reverse, take, vec_len, vec_capacity, Option, None, Some}
-use Rattle.arachne_lang.specs.declared.program.Program.{Program}
-use Rattle.arachne_lang.specs.declared.program.Class.{Class}
-use Rattle.arachne_lang.specs.declared.program.Reduction.{Reduction}
-use Rattle.arachne_lang.specs.declared.program.Expr.{Expr}
+use Rattle.arachne_program.specs.declared.program.Program.{Program}
+use Rattle.arachne_program.specs.declared.program.Class.{Class}
+use Rattle.arachne_program.specs.declared.program.Reduction.{Reduction}
+use Rattle.arachne_program.specs.declared.program.Expr.{Expr}
 use Rattle.std.specs.Borrow.{Bor}
-use Rattle.arachne_lang.specs.Tree.{Number}
-use Rattle.arachne_lang.specs.Program.{source_of, tree_of}
-use Rattle.arachne_lang.specs.Value.{Environment, with_newest}
-use Rattle.arachne_lang.specs.Effects.{Task, Evaluate, Child, Effects, task_value, task_effects, tabulated}
-use Rattle.arachne_lang.specs.Meaning.{task_of}
+use Rattle.arachne_program.specs.Tree.{Number}
+use Rattle.arachne_program.specs.Program.{source_of, tree_of}
+use Rattle.arachne_program.specs.Value.{Environment, with_newest}
+use Rattle.arachne_program.specs.Effects.{Task, Evaluate, Child, Effects, task_value, task_effects, tabulated}
+use Rattle.arachne_program.specs.Meaning.{task_of}
 use Rattle.arachne_machine.specs.declared.frame.Frame.{Frame}
 use Rattle.arachne_machine.specs.declared.frame.Frame.TheVariants.{FoldTo, FoldFirst, FoldStart, FoldTurn, SweepTo, SweepStart, SweepTurn, Amount, Release, Join, Merge, JoinHere, MergeHere}
 use Rattle.arachne_machine.specs.declared.frame.Control.{Control}

@@ -1,8 +1,8 @@
 -- The threads of a state, one by one.
 use Rattle.std.specs.Prelude.{◌≤◌, ◌<◌, ◌≡◌, ℕ, ◌+◌, List, [], ◌∷◌, drop, get_or}
 use Rattle.std.specs.Borrow.{Bor}
-use Rattle.arachne_lang.specs.declared.program.Program.{Program}
-use Rattle.arachne_lang.specs.Value.{Environment}
+use Rattle.arachne_program.specs.declared.program.Program.{Program}
+use Rattle.arachne_program.specs.Value.{Environment}
 use Rattle.arachne_machine.specs.declared.frame.Frame.{Frame}
 use Rattle.arachne_machine.specs.declared.frame.Control.{Control}
 use Rattle.arachne_machine.specs.declared.level.Level.{Level}

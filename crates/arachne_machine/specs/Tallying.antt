@@ -1,8 +1,8 @@
 -- The result of an advance, and of one that goes on over tallies which are made as the thread comes to them.
 use Rattle.std.specs.Prelude.{◌≡◌, ℕ, ◌+◌, ◌-◌, ◌==◌, if◌then◌else◌, List, [], ◌∷◌, None, Some}
-use Rattle.arachne_lang.specs.Value.{wrapped}
-use Rattle.arachne_lang.specs.Program.{source_of}
-use Rattle.arachne_lang.specs.Checked.{IsChecked}
+use Rattle.arachne_program.specs.Value.{wrapped}
+use Rattle.arachne_program.specs.Program.{source_of}
+use Rattle.arachne_program.specs.Checked.{IsChecked}
 use Rattle.arachne_machine.specs.declared.pause.Pending.TheVariants as pause
 use Rattle.arachne_machine.specs.declared.pause.Pause.{Pause}
 use Rattle.arachne_machine.specs.declared.pause.Pause.TheVariants as pauses

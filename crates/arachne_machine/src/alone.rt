@@ -1,7 +1,7 @@
 //! Runs all threads of a program on one kernel thread, in turn.
 ghost use Rattle.std.specs.Prelude.{[], ◌≡◌, ◌+◌, ◌∷◌, ◌≤◌, ◌<◌, List, map, reverse, sum_by, None, Some, IfOk, OnOk};
-ghost use Rattle.arachne_lang.specs.Program.{source_of};
-ghost use Rattle.arachne_lang.specs.Meaning.{meaning_of};
+ghost use Rattle.arachne_program.specs.Program.{source_of};
+ghost use Rattle.arachne_program.specs.Meaning.{meaning_of};
 ghost use Rattle.arachne_machine.specs.Outcome.{meaning_in, named_holds, IsOfItsName};
 ghost use Rattle.arachne_machine.specs.Nested.{Nested, pending_in};
 ghost use Rattle.arachne_machine.specs.Alone.{OnEnd, Rests, RestsAfter, key, turns_after, turns_left};
@@ -13,7 +13,7 @@ use crate::pause::{NotJoined, Pause};
 use crate::placing::Everywhere;
 use crate::spares::Spares;
 use crate::thread::Thread;
-use arachne_lang::{Line, Meaning, Program, Sequence};
+use arachne_program::{Line, Meaning, Program, Sequence};
 use std::alloc::{AllocError, Global};
 
 /// Returns the meaning of a program, which runs on the calling kernel thread.

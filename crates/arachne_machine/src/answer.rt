@@ -3,11 +3,11 @@ use crate::frame::Control;
 use crate::state::State;
 use crate::tables::add_at;
 
-/// The answers to pauses that need no outcome of a child. They take no memory.
+/// The answers to pauses that need no outcome of a child. These steps take no memory.
 impl<'p> State<'p> {
     ghost use Rattle.std.specs.Prelude.{◌≡◌, ℕ, Some};
     ghost use Rattle.std.specs.Borrow.{Bor};
-    ghost use Rattle.arachne_lang.specs.declared.program.Expr.{Expr};
+    ghost use Rattle.arachne_program.specs.declared.program.Expr.{Expr};
     ghost use Rattle.arachne_machine.specs.declared.state.State.{State as TheState};
     ghost use Rattle.arachne_machine.specs.declared.pause.Pending.TheVariants as pause;
     ghost use Rattle.arachne_machine.specs.declared.frame.Control.TheVariants as control;
@@ -15,8 +15,8 @@ impl<'p> State<'p> {
     ghost use Rattle.arachne_machine.specs.Steps.{HasLine, Turns, pending_of};
     ghost use Rattle.arachne_machine.specs.Runs.{CountsHold, CountsTally, after_fork};
 
-    /// Answers a fork whose child was taken. The thread goes on with the expression that it evaluates while the child
-    /// runs.
+    /// Answers a fork whose child was taken out of the thread. The thread goes on with the expression that it evaluates
+    /// while the child runs.
     pub fn forked(&mut self)
         requires { pending_of self.old.control ≡ Some pause.Forks }
         ensures { Turns self.old self.new (after_fork self.old.control) }
@@ -50,7 +50,7 @@ impl<'p> State<'p> {
         if self.parents.is_empty() {
             add_at(&mut self.own.holds, lock, 1);
         } else {
-            self.lines.count_hold(self.alloc, self.level.place, lock);
+            self.lines.count_hold(self.level.place, lock);
         }
     }
 
@@ -65,7 +65,7 @@ impl<'p> State<'p> {
         self.control = Control::Give(value);
     }
 
-    /// Answers a tally whose amount was added to the ledger, and adds it to the thread's own sums.
+    /// Answers a tally whose amount was added to the ledger: adds the amount to the thread's own sums.
     pub fn tallied(&mut self)
         requires { IsTally (pending_of self.old.control) }
         ensures { (ledger amount : ℕ) × (body : Bor Expr) × (counted : TheState) × (self.old.control ≡ control.Tallies ledger amount body) × CountsTally self.old counted ledger amount

@@ -4,17 +4,17 @@ use crate::lookup::{length_in, variable_in};
 use crate::placing::Placing;
 use crate::spares::Spares;
 use crate::state::{Progress, State};
-use arachne_lang::{Expr, Operation};
+use arachne_program::{Expr, Operation};
 use std::alloc::AllocError;
 
 /// The steps that begin an expression.
 impl<'p> State<'p> {
     ghost use Rattle.std.specs.Prelude.{true, ◌≡◌, ◌≤◌, ◌∷◌, ◌++◌, [], length, slice_index, IfOk, IfSome, OnOk, OnErr};
     ghost use Rattle.std.specs.Borrow.{Bor};
-    ghost use Rattle.arachne_lang.specs.declared.program.Expr.{Expr as Expression};
-    ghost use Rattle.arachne_lang.specs.Tree.{Binary};
-    ghost use Rattle.arachne_lang.specs.Program.{source_of, tree_of};
-    ghost use Rattle.arachne_lang.specs.Value.{array_at, value_of};
+    ghost use Rattle.arachne_program.specs.declared.program.Expr.{Expr as Expression};
+    ghost use Rattle.arachne_program.specs.Tree.{Binary};
+    ghost use Rattle.arachne_program.specs.Program.{source_of, tree_of};
+    ghost use Rattle.arachne_program.specs.Value.{array_at, value_of};
     ghost use Rattle.arachne_machine.specs.declared.frame.Frame.TheVariants as frames;
     ghost use Rattle.arachne_machine.specs.declared.frame.Control.TheVariants as control;
     ghost use Rattle.arachne_machine.specs.declared.state.Progress.TheVariants as ways;

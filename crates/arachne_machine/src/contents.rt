@@ -4,22 +4,22 @@ ghost use Rattle.std.specs.Prelude.{◌≡◌, ◌∷◌, IfOk, OnErr};
 use crate::line::ThreadLine;
 use crate::lines::Lines;
 use crate::outcome::OutcomeParts;
-use arachne_lang::Sequence;
+use arachne_program::Sequence;
 use std::alloc::{AllocError, Global};
 use std::mem::replace;
 
 /// The contents of an outcome, without its program.
 ///
-/// Those of a [`crate::DetachedOutcome`] are in a box that exists before the thread ends. Only that box is moved from
-/// the thread that ends to the one that joins it.
+/// The contents of a [`crate::DetachedOutcome`] are in a box that exists before the thread ends. Only that box is moved
+/// from the thread that ends to the thread that joins it.
 #[derive(Debug, Drop)]
 pub struct Contents {
     pub(crate) value: u64,
-    /// For each ledger, the sum, modulo 2^64.
+    /// For each ledger, the sum of what the thread and its descendants have tallied, modulo 2^64.
     pub(crate) sums: Vec<u64>,
     /// The thread's own line.
     pub(crate) own: ThreadLine,
-    /// The lines of the threads below it.
+    /// The lines of the thread's descendants.
     pub(crate) below: Lines,
 }
 
@@ -29,19 +29,19 @@ impl Contents {
         Ok(Box::new(alloc, Contents::vacant(alloc))?)
     }
 
-    /// Returns contents of no thread. Takes no memory.
+    /// Returns contents that belong to no thread. Takes no memory.
     fn vacant(alloc: Global) -> Contents {
         Contents {
             value: 0,
             sums: Vec::new(alloc),
             own: ThreadLine::vacant(alloc),
-            below: Lines::new(alloc),
+            below: Lines::new(alloc, 0),
         }
     }
 
     /// Takes out the value, the sums and the lines.
     ///
-    /// Takes memory for a list of the lists of lines. If that is refused, nothing has changed.
+    /// Takes memory for a list of the lists of lines. If that memory is refused, nothing has changed.
     pub(crate) fn take_parts(&mut self) -> Result<OutcomeParts, AllocError>
         ensures value { IfOk result (λ parts. parts.value ≡ self.old.value) }
         ensures sums { IfOk result (λ parts. parts.sums ≡ self.old.sums.items) }

@@ -4,7 +4,7 @@ ghost use Rattle.arachne_machine.specs.Outcome.{IsOfItsName};
 
 use crate::contents::Contents;
 use crate::outcome::OutcomeParts;
-use arachne_lang::{Program, Sequence};
+use arachne_program::{Program, Sequence};
 use std::marker::Model;
 use std::snapshot::Snapshot;
 
@@ -24,7 +24,7 @@ impl Model for DetachedOutcome {
     ghost Value = { Finished };
 
     ghost use Rattle.std.specs.Coded.{codes};
-    ghost use Rattle.arachne_lang.specs.contracts.program.Expr as expr;
+    ghost use Rattle.arachne_program.specs.contracts.program.Expr as expr;
 
     ghost coded = { Prim.hlevel (codes, expr.the_row.coded) };
 

@@ -3,18 +3,18 @@ use crate::frame::{Control, Frame, Stretch};
 use crate::placing::Placing;
 use crate::spares::Spares;
 use crate::state::{Progress, State};
-use arachne_lang::{Class, Expr};
+use arachne_program::{Class, Expr};
 use std::alloc::AllocError;
 
 /// The steps that fork a child, and those that begin a part of a sweep.
 impl<'p> State<'p> {
     ghost use Rattle.std.specs.Prelude.{true, ◌≡◌, ◌≤◌, ◌+◌, ◌<◌, ◌^◌, ◌∷◌, ◌++◌, [], IfOk, OnOk, OnErr};
-    ghost use Rattle.arachne_lang.specs.Effects.{tabulated};
+    ghost use Rattle.arachne_program.specs.Effects.{tabulated};
     ghost use Rattle.arachne_machine.specs.declared.line.Ran.TheVariants as ways;
     ghost use Rattle.arachne_machine.specs.declared.frame.Frame.TheVariants as frames;
     ghost use Rattle.arachne_machine.specs.declared.frame.Control.TheVariants as control;
     ghost use Rattle.arachne_machine.specs.declared.state.Progress.TheVariants as progress;
-    ghost use Rattle.arachne_lang.specs.declared.program.Class.TheVariants as classes;
+    ghost use Rattle.arachne_program.specs.declared.program.Class.TheVariants as classes;
     ghost use Rattle.arachne_machine.specs.Sound.{IsSoundState};
     ghost use Rattle.arachne_machine.specs.Runs.{Comes};
     ghost use Rattle.arachne_machine.specs.Steps.{CountsFork, HasLine, IsForkOf, IsSame, IsSpawned};

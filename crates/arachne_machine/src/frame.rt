@@ -1,5 +1,5 @@
 //! The next action of a thread, and the frames that say what follows it.
-use arachne_lang::{Expr, Operation, Reduction};
+use arachne_program::{Expr, Operation, Reduction};
 
 /// A part of a sweep: the numbers from `first` to below `end`.
 #[derive(Clone, Copy)]

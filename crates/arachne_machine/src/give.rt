@@ -3,14 +3,14 @@ use crate::frame::{Control, Frame, Stretch};
 use crate::lookup::item_in;
 use crate::placing::Placing;
 use crate::state::{Progress, State};
-use arachne_lang::Expr;
+use arachne_program::Expr;
 use std::alloc::AllocError;
 
 /// The steps that hand a value on.
 impl<'p> State<'p> {
     ghost use Rattle.std.specs.Prelude.{true, ◌≡◌, ◌+◌, ◌<◌, ◌≤◌, ◌++◌, ◌∷◌, [], length, slice_index, vec_len, vec_capacity, IfOk, IsErr, OnOk, OnErr};
-    ghost use Rattle.arachne_lang.specs.Program.{source_of};
-    ghost use Rattle.arachne_lang.specs.Value.{array_at, with_newest};
+    ghost use Rattle.arachne_program.specs.Program.{source_of};
+    ghost use Rattle.arachne_program.specs.Value.{array_at, with_newest};
     ghost use Rattle.arachne_machine.specs.declared.state.State.{State as Whole};
     ghost use Rattle.arachne_machine.specs.declared.frame.Frame.TheVariants as frames;
     ghost use Rattle.arachne_machine.specs.declared.frame.Control.TheVariants as control;

@@ -2,18 +2,18 @@
 use crate::contents::Contents;
 use crate::frame::{Control, Frame};
 use crate::level::{Level, Parent, move_parents};
-use crate::line::{Ran, ThreadLine};
+use crate::line::{Label, Ran};
 use crate::placing::Placing;
 use crate::state::{Progress, State};
-use crate::tables::{add_each, zeros};
-use arachne_lang::{Name, Sequence};
+use crate::tables::add_each;
+use arachne_program::Name;
 use std::alloc::AllocError;
 use std::mem::swap;
 
 /// The reason why the thread could not join a child's outcome.
 #[derive(Clone, Copy)]
 pub enum Unjoined {
-    /// It is not the outcome of the awaited child.
+    /// The outcome is not that of the awaited child.
     Foreign,
     /// Memory was refused.
     Memory,
@@ -28,9 +28,9 @@ impl<'p> State<'p> {
     ghost use Rattle.arachne_machine.specs.Suspended.{awaited};
     ghost use Rattle.arachne_machine.specs.declared.pause.Pending.TheVariants as pause;
     ghost use Rattle.arachne_machine.specs.Runs.{BeginsHere, Descends, FitsInto, HasParent, JoinsOutcome, KeepsRest, LooksSame, ResumesAs, ResumesParent, StandsBefore, TakesIn, TakesLevels};
-    ghost use Rattle.arachne_lang.specs.Effects.{tabulated};
+    ghost use Rattle.arachne_program.specs.Effects.{tabulated};
     ghost use Rattle.arachne_machine.specs.Strands.{Fits};
-    ghost use Rattle.arachne_lang.specs.declared.program.Program.{Program};
+    ghost use Rattle.arachne_program.specs.declared.program.Program.{Program};
     ghost use Rattle.arachne_machine.specs.Outcome.{finished};
     ghost use Rattle.arachne_machine.specs.declared.join.Unjoined.TheVariants.{Foreign};
 
@@ -48,7 +48,7 @@ impl<'p> State<'p> {
         }
     }
 
-    /// Begins the child of this number in this place. The innermost thread awaits it.
+    /// Begins the child of this number in the place of the innermost thread, which awaits the child.
     ///
     /// If memory is refused, nothing has changed but capacities.
     #[inline(always)]
@@ -64,21 +64,20 @@ impl<'p> State<'p> {
         ensures frames { OnErr result (self.new.frames ≡ self.old.frames) }
     {
         self.parents.try_reserve(1)?;
-        let holds = zeros(self.alloc, self.program.locks)?;
         let name = self.running_name().child(self.alloc, number)?;
         let place = self.lines.len();
-        self.lines.push(ThreadLine {
-            name,
+        let label = Label {
             tag: places.tag(),
-            holds: Sequence::from(holds),
             ran: Ran::InPlace,
-        })?;
+        };
+        self.lines
+            .push(self.alloc, name, label, self.program.locks)?;
         self.descend(awaits, place, 0);
         Ok(())
     }
 
-    /// Makes the innermost thread wait for one that goes on in this place. That one has its line at `place`, and has
-    /// forked `forks` threads. There must be room for one more parent.
+    /// Makes the innermost thread wait for a child that goes on in the innermost thread's place. The child has its line
+    /// at `place`, and has forked `forks` threads. There must be room for one more parent.
     #[inline(always)]
     fn descend(&mut self, awaits: Control<'p>, place: usize, forks: u64)
         requires { vec_len self.old.parents + 1 ≤ vec_capacity self.old.parents }
@@ -96,7 +95,8 @@ impl<'p> State<'p> {
         };
     }
 
-    /// Takes in the awaited child, which goes on in this place, with the threads that run in its own.
+    /// Lets the awaited child, with the threads that run in the child's place, go on in the place of the innermost
+    /// thread.
     ///
     /// If memory is refused, nothing has changed but capacities.
     pub fn take_in(&mut self, child: &mut State<'p>) -> Result<(), AllocError>
@@ -127,8 +127,9 @@ impl<'p> State<'p> {
         Ok(())
     }
 
-    /// Makes the innermost thread wait for a child, and takes over the levels of the child's threads. Their frames come
-    /// behind those that are here, and their lines are from `place` on. There must be room for the parents.
+    /// Makes the innermost thread wait for a child, and takes over the levels of the child's threads. The frames of the
+    /// child's threads come behind the frames of this state, and the lines of these threads begin at `place`. There
+    /// must be room for the parents.
     #[inline(always)]
     fn take_levels(&mut self, child: &State<'p>, place: usize)
         requires room { vec_len self.old.parents + vec_len child.now.parents + 1 ≤ vec_capacity self.old.parents }
@@ -146,7 +147,7 @@ impl<'p> State<'p> {
         self.level = child.level.moved(child.parents.is_empty(), start, place);
     }
 
-    /// Ends the child that has run in this place: its parent joins it, with this value, and goes on.
+    /// Ends the child that has run in its parent's place: the parent joins the child, with this value, and goes on.
     ///
     /// If memory is refused, a later step gives the value to the parent.
     #[inline(always)]
@@ -181,7 +182,8 @@ impl<'p> State<'p> {
         }
     }
 
-    /// Makes the child's value, and then that of `during`, the newest variables. There must be room.
+    /// Makes the child's value, and then that of `during`, the newest variables. There must be room for two more
+    /// variables.
     #[inline(always)]
     fn bind_joined(&mut self, value: u64, during: u64)
         requires environment { vec_len self.old.environment + 2 ≤ vec_capacity self.old.environment }
@@ -195,7 +197,7 @@ impl<'p> State<'p> {
         self.frames.push_reserved(Frame::Restore(length));
     }
 
-    /// Joins an outcome with these contents, if it is that of the awaited child.
+    /// Joins an outcome with these contents, if the outcome is that of the awaited child.
     ///
     /// After an error nothing has changed but capacities.
     pub fn join(&mut self, contents: &mut Contents) -> Result<(), Unjoined>
@@ -220,7 +222,7 @@ impl<'p> State<'p> {
         Ok(())
     }
 
-    /// Appends the lines, and adds the sums. If memory is refused, nothing has changed but capacities.
+    /// Appends the lines and adds the sums of `contents`. If memory is refused, nothing has changed but capacities.
     #[inline(always)]
     fn take_contents(&mut self, contents: &mut Contents) -> Result<(), AllocError>
         requires sums { length contents.old.sums.items ≡ length self.old.sums.items }
@@ -239,7 +241,8 @@ impl<'p> State<'p> {
         Ok(())
     }
 
-    /// Goes on after the awaited child, which has ended with this value, was joined. There must be room.
+    /// Goes on after the join of the awaited child, which has ended with this value. There must be room for the new
+    /// variables.
     #[inline(always)]
     fn resume_joined(&mut self, value: u64)
         requires joins { pending_of self.old.control ≡ Some pause.Joins }
@@ -264,7 +267,7 @@ impl<'p> State<'p> {
         }
     }
 
-    /// Goes back to before the step in which the thread began to await a child.
+    /// Undoes the step in which the thread began to await a child.
     pub fn stand_before_join(&mut self)
         requires joins { pending_of self.old.control ≡ Some pause.Joins }
         requires room { HasRoom self.old }

@@ -1,4 +1,4 @@
-//! Threads of a task program that advance by steps, can be cut anywhere, and are joined by name.
+//! Threads of a task program that advance by steps, can be interrupted after any step, and are joined by name.
 #![tactic(auto)]
 
 mod alone;
@@ -12,6 +12,7 @@ mod give;
 mod join;
 mod level;
 mod line;
+mod line_list;
 mod lines;
 mod lookup;
 mod outcome;
@@ -29,7 +30,7 @@ mod worth;
 pub use alone::run_alone;
 pub use contents::Contents;
 pub use detached::DetachedOutcome;
-pub use line::{Ran, ThreadLine};
+pub use line::{LineView, Ran, ThreadLine};
 pub use outcome::{Outcome, OutcomeParts};
 pub use pause::{NotJoined, NotPlaced, Pause, Pending};
 pub use placing::{Everywhere, Placing, Tallying};

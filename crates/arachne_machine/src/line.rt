@@ -1,10 +1,9 @@
 //! The line of a thread that has ended: its name, its tag, where it ran, and how often it held each lock.
-ghost use Rattle.std.specs.Prelude.{◌≡◌};
-ghost use Rattle.arachne_machine.specs.Lines.{HoldsOnceMore};
+ghost use Rattle.std.specs.Prelude.{◌≡◌, IfOk};
 
-use crate::tables::add_at;
-use arachne_lang::{Name, Sequence};
-use std::alloc::Global;
+use arachne_program::{Name, Sequence};
+use std::alloc::{AllocError, Global};
+use std::marker::Model;
 use std::mem::replace;
 
 /// The place at which a thread ran.
@@ -19,11 +18,11 @@ pub enum Ran {
 }
 
 /// The tag of a thread, and the place at which it runs.
-#[derive(Clone, Copy)]
+#[derive(Clone, Copy, Debug)]
 pub struct Label {
-    /// The tag under which it runs.
+    /// The tag (a number) under which the thread runs.
     pub tag: u64,
-    /// The place at which it runs.
+    /// The place at which the thread runs.
     pub ran: Ran,
 }
 
@@ -31,16 +30,16 @@ pub struct Label {
 #[derive(Debug, Drop)]
 pub struct ThreadLine {
     pub name: Name,
-    /// The tag under which it ran.
+    /// The tag (a number) under which the thread ran.
     pub tag: u64,
-    /// For each lock, the number of times that it held it, modulo 2^64.
+    /// For each lock, the number of times that the thread held it, modulo 2^64.
     pub holds: Sequence<u64>,
-    /// The place at which it ran.
+    /// The place at which the thread ran.
     pub ran: Ran,
 }
 
 impl ThreadLine {
-    /// Returns a line of no thread. Takes no memory.
+    /// Returns a line that belongs to no thread. Takes no memory.
     #[inline(always)]
     pub(crate) fn vacant(alloc: Global) -> ThreadLine {
         ThreadLine {
@@ -58,13 +57,90 @@ impl ThreadLine {
     {
         replace(self, ThreadLine::vacant(alloc))
     }
+}
 
-    /// Counts that the thread has held this lock once more.
-    pub(crate) fn count_hold(&mut self, alloc: Global, lock: u64)
-        ensures { HoldsOnceMore self.old self.new lock }
+/// A thread's record, in a list that stores separately how often each lock was held.
+#[derive(Drop)]
+pub struct LineView<'a> {
+    name: &'a Name,
+    label: Label,
+    holds: &'a [u64],
+}
+
+// Contracts see the record.
+impl<'a> Model for LineView<'a> {
+    ghost use Rattle.arachne_machine.specs.declared.line.ThreadLine.{ThreadLine};
+
+    ghost Value = { ThreadLine };
+
+    ghost view = { λ l. record { name = l.name.now; tag = l.label.tag; holds = l.holds.now; ran = l.label.ran } };
+}
+
+impl<'a> LineView<'a> {
+    ghost use Rattle.arachne_machine.specs.declared.line.ThreadLine.{ThreadLine};
+
+    /// Returns the record that has these parts.
+    #[inline(always)]
+    pub(crate) fn new(name: &'a Name, label: Label, holds: &'a [u64]) -> LineView<'a>
+        ensures { result ≡ record { name = name.now; tag = label.tag; holds = holds.now; ran = label.ran } }
     {
-        let mut holds = replace(&mut self.holds, Sequence::from(Vec::new(alloc))).into_vec();
-        add_at(&mut holds, lock, 1);
-        self.holds = Sequence::from(holds);
+        LineView { name, label, holds }
     }
+
+    /// Returns the thread's name.
+    #[inline(always)]
+    pub fn name(&self) -> &'a Name
+        ensures { result.now ≡ self.now.name }
+    {
+        self.name
+    }
+
+    /// Returns the tag under which the thread ran.
+    #[inline(always)]
+    pub fn tag(&self) -> u64
+        ensures { result ≡ self.now.tag }
+    {
+        self.label.tag
+    }
+
+    /// Returns, for each lock, the number of times that the thread held it, modulo 2^64.
+    #[inline(always)]
+    pub fn holds(&self) -> &'a [u64]
+        ensures { result.now ≡ self.now.holds }
+    {
+        self.holds
+    }
+
+    /// Returns the place at which the thread ran.
+    #[inline(always)]
+    pub fn ran(&self) -> Ran
+        ensures { result ≡ self.now.ran }
+    {
+        self.label.ran
+    }
+
+    /// Returns a copy of the record. Takes memory for the copy.
+    pub(crate) fn to_line(&self, alloc: Global) -> Result<ThreadLine, AllocError>
+        ensures { IfOk result (λ line. line ≡ self.now) }
+    {
+        let mut holds = Vec::with_capacity(alloc, self.holds.len())?;
+        holds.extend_from_slice(self.holds)?;
+        Ok(ThreadLine {
+            name: copy_of(alloc, self.name)?,
+            tag: self.label.tag,
+            holds: Sequence::from(holds),
+            ran: self.label.ran,
+        })
+    }
+}
+
+/// Returns a copy of a name.
+fn copy_of(alloc: Global, name: &Name) -> Result<Name, AllocError>
+    ensures { IfOk result (λ copy. copy ≡ name.now) }
+{
+    let mut copy = Name::root(alloc);
+    for k in 0..name.len() {
+        copy = copy.child(alloc, name.number(k))?;
+    }
+    Ok(copy)
 }

@@ -1,51 +1,57 @@
 //! The lines of threads in order, in a form in which large numbers of them are moved at most once.
 ghost use Rattle.std.specs.Prelude.{◌≡◌, ◌+◌, ◌-◌, ◌≤◌, ◌<◌, ◌^◌, List, [], ◌∷◌, ◌++◌, get_or, length, vec_len, vec_capacity, IfOk, IfErr, OnOk, OnErr};
+ghost use Rattle.arachne_program.specs.Effects.{tabulated};
 ghost use Rattle.arachne_machine.specs.declared.line.ThreadLine.{ThreadLine};
 ghost use Rattle.arachne_machine.specs.Lines.{CountsHoldAt, lines_in};
 
-use crate::line::ThreadLine;
+use crate::line::{Label, LineView, ThreadLine};
+use crate::line_list::LineList;
 use crate::thread_lines::ThreadLines;
+use arachne_program::Name;
 use std::alloc::{AllocError, Global};
 use std::marker::Model;
 use std::mem::replace;
 
-/// The maximum number of lines that are moved behind others. More than these stay in a list of their own.
+/// The maximum number of lines that are moved behind others. A list of more lines isn't moved, and stays a list of its
+/// own.
 const MOST_MOVED: usize = 1000;
 
 /// The maximum number of lines.
 const MOST: usize = usize::MAX / 2;
 
-/// The lines of threads, in order, in few lists. So a large number of lines is moved only once, when they are complete.
+/// The lines of threads, in order, in few lists. So a large number of lines is moved only once, when the list is
+/// complete.
 #[derive(Debug, Drop)]
 pub struct Lines {
-    earlier: Vec<Vec<ThreadLine>>,
+    earlier: Vec<LineList>,
     /// The number of lines in the earlier lists.
     count: usize,
     /// The list to which further lines are appended.
-    last: Vec<ThreadLine>,
+    last: LineList,
 }
 
 impl Model for Lines {
-    ghost use Rattle.std.specs.Prelude.{◌++◌, List, vec_len};
+    ghost use Rattle.std.specs.Prelude.{◌++◌, List, length};
     ghost use Rattle.arachne_machine.specs.declared.line.ThreadLine.{ThreadLine};
     ghost use Rattle.arachne_machine.specs.Lines.{IsCounted, lines_in};
 
     ghost Value = { List ThreadLine };
 
-    ghost view = { λ l. lines_in l.earlier.items ++ l.last.items };
+    ghost view = { λ l. lines_in l.earlier.items ++ l.last.lines };
 
-    ghost invariant = { λ l. IsCounted l.earlier.items l.count (vec_len l.last) };
+    ghost invariant = { λ l. IsCounted l.earlier.items l.count (length l.last.lines) };
 }
 
 impl Lines {
-    /// Returns an empty list. Takes no memory.
-    pub fn new(alloc: Global) -> Lines
+    /// Returns an empty list, for lines of threads of a program with this number of locks. Takes no memory.
+    #[inline(always)]
+    pub fn new(alloc: Global, locks: u8) -> Lines
         ensures { result ≡ [] }
     {
         Lines {
             earlier: Vec::new(alloc),
             count: 0,
-            last: Vec::new(alloc),
+            last: LineList::new(alloc, usize::from(locks)),
         }
     }
 
@@ -58,47 +64,81 @@ impl Lines {
         self.count + self.last.len()
     }
 
-    /// Appends a line. If memory is refused, the line is lost.
+    /// Appends the line of a thread that has held none of this number of locks. If memory is refused, nothing has
+    /// changed but capacities.
     #[inline(always)]
-    pub fn push(&mut self, line: ThreadLine) -> Result<(), AllocError>
-        ensures ok { OnOk result (self.new ≡ self.old ++ line ∷ []) }
+    pub fn push(
+        &mut self,
+        alloc: Global,
+        name: Name,
+        label: Label,
+        locks: u8,
+    ) -> Result<(), AllocError>
+        ensures ok { OnOk result (self.new ≡ self.old ++ record { name = name; tag = label.tag; holds = tabulated locks (λ lock. 0); ran = label.ran } ∷ []) }
         ensures few { OnOk result (length self.new < 2 ^ 63) }
         ensures err { OnErr result (self.new ≡ self.old) }
     {
         if self.len() >= MOST {
             return Err(AllocError);
         }
-        self.last.push(line)?;
+        if self.last.locks() != usize::from(locks) {
+            return self.push_apart(alloc, name, label, locks);
+        }
+        self.last.push(name, label)?;
         Ok(())
     }
 
-    /// Returns the line at this place.
+    /// Appends a line, like `push`, in a list of its own.
+    #[cold]
+    #[inline(never)]
+    fn push_apart(
+        &mut self,
+        alloc: Global,
+        name: Name,
+        label: Label,
+        locks: u8,
+    ) -> Result<(), AllocError>
+        requires { length self.old + 1 < 2 ^ 63 }
+        ensures ok { OnOk result (self.new ≡ self.old ++ record { name = name; tag = label.tag; holds = tabulated locks (λ lock. 0); ran = label.ran } ∷ []) }
+        ensures few { OnOk result (length self.new < 2 ^ 63) }
+        ensures err { OnErr result (self.new ≡ self.old) }
+    {
+        self.earlier.try_reserve(1)?;
+        let mut own = LineList::new(alloc, usize::from(locks));
+        own.push(name, label)?;
+        self.count += self.last.len();
+        let list = replace(&mut self.last, own);
+        self.earlier.push_reserved(list);
+        Ok(())
+    }
+
+    /// Returns the line at this index.
     #[inline(always)]
-    pub fn at(&self, place: usize) -> &ThreadLine
+    pub fn at(&self, place: usize) -> LineView<'_>
         requires { place < length self.now }
-        ensures { (other : ThreadLine) → result.now ≡ get_or self.now place other }
+        ensures { (other : ThreadLine) → result ≡ get_or self.now place other }
     {
         if place >= self.count {
-            return &self.last[place - self.count];
+            return self.last.at(place - self.count);
         }
         line_in(&self.earlier, place)
     }
 
-    /// Counts that the thread whose line is at this place has held this lock once more.
-    pub fn count_hold(&mut self, alloc: Global, place: usize, lock: u64)
+    /// Counts that the thread whose line is at this index has held this lock once more.
+    pub fn count_hold(&mut self, place: usize, lock: u64)
         requires { place < length self.old }
         ensures { CountsHoldAt self.old self.new place lock }
     {
         if place >= self.count {
-            let place = place - self.count;
-            self.last[place].count_hold(alloc, lock);
+            self.last.count_hold(place - self.count, lock);
         } else {
-            count_hold_in(alloc, &mut self.earlier, place, lock);
+            count_hold_in(&mut self.earlier, place, lock);
         }
     }
 
-    /// Moves the line `own` here, and behind it the lines `below`. If memory is refused, nothing has changed but
-    /// capacities.
+    /// Moves the line `own`, and then the lines `below`, to the end of this list. If memory is refused, nothing has
+    /// changed but capacities.
+    #[inline(always)]
     pub fn append(
         &mut self,
         alloc: Global,
@@ -114,18 +154,17 @@ impl Lines {
         if below.len() >= MOST - self.len() {
             return Err(AllocError);
         }
-        if !below.earlier.is_empty() || below.last.len() > MOST_MOVED {
-            return self.append_many(alloc, own, below);
+        let locks = self.last.locks();
+        let is_small = below.earlier.is_empty() && below.last.len() <= MOST_MOVED;
+        if is_small && own.holds.as_slice().len() == locks && below.last.locks() == locks {
+            self.last.append(alloc, own, &mut below.last)?;
+            return Ok(());
         }
-        self.last.try_reserve(below.last.len() + 1)?;
-        self.last.push_reserved(own.take(alloc));
-        let mut last = replace(&mut below.last, Vec::new(alloc));
-        let _ = self.last.append(&mut last);
-        Ok(())
+        self.append_many(alloc, own, below)
     }
 
-    /// Moves the line `own` and the lines `below` here, like `append`. The lists of `below` are taken as they are, so
-    /// none of their lines is moved.
+    /// Moves the line `own`, and then the lines `below`, to the end of this list, like `append`. The lists of `below`
+    /// are taken as they are, so none of their lines is moved.
     #[cold]
     #[inline(never)]
     fn append_many(
@@ -141,20 +180,20 @@ impl Lines {
         ensures own { OnErr result (own.new ≡ own.old) }
         ensures below { OnErr result (below.new ≡ below.old) }
     {
-        self.last.try_reserve(1)?;
-        self.earlier.try_reserve(below.earlier.len() + 1)?;
-        self.last.push_reserved(own.take(alloc));
-        self.count = self.count + self.last.len() + below.count;
+        self.earlier.try_reserve(below.earlier.len() + 2)?;
+        let first = LineList::of(alloc, own)?;
+        self.count = self.count + self.last.len() + 1 + below.count;
         below.count = 0;
-        let last = replace(&mut below.last, Vec::new(alloc));
+        let last = replace(&mut below.last, LineList::new(alloc, 0));
         let list = replace(&mut self.last, last);
         self.earlier.push_reserved(list);
+        self.earlier.push_reserved(first);
         let _ = self.earlier.append(&mut below.earlier);
         Ok(())
     }
 
-    /// Takes all lines, behind the line `own`, in the lists in which they are. If memory is refused, nothing has
-    /// changed.
+    /// Takes out all lines, with the line `own` before them, in the lists in which they are. If memory is refused,
+    /// nothing has changed.
     pub fn complete(
         &mut self,
         alloc: Global,
@@ -164,24 +203,23 @@ impl Lines {
         ensures err { OnErr result (self.new ≡ self.old) }
         ensures own { OnErr result (own.new ≡ own.old) }
     {
-        let mut first = Vec::with_capacity(alloc, 1)?;
         let mut lists = Vec::with_capacity(alloc, self.earlier.len() + 2)?;
+        let first = LineList::of(alloc, own)?;
         let count = self.len() + 1;
-        first.push_reserved(own.take(alloc));
         lists.push_reserved(first);
         let _ = lists.append(&mut self.earlier);
-        lists.push_reserved(replace(&mut self.last, Vec::new(alloc)));
+        lists.push_reserved(replace(&mut self.last, LineList::new(alloc, 0)));
         self.count = 0;
         Ok(ThreadLines::of(lists, count))
     }
 }
 
-/// Returns the line at this place in these lists.
+/// Returns the line at this index, counted over all of `lists`.
 #[cold]
 #[inline(never)]
-fn line_in(lists: &Vec<Vec<ThreadLine>>, place: usize) -> &ThreadLine
+fn line_in(lists: &Vec<LineList>, place: usize) -> LineView<'_>
     requires { place < length (lines_in lists.now.items) }
-    ensures { (other : ThreadLine) → result.now ≡ get_or (lines_in lists.now.items) place other }
+    ensures { (other : ThreadLine) → result ≡ get_or (lines_in lists.now.items) place other }
 {
     let mut at = 0;
     let mut left = place;
@@ -189,13 +227,13 @@ fn line_in(lists: &Vec<Vec<ThreadLine>>, place: usize) -> &ThreadLine
         left -= lists[at].len();
         at += 1;
     }
-    &lists[at][left]
+    lists[at].at(left)
 }
 
-/// Counts a hold for the line at this place in these lists.
+/// Counts that a lock was held once more by the thread whose line is at this index, counted over all of `lists`.
 #[cold]
 #[inline(never)]
-fn count_hold_in(alloc: Global, lists: &mut Vec<Vec<ThreadLine>>, place: usize, lock: u64)
+fn count_hold_in(lists: &mut Vec<LineList>, place: usize, lock: u64)
     requires { place < length (lines_in lists.old.items) }
     ensures { CountsHoldAt (lines_in lists.old.items) (lines_in lists.new.items) place lock }
 {
@@ -206,5 +244,5 @@ fn count_hold_in(alloc: Global, lists: &mut Vec<Vec<ThreadLine>>, place: usize, 
         at += 1;
     }
     let list = &mut lists[at];
-    list[left].count_hold(alloc, lock);
+    list.count_hold(left, lock);
 }

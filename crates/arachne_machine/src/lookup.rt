@@ -1,9 +1,9 @@
 //! The values of variables and of items of arrays: 0 for a variable or an item that doesn't exist.
 ghost use Rattle.std.specs.Prelude.{◌≡◌, length, slice_index};
-ghost use Rattle.arachne_lang.specs.Program.{source_of};
-ghost use Rattle.arachne_lang.specs.Value.{array_at};
+ghost use Rattle.arachne_program.specs.Program.{source_of};
+ghost use Rattle.arachne_program.specs.Value.{array_at};
 
-use arachne_lang::Program;
+use arachne_program::Program;
 
 /// Returns the value of a variable, or 0 if there is no such variable.
 #[inline(always)]

@@ -4,7 +4,7 @@ ghost use Rattle.arachne_machine.specs.Outcome.{IsOfItsName};
 
 use crate::contents::Contents;
 use crate::thread_lines::ThreadLines;
-use arachne_lang::{Name, Program, Sequence};
+use arachne_program::{Name, Program, Sequence};
 use std::marker::Model;
 
 /// The outcome of a thread that has ended: its value, the ledger sums, and the lines of the thread and of its
@@ -21,7 +21,7 @@ impl<'p> Model for Outcome<'p> {
     ghost Value = { Finished };
 
     ghost use Rattle.std.specs.Coded.{codes};
-    ghost use Rattle.arachne_lang.specs.contracts.program.Expr as expr;
+    ghost use Rattle.arachne_program.specs.contracts.program.Expr as expr;
 
     ghost coded = { Prim.hlevel (codes, expr.the_row.coded) };
 

@@ -1,6 +1,6 @@
 //! The reasons why a thread pauses, and the pauses that are pending.
 use crate::thread::Thread;
-use arachne_lang::Class;
+use arachne_program::Class;
 use std::fmt;
 use thiserror::Error;
 

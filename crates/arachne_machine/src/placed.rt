@@ -4,7 +4,7 @@ use crate::line::Ran;
 use crate::placing::Placing;
 use crate::spares::Spares;
 use crate::state::State;
-use arachne_lang::Class;
+use arachne_program::Class;
 use std::alloc::AllocError;
 
 /// A child that could not be put in this thread's place, with the reason.

@@ -3,7 +3,7 @@
 ghost use Rattle.std.specs.Prelude.{◌≡◌, ℕ, Bool, true, false, IsTrue};
 ghost use Rattle.arachne_machine.specs.Tallying.{GainsAt};
 
-use arachne_lang::Class;
+use arachne_program::Class;
 
 /// The questions of a thread at its forks. Any answer is correct.
 pub trait Placing {

@@ -1,7 +1,7 @@
 //! Keeps the memory of ended threads, so that new threads need not ask the system for memory.
 use crate::contents::Contents;
 use crate::state::State;
-use arachne_lang::Program;
+use arachne_program::Program;
 use std::alloc::{AllocError, Global};
 use std::marker::Model;
 

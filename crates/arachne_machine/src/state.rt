@@ -8,7 +8,7 @@ use crate::pause::Pending;
 use crate::placing::Placing;
 use crate::spares::Spares;
 use crate::tables::zeros;
-use arachne_lang::{Class, Expr, Name, Program, Sequence};
+use arachne_program::{Class, Expr, Name, Program, Sequence};
 use std::alloc::{AllocError, Global};
 use std::mem::replace;
 
@@ -25,7 +25,7 @@ impl Own {
     ghost use Rattle.std.specs.Prelude.{◌≡◌};
     ghost use Rattle.arachne_machine.specs.Strands.{own_line};
 
-    /// Returns the data of no thread. Takes no memory.
+    /// Returns data that belong to no thread. Takes no memory.
     fn vacant(alloc: Global) -> Own {
         Own {
             name: Name::root(alloc),
@@ -68,25 +68,26 @@ impl Own {
     }
 }
 
-/// The state of a thread between two steps, with those of the threads that run in its place.
+/// The state of a thread between two steps, with the states of the threads that run in its place.
 #[derive(Drop)]
 pub struct State<'p> {
     pub program: &'p Program,
     pub alloc: Global,
     /// The data of the outermost thread's line.
     pub own: Own,
-    /// The lines below the outermost thread, in order: those of joined threads, and of the threads that run here, each
-    /// at its place.
+    /// The lines below the outermost thread, in order: those of joined threads, and those of the threads that run in
+    /// its place, each at its index.
     pub lines: Lines,
-    /// For each ledger, the sum of the amounts that all of them have tallied, modulo 2^64.
+    /// For each ledger, the sum of the amounts that all threads of this state have tallied, modulo 2^64.
     pub sums: Vec<u64>,
-    /// The threads that wait, the outermost first.
+    /// The threads that wait for a thread that runs in their place, the outermost first.
     pub parents: Vec<Parent<'p>>,
     /// The innermost thread, which goes on.
     pub level: Level,
     /// The innermost thread's environment. Each parent's environment is a prefix of it.
     pub environment: Vec<u64>,
-    /// The frames of all threads, the outermost's first. The newest is the last.
+    /// The frames (what follows the current expression) of all threads, the outermost thread's first. The newest frame
+    /// is the last.
     pub frames: Vec<Frame<'p>>,
     pub control: Control<'p>,
 }
@@ -108,7 +109,7 @@ pub enum Progress<'p> {
 
 impl<'p> State<'p> {
     ghost use Rattle.std.specs.Prelude.{true, ◌≡◌, ◌≤◌, ◌-◌, ◌∷◌, ◌<◌, [], length, IfOk, OnOk, OnErr, None, Some};
-    ghost use Rattle.arachne_lang.specs.Effects.{tabulated};
+    ghost use Rattle.arachne_program.specs.Effects.{tabulated};
     ghost use Rattle.arachne_machine.specs.Sound.{IsSoundState};
     ghost use Rattle.arachne_machine.specs.Strands.{owned_of, own_line};
     ghost use Rattle.arachne_machine.specs.Outcome.{IsOfItsName, finished};
@@ -146,7 +147,7 @@ impl<'p> State<'p> {
         Ok(state)
     }
 
-    /// Returns a state of no thread of the program.
+    /// Returns a state that belongs to no thread of the program.
     #[cold]
     #[inline(never)]
     pub fn vacant(alloc: Global, program: &'p Program) -> State<'p> {
@@ -154,7 +155,7 @@ impl<'p> State<'p> {
             program,
             alloc,
             own: Own::vacant(alloc),
-            lines: Lines::new(alloc),
+            lines: Lines::new(alloc, program.locks),
             sums: Vec::new(alloc),
             parents: Vec::new(alloc),
             level: Level::outermost(),
@@ -164,9 +165,10 @@ impl<'p> State<'p> {
         }
     }
 
-    /// Makes this the state of a thread that has not begun, with the capacities that it had.
+    /// Makes this the state of a thread that has not begun, and keeps the capacities of its lists.
     ///
-    /// The environment gets room for three more variables: a number of a sweep, and the two that may come with a value.
+    /// The environment gets room for three more variables: a number of a sweep, and the two variables that may come
+    /// with a value.
     fn renew(
         &mut self,
         program: &'p Program,
@@ -182,7 +184,7 @@ impl<'p> State<'p> {
         self.environment.extend_from_slice(environment)?;
         self.frames.clear();
         self.parents.clear();
-        self.lines = Lines::new(self.alloc);
+        self.lines = Lines::new(self.alloc, program.locks);
         self.program = program;
         self.own = own;
         self.sums = sums;
@@ -193,7 +195,7 @@ impl<'p> State<'p> {
 
     /// Advances by at most `left` steps, until the thread pauses, and subtracts the steps that were made from `left`.
     ///
-    /// Returns the child if the thread pauses for a fork. If memory is refused, the thread stands before the step that
+    /// Returns the child if the thread pauses for a fork. If memory is refused, the thread is left before the step that
     /// was refused, which is not subtracted.
     pub fn advance<P: Placing>(
         &mut self,
@@ -246,7 +248,7 @@ impl<'p> State<'p> {
         }
     }
 
-    /// Sets the next action: it begins the expression in `begins`. If there is none, the next action stays.
+    /// Sets the next action to begin the expression in `begins`. If `begins` is `None`, the next action stays.
     #[inline(always)]
     fn settle(&mut self, begins: Option<&'p Expr>)
         ensures { self.new ≡ current_in begins.entry self.old }
@@ -256,8 +258,8 @@ impl<'p> State<'p> {
         }
     }
 
-    /// Makes a step, and at once those of the next ones that need only what is known by then, which are subtracted from
-    /// `left`.
+    /// Makes a step, and also those of the next steps that need only what is known after it. Subtracts these further
+    /// steps from `left`.
     ///
     /// The step begins the expression `begins`. If there is none, it begins a part of a sweep, or takes a value that
     /// was left over. If the step gives a value at once, the value goes to the expression that waits for it.
@@ -286,7 +288,8 @@ impl<'p> State<'p> {
         }
     }
 
-    /// Begins this expression. If there is none, begins a part of a sweep, or takes a value that was left over.
+    /// Begins the expression, if there is one. Otherwise takes the value that was left over, or begins a part of a
+    /// sweep (a loop whose range is halved among threads).
     #[inline(always)]
     fn begin_next<P: Placing>(
         &mut self,
@@ -308,7 +311,7 @@ impl<'p> State<'p> {
         }
     }
 
-    /// Takes a value that was left over, or begins a part of a sweep.
+    /// Takes a value that was left over since memory was refused, or begins a part of a sweep.
     #[inline(always)]
     fn resume<P: Placing>(
         &mut self,
@@ -330,7 +333,7 @@ impl<'p> State<'p> {
         }
     }
 
-    /// Returns the pending pause: the one that is not answered yet.
+    /// Returns the pending pause, which was not answered yet.
     pub fn pending(&self) -> Option<Pending>
         ensures { result ≡ pending_of self.now.control }
     {
@@ -354,7 +357,7 @@ impl<'p> State<'p> {
         if self.parents.is_empty() {
             return &self.own.name;
         }
-        &self.lines.at(self.level.place).name
+        self.lines.at(self.level.place).name()
     }
 
     /// Returns the tag of the innermost thread.
@@ -365,7 +368,7 @@ impl<'p> State<'p> {
         if self.parents.is_empty() {
             return self.own.label.tag;
         }
-        self.lines.at(self.level.place).tag
+        self.lines.at(self.level.place).tag()
     }
 
     /// Takes out the contents of the outcome of a thread that has ended.
@@ -383,7 +386,7 @@ impl<'p> State<'p> {
             value: self.value(),
             sums: replace(&mut self.sums, Vec::new(self.alloc)),
             own: self.own.take_line(self.alloc),
-            below: replace(&mut self.lines, Lines::new(self.alloc)),
+            below: replace(&mut self.lines, Lines::new(self.alloc, self.program.locks)),
         }
     }
 

@@ -1,6 +1,6 @@
 //! Lists with a number for each ledger or each lock: how to make one of zeros, and to add to its numbers.
-ghost use Rattle.std.specs.Prelude.{◌≡◌, ℕ, ◌+◌, ◌==◌, if◌then◌else◌, length, IfOk};
-ghost use Rattle.arachne_lang.specs.Effects.{tabulated};
+ghost use Rattle.std.specs.Prelude.{◌≡◌, ℕ, ◌+◌, ◌==◌, if◌then◌else◌, ◌++◌, length, IfOk, OnOk, OnErr};
+ghost use Rattle.arachne_program.specs.Effects.{tabulated};
 
 use std::alloc::{AllocError, Global};
 
@@ -15,7 +15,20 @@ pub fn zeros(alloc: Global, n: u8) -> Result<Vec<u64>, AllocError>
     vec![in alloc; 0u64; usize::from(n)]
 }
 
-/// Adds to each number of `sums` the one of `more`, modulo 2^64.
+/// Appends `n` zeros. If memory is refused, nothing has changed but the capacity.
+#[inline(always)]
+pub fn push_zeros(numbers: &mut Vec<u64>, n: usize) -> Result<(), AllocError>
+    ensures ok { OnOk result (numbers.new.items ≡ numbers.old.items ++ tabulated n (λ _. 0)) }
+    ensures err { OnErr result (numbers.new.items ≡ numbers.old.items) }
+{
+    numbers.try_reserve(n)?;
+    for _ in 0..n {
+        numbers.push_reserved(0);
+    }
+    Ok(())
+}
+
+/// Adds to each number of `sums` the number at the same index of `more`, modulo 2^64.
 pub fn add_each(sums: &mut [u64], more: &[u64])
     requires { length more.now ≡ length sums.old }
     ensures { (n : ℕ) (own others : ℕ → ℕ) → sums.old ≡ tabulated n own → more.now ≡ tabulated n others
@@ -26,7 +39,7 @@ pub fn add_each(sums: &mut [u64], more: &[u64])
     }
 }
 
-/// Adds to the number at this place, modulo 2^64, if there is one.
+/// Adds to the number at this index, if there is one, modulo 2^64.
 pub fn add_at(sums: &mut [u64], place: u64, amount: u64)
     ensures { (n : ℕ) (own : ℕ → ℕ) → sums.old ≡ tabulated n own
         → sums.new ≡ tabulated n (λ other. own other + (if other == place then amount else 0)) }

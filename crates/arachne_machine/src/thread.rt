@@ -1,6 +1,6 @@
 //! A thread with the threads that run in its place, and the calls that advance, answer and join it.
 ghost use Rattle.std.specs.Prelude.{◌≡◌, ◌≢◌, ◌↔◌, ◌≤◌, ◌+◌, ◌-◌, ℕ, ◌∷◌, [], ◌++◌, true, false, Err, None, Some, IfOk, IfSome, OnOk, IfErr, OnErr, IsTrue};
-ghost use Rattle.arachne_lang.specs.Effects.{tabulated};
+ghost use Rattle.arachne_program.specs.Effects.{tabulated};
 ghost use Rattle.arachne_machine.specs.Suspended.{IsAnswered, IsAsk, IsFree, IsFresh, IsNext, IsTally, Joined, SameThread, added, awaited, own_line_of, raised};
 ghost use Rattle.arachne_machine.specs.Advance.{AdvancedAlone, AwaitsAt, Moves, PlacesNone, RefusedAlone, IsForeign, IsCharged, IsNotAwaited, IsSpentAt, PausesAt, child_back, handed_back, pause_seen};
 ghost use Rattle.arachne_machine.specs.Nested.{AwaitsElsewhere, FallsBy, IsAlone, IsChildOf, IsNested, IsPlacing, IsRest, MayBePlaced, Nested, PlacesAtFork, SameWhole, alone, begun_in, pending_in, spilled_of, whole, with_tag, work_in};
@@ -10,8 +10,8 @@ ghost use Rattle.arachne_machine.specs.Kept.{IsSoundChild, nested};
 ghost use Rattle.arachne_machine.specs.Outcome.{IsOfItsName, finished};
 ghost use Rattle.arachne_machine.specs.Trace.{At, trace_of};
 ghost use Rattle.arachne_machine.specs.Work.{work_of};
-ghost use Rattle.arachne_lang.specs.Checked.{IsChecked};
-ghost use Rattle.arachne_lang.specs.Program.{source_of};
+ghost use Rattle.arachne_program.specs.Checked.{IsChecked};
+ghost use Rattle.arachne_program.specs.Program.{source_of};
 ghost use Rattle.arachne_machine.specs.declared.pause.Pending.TheVariants as pause;
 ghost use Rattle.arachne_machine.specs.declared.join.Unjoined.TheVariants as unjoined;
 
@@ -26,7 +26,7 @@ use crate::placed::Unplaced;
 use crate::placing::{Everywhere, Placing, Tallying};
 use crate::spares::Spares;
 use crate::state::State;
-use arachne_lang::{Class, Name, Program};
+use arachne_program::{Class, Name, Program};
 use std::alloc::{AllocError, Global};
 use std::marker::Model;
 use std::snapshot::Snapshot;
@@ -50,7 +50,7 @@ impl<'p> Model for Thread<'p> {
     ghost Value = { Nested };
 
     ghost use Rattle.std.specs.Coded.{codes};
-    ghost use Rattle.arachne_lang.specs.contracts.program.Expr as expr;
+    ghost use Rattle.arachne_program.specs.contracts.program.Expr as expr;
 
     ghost coded = { Prim.hlevel (codes, expr.the_row.coded) };
 

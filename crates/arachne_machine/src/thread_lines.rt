@@ -1,17 +1,18 @@
 //! The lines of a run's threads, in the lists in which they were made.
 ghost use Rattle.std.specs.Prelude.{◌≡◌, ◌==◌, ◌≤◌, ◌+◌, ◌∷◌, ◌++◌, [], length, vec_len, vec_capacity, IfOk, IfErr, MatchOption};
-ghost use Rattle.std.specs.Iterator.{YieldsFirstRef, item_count};
-ghost use Rattle.arachne_machine.specs.Lines.{lines_in};
+ghost use Rattle.std.specs.Iterator.{YieldsFirst, item_count};
+ghost use Rattle.arachne_machine.specs.Lines.{lines_from, lines_in};
 
-use crate::line::ThreadLine;
-use std::alloc::Global;
+use crate::line::{LineView, ThreadLine};
+use crate::line_list::LineList;
+use std::alloc::{AllocError, Global};
 use std::marker::Model;
 
-/// Lines in order, in the lists in which they were made. None is moved until a `Vec` of them is needed.
+/// Lines in order, in the lists in which they were made. No line is moved until a `Vec` of all lines is needed.
 #[derive(Debug, Drop)]
 pub struct ThreadLines {
     count: usize,
-    lists: Vec<Vec<ThreadLine>>,
+    lists: Vec<LineList>,
 }
 
 // Contracts see one list.
@@ -28,8 +29,8 @@ impl Model for ThreadLines {
 }
 
 impl ThreadLines {
-    /// Returns the lines of these lists, `count` together.
-    pub fn of(lists: Vec<Vec<ThreadLine>>, count: usize) -> ThreadLines
+    /// Returns the lines of these lists, which have `count` lines together.
+    pub fn of(lists: Vec<LineList>, count: usize) -> ThreadLines
         requires { count ≡ length (lines_in lists.items) }
         ensures { result ≡ lines_in lists.items }
     {
@@ -55,89 +56,93 @@ impl ThreadLines {
         ensures { result ≡ self.now }
     {
         LinesLeft {
-            list: &[],
             lists: &self.lists,
+            place: 0,
         }
     }
 
-    /// Moves the lines into one `Vec`. If memory is refused, they are the error.
+    /// Returns the lines in one `Vec`, as copies. If memory is refused, the lines are the error.
     pub fn into_vec(self, alloc: Global) -> Result<Vec<ThreadLine>, ThreadLines>
         ensures items { IfOk result (λ lines. lines.items ≡ self) }
         ensures handed_back { IfErr result (λ lines. lines ≡ self) }
     {
-        let Ok(mut lines) = Vec::with_capacity(alloc, self.count) else {
-            return Err(self);
-        };
-        let ThreadLines { count: _, lists } = self;
-        move_lines(lists, &mut lines);
-        Ok(lines)
+        match self.to_vec(alloc) {
+            Ok(lines) => Ok(lines),
+            Err(_) => Err(self),
+        }
     }
-}
 
-/// Moves all lines to the end of the list, which has room for them.
-fn move_lines(lists: Vec<Vec<ThreadLine>>, lines: &mut Vec<ThreadLine>)
-    requires { vec_len lines.old + length (lines_in lists.items) ≤ vec_capacity lines.old }
-    ensures items { lines.new.items ≡ lines.old.items ++ lines_in lists.items }
-    ensures room { vec_capacity lines.old ≤ vec_capacity lines.new }
-{
-    for list in lists {
-        let mut list = list;
-        let _ = lines.append(&mut list);
+    /// Returns a copy of the lines in one `Vec`.
+    fn to_vec(&self, alloc: Global) -> Result<Vec<ThreadLine>, AllocError>
+        ensures { IfOk result (λ lines. lines.items ≡ self.now) }
+    {
+        let mut lines = Vec::with_capacity(alloc, self.count)?;
+        for line in self.iter() {
+            lines.push(line.to_line(alloc)?)?;
+        }
+        Ok(lines)
     }
 }
 
 /// The lines that an iteration has not returned yet.
 #[derive(Drop)]
 pub struct LinesLeft<'a> {
-    /// The rest of the list that was begun.
-    list: &'a [ThreadLine],
-    /// The lists behind that list.
-    lists: &'a [Vec<ThreadLine>],
+    /// The lists that have lines left.
+    lists: &'a [LineList],
+    /// The number of lines of the first list that were returned.
+    place: usize,
 }
 
 impl<'a> Model for LinesLeft<'a> {
-    ghost use Rattle.std.specs.Prelude.{◌++◌, List};
+    ghost use Rattle.std.specs.Prelude.{List};
     ghost use Rattle.arachne_machine.specs.declared.line.ThreadLine.{ThreadLine};
-    ghost use Rattle.arachne_machine.specs.Lines.{lines_in};
+    ghost use Rattle.arachne_machine.specs.Lines.{lines_from};
 
     ghost Value = { List ThreadLine };
 
-    ghost view = { λ l. l.list.now ++ lines_in l.lists.now };
+    ghost view = { λ l. lines_from l.place l.lists.now };
 }
 
-/// A line, the rest of its list, and the lists behind that.
+/// A line, and the lines behind it.
 struct FirstLine<'a> {
-    line: &'a ThreadLine,
-    list: &'a [ThreadLine],
-    lists: &'a [Vec<ThreadLine>],
+    line: LineView<'a>,
+    lists: &'a [LineList],
+    place: usize,
 }
 
-/// Returns the first line of a list and of the lists behind it.
-fn first_line<'a>(list: &'a [ThreadLine], lists: &'a [Vec<ThreadLine>]) -> Option<FirstLine<'a>>
-    ensures { MatchOption result (list.now ++ lines_in lists.now ≡ [])
-        (λ first. list.now ++ lines_in lists.now ≡ first.line.now ∷ (first.list.now ++ lines_in first.lists.now)) }
+/// Returns the first line from index `place` of the first list on, and the lines behind it.
+#[inline(always)]
+fn first_line<'a>(lists: &'a [LineList], place: usize) -> Option<FirstLine<'a>>
+    ensures { MatchOption result (lines_from place lists.now ≡ [])
+        (λ first. lines_from place lists.now ≡ first.line ∷ lines_from first.place first.lists.now) }
 {
-    let (mut list, mut lists) = (list, lists);
-    while list.is_empty() {
-        let (first, others) = lists.split_first()?;
-        list = first.as_slice();
+    let (mut lists, mut place) = (lists, place);
+    loop {
+        let (list, others) = lists.split_first()?;
+        if place < list.len() {
+            return Some(FirstLine {
+                line: list.at(place),
+                lists,
+                place: place + 1,
+            });
+        }
         lists = others;
+        place = 0;
     }
-    let (line, list) = list.split_first()?;
-    Some(FirstLine { line, list, lists })
 }
 
 impl<'a> Iterator for LinesLeft<'a> {
-    type Item = &'a ThreadLine;
+    type Item = LineView<'a>;
 
-    ghost next_gives = { YieldsFirstRef (λ lines. lines) };
+    ghost next_gives = { YieldsFirst (λ lines. lines) };
 
     ghost remaining = { item_count (λ lines. lines) };
 
-    fn next(&mut self) -> Option<&'a ThreadLine> {
-        let FirstLine { line, list, lists } = first_line(self.list, self.lists)?;
-        self.list = list;
+    #[inline(always)]
+    fn next(&mut self) -> Option<LineView<'a>> {
+        let FirstLine { line, lists, place } = first_line(self.lists, self.place)?;
         self.lists = lists;
+        self.place = place;
         Some(line)
     }
 }

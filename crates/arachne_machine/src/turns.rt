@@ -3,13 +3,13 @@
 use crate::frame::Frame;
 use crate::state::{Progress, State};
 use crate::worth::body_at_once;
-use arachne_lang::{Expr, Reduction};
+use arachne_program::{Expr, Reduction};
 
 /// The iterations of folds and sweeps.
 impl<'p> State<'p> {
     ghost use Rattle.std.specs.Prelude.{◌≡◌, ◌+◌, ◌-◌, ◌<◌, ◌≤◌, ◌++◌, ◌∷◌, [], length, vec_len, vec_capacity, MatchOption};
-    ghost use Rattle.arachne_lang.specs.Program.{source_of, tree_of};
-    ghost use Rattle.arachne_lang.specs.Value.{with_newest};
+    ghost use Rattle.arachne_program.specs.Program.{source_of, tree_of};
+    ghost use Rattle.arachne_program.specs.Value.{with_newest};
     ghost use Rattle.arachne_machine.specs.declared.frame.Frame.TheVariants as frames;
     ghost use Rattle.arachne_machine.specs.declared.frame.Control.TheVariants as control;
     ghost use Rattle.arachne_machine.specs.Pure.{IsWorth};

@@ -1,11 +1,11 @@
 //! Evaluates expressions without effects by plain recursion, as far as steps are left.
 ghost use Rattle.std.specs.Prelude.{◌≡◌, ◌≤◌, ◌+◌, ◌-◌, vec_len, vec_capacity, IfSome, MatchOption};
-ghost use Rattle.arachne_lang.specs.Program.{source_of, tree_of};
-ghost use Rattle.arachne_lang.specs.Value.{with_newest};
+ghost use Rattle.arachne_program.specs.Program.{source_of, tree_of};
+ghost use Rattle.arachne_program.specs.Value.{with_newest};
 ghost use Rattle.arachne_machine.specs.Pure.{IsWorth};
 
 use crate::lookup::{item_in, length_in, variable_in};
-use arachne_lang::{Expr, Program};
+use arachne_program::{Expr, Program};
 
 /// Returns the value of the body of an iteration, if it has no effects and needs no more steps than are left.
 ///

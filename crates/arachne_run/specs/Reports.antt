@@ -1,9 +1,9 @@
 -- What a report says.
 use Rattle.std.specs.Prelude.{◌≡◌, ◌≤◌, ℕ, List, All, length, map}
-use Rattle.arachne_lang.specs.Meaning.{meaning_of}
-use Rattle.arachne_lang.specs.Program.{source_of}
-use Rattle.arachne_lang.specs.declared.meaning.Meaning.{Meaning}
-use Rattle.arachne_lang.specs.declared.program.Program.{Program}
+use Rattle.arachne_program.specs.Meaning.{meaning_of}
+use Rattle.arachne_program.specs.Program.{source_of}
+use Rattle.arachne_program.specs.declared.meaning.Meaning.{Meaning}
+use Rattle.arachne_program.specs.declared.program.Program.{Program}
 use Rattle.arachne_machine.specs.Outcome.{named_holds}
 use Rattle.arachne_sleep.specs.History.{IsSound}
 use Rattle.arachne_sleep.specs.OneHolder.{HasOneHolderAtATime}

@@ -1,7 +1,7 @@
 -- Whose tokens they are, and what is out with them.
 use Rattle.std.specs.Prelude.{◌≡◌, ◌≤◌, ℕ, Bool, List, [], ◌∷◌, Option, None, Some, IfSome, MatchOption, All, length, map, not}
-use Rattle.arachne_lang.specs.Program.{tree_of}
-use Rattle.arachne_lang.specs.declared.program.Program.{Program}
+use Rattle.arachne_program.specs.Program.{tree_of}
+use Rattle.arachne_program.specs.declared.program.Program.{Program}
 use Rattle.arachne_jobs.specs.Classes.{forks_exclusive}
 use Rattle.arachne_contexts.specs.Out.{Out, Claim, Thread}
 use Rattle.arachne_contexts.specs.declared.held.Held.{Held}

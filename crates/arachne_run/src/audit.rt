@@ -7,7 +7,7 @@ ghost use Rattle.arachne_run.specs.Histories.{GrantsAreHolds, IsGrantedAsHeld, g
 ghost use Rattle.arachne_run.specs.declared.fault.WorkerFault.TheVariants.{Memory, Threads};
 
 use crate::fault::WorkerFault;
-use arachne_machine::{ThreadLine, ThreadLines};
+use arachne_machine::{LineView, ThreadLines};
 use arachne_sleep::{History, LockEvent};
 use std::alloc::{AllocError, Global};
 
@@ -31,8 +31,8 @@ pub(crate) fn audit(
     }
 }
 
-/// Returns the marks of the threads' tags, if no two are the same and none is 2^64 - 1: a byte for each tag up to the
-/// greatest, and at least one for each thread.
+/// Returns marks for the tags of the threads, if no two tags are equal and none is 2^64 - 1. The marks are a byte for
+/// each tag up to the greatest, and at least one for each thread.
 fn marks_of(alloc: Global, threads: &ThreadLines) -> Result<Option<Vec<bool>>, AllocError>
     ensures distinct { IfOk result (λ found. IfSome found (λ marks. AreDistinct (map (λ line. line.tag) threads.now))) }
     ensures marks { IfOk result (λ found. IfSome found (λ marks. AreMarksOf (map (λ line. line.tag) threads.now) marks.items)) }
@@ -41,7 +41,7 @@ fn marks_of(alloc: Global, threads: &ThreadLines) -> Result<Option<Vec<bool>>, A
     let mut marks = Vec::new(alloc);
     marks.resize(threads.len(), false)?;
     for line in threads.iter() {
-        let place = place_of(line);
+        let place = place_of(&line);
         if place == usize::MAX {
             return Ok(None);
         }
@@ -56,16 +56,16 @@ fn marks_of(alloc: Global, threads: &ThreadLines) -> Result<Option<Vec<bool>>, A
     Ok(Some(marks))
 }
 
-/// Returns the place of a thread's mark, which is its tag.
+/// Returns the index of a thread's mark: the thread's tag.
 #[inline(always)]
-fn place_of(line: &ThreadLine) -> usize
+fn place_of(line: &LineView<'_>) -> usize
     ensures { result ≡ line.now.tag }
 {
-    line.tag as usize
+    line.tag() as usize
 }
 
-/// Returns whether each lock was granted to each thread as often as it held the lock, and to no other. The marks are
-/// those of the threads' tags.
+/// Returns whether each lock was granted to each thread as often as it held the lock, and to no other thread. `marks`
+/// has a mark for the tag of each thread.
 fn are_grants_holds(
     alloc: Global,
     threads: &ThreadLines,
@@ -99,15 +99,16 @@ fn is_granted_as_held(
         return Ok(false);
     };
     for line in threads.iter() {
-        let held = number_at(line.holds.as_slice(), lock);
-        if number_at(grants.as_slice(), line.tag as usize) != held {
+        let held = number_at(line.holds(), lock);
+        if number_at(grants.as_slice(), line.tag() as usize) != held {
             return Ok(false);
         }
     }
     Ok(true)
 }
 
-/// Returns how often the lock was granted to the thread of each tag. Returns `None` if one that got it isn't marked.
+/// Returns how often the lock was granted to the thread of each tag. Returns `None` if the tag of a thread that got the
+/// lock isn't marked.
 fn grants_by_tag(
     alloc: Global,
     marks: &[bool],
@@ -130,7 +131,7 @@ fn grants_by_tag(
     Ok(Some(grants))
 }
 
-/// Returns the number at a place, or 0 past the end.
+/// Returns the number at an index, or 0 past the end.
 fn number_at(numbers: &[u64], place: usize) -> u64
     ensures { result ≡ slice_index numbers.now place }
 {

@@ -16,7 +16,7 @@ use crate::stack::Stack;
 use arachne_arbiter::{Cores, Pace};
 use arachne_contexts::{Contexts, Held, Identified, Placed};
 use arachne_jobs::{Openings, RunJob, Slice, make_room, put_ticket};
-use arachne_lang::Class;
+use arachne_program::Class;
 use arachne_spill::SpillPass;
 use arachne_workers::{PostedThread, ThreadStop};
 use rand_core::Rng;

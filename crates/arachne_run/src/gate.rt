@@ -1,6 +1,6 @@
 //! The observer of a run: methods that a run's workers call before each slice and at each event of their cores.
 use arachne_core::ThreadId;
-use arachne_lang::Name;
+use arachne_program::Name;
 use arachne_workers::WorkerEvent;
 
 /// A hook that is called before each slice and at each event of a run's cores, each time by the core's kernel thread.

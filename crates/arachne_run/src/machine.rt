@@ -1,6 +1,6 @@
 //! The objects that the workers of a run share (table, ledgers, locks, ticket queue), and their end.
 ghost use Rattle.std.specs.Prelude.{◌≡◌, ◌≢◌, ◌≤◌, ◌⊎◌, ◌↔◌, ◌%◌, ◌^◌, [], false, true, All, Err, IfErr, IfOk, IfSome, IsOk, IsSome, IsTrue, None, OnOk, length, map};
-ghost use Rattle.arachne_lang.specs.Program.{tree_of};
+ghost use Rattle.arachne_program.specs.Program.{tree_of};
 ghost use Rattle.arachne_core.specs.Occupancy.{count_of};
 ghost use Rattle.arachne_jobs.specs.Classes.{forks_exclusive};
 ghost use Rattle.arachne_policy.specs.Orders.{AreInOrder};
@@ -24,8 +24,8 @@ use arachne_arbiter::{Arbiter, Cores};
 use arachne_contexts::{Contexts, Seats, Tagged};
 use arachne_core::{CORES, OccWord, SLOTS};
 use arachne_jobs::has_exclusive;
-use arachne_lang::Program;
 use arachne_policy::CoreOrder;
+use arachne_program::Program;
 use arachne_spill::{CAPACITY, SpillPass, SpillQueue};
 use arachne_workers::{keeps_place, may_keep_places};
 use std::alloc::{AllocError, Global};
@@ -46,16 +46,16 @@ pub(crate) struct Machine<C, K: Tagged + Drop> {
     pub(crate) quantum: u32,
     /// The number of orders to open or close cores that the run was given.
     pub(crate) orders: usize,
-    /// Set if workers may keep places.
+    /// True if workers may keep places for later children.
     pub(crate) may_keep: bool,
-    /// Set if workers may move threads to their own cores: not if a thread may want a whole core, since a move takes a
-    /// place there while it is made.
+    /// True if workers may move threads to their own cores. Workers may not move threads if a thread may want a whole
+    /// core, since a move takes a place on the worker's core while it is made.
     pub(crate) may_pull: bool,
 }
 
 impl<C: Seats, K: Tagged + Drop> Machine<C, K> {
-    /// Returns whether a worker may keep the place that a thread leaves: workers of this run may keep places, and the
-    /// core was full before (`before` is its word then).
+    /// Returns whether a worker keeps the place that a thread leaves, for a later child. This requires that workers of
+    /// this run may keep places, and that the core was full before (`before` is the core's occupancy word then).
     #[inline(always)]
     pub(crate) fn keeps_place(&self, before: OccWord) -> bool
         ensures { IsTrue result ↔ (self.now.may_keep ≡ true) × (self.now.slots ≤ count_of before.occupied)
@@ -64,7 +64,7 @@ impl<C: Seats, K: Tagged + Drop> Machine<C, K> {
         self.may_keep && keeps_place(before, self.slots)
     }
 
-    /// Returns the cores of the table.
+    /// Returns the cores of the machine's table.
     pub(crate) fn cores<'a, H, T>(&'a self, rt: &'a H) -> Cores<'a, H, T, C>
         requires { IsSetUp C.core_count C.slot_count self.now }
         ensures table { result.table.now ≡ self.now.table }
@@ -81,7 +81,7 @@ impl<C: Seats, K: Tagged + Drop> Machine<C, K> {
 }
 
 impl<C: Seats + Drop, K: Tagged + Drop> Machine<C, K> {
-    /// Returns a machine on which nothing runs, and all of its tokens.
+    /// Returns a machine on which nothing runs, and all of the machine's tokens (its seats, passes and shares).
     pub(crate) fn new(
         alloc: Global,
         cores: u8,
@@ -198,8 +198,8 @@ fn close_all<H: Wait, T: Tagged + Drop, C: Contexts<T> + Drop, K: Tagged + Drop>
     Ok(remains)
 }
 
-/// Closes the table and the queue of tickets. The error is `Token` if not all of the seat or of the passes was
-/// returned, if something is out, or if a thread is left.
+/// Closes the table and the queue of tickets. The error is `Token` if some seat or pass was not returned, if a place is
+/// still claimed, or if a thread is left.
 fn close_table<H: Wait, T: Tagged + Drop, C: Contexts<T> + Drop, K: Tagged + Drop>(
     rt: &H,
     alloc: Global,
@@ -224,7 +224,8 @@ fn close_table<H: Wait, T: Tagged + Drop, C: Contexts<T> + Drop, K: Tagged + Dro
     end_table(rt, alloc, table, seat)
 }
 
-/// Closes the table with its whole seat. The error is `Token` if a thread is left in it.
+/// Closes the table with a seat that has the whole weight (no other seat is in use). The error is `Token` if a thread
+/// is left in the table.
 fn end_table<H: Wait, T: Tagged + Drop, C: Contexts<T> + Drop>(
     rt: &H,
     alloc: Global,
@@ -248,7 +249,7 @@ fn end_table<H: Wait, T: Tagged + Drop, C: Contexts<T> + Drop>(
     }
 }
 
-/// Empties the queue of tickets. The error is `Token` if not all of its passes were returned.
+/// Empties the queue of tickets. The error is `Token` if not all of the queue's passes were returned.
 fn close_queue<H: Wait, K: Tagged + Drop>(
     rt: &H,
     tickets: &SpillQueue<K>,

@@ -1,7 +1,7 @@
 //! The report of a run: the program's value, ledgers and threads, and all that has happened at its locks.
 ghost use Rattle.std.specs.Prelude.{◌≡◌, ◌≢◌, [], All, Err, IfOk, length, map};
-ghost use Rattle.arachne_lang.specs.Program.{source_of};
-ghost use Rattle.arachne_lang.specs.Meaning.{meaning_of};
+ghost use Rattle.arachne_program.specs.Program.{source_of};
+ghost use Rattle.arachne_program.specs.Meaning.{meaning_of};
 ghost use Rattle.arachne_run.specs.Distinct.{AreDistinct};
 ghost use Rattle.arachne_run.specs.Histories.{GrantsAreHolds};
 ghost use Rattle.arachne_run.specs.declared.fault.WorkerFault.TheVariants.{Ledgers, Threads};
@@ -10,8 +10,8 @@ ghost use Rattle.arachne_run.specs.Reports.{histories_in, meaning_in, tags_of};
 use crate::audit::audit;
 use crate::fault::WorkerFault;
 use crate::resources::Remains;
-use arachne_lang::Sequence;
 use arachne_machine::{DetachedOutcome, ThreadLines};
+use arachne_program::Sequence;
 use arachne_sleep::History;
 use std::alloc::Global;
 
@@ -24,15 +24,15 @@ pub struct Report {
     pub totals: Sequence<u64>,
     /// The program's threads, the root first.
     pub threads: ThreadLines,
-    /// For each lock all that was asked, granted and freed, oldest first.
+    /// For each lock the history of its asks, grants and frees, oldest first.
     pub histories: Vec<History>,
     /// The number of orders to open or close a core that the run has carried out.
     pub applied: usize,
 }
 
 impl Report {
-    /// Returns the report of the root's outcome. Its sums must be the words of the ledgers, no two threads may have one
-    /// tag, and the grants of the locks must be the threads' holds.
+    /// Returns the report of the root's outcome. The sums of the outcome must be equal to the words of the ledgers, no
+    /// two threads may have the same tag, and the grants of the locks must match the threads' holds.
     pub(crate) fn of(
         alloc: Global,
         outcome: DetachedOutcome,

@@ -1,7 +1,7 @@
 //! The function `run`: it starts the workers of a program's run, waits for their end, and makes the report.
 ghost use Rattle.std.specs.Prelude.{◌≡◌, true, IfErr, IfOk, IsOk, None, Some, Err, length, vec_len};
-ghost use Rattle.arachne_lang.specs.Program.{source_of};
-ghost use Rattle.arachne_lang.specs.Checked.{IsChecked};
+ghost use Rattle.arachne_program.specs.Program.{source_of};
+ghost use Rattle.arachne_program.specs.Checked.{IsChecked};
 ghost use Rattle.arachne_policy.specs.Orders.{AreInOrder};
 ghost use Rattle.arachne_run.specs.Reports.{IsReportOf};
 ghost use Rattle.arachne_run.specs.Setups.{IsFirstOrderFault, IsSetupFault, is_of_setup, refusal_in};
@@ -16,7 +16,7 @@ use crate::stack::Stack;
 use crate::workers::work_all;
 use arachne_contexts::Contexts;
 use arachne_jobs::{JobOf, RunSpares};
-use arachne_lang::Program;
+use arachne_program::Program;
 use rand_core::Rng;
 use std::alloc::Global;
 use std::sync::Wait;

@@ -1,15 +1,15 @@
 //! Reads an expression, form by form.
 ghost use Rattle.arachne_lang.specs.declared.reading.heads.Head.TheVariants as head;
 ghost use Rattle.std.specs.Prelude.{ℕ, List};
-ghost use Rattle.arachne_lang.specs.Tree.{Tree};
-ghost use Rattle.arachne_lang.specs.Program.{tree_of};
+ghost use Rattle.arachne_program.specs.Tree.{Tree};
+ghost use Rattle.arachne_program.specs.Program.{tree_of};
 ghost use Rattle.arachne_lang.specs.Reading.{Gives, Reading, expression_at, part_at, form_at, behind_word_at};
 
 use super::heads::{Head, head_word};
 use super::numbers::number;
 use super::stop::Stop;
 use super::words::word;
-use crate::program::{Class, Expr, Operation, Reduction};
+use arachne_program::{Class, Expr, Operation, Reduction};
 use std::alloc::Global;
 
 /// Returns the expression at the front of the text, of at most `levels` levels, and the text behind it.
@@ -27,7 +27,7 @@ pub fn expression(alloc: Global, levels: u8, text: &[u8]) -> Result<(Expr, &[u8]
 }
 
 /// Returns the expression at the front of the text, of at most `levels` levels, and the text behind `end`, which must
-/// follow it.
+/// follow the expression.
 #[cycle(expression)]
 #[tactic(auto, unfolding(crate::specs::Reading::part_at))]
 fn part<'t>(
@@ -44,8 +44,8 @@ fn part<'t>(
     Ok((part, rest))
 }
 
-/// Returns the form whose opening bracket was just read, and the text behind its closing bracket. Its parts have at
-/// most `levels` levels.
+/// Returns the form whose opening bracket was just read, and the text behind its closing bracket. The parts of the form
+/// have at most `levels` levels.
 #[cycle(expression)]
 #[tactic(auto, unfolding(crate::specs::Reading::form_at))]
 fn form(alloc: Global, levels: u8, text: &[u8]) -> Result<(Expr, &[u8]), Stop<'_>>

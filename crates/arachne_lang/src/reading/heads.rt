@@ -3,7 +3,7 @@ ghost use Rattle.arachne_lang.specs.Reading.{Gives, Behind, End, words_at, form_
 
 use super::stop::Stop;
 use super::words::word;
-use crate::program::{Class, Operation, Reduction};
+use arachne_program::{Class, Operation, Reduction};
 
 /// The form of an expression, as its word names it.
 #[derive(Clone, Copy)]
@@ -22,10 +22,10 @@ pub enum Head {
     Sweep(Reduction),
 }
 
-/// Returns the form whose word, with the space behind it, is at the front of the text, and the text behind that.
+/// Returns the form whose word stands at the front of the text with a space after it, and the text after that space.
 ///
-/// The letters decide between words that begin alike. If none of the letters that may follow is there, the text departs
-/// from the word that is tried last.
+/// If words begin alike, the next letter decides. If the next letter is none of those that may follow, the fault is
+/// where the text departs from the word that is tried last.
 #[tactic(auto, unfolding(crate::specs::Reading::form_words))]
 pub fn head_word(text: &[u8]) -> Result<(Head, &[u8]), Stop<'_>>
     ensures { Gives (λ read. (read.0, read.1.now)) result (words_at form_words text.now) }
@@ -46,7 +46,7 @@ pub fn head_word(text: &[u8]) -> Result<(Head, &[u8]), Stop<'_>>
     }
 }
 
-/// Returns `head` and the text behind `letters`, the rest of its word.
+/// Returns `head` and the text after `letters`, the remaining letters of its word.
 fn ending<'t>(text: &'t [u8], letters: &[u8], head: Head) -> Result<(Head, &'t [u8]), Stop<'t>>
     ensures { Gives (λ read. (read.0, read.1.now)) result (words_at (Behind letters.now (End head)) text.now) }
 {

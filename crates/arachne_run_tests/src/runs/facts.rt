@@ -1,4 +1,4 @@
-//! The facts that a run shows in its report, or at the gate that watched it.
+//! The facts that a run shows in its report, or to the observer (`Gate`) that watched it.
 use super::locks::{events, events_of, grants, grants_are_holds};
 use super::programs::threads_of;
 use crate::gates::Watch;
@@ -40,13 +40,13 @@ pub(super) enum Fact {
     Tickets(u64),
     /// At most this number of sleeps timed out before something was found.
     OversleepsUpTo(u64),
-    /// All events for which the gate held a core have occurred, and none that must not.
+    /// All events for which a core waited (see `Watching`) have occurred, and no event that must not occur has.
     IsOver,
     /// The number of events of the first lock.
     Events,
     /// The number of grants of the first lock.
     Grants,
-    /// The first lock was granted once to each thread that has held it once, and to no other.
+    /// The first lock was granted once to each thread that has held it once, and to no other thread.
     GrantsAreHolds,
 }
 
@@ -79,7 +79,7 @@ pub(super) fn number(report: &Report, watch: &Watch, fact: Fact) -> u64 {
 fn are_last_two_in_slots(report: &Report) -> bool {
     let mut in_slots = 0u64;
     for line in report.threads.iter() {
-        in_slots = if line.ran == Ran::Slot {
+        in_slots = if line.ran() == Ran::Slot {
             in_slots.wrapping_add(1)
         } else {
             0
@@ -92,7 +92,7 @@ fn are_last_two_in_slots(report: &Report) -> bool {
 fn count_of(report: &Report, ran: Ran) -> u64 {
     let mut count = 0u64;
     for line in report.threads.iter() {
-        count = count.wrapping_add(u64::from(line.ran == ran));
+        count = count.wrapping_add(u64::from(line.ran() == ran));
     }
     count
 }
@@ -109,7 +109,7 @@ pub(super) enum Telling {
     Ran,
 }
 
-/// Returns the selected text of a report, or the fault if there is none.
+/// Returns the selected text of a report, or the fault if there is no report.
 pub(super) fn told(
     alloc: Global,
     answer: &Result<Report, RunFault>,
@@ -128,7 +128,7 @@ pub(super) fn told(
 fn ran_of(alloc: Global, report: &Report) -> Result<String, Fail> {
     let mut text = String::new(alloc);
     for line in report.threads.iter() {
-        let word = match line.ran {
+        let word = match line.ran() {
             Ran::Slot => "slot ",
             Ran::Spill => "spill ",
             Ran::InPlace => "in place ",

@@ -18,7 +18,8 @@ pub(super) fn events(report: &Report) -> u64 {
     }
 }
 
-/// Returns the number of grants of the program's first lock. With `tag`, counts only those to the thread of that tag.
+/// Returns the number of grants of the program's first lock. If `tag` is given, counts only the grants to the thread of
+/// that tag.
 pub(super) fn grants(report: &Report, tag: Option<u64>) -> u64 {
     let mut count = 0u64;
     let Some(history) = report.histories.first() else {
@@ -36,12 +37,12 @@ pub(super) fn grants(report: &Report, tag: Option<u64>) -> u64 {
     count
 }
 
-/// Returns whether the first lock was granted once to each thread that has held it once, and to no other.
+/// Returns whether the first lock was granted once to each thread that has held it once, and to no other thread.
 pub(super) fn grants_are_holds(report: &Report) -> bool {
     let mut counted = 0u64;
     for line in report.threads.iter() {
-        let grants = grants(report, Some(line.tag));
-        let has_held = line.holds.as_slice().first() == Some(&1);
+        let grants = grants(report, Some(line.tag()));
+        let has_held = line.holds().first() == Some(&1);
         if grants != u64::from(has_held) {
             return false;
         }
@@ -81,7 +82,7 @@ pub(super) fn events_of(alloc: Global, report: &Report) -> Result<String, Fail> 
     Ok(text)
 }
 
-/// 1 to 16 cores, by quanta of 1, 7 and 100.
+/// Machines of 1 to 16 cores, with quanta of 1, 7 and 100.
 const SHORT: &[Machine] = &[
     (1, 1, 1),
     (1, 7, 1),
@@ -93,7 +94,7 @@ const SHORT: &[Machine] = &[
     (16, 100, 16),
 ];
 
-/// One core and two, by quanta of 1 to 10,000.
+/// Machines of one core and of two, with quanta of 1 to 10,000.
 const QUANTA: &[Machine] = &[
     (1, 1, 1),
     (1, 7, 1),
@@ -152,8 +153,8 @@ const ROWS: &[Row] = &[
         telling: Telling::Nothing,
         told: "",
     },
-    // The root holds the lock for 10,000 iterations, and its child on the same core asks for it after 100. A thread
-    // that waits for a lock gets it once it is freed.
+    // The root holds the lock for 10,000 iterations, and its child on the same core asks for the lock after 100. A
+    // thread that waits for a lock gets it once it is freed.
     Row {
         shows: "a thread that waits is next",
         source: Source {

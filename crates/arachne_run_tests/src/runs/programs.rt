@@ -21,7 +21,7 @@ pub(super) const SWEEP: Source = Source {
 /// The text of the report of `SWEEP`.
 pub(super) const SWEPT: &str = "28 [] [][] [1][] [0][] [0, 0][]";
 
-/// Returns the numbers of a name.
+/// Returns the numbers of which a name consists.
 fn numbers(alloc: Global, name: &Name) -> Result<Vec<u64>, Fail> {
     let mut numbers = Vec::new(alloc);
     for k in 0..name.len() {
@@ -34,7 +34,7 @@ fn numbers(alloc: Global, name: &Name) -> Result<Vec<u64>, Fail> {
 pub(super) fn threads_of(alloc: Global, report: &Report) -> Result<String, Fail> {
     let mut text = format!(in alloc; "{} {:?}", report.value, report.totals.as_slice())?;
     for line in report.threads.iter() {
-        let (name, holds) = (numbers(alloc, &line.name)?, line.holds.as_slice());
+        let (name, holds) = (numbers(alloc, line.name())?, line.holds());
         text.push_str(format!(in alloc; " {name:?}{holds:?}")?.as_str())?;
     }
     Ok(text)

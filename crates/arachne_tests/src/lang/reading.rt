@@ -1,7 +1,7 @@
 //! Tests of texts that are read and printed, and of texts that have a fault.
 ghost use Rattle.std.specs.Prelude.{◌≤◌};
 ghost use Rattle.arachne_lang.specs.Program.{tree_of};
-ghost use Rattle.arachne_lang.specs.Text.{nesting};
+ghost use Rattle.arachne_lang.specs.Nesting.{nesting};
 
 use arachne_lang::{Program, TextFault, parse, print};
 use std::alloc::Global;
@@ -63,7 +63,7 @@ fn answer(alloc: Global, text: &[u8]) -> Result<bool, TextFault> {
     }
 }
 
-/// With each allocation refused in turn, this passes too: a refusal is no fault of the text, changes no text, and
+/// The test passes too if each allocation is refused in turn: a refusal is no fault of the text, changes no text, and
 /// changes nothing for the next call.
 #[test]
 fn texts_are_read_and_printed_or_end_at_their_first_fault(rt: HostRuntime) {

@@ -1,6 +1,6 @@
 //! Writes an outcome as a text, with an entry for each thread, to compare it with an expected text.
 use arachne_lang::Name;
-use arachne_machine::{OutcomeParts, Ran, ThreadLine};
+use arachne_machine::{LineView, OutcomeParts, Ran};
 use std::alloc::Global;
 
 /// Returns the numbers of a name.
@@ -13,14 +13,14 @@ fn numbers(alloc: Global, name: &Name) -> Option<Vec<u64>> {
 }
 
 /// Returns a text of a thread's name, its tag, a mark for where it ran, and its holds.
-fn told_line(alloc: Global, line: &ThreadLine) -> Option<String> {
-    let mark = match line.ran {
+fn told_line(alloc: Global, line: LineView<'_>) -> Option<String> {
+    let mark = match line.ran() {
         Ran::Slot => "-",
         Ran::Spill => "~",
         Ran::InPlace => "+",
     };
-    let name = numbers(alloc, &line.name)?;
-    let (tag, holds) = (line.tag, line.holds.as_slice());
+    let name = numbers(alloc, line.name())?;
+    let (tag, holds) = (line.tag(), line.holds());
     format!(in alloc; " {name:?}{tag}{mark}{holds:?}").ok()
 }
 

@@ -13,8 +13,8 @@ use Rattle.arachne_commands.proofs.RunRefusals.{allowed_as_set_up, refused_as_se
 use Rattle.arachne_commands.proofs.running.run_program.Goals as goal
 
 -- the values that a run sends to its kernel threads and shares with them may cross; the program is checked
-pub run-requires : goal.run-requires
-run-requires g c κs = (
+pub run_on_words-requires : goal.run_on_words-requires
+run_on_words-requires g c κs = (
   search (sendable, job_send) depth 20,
   (
     search (sendable, chooser.the_send) depth 20,
@@ -25,22 +25,10 @@ run-requires g c κs = (
         (
           search (sendable, spares_send) depth 20,
           (
-            search (sendable, claim.the_send) depth 20,
+            search (sendable, c.type_bounds.sync-R) depth 20,
             (
-              search (sendable, hold.the_send) depth 20,
-              (
-                search (sendable, seat.the_send, job_send) depth 20,
-                (
-                  search (sendable, c.type_bounds.sync-R) depth 20,
-                  (
-                    search (sendable, std.crosses, table.the_sync, job_send) depth 20,
-                    (
-                      search (sendable, gate.the_sync) depth 20,
-                      ((refl, tt), c.requires),
-                    ),
-                  ),
-                ),
-              ),
+              search (sendable, gate.the_sync) depth 20,
+              ((refl, tt), c.requires),
             ),
           ),
         ),
@@ -51,10 +39,10 @@ run-requires g c κs = (
 
 -- a run that is refused is refused for a fault of its settings
 pub returns-clause-refused : goal.returns-clause-refused
-returns-clause-refused g c = refused_as_set_up c.args.settings c.in_ok-made.made.0 c.in_ok-made.made.1.items c.in_ok-made.made.1.len c.run.result
-    c.in_ok-made.made.1.ok.0 c.in_ok-made.ensures c.run.ensures.refused c.run.ensures.order_refused c.run.ensures.of_setup
+returns-clause-refused g c = refused_as_set_up c.args.settings c.in_ok-made.made.0 c.in_ok-made.made.1.items c.in_ok-made.made.1.len c.run_on_words.result
+    c.in_ok-made.made.1.ok.0 c.in_ok-made.ensures c.run_on_words.ensures.refused c.run_on_words.ensures.order_refused c.run_on_words.ensures.of_setup
 
 -- a report comes only of settings that are right
 pub returns-clause-allowed : goal.returns-clause-allowed
-returns-clause-allowed g c = allowed_as_set_up c.args.settings c.in_ok-made.made.0 c.in_ok-made.made.1.items c.in_ok-made.made.1.len c.run.result
-    c.in_ok-made.made.1.ok.0 c.in_ok-made.ensures c.run.ensures.refused c.run.ensures.in_order
+returns-clause-allowed g c = allowed_as_set_up c.args.settings c.in_ok-made.made.0 c.in_ok-made.made.1.items c.in_ok-made.made.1.len c.run_on_words.result
+    c.in_ok-made.made.1.ok.0 c.in_ok-made.ensures c.run_on_words.ensures.refused c.run_on_words.ensures.in_order

@@ -1,5 +1,5 @@
 use Rattle.std.proofs.Common.{rules}
-use Rattle.arachne_lang.specs.Program.{source_of}
+use Rattle.arachne_program.specs.Program.{source_of}
 use Rattle.arachne_lang.proofs.EvaluationSteps.{IsRun-meaning}
 use Rattle.arachne_lang.proofs.evaluator.eval.Goals as goal
 

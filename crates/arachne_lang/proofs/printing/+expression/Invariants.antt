@@ -1,7 +1,7 @@
 -- The order of the recursion: from a form to its part, and from that to the part's expression.
 use Rattle.std.proofs.Common.{◌+◌, ◌*◌, max}
-use Rattle.arachne_lang.specs.Program.{tree_of}
-use Rattle.arachne_lang.specs.Text.{nesting}
+use Rattle.arachne_program.specs.Program.{tree_of}
+use Rattle.arachne_program.specs.Nesting.{nesting}
 use Rattle.arachne_lang.proofs.printing.+expression.Given as goal
 
 abbrev pub decreases-push_expression : goal.decreases-push_expression

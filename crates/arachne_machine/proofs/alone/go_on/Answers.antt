@@ -1,7 +1,7 @@
 -- A thread in whose place no other runs goes on (`made`). Each pause that is answered leaves its outcomes and those of
 -- the other threads ready for the rest. If the thread joins, the newest outcome is its child's (`is_ready`).
 use Rattle.std.proofs.Common.{rules, refl, ◌≡◌, ◌<◌, List, [], ◌∷◌, ◌++◌, length, map, reverse, sym, ap, ◌∙◌, subst}
-use Rattle.arachne_lang.specs.Program.{source_of}
+use Rattle.arachne_program.specs.Program.{source_of}
 use Rattle.arachne_machine.specs.Advance.{AdvancedAlone}
 use Rattle.arachne_machine.specs.Alone.{key, Rests}
 use Rattle.arachne_machine.specs.Nested.{Nested}

@@ -1,6 +1,6 @@
 use Rattle.std.proofs.Common.{◌≡◌, ◌+◌, length, get_or, ap, ◌∙◌, arith}
-use Rattle.arachne_lang.specs.Value.{wrapped}
-use Rattle.arachne_lang.specs.Effects.{tabulated}
+use Rattle.arachne_program.specs.Value.{wrapped}
+use Rattle.arachne_program.specs.Effects.{tabulated}
 use Rattle.arachne_machine.proofs.Tabulated.{tabulated-sum, length-tabulated}
 use Rattle.arachne_machine.proofs.tables.add_each.Goals as goal
 

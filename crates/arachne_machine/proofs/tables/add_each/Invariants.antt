@@ -1,5 +1,5 @@
 use Rattle.std.proofs.Common.{◌≡◌, ℕ, ◌+◌, ◌<◌, ◌≤◌, get_or}
-use Rattle.arachne_lang.specs.Value.{wrapped}
+use Rattle.arachne_program.specs.Value.{wrapped}
 use Rattle.arachne_machine.proofs.tables.add_each.Given as goal
 
 abbrev pub invariant-loop-i : goal.invariant-loop-i

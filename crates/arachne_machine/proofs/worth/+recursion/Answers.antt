@@ -1,5 +1,5 @@
 use Rattle.std.proofs.Common.{◌-◌, true, false, ap, arith}
-use Rattle.arachne_lang.specs.Program.{source_of, tree_of}
+use Rattle.arachne_program.specs.Program.{source_of, tree_of}
 use Rattle.arachne_machine.proofs.Handings.{is_not_zero, is_zero}
 use Rattle.arachne_machine.proofs.Purity.{some_then, worth_binary, worth_binding, worth_choice}
 use Rattle.arachne_machine.proofs.worth.+recursion.Goals as goal

@@ -10,11 +10,12 @@ counts c = subst (λ o. IfSome o (λ g. (tag : ℕ) → slice_index g.items tag 
 
 pub loop-line-preserved : goal.loop-line-preserved
 loop-line-preserved c =
-    let counted = counts ((goal.at.loop-line-preserved c).After-number_at) c.in-Some-line.line.now.tag in
+    let counted = counts ((goal.at.loop-line-preserved c).After-number_at) c.in-Some-line.line.tag in
     let granted = c.number_at.ensures in
-    let among = c.as_slice-in-loop-line.ensures.value in
+    let among = c.as_slice.ensures.value in
     let same = c.if-number_at-held.false in
     let holds = c.number_at-held.ensures in
-    let own = c.as_slice.ensures in
-    let held : grants_to c.in-Some-line.line.now.tag c.args.history.now.items ≡ slice_index c.in-Some-line.line.now.holds c.args.lock = cc in
-    as_held-more c.args.lock c.args.history.now.items c.args.threads.now c.loop-line.line-iterator c.next.new.self c.in-Some-line.line.now c.loop-line.invariant c.in-Some-line.ensures.steps held
+    let own = c.holds.ensures in
+    let tagged = c.tag.ensures in
+    let held : grants_to c.in-Some-line.line.tag c.args.history.now.items ≡ slice_index c.in-Some-line.line.holds c.args.lock = cc in
+    as_held-more c.args.lock c.args.history.now.items c.args.threads.now c.loop-line.line-iterator c.next.new.self c.in-Some-line.line c.loop-line.invariant c.in-Some-line.ensures.steps held

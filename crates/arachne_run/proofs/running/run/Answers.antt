@@ -1,8 +1,8 @@
 use Rattle.std.proofs.Common.{◌≤◌, All, ap, length, subst, sym, ◌∙◌}
 use Rattle.std.proofs.lemmas.List.Elements.{All-map}
 use Rattle.std.proofs.lemmas.List.{length-map}
-use Rattle.arachne_lang.specs.Meaning.{meaning_of}
-use Rattle.arachne_lang.specs.Program.{source_of}
+use Rattle.arachne_program.specs.Meaning.{meaning_of}
+use Rattle.arachne_program.specs.Program.{source_of}
 use Rattle.arachne_sleep.specs.History.{IsSound}
 use Rattle.arachne_sleep.specs.OneHolder.{HasOneHolderAtATime}
 use Rattle.arachne_run.proofs.running.run.Goals as goal

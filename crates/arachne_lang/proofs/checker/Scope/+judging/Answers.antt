@@ -2,9 +2,9 @@ use Rattle.std.proofs.Common.{List, ◌++◌}
 use Rattle.std.specs.Prelude.{Option}
 use Rattle.std.proofs.lemmas.Result.{err_from_is_err_and}
 use Rattle.arachne_lang.specs.declared.checker.Scope.{Scope}
-use Rattle.arachne_lang.specs.declared.program.Expr.{Expr}
-use Rattle.arachne_lang.specs.Program.{tree_of, source_of}
-use Rattle.arachne_lang.specs.Checked.{NodeFault, node_faults}
+use Rattle.arachne_program.specs.declared.program.Expr.{Expr}
+use Rattle.arachne_program.specs.Program.{tree_of, source_of}
+use Rattle.arachne_program.specs.Checked.{NodeFault, node_faults}
 use Rattle.arachne_lang.proofs.NodesJudged.{judged_front, judged_more}
 use Rattle.arachne_lang.proofs.checker.Scope.+judging.Goals as goal
 

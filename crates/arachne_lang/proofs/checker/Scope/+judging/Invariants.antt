@@ -1,6 +1,6 @@
 use Rattle.std.proofs.Common.{◌+◌, ◌*◌, max}
-use Rattle.arachne_lang.specs.Program.{tree_of}
-use Rattle.arachne_lang.specs.Text.{nesting}
+use Rattle.arachne_program.specs.Program.{tree_of}
+use Rattle.arachne_program.specs.Nesting.{nesting}
 use Rattle.arachne_lang.proofs.checker.Scope.+judging.Given as goal
 
 abbrev pub decreases-check : goal.decreases-check

@@ -2,8 +2,8 @@ use Rattle.std.proofs.Common.{◌≡◌, ◌+◌, ◌≤◌, ◌<◌, max, lengt
 use Rattle.std.specs.Prelude.{IfOk}
 use Rattle.std.specs.Vec.{with_item, with_items}
 use Rattle.std.proofs.lemmas.Result.{IfOk-weaker}
-use Rattle.arachne_lang.specs.declared.program.Class.{Class}
-use Rattle.arachne_lang.specs.Program.{tree_of, source_of}
+use Rattle.arachne_program.specs.declared.program.Class.{Class}
+use Rattle.arachne_program.specs.Program.{tree_of, source_of}
 use Rattle.arachne_lang.proofs.Accounts.{eq-other, Gains-written}
 use Rattle.arachne_lang.proofs.EvaluationSteps.{IsEvaluated-Binary, IsEvaluated-Choose, IsEvaluated-Bind, IsEvaluated-Tally, IsEvaluated-Hold, IsEvaluated-Fork, IsEvaluated-Fold, IsEvaluated-Sweep, IsFolded-none, IsFolded-turn, IsReduced-none, IsReduced-turn, IsHalved-short, IsHalved-long, IsRun-line, IsHalfRun-line, MaySplit-right, newest-set, two_newest-set, newest-cut, two_newest-cut}
 use Rattle.arachne_lang.proofs.evaluator.Evaluator.+evaluation.Goals as goal

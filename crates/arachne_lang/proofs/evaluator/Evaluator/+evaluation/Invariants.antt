@@ -1,9 +1,9 @@
 -- The order of the recursion: from a helper to the expression that it takes, and from that to its parts. A half of a
 -- range is shorter than the range, which has less than 2 ^ 64 numbers.
 use Rattle.std.proofs.Common.{◌≡◌, ℕ, ◌+◌, ◌*◌, ◌^◌, max, length}
-use Rattle.arachne_lang.specs.Program.{tree_of, source_of}
-use Rattle.arachne_lang.specs.Text.{nesting}
-use Rattle.arachne_lang.specs.Value.{with_newest}
+use Rattle.arachne_program.specs.Program.{tree_of, source_of}
+use Rattle.arachne_program.specs.Nesting.{nesting}
+use Rattle.arachne_program.specs.Value.{with_newest}
 use Rattle.arachne_lang.specs.Evaluation.{IsFolded, IsReduced, HasLines}
 use Rattle.arachne_lang.proofs.evaluator.Evaluator.+evaluation.Given as goal
 

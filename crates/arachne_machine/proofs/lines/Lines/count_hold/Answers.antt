@@ -1,6 +1,6 @@
-use Rattle.std.proofs.Common.{length-append, ◌≡◌, ◌+◌, ◌-◌, ◌<◌, ◌≤◌, ◌++◌, List, length, get_or, refl, ap, sym, ◌∙◌, subst, arith}
+use Rattle.std.proofs.Common.{◌≡◌, ◌+◌, ◌-◌, ◌<◌, ◌≤◌, ◌++◌, List, length, get_or, refl, ap, sym, ◌∙◌, subst, arith}
 use Rattle.std.proofs.Math.ListN.{set}
-use Rattle.std.proofs.lemmas.List.{get_or-append-add, get_or_append_left, get_or_default, set-append_left, set-append_right}
+use Rattle.std.proofs.lemmas.List.{get_or-append-add, get_or_append_left, set-append_left, set-append_right}
 use Rattle.arachne_machine.specs.declared.line.ThreadLine.{ThreadLine}
 use Rattle.arachne_machine.specs.Lines.{HoldsOnceMore, lines_in}
 use Rattle.arachne_machine.proofs.lines.Lines.count_hold.Goals as goal
@@ -8,28 +8,27 @@ use Rattle.arachne_machine.proofs.lines.Lines.count_hold.Goals as goal
 pub returns-then-place-self : goal.returns-then-place-self
 returns-then-place-self c =
     let earlier : List ThreadLine = lines_in c.self.inside.earlier.items in
-    let last : List ThreadLine = c.self.inside.last.items in
-    let own = c.count_hold.new.self in
+    let last : List ThreadLine = c.self.inside.last.lines in
+    let counts = c.count_hold.ensures.counts in
+    let own : ThreadLine = counts.line in
     let at = c.args.place - c.self.inside.count in
     let some : length earlier ≤ c.args.place = omega (arith, c.if-place-self.true, c.self.invariant.counted) in
     let here : c.args.place ≡ length earlier + at = omega (arith, some, c.self.invariant.counted) in
     let in_last : c.args.place - length earlier ≡ at = omega (arith, c.self.invariant.counted) in
-    let small : at < length last = omega (arith, c.requires, ap length c.self.view_is, length-append earlier last, some, c.self.invariant.counted) in
     record {
       line = own;
-      lines = ap (λ n. earlier ++ set last n own) (sym in_last) ∙ sym (set-append_right earlier last (length earlier) c.args.place own refl some)
-          ∙ ap (λ l. set l c.args.place own) c.self.view_is;
+      lines = ap (λ l. earlier ++ l) counts.lines ∙ ap (λ n. earlier ++ set last n own) (sym in_last)
+          ∙ sym (set-append_right earlier last (length earlier) c.args.place own refl some) ∙ ap (λ l. set l c.args.place own) c.self.view_is;
       counted = λ other.
-          let was : c.index_mut.result.now ≡ get_or c.args.self.now c.args.place other =
-          c.index_mut.ensures.value ∙ get_or_default last at c.index_mut.result.now other small ∙ sym (get_or-append-add earlier last at other)
-          ∙ ap (λ n. get_or (earlier ++ last) n other) (sym here) ∙ ap (λ l. get_or l c.args.place other) c.self.view_is in
-          subst (λ l. HoldsOnceMore l own c.args.lock) was c.count_hold.ensures;
+          let was : get_or last at other ≡ get_or c.args.self.now c.args.place other =
+          sym (get_or-append-add earlier last at other) ∙ ap (λ n. get_or (earlier ++ last) n other) (sym here) ∙ ap (λ l. get_or l c.args.place other) c.self.view_is in
+          subst (λ l. HoldsOnceMore l own c.args.lock) was (counts.counted other);
     }
 
 pub returns-else-place-self : goal.returns-else-place-self
 returns-else-place-self c =
     let earlier : List ThreadLine = lines_in c.self.inside.earlier.items in
-    let last : List ThreadLine = c.self.inside.last.items in
+    let last : List ThreadLine = c.self.inside.last.lines in
     let small : c.args.place < length earlier = omega (arith, c.if-place-self.false, c.self.invariant.counted) in
     record {
       line = c.count_hold_in.ensures.line;

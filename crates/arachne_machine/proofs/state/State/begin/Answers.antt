@@ -1,7 +1,7 @@
 use Rattle.std.proofs.Common.{rules, ◌∷◌, [], refl, arith, sym, ap, ◌∙◌}
 use Rattle.std.specs.Prelude.{slice_index}
-use Rattle.arachne_lang.specs.Tree.{Number, Variable, Length, Item, Choose, Bind, Tally, Hold, Fold, Sweep}
-use Rattle.arachne_lang.specs.Program.{source_of, tree_of}
+use Rattle.arachne_program.specs.Tree.{Number, Variable, Length, Item, Choose, Bind, Tally, Hold, Fold, Sweep}
+use Rattle.arachne_program.specs.Program.{source_of, tree_of}
 use Rattle.arachne_machine.specs.declared.frame.Frame.TheVariants.{Index, Branch, Extend, Amount, Release, FoldTo, SweepTo}
 use Rattle.arachne_machine.specs.declared.frame.Control.TheVariants.{Give, Asks}
 use Rattle.arachne_machine.specs.declared.pause.Pending.TheVariants as pause

@@ -1,5 +1,5 @@
 use Rattle.std.proofs.Common.{true, false, refl, ap, ◌∙◌, subst}
-use Rattle.arachne_lang.specs.Value.{apply}
+use Rattle.arachne_program.specs.Value.{apply}
 use Rattle.arachne_machine.specs.Steps.{IsPopped, beginning, giving, top}
 use Rattle.arachne_machine.proofs.Outlooks.{as_giving, begins_with, given_from}
 use Rattle.arachne_machine.proofs.Handings.{hand_index, hand_right, hand_apply, hand_branch, is_zero, is_not_zero, hand_extend, hand_restore, hand_fold_turn, hand_sweep_turn}

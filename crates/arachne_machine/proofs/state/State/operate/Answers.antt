@@ -1,6 +1,6 @@
 use Rattle.std.proofs.Common.{◌-◌, refl, sym, subst, arith}
-use Rattle.arachne_lang.specs.Tree.{Binary}
-use Rattle.arachne_lang.specs.Program.{source_of, tree_of}
+use Rattle.arachne_program.specs.Tree.{Binary}
+use Rattle.arachne_program.specs.Program.{source_of, tree_of}
 use Rattle.arachne_machine.specs.declared.frame.Frame.TheVariants.{Right}
 use Rattle.arachne_machine.specs.declared.state.Progress.TheVariants as part
 use Rattle.arachne_machine.specs.Steps.{LeavesOthers, OnStops, Reaches, beginning, giving, top}

@@ -1,5 +1,5 @@
 use Rattle.std.proofs.Common.{refl, ap, sym, ◌∙◌, subst}
-use Rattle.arachne_lang.specs.Value.{apply}
+use Rattle.arachne_program.specs.Value.{apply}
 use Rattle.arachne_machine.specs.declared.frame.Control.TheVariants.{Begin, Give}
 use Rattle.arachne_machine.specs.declared.state.State.{State}
 use Rattle.arachne_machine.specs.Runs.{ResumesAs}

@@ -2,7 +2,7 @@
 -- unchanged (`stayed`).
 use Rattle.std.proofs.Common.{◌≡◌, length, List, sym, ap, ◌∙◌, subst}
 use Rattle.std.specs.Prelude.{OnErr, OnOk}
-use Rattle.arachne_lang.specs.Program.{source_of}
+use Rattle.arachne_program.specs.Program.{source_of}
 use Rattle.arachne_machine.specs.Outcome.{finished}
 use Rattle.arachne_machine.specs.Kept.{nested}
 use Rattle.arachne_machine.specs.Nested.{Nested, SameWhole, pending_in, whole, work_in}

@@ -1,5 +1,5 @@
 use Rattle.std.proofs.Common.{refl, ◌∙◌}
-use Rattle.arachne_lang.specs.Program.{source_of}
+use Rattle.arachne_program.specs.Program.{source_of}
 use Rattle.arachne_machine.proofs.Faultlessness.{checked_root}
 use Rattle.arachne_machine.proofs.Going.{root_sound}
 use Rattle.arachne_machine.proofs.thread.Thread.start.Goals as goal

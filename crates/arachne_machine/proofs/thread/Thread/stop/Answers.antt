@@ -1,9 +1,9 @@
 use Rattle.std.proofs.Common.{◌≡◌, true, ap, sym, ◌∙◌, subst, ℕ, List, Option, None, Some}
 use Rattle.std.specs.Prelude.{IfSome}
 use Rattle.std.specs.Global.{Box}
-use Rattle.arachne_lang.specs.declared.program.Class.{Class}
-use Rattle.arachne_lang.specs.Program.{source_of}
-use Rattle.arachne_lang.specs.Checked.{IsChecked}
+use Rattle.arachne_program.specs.declared.program.Class.{Class}
+use Rattle.arachne_program.specs.Program.{source_of}
+use Rattle.arachne_program.specs.Checked.{IsChecked}
 use Rattle.arachne_machine.specs.declared.pause.Pending.{Pending}
 use Rattle.arachne_machine.specs.declared.state.State.{State}
 use Rattle.arachne_machine.specs.Steps.{pending_of}

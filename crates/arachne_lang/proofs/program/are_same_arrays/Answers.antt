@@ -1,5 +1,0 @@
-use Rattle.arachne_lang.proofs.SameParts.{arrays-Decides}
-use Rattle.arachne_lang.proofs.program.are_same_arrays.Goals as goal
-
-pub returns : goal.returns
-returns c = rw c.eq.ensures (arrays-Decides c.args.some.now c.args.others.now)

@@ -1,0 +1,11 @@
+pub mod Tree
+pub mod Program
+pub mod Value
+pub mod Parts
+pub mod Effects
+pub mod Meaning
+pub mod Nesting
+pub mod Checked
+pub mod Same
+pub mod SameDecides
+pub mod Name

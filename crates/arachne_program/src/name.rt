@@ -1,0 +1,195 @@
+//! A thread's name: the numbers of the forks that lead to it from the root.
+ghost use Rattle.std.specs.Prelude.{◌≡◌, ◌<◌, [], ◌∷◌, ◌++◌, ◌↔◌, IfOk, IsOk, IsTrue, SomeIff, length, slice_index, nat_eq};
+ghost use Rattle.std.specs.Cmp.{partial_equiv_from_equiv};
+ghost use Rattle.std.specs.Cmp.Lexicographic.{pointwise, nat_list_eq_equiv};
+ghost use Rattle.arachne_program.specs.Name.{FitsBytes, FitsInline, FitsWords};
+
+use crate::byte_list::ByteList;
+use crate::word_list::WordList;
+use std::alloc::{AllocError, Global};
+use std::marker::Model;
+
+/// A thread's name: the numbers of the forks that lead to it from the root. The root's name is empty.
+///
+/// Up to 30 numbers below 256, or up to 6 below 2^32, are stored in the name's own 32 bytes. Other names are stored in
+/// a `Vec`.
+#[derive(Debug, Drop)]
+pub struct Name {
+    forks: Forks,
+}
+
+const _: () = prove!(size_of::<Name>() == 32);
+
+/// The numbers of the forks from the root to the thread, in this order.
+#[derive(Debug, Drop)]
+enum Forks {
+    Bytes(ByteList),
+    /// Numbers, at least one of them 256 or more.
+    Words(WordList),
+    Heap(Vec<u64>),
+}
+
+impl Model for Name {
+    ghost use Rattle.std.specs.Prelude.{ℕ, List};
+
+    ghost Value = { List ℕ };
+
+    ghost use Rattle.arachne_program.specs.Name.{numbers, IsKeptShort};
+
+    ghost view = { λ name. numbers name.forks };
+
+    ghost invariant = { λ name. IsKeptShort name.forks };
+}
+
+impl Name {
+    /// Returns the name of the root thread. Takes no memory.
+    pub fn root(_alloc: Global) -> Name
+        ensures { result ≡ [] }
+    {
+        Name {
+            forks: Forks::Bytes(ByteList::empty()),
+        }
+    }
+
+    /// Returns the name of the child that this thread forks as its `number`-th, counted from 0.
+    ///
+    /// Memory is refused only if the name doesn't fit into its own 32 bytes.
+    pub fn child(&self, alloc: Global, number: u64) -> Result<Name, AllocError>
+        ensures named { IfOk result (λ name. name ≡ self.now ++ number ∷ []) }
+        ensures inline { FitsInline (self.now ++ number ∷ []) → IsOk result }
+    {
+        if let Forks::Bytes(list) = &self.forks {
+            if let Some(longer) = list.with(number) {
+                return Ok(Name {
+                    forks: Forks::Bytes(longer),
+                });
+            }
+        }
+        match self.words_with(number) {
+            Some(longer) => Ok(Name {
+                forks: Forks::Words(longer),
+            }),
+            None => self.long_child(alloc, number),
+        }
+    }
+
+    /// Returns the numbers in the name of the child that this thread forks as its `number`-th, or `None` if they don't
+    /// fit into a `WordList`.
+    fn words_with(&self, number: u64) -> Option<WordList>
+        ensures { SomeIff result (FitsWords (self.now ++ number ∷ [])) (self.now ++ number ∷ []) }
+    {
+        match &self.forks {
+            Forks::Bytes(list) => WordList::of_bytes(list.as_slice())?.with(number),
+            Forks::Words(list) => list.with(number),
+            Forks::Heap(_) => None,
+        }
+    }
+
+    /// Returns the name of the child that this thread forks as its `number`-th, if the name fits into none of the short
+    /// lists.
+    #[inline(never)]
+    fn long_child(&self, alloc: Global, number: u64) -> Result<Name, AllocError>
+        requires bytes { ¬ FitsBytes (self.now ++ number ∷ []) }
+        requires words { ¬ FitsWords (self.now ++ number ∷ []) }
+        ensures { IfOk result (λ name. name ≡ self.now ++ number ∷ []) }
+    {
+        let forks = match &self.forks {
+            Forks::Bytes(list) => list.widened(alloc, number)?,
+            Forks::Words(list) => list.widened(alloc, number)?,
+            Forks::Heap(list) => with_number(alloc, list.as_slice(), number)?,
+        };
+        Ok(Name {
+            forks: Forks::Heap(forks),
+        })
+    }
+
+    /// Returns the length of the name.
+    pub fn len(&self) -> usize
+        ensures { result ≡ length self.now }
+    {
+        match &self.forks {
+            Forks::Bytes(list) => list.as_slice().len(),
+            Forks::Words(list) => list.as_slice().len(),
+            Forks::Heap(list) => list.len(),
+        }
+    }
+
+    /// Returns the number at index `k` of the name, counted from 0.
+    pub fn number(&self, k: usize) -> u64
+        requires { k < length self.now }
+        ensures { result ≡ slice_index self.now k }
+    {
+        match &self.forks {
+            Forks::Bytes(list) => u64::from(list.as_slice()[k]),
+            Forks::Words(list) => u64::from(list.as_slice()[k]),
+            Forks::Heap(list) => list[k],
+        }
+    }
+
+    /// Returns whether this is the name of the child that the thread of the name `parent` forks as its `number`-th.
+    pub fn is_child_of(&self, parent: &Name, number: u64) -> bool
+        ensures { IsTrue result ↔ (self.now ≡ parent.now ++ number ∷ []) }
+    {
+        match (&self.forks, &parent.forks) {
+            (Forks::Bytes(own), Forks::Bytes(front)) => own.is_longer_by(front, number),
+            (Forks::Bytes(_), _) => false,
+            (Forks::Words(own), Forks::Words(front)) => own.is_longer_by(front, number),
+            (Forks::Words(own), Forks::Bytes(front)) => match WordList::of_bytes(front.as_slice()) {
+                Some(front) => own.is_longer_by(&front, number),
+                None => false,
+            },
+            (Forks::Words(_), Forks::Heap(_)) => false,
+            (Forks::Heap(own), _) => match own.split_last() {
+                Some((last, others)) => *last == number && parent.has_numbers(others),
+                None => false,
+            },
+        }
+    }
+
+    /// Returns whether the name has these numbers.
+    fn has_numbers(&self, numbers: &[u64]) -> bool
+        ensures { IsTrue result ↔ (self.now ≡ numbers.now) }
+    {
+        if self.len() != numbers.len() {
+            return false;
+        }
+        for (k, number) in numbers.iter().enumerate() {
+            if self.number(k) != *number {
+                return false;
+            }
+        }
+        true
+    }
+}
+
+impl PartialEq for Name {
+    ghost eq = { pointwise nat_eq };
+
+    ghost laws = { partial_equiv_from_equiv nat_list_eq_equiv };
+
+    fn eq(&self, other: &Name) -> bool
+        ensures eq { result ≡ pointwise nat_eq self.now other.now }
+        ensures same { IsTrue result ↔ (self.now ≡ other.now) }
+    {
+        match (&self.forks, &other.forks) {
+            (Forks::Bytes(own), Forks::Bytes(others)) => own.as_slice() == others.as_slice(),
+            (Forks::Words(own), Forks::Words(others)) => own.as_slice() == others.as_slice(),
+            (Forks::Heap(own), Forks::Heap(others)) => own.as_slice() == others.as_slice(),
+            _ => false,
+        }
+    }
+}
+
+impl Eq for Name {
+    ghost laws = { nat_list_eq_equiv };
+}
+
+/// Returns the numbers with `number` appended.
+fn with_number(alloc: Global, numbers: &[u64], number: u64) -> Result<Vec<u64>, AllocError>
+    ensures { IfOk result (λ longer. longer.items ≡ numbers.now ++ number ∷ []) }
+{
+    let mut longer = Vec::with_capacity(alloc, numbers.len() + 1)?;
+    longer.extend_from_slice(numbers)?;
+    longer.push(number)?;
+    Ok(longer)
+}
