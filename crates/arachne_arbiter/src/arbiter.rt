@@ -1,4 +1,4 @@
-//! The arbiter of a run: core 0's kernel thread carries out the orders to close cores and to open them again.
+//! The arbiter of a run: by it core 0's kernel thread carries out the orders to close cores and to open them again.
 ghost use Rattle.std.specs.Prelude.{◌≡◌, ℕ, ◌<◌, ◌≤◌, length, if◌then◌else◌, IfOk, MatchBool};
 ghost use Rattle.arachne_core.specs.declared.layout.TheConstants.{CORES};
 ghost use Rattle.arachne_policy.specs.Orders.{AreInOrder};
@@ -61,7 +61,7 @@ impl Arbiter {
         self.orders.applied()
     }
 
-    /// Carries out the orders that are due, and moves threads away from one closed core.
+    /// Closes or opens the cores that orders say by now, and moves threads away from one closed core.
     ///
     /// Returns the cores to which threads were moved, a bit for each. Core 0's kernel thread must call this before each
     /// of its slices, and while it finds nothing to run. `slices` (the counts of ended slices) is read only while an
@@ -87,7 +87,7 @@ impl Arbiter {
         self.drain(cores, seat)
     }
 
-    /// Carries out the orders that are due once `ended` slices have ended.
+    /// Carries out each order to close or open a core that is due once `ended` slices have ended.
     ///
     /// A release closes its core; a grant opens its core and unparks its kernel thread. A release of a closed core and
     /// a grant of an open one are counted, and change nothing.
@@ -109,7 +109,8 @@ impl Arbiter {
         while self.apply_next(cores, seat, parking, ended) {}
     }
 
-    /// Carries out the next order, if it is due once `ended` slices have ended. Returns whether the order was due.
+    /// Carries out the next order to close or open a core, if it is due once `ended` slices have ended. Returns whether
+    /// it was due.
     fn apply_next<H: Wait, T: Tagged, C: Contexts<T>>(
         &mut self,
         cores: &Cores<'_, H, T, C>,
@@ -145,12 +146,12 @@ impl Arbiter {
         true
     }
 
-    /// Moves threads away from one of the cores that orders have closed, each core in its turn.
+    /// Moves threads away from one closed core; the next call takes the next closed core.
     ///
-    /// Returns the cores to which threads were moved, a bit for each. A thread that no worker has in hand goes to the
-    /// first other core, in ascending order, that has room. A thread stays if a worker has it in hand, if it was not
-    /// put at its place yet, or if it has its core for itself. Looks at no core once all closed cores are drained (have
-    /// no thread left).
+    /// Returns the cores to which threads were moved, a bit for each. A thread that no worker holds goes to the first
+    /// other core, in ascending order, that has room. A thread stays if a worker holds it, if it was not put at its
+    /// place yet, or if it has its core for itself. Once no closed core has a thread left, the call reads no core's
+    /// state.
     pub fn drain<H: Wait, T: Tagged, C: Contexts<T>>(
         &mut self,
         cores: &Cores<'_, H, T, C>,

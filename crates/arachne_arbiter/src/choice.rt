@@ -5,7 +5,7 @@ ghost use Rattle.arachne_arbiter.specs.Choice.{core_chosen, HasPlace, is_candida
 use arachne_core::{CORES, OccWord, SLOTS};
 use arachne_policy::{CoreLoad, two_choices};
 
-/// Returns whether a core takes threads that share it: the core is open, and no thread has it exclusively.
+/// Returns whether a core is open for threads that share it: no order has closed it, and no thread has it exclusively.
 fn is_candidate(occupancy: OccWord) -> bool
     ensures { result ≡ is_candidate_at occupancy }
 {

@@ -51,7 +51,7 @@ impl Draining {
 
     /// Moves threads away from one of the cores that must be drained; the next call takes the next core.
     ///
-    /// Adds to `receivers` the cores to which threads were moved. Looks at no core if none must be drained.
+    /// Adds to `receivers` the cores to which threads were moved. Reads no core's state if none must be drained.
     pub(crate) fn round<H: Wait, T: Tagged, C: Contexts<T>>(
         &mut self,
         cores: &Cores<'_, H, T, C>,
@@ -78,7 +78,7 @@ impl Draining {
         }
     }
 
-    /// Returns the core that is drained next, or `None` if none must be drained.
+    /// Returns the core from which threads are moved next, or `None` if no closed core may have a thread.
     fn next_core(&mut self, cores: u8) -> Option<u8>
         requires { vec_len self.old.waiting ≡ cores }
         ensures next { IfSome result (λ core. (core < cores) × (slice_index_or self.old.waiting.items core false ≡ true)) }
@@ -99,12 +99,11 @@ impl Draining {
 }
 
 impl<'a, H: Wait, T: Tagged, C: Contexts<T>> Cores<'a, H, T, C> {
-    /// Moves the threads that no worker has in hand from a closed core to other cores. Returns whether the core was
-    /// empty.
+    /// Moves the threads that no worker holds from a closed core to other cores. Returns whether the core was empty.
     ///
     /// A thread goes to the first other core, in ascending order, that has room, and that core is added to `receivers`.
-    /// A thread is left for a later call if a worker has it in hand, if it was not put at its place yet, if another
-    /// step changed the place meanwhile, or if no core has room.
+    /// A thread is left for a later call if a worker holds it, if it was not put at its place yet, if another step
+    /// changed the place meanwhile, or if no core has room.
     pub(crate) fn move_away(&self, seat: &mut C::Seat, core: u8, receivers: &mut u64) -> bool
         requires seat { C.sits self.now.table.now seat.old }
         requires core { core < self.now.count }

@@ -1,7 +1,8 @@
-//! Takes cores from a table of running threads and gives cores to it, and claims places on them for new threads.
+//! Closes and opens cores of a context table while its threads run, and finds places for new threads.
 //!
-//! Chooses the place of a new thread, applies the orders that close and open cores, drains closed cores, and parks
-//! their kernel threads until the core is opened again.
+//! An *order* closes or opens one core once a given number of slices (a thread's steps at a time) have ended. The crate
+//! applies orders, moves the threads of closed cores to other cores, parks the kernel thread of a closed core until the
+//! core is opened again, and chooses the core of a new thread.
 #![tactic(auto)]
 
 mod arbiter;

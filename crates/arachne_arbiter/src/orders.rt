@@ -59,7 +59,7 @@ impl Orders {
         })
     }
 
-    /// Returns the number of orders that the arbiter has carried out.
+    /// Returns the number of orders that were carried out.
     pub fn applied(&self) -> usize
         ensures applied { result ≡ self.now.applied }
         ensures within { result ≤ length self.now.list }
@@ -67,14 +67,14 @@ impl Orders {
         self.applied
     }
 
-    /// Returns whether the arbiter has carried out all orders.
+    /// Returns whether all orders were carried out.
     pub fn are_over(&self) -> bool
         ensures { IsTrue result ↔ (self.now.applied ≡ length self.now.list) }
     {
         self.applied == self.list.len()
     }
 
-    /// Returns whether the orders that the arbiter has carried out have left this core closed.
+    /// Returns whether this core is closed by the orders that were carried out.
     pub fn has_closed(&self, core: u8) -> bool
         requires { core < self.now.cores }
         ensures { result ≡ is_closed_after self.now.list self.now.applied core }

@@ -1,4 +1,4 @@
-//! Decides whether a kernel thread that finds no work yields its processor or goes on looking.
+//! Decides whether a kernel thread that finds no work may yield its processor.
 ghost use Rattle.std.specs.Prelude.{◌≡◌, ◌-◌, ◌↔◌, ◌⊎◌, ℕ, IsTrue};
 ghost use Rattle.arachne_arbiter.specs.declared.pace.TheConstants.{ROUNDS_WITHOUT_YIELDS};
 
@@ -16,8 +16,8 @@ const ROUNDS_WITHOUT_YIELDS: u32 = 4096;
 /// Decides whether a kernel thread that waits may yield its processor.
 ///
 /// On an idle machine a yield returns immediately. If other processes want the processor, a yield gives away a whole
-/// time slice, which delays all who wait for what this kernel thread has. So each yield is timed. After a yield that
-/// took long, the next waits don't yield: they spin for a short time, and then sleep.
+/// time slice, and the user threads of this kernel thread wait as long. So each yield is timed. After a yield that took
+/// long, the next waits don't yield: they spin for a short time, and then sleep.
 ///
 /// Contracts see for how many rounds that find work no yield is allowed, but not the clock.
 #[derive(Drop)]
@@ -46,7 +46,7 @@ impl Pace {
         self.rounds == 0
     }
 
-    /// Records that a round of the worker's loop has found work.
+    /// Records that the worker's loop has found work, which counts down the rounds without yields.
     pub fn found(&mut self)
         ensures { self.new ≡ self.old - 1 }
     {

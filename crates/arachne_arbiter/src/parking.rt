@@ -19,7 +19,8 @@ pub struct Parking {
     parkers: Vec<CachePadded<Parker>>,
 }
 
-/// Evidence that all parked kernel threads were unparked. Only [`Parking::unpark_all`] returns a value of this type.
+/// Evidence, without data, that the kernel threads of all cores were unparked. Only [`Parking::unpark_all`] returns a
+/// value of this type.
 #[derive(Drop)]
 pub struct Unparked {
     all: (),

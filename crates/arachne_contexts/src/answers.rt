@@ -1,5 +1,5 @@
-//! The results of a table's calls. If a result has a number, it is the atomic word that the call read, which shows why
-//! the result is right.
+//! The results of a table's calls. The number in a result is the atomic word that the call read, by which contracts
+//! show that the result is right.
 ghost use Rattle.std.specs.Prelude.{◌≡◌};
 ghost use Rattle.arachne_contexts.specs.Answers.{settled_claim, settled_wake};
 
@@ -10,8 +10,8 @@ use crate::held::Held;
 pub enum Claimed<C> {
     /// The caller has the place, and must put a thread there or give the place back.
     Place(C),
-    /// No place could be claimed: the core has no free index, is exclusive, or (for a claim of the whole core) is not
-    /// empty. The number is the core's occupancy word (which places are occupied, as bits).
+    /// The call could claim no place: the core has no free index, belongs to one thread only, or (for a claim of the
+    /// whole core) is not empty. The number is the core's occupancy word (which places are occupied, as bits).
     Full(u64),
     /// The core takes no threads. The number is the core's occupancy word (which places are occupied, as bits).
     Closed(u64),
@@ -21,7 +21,7 @@ pub enum Claimed<C> {
 }
 
 impl<C> Claimed<C> {
-    /// Returns the place, or `Some(None)` if the core has no place.
+    /// Returns `Some` with the place, or `Some(None)` if the core has no place.
     ///
     /// Returns `None` if the claim was lost and must be repeated.
     #[inline(always)]
@@ -39,7 +39,7 @@ impl<C> Claimed<C> {
 /// The result of a take: a ready thread to run, or the reason why there is none.
 #[derive(Drop)]
 pub enum Taken<T, H> {
-    /// The caller has the thread, to run it.
+    /// The caller's seat holds the thread now, and may run it.
     Run(Held<T, H>),
     /// There is no ready thread at the place. The number is the mark word (the packed state) of the context at the
     /// place.
@@ -53,20 +53,20 @@ pub enum Taken<T, H> {
 #[derive(Clone, Copy, Debug, PartialEq, Eq)]
 pub enum Rested {
     AsAsked,
-    /// The thread is ready, although the caller asked for it to be blocked: it was woken while a worker had it in hand.
+    /// The thread is ready, although the caller asked for it to be blocked: it was woken while a worker held it.
     WokenMeanwhile,
 }
 
 /// The result of a wake: the thread is ready now, or the reason why the call didn't wake it.
 #[derive(Clone, Copy, Debug, PartialEq, Eq)]
 pub enum Woken {
-    /// The thread was woken. Either it was blocked and is ready now, or a worker has it in hand, and it will be ready
-    /// once that worker puts it back.
+    /// The thread was woken. Either it was blocked and is ready now, or a worker holds it, and it will be ready once
+    /// that worker puts it back.
     Woken,
-    /// The thread is ready, or a worker has it in hand and it was woken since it was taken. The number is the mark word
-    /// (the packed state) of the thread's context.
+    /// The thread is ready, or a worker holds it and it was woken since it was taken. The number is the mark word (the
+    /// packed state) of the thread's context.
     Already(u64),
-    /// No thread has the id any more, or none ever had it.
+    /// There is no thread with this id: it has ended, or there never was one.
     Gone,
     /// The mark word (the context's packed state) changed between its reading and the wake. The number is the word that
     /// was found instead.
@@ -96,7 +96,7 @@ pub enum Moved {
     NoRoom(u64),
     /// No thread has been put at the place.
     Unposted,
-    /// A worker has the thread in hand.
+    /// A worker holds the thread.
     Running,
     /// The thread's core is exclusive to it.
     Alone,

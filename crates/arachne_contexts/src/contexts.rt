@@ -17,20 +17,19 @@ use std::sync::Wait;
 
 /// A context table for threads of one type.
 ///
-/// Each claim must be spent through the seat that got it: a thread is put at the place, or the place is given back.
-/// Each thread that a seat has taken must be put back or finished through that seat.
+/// Each claimed place must be used through the seat that claimed it: by a thread that is put there, or by giving the
+/// place back. Each thread that a seat has taken must be put back or ended through that seat.
 pub trait Contexts<T: Tagged>: Seats {
     /// A place that a seat has claimed.
     type Claim: Placed + Drop;
 
-    /// The handle of a thread that a seat has in hand, by which the table knows the thread.
+    /// The handle of a thread that a seat holds, by which the table knows the thread.
     type Hold: Identified + Drop;
 
-    /// The claims and threads of the list, in any order, are those that the seat has claimed or taken and not yet
-    /// spent.
+    /// The list has the places that the seat has claimed and not used, and the threads that it holds, in any order.
     ghost has: { Self → Self.Seat → List (Out Self.Claim Self.Hold) → Type 0 };
 
-    /// By all that the seat knows, each thread that was put into the table has ended or is in the list.
+    /// By the seat's record, each thread that was put into the table has ended or is in the list.
     ///
     /// The list names each thread once, by its id and its tag. A table whose seats keep no record of the threads put
     /// into it has a `settles` that is always true.
@@ -142,7 +141,7 @@ pub trait Contexts<T: Tagged>: Seats {
         ensures out { GetsThread (has self.now) T.tag_of seat.old seat.new result }
         ensures answer { TakesAt Self.Hold.place_of (record { core = core; index = index }) result };
 
-    /// Puts a thread that the seat has in hand back at its place, ready or blocked.
+    /// Puts a thread that the seat holds back at its place, ready or blocked.
     ///
     /// Returns the thread as an error if the table doesn't know it, or if its tag has changed.
     fn put_back<R: Wait>(
@@ -212,7 +211,7 @@ pub trait Contexts<T: Tagged>: Seats {
         ensures weight { Self.weight seat.new ≡ Self.weight seat.old }
         ensures out { KeepsOut (has self.now) seat.old seat.new };
 
-    /// Moves the thread at a place to the lowest free index of another core, if no worker has the thread in hand.
+    /// Moves the thread at a place to the lowest free index of another core, if no worker holds the thread.
     fn move_one<R: Wait>(&self, rt: &R, seat: &mut Self::Seat, place: Place, to: u8) -> Moved
         requires seat { Self.sits self.now seat.old }
         requires core { place.core < Self.core_count self.now }
@@ -244,12 +243,12 @@ pub trait Contexts<T: Tagged>: Seats {
         ensures weight { IfErr result (λ back. Self.weight back.1 ≡ Self.weight seat) }
         ensures idle { IfErr result (λ back. Self.idle back.0 back.1) };
 
-    /// A seat is idle exactly if it has spent all that it claimed or took.
+    /// If a seat is idle, it has no unused claim and holds no thread.
     ghost nothing_out: { (table : Self) (seat : Self.Seat) → Self.idle table seat → has table seat [] };
 
     ghost is_idle: { (table : Self) (seat : Self.Seat) → has table seat [] → Self.idle table seat };
 
-    /// A list of a seat's unspent claims and threads means the same in any order.
+    /// The list of a seat's unused claims and held threads may be in any order.
     ghost swapped: { (table : Self) (seat : Self.Seat) (first second : Out Self.Claim Self.Hold) (outs : List (Out Self.Claim Self.Hold))
         → has table seat (first ∷ second ∷ outs) → has table seat (second ∷ first ∷ outs) };
 }

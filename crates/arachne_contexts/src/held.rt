@@ -1,20 +1,20 @@
-//! The threads and places that a seat has, until it spends them.
+//! A thread that a seat holds, and the traits by which claims and handles give their place and thread id.
 ghost use Rattle.std.specs.Prelude.{◌≡◌};
 ghost use Rattle.arachne_core.specs.declared.place.Place.{Place};
 ghost use Rattle.arachne_core.specs.declared.thread_id.ThreadId.{ThreadId};
 
 use arachne_core::{Place, ThreadId};
 
-/// A thing that has a place in a table.
+/// A claim or a handle, which has a place in a table.
 pub trait Placed {
     ghost place_of: { Self → Place };
 
-    /// Returns the core and the index of this thing in its table.
+    /// Returns the core and the index in the table.
     fn place(&self) -> Place
         ensures { result ≡ place_of self.now };
 }
 
-/// A thing that names a thread in a table.
+/// A handle, which names a thread in a table.
 pub trait Identified: Placed {
     ghost id_of: { Self → ThreadId };
 

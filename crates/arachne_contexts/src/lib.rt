@@ -1,8 +1,9 @@
 //! The trait of context tables, which workers call to create, take, wake and move threads, and its results.
 //!
-//! A table has contexts, one for each place of its cores. All calls go through a seat: to claim a place, put a thread
-//! there, take threads that are ready, and put them back or finish them. A thread is a value of the caller's type: the
-//! table needs nothing of it but its tag.
+//! A *context table* keeps user threads. Each core has a number of *places*, and each place a *context*, the record of
+//! one thread. A *seat* is one kernel thread's right to call the table: it claims a free place, puts a thread there,
+//! takes threads that are ready, and puts them back or ends them. From the take until then the seat *holds* the thread.
+//! A thread is a value of the caller's type: the table needs nothing of it but its tag.
 #![tactic(auto)]
 
 mod answers;

@@ -16,7 +16,7 @@ pub trait Seats {
     /// True if the seat belongs to this table.
     ghost sits: { Self → Self.Seat → Type 0 };
 
-    /// True if the seat has spent all that it has claimed or taken.
+    /// True if the seat has no unused claim and holds no thread.
     ghost idle: { Self → Self.Seat → Type 0 };
 
     /// The seat's part of the whole weight.
@@ -48,8 +48,7 @@ pub trait Seats {
 
     /// Splits a seat in two, each with half of its weight, rounded up for the first.
     ///
-    /// If the weight is 1 or 0, both seats get weight 0. All that was claimed or taken through the seat must be spent
-    /// before.
+    /// If the weight is 1 or 0, both seats get weight 0. The seat must have no unused claim and hold no thread.
     fn split<R: Wait>(&self, rt: &R, seat: Self::Seat) -> (Self::Seat, Self::Seat)
         requires seat { Self.sits self.now seat }
         requires idle { Self.idle self.now seat }
@@ -62,7 +61,7 @@ pub trait Seats {
 
     /// Joins two seats into one, whose weight is the sum of theirs, but at most the whole.
     ///
-    /// All that was claimed or taken through either seat must be spent before.
+    /// Both seats must have no unused claim and hold no thread.
     fn join_seats<R: Wait>(&self, rt: &R, seat: Self::Seat, other: Self::Seat) -> Self::Seat
         requires seat { Self.sits self.now seat }
         requires other { Self.sits self.now other }
@@ -76,6 +75,6 @@ pub trait Seats {
     fn is_whole(&self, seat: &Self::Seat) -> bool
         ensures { IsTrue result ↔ (Self.weight seat.now ≡ whole) };
 
-    /// Returns the number of claims and threads that the seat has not spent.
+    /// Returns the number of the seat's unused claims and held threads.
     fn out(&self, seat: &Self::Seat) -> u32;
 }

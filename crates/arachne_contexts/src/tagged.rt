@@ -1,4 +1,4 @@
-//! The values that a context table keeps, one for each thread. Each value has a tag, a number.
+//! The trait of the values that a context table stores for its threads: each value has a tag, a number.
 ghost use Rattle.std.specs.Prelude.{◌≡◌, ℕ};
 
 /// A value with a tag.

@@ -1,4 +1,5 @@
-//! The events of a context table. In each event `carrier` is the number of the seat that makes it.
+//! The events of a context table. In each event `carrier` is the number of the seat (the right to call the table) that
+//! makes it.
 
 ghost use Rattle.std.specs.Prelude.{Some};
 ghost use Rattle.arachne_core.specs.ContextTable.{refusal_text};
@@ -10,7 +11,7 @@ use std::fmt;
 
 /// An event of a context table.
 ///
-/// Each atomic step of a table is one of these events. A step that changes nothing is `Still`.
+/// Each atomic operation of a table is one of these events. One that changes nothing is `Still`.
 #[derive(Clone, Copy, Debug, PartialEq, Eq)]
 pub enum Event {
     /// The seat `carrier` claims a free context on a core that is neither closed nor exclusive.
@@ -34,7 +35,7 @@ pub enum Event {
         carrier: u32,
         context: u32,
     },
-    /// The seat `carrier` puts back, as ready or as blocked, the thread of this context that it has in hand.
+    /// The seat `carrier` puts back, as ready or as blocked, the thread of this context that it holds.
     Rest {
         carrier: u32,
         context: u32,
@@ -44,7 +45,7 @@ pub enum Event {
     Wake {
         id: ThreadId,
     },
-    /// The seat `carrier` ends the thread of this context that it has in hand. The seat keeps the context's place.
+    /// The seat `carrier` ends the thread of this context that it holds. The seat keeps the context's place.
     Retire {
         carrier: u32,
         context: u32,
@@ -62,8 +63,8 @@ pub enum Event {
     OpenCore {
         core: u8,
     },
-    /// The seat `carrier` moves the thread at rest in context `from` to the place of `to`, a context that the seat has
-    /// claimed on another core. The two contexts swap places.
+    /// The seat `carrier` moves the ready or blocked thread in context `from` to the place of `to`, a context that the
+    /// seat has claimed on another core. The two contexts swap places.
     Move {
         carrier: u32,
         from: u32,
@@ -73,7 +74,7 @@ pub enum Event {
     Still,
 }
 
-/// The reason why an event was refused, so that the table's state (the World) is unchanged.
+/// The reason why an event was refused. The table's state is then unchanged.
 #[derive(Clone, Copy, Debug, PartialEq, Eq)]
 pub enum NotApplied {
     /// The state of the table does not allow the event, or has no such core or context.

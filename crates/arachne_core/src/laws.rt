@@ -1,5 +1,5 @@
-//! Laws of the World (the state of a context table in the definitions) and of packed words. Each law is the contract of
-//! a function with an empty body.
+//! Laws of a table's abstract state (`World`) and of packed words. Each law is the contract of a function with an empty
+//! body.
 
 ghost use Rattle.std.specs.Prelude.{◌≡◌, ℕ, ◌+◌, ◌-◌, ◌*◌, ◌/◌, ◌%◌, ◌^◌, ◌<◌, ◌↔◌, List, length, slice_index_or, true, false, bit_and, bit_or};
 ghost use Rattle.arachne_core.specs.declared.mark.Mark.{Mark};
@@ -13,33 +13,33 @@ ghost use Rattle.arachne_core.specs.Run.{IsOpening, IsRun, after_all, SharesNoth
 
 use crate::layout::{CORE_BITS, CORES, GENERATION_BITS, LAST_GENERATION, MASK_BITS, SLOTS};
 
-/// In the World of a new table each context has a place of its own, and no two threads share a context or a place. So
-/// that World is owned once (`OwnedOnce`).
+/// The state of a new table meets the invariant `OwnedOnce`: each context has a place of its own, and no two threads
+/// share a context or a place.
 pub fn opening_is_owned_once()
     ensures { (w : World) (first : ℕ) → IsOpening w first → OwnedOnce w }
 {}
 
-/// Every event that is allowed keeps the World owned once: no two threads share a context or a place.
+/// Each event that is allowed keeps the invariant `OwnedOnce`: no two threads share a context or a place.
 pub fn events_keep_owned_once()
     ensures { (w : World) (e : Event) → OwnedOnce w → Allowed w e → OwnedOnce (after w e) }
 {}
 
-/// Any sequence of allowed events keeps the World owned once: no two threads share a context or a place.
+/// Any sequence of allowed events keeps the invariant `OwnedOnce`: no two threads share a context or a place.
 pub fn runs_keep_owned_once()
     ensures { (w : World) (es : List Event) → OwnedOnce w → IsRun w es → OwnedOnce (after_all w es) }
 {}
 
-/// If the World (the state of the table) is owned once (`OwnedOnce`), no two live threads share a context or a place,
-/// and no two seats have the same thread in hand.
+/// If the state meets `OwnedOnce`, no two live threads share a context or a place, and no two seats hold the same
+/// thread.
 pub fn owned_once_shares_nothing()
     ensures { (w : World) → OwnedOnce w → SharesNothing w }
 {}
 
-/// If a seat has a thread in hand, it keeps the thread, whatever events follow, until that seat puts the thread back or
-/// ends it.
+/// If a seat holds a thread, it keeps the thread, whatever events follow, until that seat puts the thread back or ends
+/// it.
 ///
-/// So no two seats have a thread in hand at the same time: before a context is taken again, the seat that had its
-/// thread has put the thread back or ended it.
+/// So no two seats hold a thread at the same time: before the thread of a context is taken again, the seat that held
+/// the thread has put it back or ended it.
 pub fn holder_keeps_its_thread()
     ensures { (w : World) (es : List Event) (h x : ℕ) → IsHeldBy h (w.state x) → IsRun w es → NeverLetsGo h x es → IsHeldBy h ((after_all w es).state x) }
 {}

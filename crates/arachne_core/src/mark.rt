@@ -1,4 +1,5 @@
-//! The mark of a context: its state, without the number of the seat that has it and without the thread's tag.
+//! The mark of a context: its state, without the number of the seat that has claimed or holds it, and without the
+//! thread's tag.
 
 /// The state of a context, as its mark word (state, place and generation, packed) shows it.
 #[derive(Clone, Copy, Debug, PartialEq, Eq)]
@@ -9,9 +10,9 @@ pub enum Mark {
     Ready = 1,
     /// The thread waits to be woken.
     Blocked = 2,
-    /// A seat has the thread in hand, to run it.
+    /// A seat holds the thread, to run it.
     Held = 3,
-    /// A seat has the thread in hand, and the thread was woken since it was taken.
+    /// A seat holds the thread, and the thread was woken since it was taken.
     Woken = 4,
     /// The thread of the context's last generation has ended.
     Spent = 5,

@@ -13,7 +13,7 @@ impl Place {
     ghost use Rattle.std.specs.Prelude.{◌≡◌, ◌*◌, ◌<◌};
     ghost use Rattle.arachne_core.specs.Place.{first_place, number_of};
 
-    /// Returns the place at which a context stands at first, if each core has `slots` places.
+    /// Returns the place of a context in a new table whose cores have `slots` places each.
     pub fn of_context(context: u32, slots: u8) -> Self
         requires { context < 256 * slots }
         ensures { result ≡ first_place slots context }
@@ -25,7 +25,7 @@ impl Place {
         }
     }
 
-    /// Returns the context that stands at this place at first, if each core has `slots` places.
+    /// Returns the number of the context at this place in a new table whose cores have `slots` places each.
     pub fn number(self, slots: u8) -> u32
         ensures { result ≡ number_of slots self }
     {

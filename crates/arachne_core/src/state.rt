@@ -1,4 +1,4 @@
-//! The states of a context (free, claimed, ready, blocked, in a seat's hand), and what each state permits.
+//! The states of a context (free, claimed, ready, blocked, held by a seat), and what each state permits.
 
 use crate::layout::LAST_GENERATION;
 use crate::mark::Mark;
@@ -6,11 +6,11 @@ use crate::place::Place;
 
 /// The state of a context.
 ///
-/// The carrier is the seat (by its number) that has claimed the context, or has its thread in hand. A tag is the number
-/// that was put into the table with the thread.
+/// The carrier is the number of the seat that has claimed the context, or holds its thread. A tag is the number that
+/// was put into the table with the thread.
 #[derive(Clone, Copy, Debug, PartialEq, Eq)]
 pub enum State {
-    /// There is no thread, and nobody is about to post one.
+    /// There is no thread, and no seat has claimed the context.
     Free,
     /// There is no thread yet. The seat `carrier` has claimed the context, and may post a thread there.
     Claimed { carrier: u32 },
@@ -18,7 +18,7 @@ pub enum State {
     Ready { tag: u64 },
     /// The thread waits to be woken.
     Blocked { tag: u64 },
-    /// The seat `carrier` has the thread in hand, and runs it. `woken`: the thread was woken since it was taken.
+    /// The seat `carrier` holds the thread, and runs it. `woken`: the thread was woken since it was taken.
     Held { carrier: u32, woken: bool, tag: u64 },
     /// The thread of the last generation has ended. The context is never used again.
     Spent,
@@ -36,7 +36,7 @@ pub enum Rest {
 /// The record that the table keeps of a context: its place, the number of threads that it has had, and its state.
 #[derive(Clone, Copy, Debug, PartialEq, Eq)]
 pub struct Context {
-    /// The place at which the context stands.
+    /// The context's place, which changes if its thread is moved.
     pub place: Place,
     /// The number of threads that have ended in the context, added to the table's first generation.
     pub generation: u64,
@@ -97,7 +97,7 @@ impl State {
         }
     }
 
-    /// Returns whether the thread is blocked, or in a seat's hand and not woken yet.
+    /// Returns whether the thread is blocked, or held by a seat and not woken yet.
     pub(crate) fn can_be_woken(self) -> bool
         ensures { IsTrue result ↔ CanBeWoken self }
     {
@@ -108,7 +108,7 @@ impl State {
         }
     }
 
-    /// Returns whether there is a thread: ready, blocked or in a seat's hand.
+    /// Returns whether there is a thread: ready, blocked or held by a seat.
     pub(crate) fn is_live(self) -> bool
         ensures { result ≡ is_live_state self }
     {
@@ -156,7 +156,7 @@ impl State {
         }
     }
 
-    /// Returns the state after the thread was put back by the seat that had it in hand.
+    /// Returns the state after the thread was put back by the seat that held it.
     pub(crate) fn put_back(self, rest: Rest) -> Self
         ensures { result ≡ put_back rest self }
     {
@@ -193,7 +193,7 @@ impl State {
 impl Context {
     ghost use Rattle.std.specs.Prelude.{◌≡◌, ◌+◌, ◌<◌, ◌≤◌, nat_lt, if◌then◌else◌};
 
-    /// Returns the context after the thread in it has ended in the hand of the seat `carrier`.
+    /// Returns the context after the seat `carrier` has ended the thread in it.
     pub(crate) fn retired(self, carrier: u32) -> Self
         requires { self.generation ≤ LAST_GENERATION }
         ensures state { result.state ≡ (if nat_lt self.generation LAST_GENERATION then State.Claimed carrier else State.Spent) }

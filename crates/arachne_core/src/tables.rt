@@ -1,4 +1,4 @@
-//! The lists that make up a World (the state of a context table), and the effect of each event on them.
+//! The lists behind a `World`, the state of a context table, and the effect of each event on them.
 
 ghost use Rattle.std.specs.Prelude.{◌≡◌, ◌≢◌, ℕ, ◌<◌, ◌≤◌, ◌+◌, ◌*◌, ◌↔◌, length, map, IsTrue, IsOk, IfOk, IfErr, OnOk, OnErr, replicate, ◌++◌, ◌∷◌, []};
 ghost use Rattle.std.specs.List.{range_with_len};
@@ -17,7 +17,7 @@ use crate::thread_id::ThreadId;
 use std::alloc::{AllocError, Global};
 use std::marker::Model;
 
-/// The contexts and cores of a World by number, and its posted and ended threads in order.
+/// The contexts and cores of a table by number, and the threads that were posted or have ended, in order.
 #[derive(Debug, Drop)]
 pub struct Tables {
     contexts: Vec<Context>,
@@ -51,7 +51,7 @@ impl Model for Tables {
 }
 
 impl Tables {
-    /// Creates a table whose contexts stand at their first places, free and of one generation.
+    /// Creates a table whose contexts are free and of one generation, each at its first place.
     pub fn new(
         alloc: Global,
         cores: u8,

@@ -1,4 +1,5 @@
-//! The World (the state of a context table) as a Rattle type that a program can use, equal to the World of the specs.
+//! The state of a context table as a type that a program can use. Contracts see it as the lists of which the specs make
+//! their `World`.
 
 use crate::event::{Event, NotApplied};
 use crate::layout::{CORES, LAST_GENERATION, SLOTS};
@@ -10,7 +11,7 @@ use crate::tables::Tables;
 use std::alloc::{AllocError, Global};
 use std::marker::Model;
 
-/// A context table in which each event happens at once.
+/// A context table for one thread, in which each event is one call: the specification of the shared tables.
 ///
 /// At every moment each context, place and thread has exactly one owner. The cost of an event does not depend on the
 /// number of contexts.
@@ -37,7 +38,7 @@ impl World {
     ghost use Rattle.arachne_core.specs.Run.{IsOpening};
     ghost use Rattle.arachne_core.specs.ContextTable.{world_of, ShowsCore, IsVacantFrom, marked, Answers};
 
-    /// Creates a World of `cores` cores with `slots` places each. All contexts of the World are free, in generation
+    /// Creates a table of `cores` cores with `slots` places each. All its contexts are free, in generation
     /// `first_generation`.
     pub fn new(
         alloc: Global,
@@ -73,7 +74,7 @@ impl World {
 
     /// Changes the state as the event says, if the state allows the event.
     ///
-    /// Returns `NotAllowed` if the event is not allowed, and `Memory` if memory was refused. After an error the World
+    /// Returns `NotAllowed` if the event is not allowed, and `Memory` if memory was refused. After an error the state
     /// is unchanged. Only a post or a retire takes memory, if no memory was reserved for it.
     pub fn apply(&mut self, event: Event) -> Result<(), NotApplied>
         ensures answer { Answers event self.old self.new result }
@@ -105,14 +106,14 @@ impl World {
         self.tables.slots()
     }
 
-    /// Does nothing. The contract is a law: each context, place and thread of a World has exactly one owner.
+    /// Does nothing. The contract is a law: each context, place and thread of the table has exactly one owner.
     pub fn is_owned_once(&self)
         ensures { OwnedOnce (world_of self.now) }
     {
         let _ = &self.tables;
     }
 
-    /// Returns the context that stands at a place.
+    /// Returns the number of the context at a place.
     pub fn context_at(&self, place: Place) -> u32
         requires { IsPlace (world_of self.now) place }
         ensures within { IsContext (world_of self.now) result }

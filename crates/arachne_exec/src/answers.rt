@@ -1,6 +1,7 @@
-//! The results of an executor's calls: a job in hand, why a call was refused, or which worker the caller must unpark.
+//! The results of an executor's calls: the job that the seat holds now, why a call was refused, or which worker the
+//! caller must unpark.
 
-/// A job that a seat has in hand: its place, its name, and its number.
+/// A job that a seat holds: its place, its name, and its number.
 #[derive(Clone, Copy, Debug, PartialEq, Eq)]
 pub struct HeldJob {
     pub place: usize,
@@ -8,7 +9,8 @@ pub struct HeldJob {
     pub job: u64,
 }
 
-/// The place at which a job was put, and its name. If `unpark` is true, the caller must unpark the worker of the place.
+/// The place at which `spawn` has put a job, and the job's name. If `unpark` is true, the caller must unpark the worker
+/// of the place.
 #[derive(Clone, Copy, Debug, PartialEq, Eq)]
 pub struct PlacedJob {
     pub place: usize,
@@ -26,7 +28,7 @@ pub enum JobSpawned {
     Lost,
 }
 
-/// The result of `spawn_here`, which spawns a job into the seat's hand.
+/// The result of `spawn_here`, which spawns a job that the seat then holds.
 #[derive(Clone, Copy, Debug, PartialEq, Eq)]
 pub enum SpawnedHere {
     Held(HeldJob),
@@ -36,15 +38,15 @@ pub enum SpawnedHere {
     Lost,
 }
 
-/// The state of the job that `rest_blocked` has put back: it waits, or is ready since a wake had come.
+/// The state of the job that `rest_blocked` has put back: it is blocked, or ready because a wake had come.
 #[derive(Clone, Copy, Debug, PartialEq, Eq)]
 pub enum JobRested {
     Blocked,
-    /// The job is ready, since a wake had come that no take or `start` has used up.
+    /// The job is ready: `rest_blocked` found a recorded wake.
     Ready { unpark: bool },
 }
 
-/// The next action of a worker: run a job, look again, or park.
+/// The next action of a worker: run a job, call `next` again, or park.
 #[derive(Clone, Copy, Debug, PartialEq, Eq)]
 pub enum Next {
     Run(HeldJob),
@@ -60,10 +62,11 @@ pub enum Next {
 pub enum JobWoken {
     /// The job was blocked, and is ready now.
     Ready { unpark: bool },
-    /// The job isn't blocked: its mark records the wake until a take or `start` uses it up, or the job ends. A wake for
-    /// the next job of a free place, by the name that this job will have, is recorded in the same way.
+    /// The job isn't blocked. Its mark (an atomic word) records the wake until a take or `start` clears the record, or
+    /// the job ends. A wake for the next job of a free place, by the name that this job will have, is recorded in the
+    /// same way.
     Marked,
-    /// The job was marked as woken before.
+    /// The job's mark already records a wake.
     Already,
     /// No job has that name now.
     Gone,
@@ -71,10 +74,10 @@ pub enum JobWoken {
     Lost,
 }
 
-/// The result of `wake_here`, which takes the job into the seat's hand.
+/// The result of `wake_here`, after which the seat holds a job that was blocked.
 #[derive(Clone, Copy, Debug, PartialEq, Eq)]
 pub enum WokenHere {
-    /// The job was blocked, and is in the caller's hand now.
+    /// The job was blocked, and is held by the caller now.
     Held(HeldJob),
     Marked,
     Already,

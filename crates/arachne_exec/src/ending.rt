@@ -1,4 +1,4 @@
-//! The end of an executor: the jobs that were spawned and haven't ended.
+//! Ends an executor, and returns the jobs that haven't ended.
 ghost use Rattle.std.specs.Prelude.{◌≡◌, ◌*◌, ◌≤◌, [], vec_len, IfOk, IfErr};
 ghost use Rattle.std.specs.Vec.{vec_capacity};
 ghost use Rattle.arachne_weights.specs.Weight.{whole};

@@ -1,4 +1,4 @@
-//! The executor: it is made with its first seat, and its seats are split and joined.
+//! Makes an executor with its first seat, splits a seat for another thread, and joins seats again.
 ghost use Rattle.std.specs.Prelude.{◌≡◌, ◌*◌, ◌↔◌, ◌≤◌, [], IsTrue, IfOk};
 ghost use Rattle.arachne_weights.specs.Weight.{whole, first_part, second_part, joined};
 ghost use Rattle.arachne_exec.specs.Changes.{blank, splitting, together};
@@ -13,8 +13,8 @@ use atomic_table::Table;
 use std::alloc::{AllocError, Global};
 use std::marker::Model;
 
-/// An executor: the atomic words of one table, which say at which place each job is, and a slot (a field for the job's
-/// number) for each place.
+/// An executor: a table of atomic words, which say which places have a ready or a blocked job, and for each place a
+/// field for the number of its job.
 ///
 /// Contracts see which table it is, and the number of its shards.
 // In the methods of this type a line `let _ = self.shards;` opens the table for the prover, which learns its sizes
@@ -118,7 +118,7 @@ impl Executor {
     }
 
     /// Joins `other` into `seat`, which gets the weight of `other` (at most the whole) and what `other` knows. `other`
-    /// must have an empty hand and no worker number.
+    /// must hold no job and have no worker number.
     pub fn join_seats(&self, seat: &mut ExecSeat, other: ExecSeat)
         requires own { (seat.old.table ≡ self.now.table) × (other.table ≡ self.now.table) }
         requires nothing_in_hand { other.known.hand ≡ [] }

@@ -1,4 +1,4 @@
-//! The steps of a job: spawn, take, rest, finish.
+//! The calls that spawn a job, take it to run it, put it back, and end it.
 ghost use Rattle.std.specs.Prelude.{◌≡◌, ℕ, ◌+◌, ◌*◌, ◌%◌, ◌<◌, IsTrue, IsFalse, IfSome, IfNone};
 ghost use Rattle.arachne_exec.specs.Layout.{mark_at, name_of};
 ghost use Rattle.arachne_exec.specs.Changes.{laying_down, noted, rousing, using_up};
@@ -11,7 +11,7 @@ use crate::layout::{LAST_GENERATION, free_word, mark_word, name_at, ready_word};
 use crate::seat::{ExecSeat, SeatInCall};
 use crate::turns::{First, TakenJob, first_from, has_more, lowest_index};
 
-/// Returns the job of this number at a place with this mark.
+/// Returns the job with number `job` at `place`, with the name that the place's mark gives it.
 #[inline(always)]
 pub(crate) fn job_at(place: usize, mark: u64, job: u64) -> HeldJob
     requires { place < 1048576 }
@@ -25,8 +25,8 @@ pub(crate) fn job_at(place: usize, mark: u64, job: u64) -> HeldJob
 }
 
 impl Executor {
-    /// Clears a recorded wake from the mark (an atomic word) of the seat's newest place. Returns the mark that was
-    /// found.
+    /// Clears the record of a wake in the mark (an atomic word) of the newest place that the seat holds. Returns the
+    /// mark that it found.
     pub(crate) fn refresh(&self, seat: &mut SeatInCall, place: usize) -> u64
         requires own { seat.old.table ≡ self.now.table }
         requires place { place < 4096 * self.now.shards }
@@ -70,7 +70,7 @@ impl Executor {
         })
     }
 
-    /// Tries once to put a job at a free place of a block and into the seat's hand, from which nobody else can take it.
+    /// Tries once to put a job at a free place of a block, so that the seat holds the job and nobody else can take it.
     pub fn spawn_here(&self, seat: &mut ExecSeat, block: usize, job: u64) -> SpawnedHere
         requires own { seat.old.table ≡ self.now.table }
         requires block { block < 64 * self.now.shards }
@@ -143,7 +143,7 @@ impl Executor {
         Some(taken.in_block(&mut seat.take_turn))
     }
 
-    /// Makes the newest job in hand ready again. Returns true if the caller must unpark the worker of its place.
+    /// Makes the seat's newest job ready again. Returns true if the caller must unpark the worker of its place.
     pub fn rest_ready(&self, seat: &mut ExecSeat, place: usize) -> bool
         requires own { seat.old.table ≡ self.now.table }
         requires place { place < 4096 * self.now.shards }
@@ -153,7 +153,8 @@ impl Executor {
         self.publish(&mut seat.at, place)
     }
 
-    /// Blocks the job at the seat's newest place, unless its mark records a wake. Returns true if the job is blocked.
+    /// Blocks the newest job that the seat holds, unless its mark records a wake. Returns true if the job is blocked
+    /// now.
     fn try_block(&self, seat: &mut SeatInCall, place: usize) -> bool
         requires own { seat.old.table ≡ self.now.table }
         requires place { place < 4096 * self.now.shards }
@@ -170,7 +171,7 @@ impl Executor {
         self.put_blocked(seat, place, mark)
     }
 
-    /// Lets the newest job in hand wait, unless a wake has come that no take or `start` has used up.
+    /// Blocks the newest job that the seat holds, or makes it ready if its mark records a wake.
     pub fn rest_blocked(&self, seat: &mut ExecSeat, place: usize) -> JobRested
         requires own { seat.old.table ≡ self.now.table }
         requires place { place < 4096 * self.now.shards }
@@ -186,7 +187,7 @@ impl Executor {
         JobRested::Ready { unpark }
     }
 
-    /// Ends the newest job in hand. The job's place is then free, for a job of the next generation.
+    /// Ends the newest job that the seat holds, and frees its place for a job of the next generation.
     pub fn finish(&self, seat: &mut ExecSeat, place: usize)
         requires own { seat.old.table ≡ self.now.table }
         requires place { place < 4096 * self.now.shards }

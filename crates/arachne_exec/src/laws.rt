@@ -1,4 +1,5 @@
-//! The laws that hold for an executor between any two steps. The functions do nothing: a law is their contract.
+//! The laws that hold for an executor between any two atomic operations. The functions do nothing: a law is their
+//! contract.
 ghost use Rattle.std.specs.Prelude.{◌≡◌, ◌≢◌, Bool, ℕ, ◌+◌, ◌*◌, ◌/◌, ◌<◌, ◌≤◌, min, List, ◌∷◌};
 ghost use mathlib.Core.Option.{some};
 ghost use lib.ListN.{get_elem?};
@@ -22,22 +23,23 @@ ghost use Rattle.arachne_exec.specs.Promises.{spawns, ends, times_in_hand, spawn
 use crate::executor::Executor;
 use crate::seat::ExecSeat;
 
-/// The words and what seats know of them (a *board*) change by one step after another. Each step found what stood in
-/// its word, and kept the rule, the invariant of the table.
+/// An executor's state is reached by one atomic operation (*step*) after another. The state, a *board*, is the numbers
+/// in the atomic words with what each seat has recorded. Each step found what stood in its word, and kept the rule, the
+/// invariant of the table.
 ///
-/// A seat notes only the number that its step found in a word, or that its step put into a mark, and keeps what it has
-/// noted. While a seat owes a bit (its call must still set one), it notes nothing of a summary word. A seat notes each
-/// change of the worker numbers, each ready bit that it clears, and why a job leaves its hand. So a number that was
-/// noted did stand in its word, whatever kind of step noted it. What is noted of a worker's sleep is what the step did
-/// to the worker's idle bit. A seat that has claimed a place must spawn a job there before its call ends, after a look
-/// at the place's mark.
+/// A seat records only the number that its step found in a word, or that its step put into a mark, and keeps what it
+/// has recorded. While its call must still set a bit of a summary word, a seat records nothing of summary words. A seat
+/// records each change of the worker numbers, each ready bit that it clears, and why it holds a job no more. So a
+/// number that was recorded did stand in its word, whatever kind of step recorded it. What a seat records of a worker's
+/// sleep is what the step did to the worker's idle bit. A seat that has claimed a place must spawn a job there before
+/// its call ends, after it has read the place's mark.
 pub fn boards_come_by_steps()
     ensures { (shards : ℕ) (b : Board) → IsLawful shards b → HasCome shards b }
 {}
 
-/// Each place has exactly one keeper: the free bit, the ready bit, the mark of a blocked job, or a seat's hand. So a
-/// job that is neither blocked nor in a seat's hand has its bit set in its block's ready word. Whoever finds that word
-/// empty knows that each job of the block is blocked or in a seat's hand.
+/// Each place has exactly one keeper: the free bit, the ready bit, the mark of a blocked job, or a seat that holds it.
+/// So a job that is neither blocked nor held by a seat has its bit set in its block's ready word. Whoever finds that
+/// word empty knows that each job of the block is blocked or held by a seat.
 pub fn ready_jobs_are_shown()
     ensures shown { (shards : ℕ) (b : Board) → IsLawful shards b → (place : ℕ) → place < 4096 * shards → IsReadyJob place b → is_ready b.words place ≡ 1 }
     ensures one_keeper { (shards : ℕ) (b : Board) → IsLawful shards b → (place : ℕ) → place < 4096 * shards
@@ -64,14 +66,14 @@ pub fn ready_blocks_are_shown()
 {}
 
 /// If a worker is parked and a ready word of its blocks isn't empty, then a seat in the midst of a call must still set
-/// the bit of that block, or make the look that wakes the worker.
+/// the bit of that block, or read the idle word and wake the worker.
 pub fn sleepers_are_woken()
     ensures { (shards : ℕ) (b : Board) → IsLawful shards b → (worker : ℕ) → IsParked shards worker b → AreOwedTo shards worker b }
 {}
 
 /// Each time that a worker set its idle bit (lay down), the bit was cleared once since, by the worker itself (it rose)
-/// or by a seat that wakes it (it was roused); or the bit is still set. So a worker whose bit is clear has ended each
-/// of its sleeps by a call of its own or another's.
+/// or by a seat that wakes it (it was roused); or the bit is still set. So each sleep of a worker whose bit is clear
+/// was ended by a call of its own or another's.
 pub fn sleepers_are_told()
     ensures { (shards : ℕ) (b : Board) → IsLawful shards b → (worker : ℕ) → worker < 64
         → lies worker b.views ≡ rises worker b.views + rouses worker b.views + is_idle b.words worker }
@@ -95,7 +97,7 @@ pub fn calls_say_whom_they_rouse()
     ensures finish { (place : ℕ) (k after : Notes) → HasFinished place k after → RousesNobody k after }
 {}
 
-/// Each job number but 0 was spawned as often as it has ended, is in a seat's hand, or lies at a place. The counts
+/// Each job number but 0 was spawned as often as it has ended, is held by a seat, or is stored at a place. The counts
 /// agree over all places together, and at each place.
 pub fn jobs_are_conserved()
     ensures all { (shards : ℕ) (b : Board) → IsLawful shards b → (job : ℕ) → 0 < job
@@ -104,16 +106,16 @@ pub fn jobs_are_conserved()
         → spawned_at place job b ≡ ended_at place job b + lives_at place job b }
 {}
 
-/// Each time that a place was blocked or retired, it was later unblocked once, or it is still blocked. So no step of
-/// any kind lets a job wait, or wakes one, without being counted.
+/// A place was blocked or retired as often as it was unblocked, once more if it is blocked now. So no atomic operation
+/// blocks a job, or wakes one, without being counted.
 pub fn blocks_are_counted()
     ensures { (shards : ℕ) (b : Board) → IsLawful shards b → (place : ℕ) → place < 4096 * shards
         → blocks place b ≡ unblocks place b + is_blocked b.words place }
 {}
 
-/// Each mark that a wake has set at a place was used up once, or is still there; by the clauses of the calls, only a
-/// take, a `start` or a `finish` of that place uses one up. A blocked job's place has no such mark. So a job blocks
-/// only after each wake with which it was marked was used up.
+/// Each wake that was recorded at a place was cleared once, or is still recorded; by the clauses of the calls, only a
+/// take, a `start` or a `finish` of that place clears it. At a blocked job's place no wake is recorded. So a job blocks
+/// only after each wake that was recorded for it was cleared.
 pub fn wakes_are_heard()
     ensures blocked { (shards : ℕ) (b : Board) → IsLawful shards b → (place : ℕ) → place < 4096 * shards → is_blocked b.words place ≡ 1 → is_marked b.words place ≡ 0 }
     ensures heard { (shards : ℕ) (b : Board) → IsLawful shards b → (place : ℕ) → place < 4096 * shards
@@ -121,9 +123,9 @@ pub fn wakes_are_heard()
 {}
 
 /// The generation in a place's mark is the number of jobs that have ended there, up to the largest that a name can
-/// have, and at most one job is at the place. As long as a seat has the place in hand, the mark keeps the generation
-/// that the seat has last found in it. So a name, which has that generation, belongs to one job for good: once the job
-/// has ended the place's mark never has that generation again, and a wake by the name does nothing.
+/// have, and at most one job is at the place. As long as a seat holds the place, the mark keeps the generation that the
+/// seat has last found in it. So a name, which has that generation, belongs to one job for good: once the job has ended
+/// the place's mark never has that generation again, and a wake by the name does nothing.
 pub fn names_are_of_one_job()
     ensures generation { (shards : ℕ) (b : Board) → IsLawful shards b → (place : ℕ) → place < 4096 * shards
         → generation_at place b ≡ min last_generation (ends_at place b.views) }
@@ -142,8 +144,8 @@ pub fn workers_are_one()
 
 fn may_be_shared<T: Send + Sync>() {}
 
-/// Kernel threads may share an executor, a seat may be sent to another thread, and several threads may look at one
-/// seat.
+/// Kernel threads may share an executor, a seat may be sent to another thread, and several threads may have a shared
+/// reference to one seat.
 pub fn executors_cross_threads() {
     may_be_shared::<Executor>();
     may_be_shared::<ExecSeat>();

@@ -1,4 +1,4 @@
-//! The index of each atomic word of an executor, and the value with which each word begins.
+//! The index of each atomic word in an executor's table, and the word's first value.
 ghost use Rattle.std.specs.Prelude.{◌≡◌, ℕ, ◌+◌, ◌*◌, ◌/◌, ◌%◌, ◌^◌, ◌<◌, ◌≤◌, IfOk, vec_len, slice_index};
 ghost use Rattle.arachne_exec.specs.Layout.{summary_at, ready_at, free_at, mark_at, others, name_of, worker_of};
 ghost use Rattle.arachne_exec.specs.First.{AreFirstWords, first_word};
@@ -111,7 +111,7 @@ pub(crate) fn first_words(alloc: Global, blocks: usize) -> Result<Vec<u64>, Allo
     Ok(words)
 }
 
-/// Returns, for each place of this many blocks, a slot (the field for a job's number) without a job.
+/// Returns the field for a job's number, with no job in it, for each place of `blocks` blocks.
 pub(crate) fn empty_slots(alloc: Global, blocks: usize) -> Result<Vec<u64>, AllocError>
     requires { blocks ≤ 16384 }
     ensures { IfOk result (λ slots. (vec_len slots ≡ 64 * blocks) × ((i : ℕ) → slice_index slots.items i ≡ 0)) }

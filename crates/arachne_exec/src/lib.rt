@@ -1,9 +1,16 @@
-//! The core of an executor, on atomic words: where each job is, which thread has it in hand, and which worker to wake.
+//! The core of an executor, on atomic words: which jobs are ready, which thread holds each job that runs, and which
+//! worker to wake.
 //!
-//! A job stands at a *place*. A *block* has 64 places, and a *ready word* with a bit for each place whose job is ready.
-//! A *shard* has 64 blocks, and a *summary word* with a bit for each block that may have ready jobs. After it has made
-//! a job ready, a call must still set the block's bit in the summary word, and then look at the idle word for a worker
-//! to wake. Until it has done so, its seat *owes* the bit or the look.
+//! A job is at a *place* from its spawn to its end. A place's *mark* is an atomic word: the number of jobs that have
+//! ended there (the *generation*), and whether the job is blocked or was woken. Place and generation are the job's
+//! *name*. A *block* has 64 places, and a *ready word* with a bit for each place whose job is ready. A *shard* has 64
+//! blocks, and a *summary word* with a bit for each block that may have ready jobs. The *idle word* has a bit for each
+//! worker that sleeps or is about to.
+//!
+//! A *seat* is one thread's right to call the executor. A seat *holds* a job from the call that takes it until a call
+//! puts it back or ends it, and no other thread can take it meanwhile; these calls concern its newest job, the one that
+//! it got last. After it has made a job ready, a call must still set the block's bit in the summary word, and then read
+//! the idle word for a worker to wake. Until it has done so, its seat *owes* that.
 #![tactic(auto)]
 
 mod answers;

@@ -1,4 +1,4 @@
-//! The next action of a worker, and the condition under which it may park.
+//! Finds a worker's next job, or lets the worker park if it has none.
 ghost use Rattle.std.specs.Prelude.{◌≡◌, ℕ, ◌+◌, ◌*◌, ◌<◌, IsTrue, IsFalse, IfSome, IfNone};
 ghost use Rattle.std.specs.Int.{bit_at};
 ghost use Rattle.arachne_exec.specs.Layout.{numbers_at};
@@ -54,7 +54,7 @@ impl Executor {
         self.clear_idle(&mut seat.at, worker);
     }
 
-    /// Sets the worker's idle bit. Returns true if the worker's summary words are then all empty. If one isn't empty,
+    /// Sets the worker's idle bit. Returns true if the worker's summary words are then all empty. If one of them isn't,
     /// clears the idle bit again, and returns false.
     fn lie_down(&self, seat: &mut SeatInCall, worker: usize) -> bool
         requires own { seat.old.table ≡ self.now.table }
@@ -87,8 +87,8 @@ impl Executor {
         self.lie_down(&mut seat.at, worker)
     }
 
-    /// Takes the first ready job of a shard, from the place on at which the seat's search begins. Clears in the shard's
-    /// summary word the bits of blocks that have no ready job.
+    /// Takes the first ready job of a shard, from the place on at which the seat's search begins. Clears the bits of
+    /// blocks that have no ready job in the shard's summary word.
     fn take_in_shard(&self, seat: &mut ExecSeat, shard: usize) -> Option<HeldJob>
         requires own { seat.old.table ≡ self.now.table }
         requires shard { shard < self.now.shards }

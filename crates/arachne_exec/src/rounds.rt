@@ -1,9 +1,9 @@
-//! The shards of a worker, in the order in which a search looks at them.
+//! Iterates over the shards of a worker in the order of a search for ready jobs.
 ghost use Rattle.std.specs.Prelude.{◌≡◌, ℕ, ◌+◌, ◌*◌, ◌/◌, ◌<◌, ◌≤◌, IfSome, IfNone};
 
 use crate::turns::{SearchTurn, shard_in_turn};
 
-/// The shards of a worker that a search has not looked at yet, in their order: from the shard at which the search
+/// The shards of a worker that a search for ready jobs has still to visit, in order: from the shard at which the search
 /// begins, round to the shard before that.
 #[derive(Drop)]
 pub(crate) struct Round {
@@ -17,7 +17,7 @@ pub(crate) struct Round {
 }
 
 impl Round {
-    /// Returns a search of all of a worker's shards, which are `count`.
+    /// Returns a search of all `count` shards of a worker.
     #[inline(always)]
     pub(crate) fn of(turn: &SearchTurn, worker: usize, count: usize) -> Round
         requires { worker + 64 * count ≤ 512 }
@@ -34,7 +34,7 @@ impl Round {
         }
     }
 
-    /// Returns the next shard in which the search must look, or `None` after the last.
+    /// Returns the next shard to search, or `None` after the last.
     #[inline(always)]
     pub(crate) fn next(&mut self) -> Option<usize>
         ensures same { (self.new.worker ≡ self.old.worker) × (self.new.count ≡ self.old.count) × (self.new.first ≡ self.old.first) }

@@ -5,8 +5,8 @@ use arachne_weights::Weight;
 use atomic_table::Seat;
 use std::marker::Model;
 
-/// A seat while a call runs. Contracts see the seat's table, its weight, what the seat knows, and the slots that the
-/// seat has in hand.
+/// A seat while a call runs. Contracts see the seat's table, its weight, what the seat has recorded, and the places
+/// that it holds with the job numbers stored there.
 #[derive(Drop)]
 pub(crate) struct SeatInCall {
     pub(crate) seat: Seat<u64, View>,
@@ -23,12 +23,12 @@ impl Model for SeatInCall {
     ghost invariant = { λ s. IsLive s.seat.me };
 }
 
-/// A thread's right to call an executor, with the jobs that it has in hand.
+/// A thread's right to call an executor, and the jobs that the thread has taken.
 ///
 /// A seat is used by one thread at a time, and only with the executor that it came from. If a seat is dropped, its
-/// weight is lost, so that no seat can have the whole weight any more, and the jobs in its hand are lost too. Contracts
-/// see the seat's executor, its part of the whole weight, what it has and knows, and the place at which its next `take`
-/// begins.
+/// weight is lost, so that no seat can have the whole weight any more, and the jobs that it holds are lost too.
+/// Contracts see the seat's executor, its part of the whole weight, what it holds and has recorded, and the index at
+/// which its next `take` begins.
 #[derive(Drop)]
 pub struct ExecSeat {
     pub(crate) at: SeatInCall,

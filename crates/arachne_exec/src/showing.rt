@@ -1,5 +1,5 @@
-//! Shows that a job is ready: sets its bit in the block's ready word, and the block's bit in the summary word, and
-//! checks whether a sleeping worker must be woken.
+//! Makes a job ready: sets its bit in the block's ready word and the block's bit in the summary word, and checks if a
+//! sleeping worker must be woken.
 ghost use Rattle.std.specs.Prelude.{◌≡◌, ◌≢◌, ℕ, ◌+◌, ◌*◌, ◌/◌, ◌<◌};
 ghost use Rattle.atomic_table.specs.Table.{rest};
 ghost use Rattle.arachne_exec.specs.Board.{IsLast};
@@ -12,9 +12,8 @@ use crate::seat::SeatInCall;
 use crate::sleepers::Hidden;
 
 impl Executor {
-    /// Looks at the idle word, as the call must after it has set the first bit of a summary word, and clears the idle
-    /// bit of the shard's worker if it is set. Returns true if this call cleared the idle bit: then the caller must
-    /// unpark the worker.
+    /// Clears the idle bit of the shard's worker if it is set, as a call must after it has set the first bit of a
+    /// summary word. Returns true if this call cleared the idle bit: then the caller must unpark the worker.
     pub(crate) fn pay(&self, seat: &mut SeatInCall, shard: usize) -> bool
         requires own { seat.old.table ≡ self.now.table }
         requires owed { seat.old.known.owes ≡ shard + 1 }
@@ -43,7 +42,7 @@ impl Executor {
         self.pay(seat, block / 64)
     }
 
-    /// Makes the job at `place` ready, which must be the place that the seat took last of those it has in hand. Returns
+    /// Makes the job at `place` ready, which must be the job that the seat took last of those that it holds. Returns
     /// true if the caller must unpark the worker of that place.
     pub(crate) fn publish(&self, seat: &mut SeatInCall, place: usize) -> bool
         requires own { seat.old.table ≡ self.now.table }
@@ -58,8 +57,8 @@ impl Executor {
         self.show(seat, place / 64)
     }
 
-    /// Makes the new job at the seat's newest place ready. Returns true if the caller must unpark the worker of that
-    /// place.
+    /// Makes a new job ready, at the place that the seat has just claimed. Returns true if the caller must unpark the
+    /// worker of that place.
     pub(crate) fn publish_new(&self, seat: &mut SeatInCall, place: usize, job: u64) -> bool
         requires own { seat.old.table ≡ self.now.table }
         requires place { place < 4096 * self.now.shards }

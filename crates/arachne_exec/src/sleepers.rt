@@ -1,4 +1,5 @@
-//! One function for each kind of step on the summary words, the idle word and the worker numbers.
+//! One function for each atomic operation on the summary words, on the idle word and on the word of unused worker
+//! numbers.
 ghost use Rattle.std.specs.Prelude.{◌≡◌, ◌≢◌, ℕ, ◌+◌, ◌*◌, ◌/◌, ◌%◌, ◌<◌, IsTrue, IsFalse};
 ghost use Rattle.std.specs.Int.{bit_at};
 ghost use Rattle.arachne_exec.specs.Layout.{numbers_at, summary_at, worker_of};
@@ -29,7 +30,7 @@ impl Hidden {
 }
 
 impl Executor {
-    /// Returns true if the bit of the block is set in the summary word. If true, the call needn't set that bit.
+    /// Returns true if the bit of the block is set in the summary word. If it is, the call needn't set the bit.
     pub(crate) fn finds_shown(&self, seat: &mut SeatInCall, block: usize) -> bool
         requires own { seat.old.table ≡ self.now.table }
         requires block { block < 64 * self.now.shards }
@@ -43,8 +44,8 @@ impl Executor {
         found >> (block % 64) as u32 & 1 == 1
     }
 
-    /// Sets the bit of the block in the summary word. Returns true if the bit is the word's first: then the call must
-    /// look at the idle word.
+    /// Sets the bit of the block in the summary word. Returns true if the word was 0 before: then the call must read
+    /// the idle word.
     pub(crate) fn put_shown(&self, seat: &mut SeatInCall, block: usize) -> bool
         requires own { seat.old.table ≡ self.now.table }
         requires block { block < 64 * self.now.shards }
@@ -75,7 +76,8 @@ impl Executor {
         Hidden { block }
     }
 
-    /// Returns true if the block has no ready job. If true, the call needn't set the block's bit in the summary word.
+    /// Returns true if the block has no ready job. If it has none, the call needn't set the block's bit in the summary
+    /// word.
     pub(crate) fn has_none(&self, seat: &mut SeatInCall, block: usize) -> bool
         requires own { seat.old.table ≡ self.now.table }
         requires block { block < 64 * self.now.shards }
@@ -135,7 +137,7 @@ impl Executor {
         shared.fetch_and::<Rise>(&mut seat.seat, IDLE, all_but(worker));
     }
 
-    /// Looks at the worker's next summary word. Returns true if the word is empty.
+    /// Reads the worker's next summary word. Returns true if the word is 0.
     pub(crate) fn sees_none(&self, seat: &mut SeatInCall, worker: usize, next: usize) -> bool
         requires own { seat.old.table ≡ self.now.table }
         requires worker { (seat.old.known.worker ≡ worker + 1) × (worker + 64 * next < self.now.shards) }

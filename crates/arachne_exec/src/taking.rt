@@ -1,4 +1,4 @@
-//! Takes several ready jobs of a block into a seat's hand by one step.
+//! Takes several ready jobs of a block by one atomic operation.
 ghost use Rattle.std.specs.Prelude.{◌≡◌, ℕ, ◌*◌, ◌<◌};
 ghost use Rattle.std.specs.Int.RustNames.{bit_and};
 ghost use Rattle.arachne_exec.specs.Layout.{PicksLowest};
@@ -34,9 +34,8 @@ fn lowest(word: u64, most: u32) -> u64
 }
 
 impl Executor {
-    /// Tries once to take up to `most` (at least one) ready jobs of a block into the seat's hand, in one step. Returns
-    /// the places of the jobs that were taken, a bit for each. The job of the lowest place is the newest in the seat's
-    /// hand.
+    /// Tries once to take up to `most` (at least one) ready jobs of a block, by one atomic operation. Returns the
+    /// places of the jobs that were taken, a bit for each. The job at the lowest place counts as the one taken last.
     pub fn take_many(&self, seat: &mut ExecSeat, block: usize, most: u32) -> u64
         requires own { seat.old.table ≡ self.now.table }
         requires block { block < 64 * self.now.shards }
@@ -53,8 +52,8 @@ impl Executor {
         self.take_bits(&mut seat.at, block, pick)
     }
 
-    /// Prepares the newest job in hand to run: uses up a wake that has come since the job became ready. Returns the
-    /// job's name and number.
+    /// Prepares the newest job that the seat holds to be run: clears the record of a wake that has come since the job
+    /// became ready. Returns the job's name and number.
     pub fn start(&self, seat: &mut ExecSeat, place: usize) -> HeldJob
         requires own { seat.old.table ≡ self.now.table }
         requires place { place < 4096 * self.now.shards }

@@ -57,7 +57,8 @@ pub(crate) fn shard_in_turn(first: usize, index: usize, count: usize) -> usize
     }
 }
 
-/// The blocks of a shard that a search has not looked at yet, a bit for each, and the index at which the search began.
+/// The blocks of a shard that a search has still to visit, a bit for each, and the index of the block at which the
+/// search began.
 #[derive(Drop)]
 pub(crate) struct Unsearched {
     blocks: u64,
@@ -76,14 +77,14 @@ impl Unsearched {
         Some(first_from(self.blocks, self.from))
     }
 
-    /// Lets the search go on behind a block that had no ready job, so that its bit was cleared.
+    /// Goes on to the next block, behind one that had no ready job and whose bit was cleared.
     pub(crate) fn pass(&mut self, hidden: Hidden)
         ensures { self.new ≡ record self.old { blocks = bit_and self.old.blocks (others (hidden.block % 64)) } }
     {
         self.blocks &= all_but(hidden.block() % 64);
     }
 
-    /// Returns true if there is another block behind the index, before the search is back at its beginning.
+    /// Returns true if the search has another block to visit behind this index, before it is back at its beginning.
     fn has_more(&self, index: usize) -> bool
         requires { index < 64 }
         ensures { IsTrue result ↔ HasMoreBehind self.now index }
@@ -93,7 +94,7 @@ impl Unsearched {
 }
 
 /// A job that was taken, and whether its block had another ready place behind it. The value can't be dropped, and gives
-/// the job only to a call that notes where the next search begins.
+/// the job only to a call that records where the next search begins.
 pub(crate) struct TakenJob {
     job: HeldJob,
     more: bool,
@@ -140,7 +141,7 @@ pub(crate) struct First {
 }
 
 impl First {
-    /// Returns the index. The caller must begin its search there now.
+    /// Returns the index, at which the caller must begin its search.
     #[inline(always)]
     pub(crate) fn begun(self) -> usize
         ensures { result ≡ self.index }
@@ -189,8 +190,8 @@ impl SearchTurn {
         SearchTurn { place: 0 }
     }
 
-    /// Returns the turn after a job was taken at `place`. `in_block` and `in_shard` are true if the block, and the
-    /// shard, had another ready place behind it.
+    /// Returns where the next search begins, after a job was taken at `place`. `in_block` and `in_shard` are true if
+    /// the block, and the shard, had another ready place behind it.
     pub(crate) fn behind(place: usize, in_block: bool, in_shard: bool) -> SearchTurn
         requires { place < 1048576 }
         ensures in_block { in_block ≡ true → result.place ≡ place + 1 }
@@ -217,7 +218,7 @@ impl SearchTurn {
         if first < count { first } else { 0 }
     }
 
-    /// Returns a search of the blocks that the shard shows, which begins at the block whose turn it is.
+    /// Returns a search of the blocks with a bit in `shown`. It begins behind the block in which the last search ended.
     pub(crate) fn unsearched(&self, shard: usize, shown: u64) -> Unsearched
         ensures blocks { result.blocks ≡ shown }
         ensures turn { self.now.place / 4096 ≡ shard → result.from ≡ self.now.place / 64 % 64 }

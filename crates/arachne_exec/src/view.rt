@@ -1,9 +1,8 @@
-//! The view that the table's rule (its invariant) has of a seat. These types are only for proofs: no value of them is
-//! made.
+//! The part of a seat that the table's invariant speaks of. These types are only for proofs: no value of them is made.
 use arachne_weights::Token;
 use std::collections::LinkedList;
 
-/// A change of a worker's sleep by a step. The number is the worker's.
+/// A change of a worker's idle bit. The number is the worker's.
 pub enum SleepDeed {
     /// The worker's seat has set the worker's idle bit, which was clear.
     LayDown(u64),
@@ -15,14 +14,15 @@ pub enum SleepDeed {
     Roused(u64),
 }
 
-/// The things that a seat has, and the things that it knows it has done. Each of the lists has its newest entry first.
+/// The record of a seat: the jobs that it holds, and what was done through it. Each of the lists has its newest entry
+/// first.
 pub struct Notes {
-    /// The places in the seat's hand, each with its job.
+    /// The places that the seat holds, each with its job's number.
     pub hand: LinkedList<(u64, u64)>,
-    /// The jobs that were spawned through the seat, and those that have ended in its hand, each with its place.
+    /// The jobs that were spawned through the seat, and those that it has ended, each with its place.
     pub spawned: LinkedList<(u64, u64)>,
     pub ended: LinkedList<(u64, u64)>,
-    /// The places whose jobs the seat has marked as woken, and those at which it has used up such a mark.
+    /// The places at which the seat has recorded a wake, and those at which it has cleared such a record.
     pub woken: LinkedList<u64>,
     pub heard: LinkedList<u64>,
     /// The places that the seat has blocked or retired, and those that it has found blocked and taken.
@@ -30,9 +30,9 @@ pub struct Notes {
     pub unblocked: LinkedList<u64>,
     /// The places that the seat has freed.
     pub freed: LinkedList<u64>,
-    /// The number of times that the seat has made a job in its hand ready.
+    /// The number of times that the seat has made a job that it held ready.
     pub rested: u64,
-    /// The seat's changes of workers' sleeps.
+    /// The seat's changes of workers' idle bits.
     pub sleeps: LinkedList<SleepDeed>,
     /// The numbers that the seat has found in words or put there, each with its word.
     pub looks: LinkedList<(usize, u64)>,
@@ -40,7 +40,7 @@ pub struct Notes {
     pub unspawned: u64,
     /// One more than the block whose bit in the summary word the seat must still set; 0 if there is none.
     pub unshown: u64,
-    /// One more than the shard for whose worker the seat must still look at the idle word; 0 if there is none.
+    /// One more than the shard for whose worker the seat must still read the idle word; 0 if there is none.
     pub owes: u64,
     /// One more than the number of the worker that the seat is; 0 if it is none.
     pub worker: u64,
@@ -51,5 +51,5 @@ pub struct Notes {
     pub splits: u64,
 }
 
-/// The view that the table's rule (its invariant) has of a seat.
+/// The part of a seat that the table's invariant speaks of, with its weight.
 pub type View = Token<Notes>;

@@ -1,4 +1,4 @@
-//! Wakes a job by its name: a blocked job becomes ready, and any other job keeps a mark that it was woken.
+//! Wakes a job by its name: a blocked job becomes ready; for any other job, its mark records the wake.
 ghost use Rattle.std.specs.Prelude.{◌≡◌, ◌≢◌, ◌⊎◌, ℕ, ◌+◌, ◌*◌, ◌/◌, ◌%◌, ◌^◌, ◌<◌, ◌≤◌, ◌∷◌};
 ghost use Rattle.arachne_exec.specs.Layout.{mark_at, last_generation};
 ghost use Rattle.arachne_exec.specs.Calls.{HasWoken, HasWokenHere, HandsWoken, KeepsHand, IsFound};
@@ -8,7 +8,7 @@ use crate::executor::Executor;
 use crate::layout::{LAST_GENERATION, mark_word, place_of};
 use crate::seat::{ExecSeat, SeatInCall};
 
-/// The result of `rouse`. If the result is `Held`, the seat has the job's place in hand.
+/// The result of `rouse`. If the result is `Held`, the seat holds the job's place.
 enum RouseResult {
     Held(usize),
     Marked,
@@ -18,7 +18,7 @@ enum RouseResult {
 }
 
 impl Executor {
-    /// Wakes the job of a generation at a place. If the job is blocked, the seat gets it into its hand.
+    /// Wakes the job of a generation at a place. If the job is blocked, the seat takes it.
     fn rouse(&self, seat: &mut SeatInCall, place: usize, generation: u64) -> RouseResult
         requires own { seat.old.table ≡ self.now.table }
         requires calm { seat.old.known.unshown ≡ 0 }
@@ -66,7 +66,7 @@ impl Executor {
         }
     }
 
-    /// Wakes the job of a name like `wake`, but the seat gets a job that was blocked into its hand, so that nobody else
+    /// Wakes the job of a name like `wake`, but takes a job that was blocked, so that the seat holds it and nobody else
     /// can take it.
     pub fn wake_here(&self, seat: &mut ExecSeat, name: u64) -> WokenHere
         requires own { seat.old.table ≡ self.now.table }

@@ -1,5 +1,5 @@
-//! One function for each kind of step on a place's words. The contract of each function says what the seat has and
-//! knows after the step.
+//! One function for each atomic operation on the words of a place: its free bit, its ready bit and its mark. The
+//! contract of each function says what the seat holds and records then.
 ghost use Rattle.std.specs.Prelude.{◌≡◌, ◌≢◌, ℕ, ◌+◌, ◌-◌, ◌*◌, ◌/◌, ◌%◌, ◌^◌, ◌<◌, ◌≤◌, ◌∷◌, IsTrue, IsFalse};
 ghost use Rattle.std.specs.Int.{bit_at};
 ghost use Rattle.atomic_table.specs.Table.{rest};
@@ -18,7 +18,7 @@ use crate::steps::{
 };
 
 impl Executor {
-    /// Loads a word. Returns the number in it, which the seat notes.
+    /// Loads a word. Returns the number in it, which the seat records.
     pub(crate) fn look(&self, seat: &mut SeatInCall, word: usize) -> u64
         requires own { seat.old.table ≡ self.now.table }
         requires inside { word < words_of (64 * self.now.shards) }
@@ -29,7 +29,7 @@ impl Executor {
         self.table.shared.load::<LookAtWord>(&mut seat.seat, word)
     }
 
-    /// Exchanges the number that is stored for the seat's newest place for `new`. Returns the number that was stored
+    /// Stores `new` as the job number of the newest place that the seat holds. Returns the number that was stored
     /// before.
     pub(crate) fn lay(&self, seat: &mut SeatInCall, place: usize, new: u64) -> u64
         requires own { seat.old.table ≡ self.now.table }
@@ -41,7 +41,7 @@ impl Executor {
         self.table.shared.exchange(&mut seat.seat, place, new)
     }
 
-    /// Clears the ready bit of a place. Returns true if the bit was set: then the place is in the seat's hand.
+    /// Clears the ready bit of a place. Returns true if the bit was set: then the place is held by the seat.
     pub(crate) fn take_bit(&self, seat: &mut SeatInCall, place: usize) -> bool
         requires own { seat.old.table ≡ self.now.table }
         requires place { place < 4096 * self.now.shards }
@@ -59,8 +59,8 @@ impl Executor {
         found >> index as u32 & 1 == 1
     }
 
-    /// Clears the ready bits of several places of a block. Returns the bits that were set. Their places are then in the
-    /// seat's hand, the lowest place as the newest.
+    /// Clears the ready bits of several places of a block. Returns the bits that were set. The seat then holds their
+    /// places, the lowest as the newest.
     pub(crate) fn take_bits(&self, seat: &mut SeatInCall, block: usize, pick: u64) -> u64
         requires own { seat.old.table ≡ self.now.table }
         requires block { block < 64 * self.now.shards }
@@ -76,8 +76,8 @@ impl Executor {
         found & pick
     }
 
-    /// Clears the free bit of a place. Returns true if the bit was set: then the place is in the seat's hand, and the
-    /// call must spawn a job there.
+    /// Clears the free bit of a place. Returns true if the bit was set: then the seat holds the place, and the call
+    /// must spawn a job there.
     pub(crate) fn claim_bit(&self, seat: &mut SeatInCall, place: usize) -> bool
         requires own { seat.old.table ≡ self.now.table }
         requires place { place < 4096 * self.now.shards }
@@ -96,7 +96,7 @@ impl Executor {
         found >> index as u32 & 1 == 1
     }
 
-    /// Frees the seat's newest place, whose job has ended.
+    /// Frees the newest place that the seat holds, whose job has ended.
     pub(crate) fn put_free(&self, seat: &mut SeatInCall, place: usize)
         requires own { seat.old.table ≡ self.now.table }
         requires place { place < 4096 * self.now.shards }
@@ -139,7 +139,7 @@ impl Executor {
         shared.fetch_or::<PutSpawned>(&mut seat.seat, ready_word(place / 64), bit(place % 64)) == 0
     }
 
-    /// Begins the new job at the seat's newest place, which stays in the seat's hand. Returns the mark of the place.
+    /// Begins a new job at the newest place that the seat holds, and keeps holding the place. Returns the place's mark.
     pub(crate) fn begin(&self, seat: &mut SeatInCall, place: usize, job: u64) -> u64
         requires own { seat.old.table ≡ self.now.table }
         requires place { place < 4096 * self.now.shards }
@@ -153,8 +153,8 @@ impl Executor {
             .load::<Begin>(&mut seat.seat, mark_word(place))
     }
 
-    /// Blocks the job at the seat's newest place if the place's mark is `old`, which must record no wake. Returns true
-    /// if the mark was `old`.
+    /// Blocks the job at the newest place that the seat holds if the place's mark is `old`, which must record no wake.
+    /// Returns true if the mark was `old`.
     pub(crate) fn put_blocked(&self, seat: &mut SeatInCall, place: usize, old: u64) -> bool
         requires own { seat.old.table ≡ self.now.table }
         requires place { place < 4096 * self.now.shards }
@@ -174,7 +174,7 @@ impl Executor {
         found == old
     }
 
-    /// Clears the record of a wake in the mark of the seat's newest place.
+    /// Clears the record of a wake in the mark of the newest place that the seat holds.
     pub(crate) fn hear(&self, seat: &mut SeatInCall, place: usize)
         requires own { seat.old.table ≡ self.now.table }
         requires place { place < 4096 * self.now.shards }
@@ -186,7 +186,8 @@ impl Executor {
         shared.fetch_and::<Hear>(&mut seat.seat, mark_word(place), u64::MAX - 3);
     }
 
-    /// Ends the job at the seat's newest place. The place's mark gets this generation, and records no wake.
+    /// Ends the job at the newest place that the seat holds. The place's mark gets this generation, and records no
+    /// wake.
     pub(crate) fn renew(&self, seat: &mut SeatInCall, place: usize, generation: u64)
         requires own { seat.old.table ≡ self.now.table }
         requires place { place < 4096 * self.now.shards }
@@ -199,7 +200,7 @@ impl Executor {
         shared.swap::<Renew>(&mut seat.seat, mark_word(place), 4 * generation);
     }
 
-    /// Blocks the seat's newest place for ever: its job has ended, and no other job comes there.
+    /// Blocks the newest place that the seat holds for ever: its job has ended, and no other job comes there.
     pub(crate) fn retire(&self, seat: &mut SeatInCall, place: usize)
         requires own { seat.old.table ≡ self.now.table }
         requires place { place < 4096 * self.now.shards }
@@ -212,7 +213,7 @@ impl Executor {
         shared.swap::<RetirePlace>(&mut seat.seat, mark_word(place), 4 * LAST_GENERATION + 2);
     }
 
-    /// Takes a blocked job's place into the seat's hand if its mark is `old`, which must be that of a blocked job.
+    /// Takes the blocked job of a place for the seat if the place's mark is `old`, which must be that of a blocked job.
     /// Returns true if the mark was `old`.
     pub(crate) fn wake_mark(&self, seat: &mut SeatInCall, place: usize, old: u64) -> bool
         requires own { seat.old.table ≡ self.now.table }

@@ -40,7 +40,7 @@ pub(crate) const LEFT: u32 = 11;
 /// No place of the block is free.
 pub(crate) const FULL: u32 = 12;
 
-/// The job is in the handle's hand: run it.
+/// The job is held by the handle: run it.
 pub(crate) const RUN: u32 = 13;
 
 /// The worker has set its idle bit, and then found the summary words of its shards empty: sleep until you are unparked.

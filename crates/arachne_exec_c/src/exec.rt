@@ -77,9 +77,9 @@ pub extern "C" fn arachne_exec_split(
 
 /// Joins the seat of `other` into that of `exec`, so that `other` holds nothing.
 ///
-/// Returns DONE, or REFUSED if one of the handles holds nothing, or if `other` has a job in hand or is a worker. Both
-/// handles must be of one executor, which is not checked. If they are of two executors, the executor of `other` can't
-/// be ended any more, and the end of the executor of `exec` may return too few jobs.
+/// Returns DONE, or REFUSED if one of the handles holds nothing, or if `other` holds a job or is a worker. Both handles
+/// must be of one executor, which is not checked. If they are of two executors, the executor of `other` can't be ended
+/// any more, and the end of the executor of `exec` may return too few jobs.
 #[unsafe(no_mangle)]
 pub extern "C" fn arachne_exec_join(
     alloc: Global,
@@ -108,9 +108,9 @@ pub extern "C" fn arachne_exec_join(
 ///
 /// The jobs that are left were spawned and have not ended; jobs of number 0 are not written. A number that several jobs
 /// have is written once for each of these jobs. Returns DONE with the count of jobs written; REFUSED if the handle
-/// holds nothing or has a job in hand, or if not all other handles were joined into this one; NO_MEMORY. Returns
-/// REFUSED also if `left` has less room than 4,096 jobs for each shard. Unless the code is DONE, the count is 0, and
-/// the executor and `left` are unchanged.
+/// holds nothing or holds a job, or if not all other handles were joined into this one; NO_MEMORY. Returns REFUSED also
+/// if `left` has less room than 4,096 jobs for each shard. Unless the code is DONE, the count is 0, and the executor
+/// and `left` are unchanged.
 #[unsafe(no_mangle)]
 pub extern "C" fn arachne_exec_end(
     alloc: Global,
@@ -189,8 +189,8 @@ pub extern "C" fn arachne_exec_spawn(
 
 /// Tries once to put a job at a free place of a block and into the handle's hand, so that nobody else can take the job.
 ///
-/// Returns RUN with the job's name and number; FULL; LOST; REFUSED if the handle holds nothing or has a job in hand, or
-/// if there is no such block.
+/// Returns RUN with the job's name and number; FULL; LOST; REFUSED if the handle holds nothing or holds a job, or if
+/// there is no such block.
 #[unsafe(no_mangle)]
 pub extern "C" fn arachne_exec_spawn_here(
     alloc: Global,
@@ -241,8 +241,8 @@ pub extern "C" fn arachne_exec_ready(alloc: Global, exec: &mut ArachneExec, bloc
 
 /// Tries once to take a ready job of a block into the handle's hand. Any worker may look after the block.
 ///
-/// Returns RUN with the job's name and number; AGAIN; REFUSED if the handle holds nothing or has a job in hand, or if
-/// there is no such block.
+/// Returns RUN with the job's name and number; AGAIN; REFUSED if the handle holds nothing or holds a job, or if there
+/// is no such block.
 #[unsafe(no_mangle)]
 pub extern "C" fn arachne_exec_take(
     alloc: Global,
@@ -259,13 +259,13 @@ pub extern "C" fn arachne_exec_take(
     told
 }
 
-/// Takes up to `most` ready jobs of one block (64 places) in one atomic step. They are then in the handle's hand:
-/// nobody else can run them. A `most` of 0 counts as 1.
+/// Takes up to `most` ready jobs of one block (64 places) in one atomic step. They are then held by the handle: nobody
+/// else can run them. A `most` of 0 counts as 1.
 ///
 /// Returns the places of the jobs that were taken, a bit for each of the block's 64 places. The job at the lowest place
 /// is the newest: calls on the job in hand concern this job, and then the job at the next place, once the newest rests
 /// or has ended. `arachne_exec_start` returns the newest job's name and number. Returns 0 if no job was taken, if the
-/// handle is empty or has a job in hand already, or if there is no such block.
+/// handle is empty or holds a job already, or if there is no such block.
 #[unsafe(no_mangle)]
 pub extern "C" fn arachne_exec_take_many(
     alloc: Global,
@@ -286,7 +286,7 @@ pub extern "C" fn arachne_exec_take_many(
 /// Begins to run the newest job in hand, of several that were taken at once: uses up a wake that has come since the
 /// take.
 ///
-/// Returns RUN with the job's name and number, or REFUSED if the handle has no job in hand.
+/// Returns RUN with the job's name and number, or REFUSED if the handle holds no job.
 #[unsafe(no_mangle)]
 pub extern "C" fn arachne_exec_start(alloc: Global, exec: &mut ArachneExec) -> ArachneExecTold
     ensures { IsToldOf (λ place. Tells (Starts place) told_job) (code_alone refused) (held exec.old) (held exec.new) result }
@@ -346,7 +346,7 @@ pub extern "C" fn arachne_exec_wake_up(alloc: Global, exec: &mut ArachneExec) ->
     told
 }
 
-/// Makes the job in hand ready. Returns READY with the worker to unpark, or REFUSED if the handle has no job in hand.
+/// Makes the job in hand ready. Returns READY with the worker to unpark, or REFUSED if the handle holds no job.
 #[unsafe(no_mangle)]
 pub extern "C" fn arachne_exec_rest_ready(alloc: Global, exec: &mut ArachneExec) -> ArachneExecTold
     ensures { IsToldOf (λ place. Tells (Yields place) (λ unpark. code_unparking 16 (whom unpark place))) (code_alone refused) (held exec.old) (held exec.new) result }
@@ -362,7 +362,7 @@ pub extern "C" fn arachne_exec_rest_ready(alloc: Global, exec: &mut ArachneExec)
 /// Lets the job in hand wait for a wake.
 ///
 /// Returns BLOCKED; READY with the worker to unpark, if a wake has come that no take or start has used up; REFUSED if
-/// the handle has no job in hand.
+/// the handle holds no job.
 #[unsafe(no_mangle)]
 pub extern "C" fn arachne_exec_rest_blocked(
     alloc: Global,
@@ -378,7 +378,7 @@ pub extern "C" fn arachne_exec_rest_blocked(
     told
 }
 
-/// Ends the job in hand, and frees its place. Returns DONE, or REFUSED if the handle has no job in hand.
+/// Ends the job in hand, and frees its place. Returns DONE, or REFUSED if the handle holds no job.
 ///
 /// A place is used for at most 2^44 - 1 jobs.
 #[unsafe(no_mangle)]
@@ -416,7 +416,7 @@ pub extern "C" fn arachne_exec_wake(
 /// Tries once to wake the job of a name, and to take the job into the handle's hand if it was blocked.
 ///
 /// Returns RUN with the job's name and number; MARKED; ALREADY_MARKED; GONE; LOST; REFUSED if the handle holds nothing
-/// or has a job in hand.
+/// or holds a job.
 #[unsafe(no_mangle)]
 pub extern "C" fn arachne_exec_wake_here(
     alloc: Global,

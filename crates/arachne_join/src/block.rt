@@ -1,4 +1,4 @@
-//! A block of cells: one table, with a word and a slot for each cell.
+//! A block of 64 reusable cells in one table, with an atomic word and a slot (the field for the value) for each cell.
 ghost use Rattle.std.specs.Prelude.{◌≡◌, ◌+◌, ◌<◌, [], replicate, IfOk, IfSome, IfNone};
 ghost use Rattle.arachne_join.specs.declared.part.Part.TheVariants.{Rest};
 ghost use Rattle.arachne_join.specs.declared.part.Content.TheVariants.{Empty};
@@ -16,12 +16,12 @@ use std::snapshot::Snapshot;
 /// The number of cells of a block.
 pub(crate) const CELLS: usize = 64;
 
-/// A seat at a block of cells: the right to use some of them.
+/// A thread's right to use some cells of a block.
 pub(crate) type BlockSeat<T, K> = Seat<Content<T, K>, PartView<K>>;
 
 /// Cells that share one table.
 ///
-/// Each cell has a word, which flips whenever a value is left in the cell, and a slot, which is a field for the value.
+/// Each cell has an atomic word, which `leave` flips, and a slot, which is the field for the value.
 #[derive(Drop)]
 pub(crate) struct CellBlock<T: Fits<K>, K> {
     table: Table<Content<T, K>, PartView<K>, (), BlockRule, Global>,
@@ -50,7 +50,7 @@ fn empty_slots<T: Drop, K>(alloc: Global) -> Result<Vec<Content<T, K>>, AllocErr
 }
 
 impl<T: Fits<K> + Drop, K> CellBlock<T, K> {
-    /// Creates a block, and the seat that has all its cells.
+    /// Creates a block, and the seat that owns all its cells.
     pub(crate) fn new(alloc: Global) -> Result<(CellBlock<T, K>, BlockSeat<T, K>), AllocError>
         ensures size { IfOk result (λ made. made.0.slots ≡ CELLS) }
         ensures seat { IfOk result (λ made. (made.1.table_id ≡ made.0) × (made.1.me ≡ (part_view Rest 0 0, []))) }
@@ -64,7 +64,7 @@ impl<T: Fits<K> + Drop, K> CellBlock<T, K> {
 }
 
 impl<T: Fits<K>, K> CellBlock<T, K> {
-    /// Moves the first cell that the seat `all` has to a seat of its own, which is returned.
+    /// Takes the first cell away from the seat `all`. Returns a seat that owns this cell only.
     pub(crate) fn give_first(&self, all: &mut BlockSeat<T, K>, index: usize) -> BlockSeat<T, K>
         requires own { all.old.table_id ≡ self.now }
         requires inside { index < self.now.slots }
@@ -81,7 +81,7 @@ impl<T: Fits<K>, K> CellBlock<T, K> {
 
     /// Opens an unused cell for a key.
     ///
-    /// The seat becomes the sending end. Returns a new seat, the receiving end.
+    /// Returns a new seat, which may only receive; `seat` may only send from then on.
     pub(crate) fn open(&self, seat: &mut BlockSeat<T, K>, index: usize, key: &K) -> BlockSeat<T, K>
         requires own { seat.old.table_id ≡ self.now }
         requires inside { index < self.now.slots }
@@ -99,8 +99,7 @@ impl<T: Fits<K>, K> CellBlock<T, K> {
         shared.split_seat::<PartEnds>(seat)
     }
 
-    /// Leaves the value in the sending end's cell: stores it in the cell's slot (the field for the value), and flips
-    /// the word.
+    /// Sends the value: stores it in the cell's slot (the field for the value), and flips the cell's word to `full`.
     pub(crate) fn leave(&self, seat: BlockSeat<T, K>, index: usize, full: u64, value: T)
         requires own { seat.table_id ≡ self.now }
         requires inside { index < self.now.slots }
@@ -116,9 +115,9 @@ impl<T: Fits<K>, K> CellBlock<T, K> {
         shared.store::<LeaveThere>(&mut seat, index, full);
     }
 
-    /// Returns the value that was left in the receiving end's cell, if there is one now.
+    /// Returns the value that the sender has left in the cell, if its word is `full` now.
     ///
-    /// If there is a value, the seat then has both ends of the cell, which is unused.
+    /// If there is a value, the cell is unused again, and the seat owns the whole cell.
     pub(crate) fn fetch(&self, seat: &mut BlockSeat<T, K>, index: usize, full: u64) -> Option<T>
         requires own { seat.old.table_id ≡ self.now }
         requires inside { index < self.now.slots }

@@ -1,4 +1,5 @@
-//! The rule of a block's table (its invariant), and what a seat knows after each step. These types are only for proofs.
+//! The invariant of a block's table, and the effect of each atomic operation on a seat. These types are only for
+//! proofs.
 use crate::fits::Fits;
 use crate::part::{Content, PartView};
 use atomic_table::{Play, Split, TableRule};
@@ -13,7 +14,7 @@ impl<T: Fits<K>, K> TableRule<Content<T, K>, PartView<K>, ()> for BlockRule {
     ghost first = { λ _. all_cells };
 }
 
-/// The step by which the seat that has all cells gives the first of them to a new seat.
+/// The split by which the seat that owns all cells gives the first of them to a new seat.
 pub(crate) struct GiveFirst;
 
 impl<K> Split<PartView<K>> for GiveFirst {
@@ -24,7 +25,7 @@ impl<K> Split<PartView<K>> for GiveFirst {
     ghost right = { the_first };
 }
 
-/// The step by which a seat takes the slot of a cell that was never used.
+/// The operation by which a seat takes the empty slot of a cell that was never used.
 pub(crate) struct Start;
 
 impl<T, K> Play<Content<T, K>, PartView<K>> for Start {
@@ -41,7 +42,7 @@ impl<T, K> Play<Content<T, K>, PartView<K>> for Open {
     ghost then = { λ _ m n w. Opens m w };
 }
 
-/// The step that separates the two ends of an opened cell.
+/// The split of a seat that owns an opened cell into the sending end and the receiving end.
 pub(crate) struct PartEnds;
 
 impl<K> Split<PartView<K>> for PartEnds {

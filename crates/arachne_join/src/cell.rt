@@ -1,4 +1,4 @@
-//! A cell for one value, and its calls: the child leaves the value, and the parent fetches it.
+//! A one-shot channel with a table of its own: the child leaves one value, and the parent fetches it.
 ghost use Rattle.std.specs.Prelude.{◌≡◌, ◌≢◌, [], ◌∷◌, IfOk, IfErr};
 ghost use Rattle.arachne_join.specs.States.{state_of};
 ghost use Rattle.arachne_join.specs.Steps.{Sends, Looks, HoldsValue};
@@ -37,8 +37,8 @@ impl<T: Fits<K>, K> Model for JoinCell<T, K> {
     ghost invariant = { λ c. (c.table.shared.table_id.words ≡ 1) × (c.table.shared.table_id.slots ≡ 1) };
 }
 
-/// The error of a call that got no value: the state in which the call saw the cell, and a receipt that shows this
-/// state.
+/// The error of a call that got no value: the state that the call found the cell in, and a receipt that proves it to
+/// contracts.
 #[derive(Drop)]
 pub struct Missed<K> {
     pub state: CellState,
@@ -96,8 +96,8 @@ impl<T: Fits<K>, K> JoinCell<T, K> {
         self.table.shared.exchange(seat, 0, None).unwrap()
     }
 
-    /// Returns the state of the cell at one moment of the call, and a receipt that shows this state. A value in the
-    /// cell stays in it.
+    /// Returns the state of the cell at one moment of the call, and a receipt that proves it to contracts. A value in
+    /// the cell stays there.
     pub fn seen(&self) -> (CellState, Receipt<K>)
         ensures { result.1 ≡ shown self.now.table (Saw result.0) }
     {
@@ -105,7 +105,7 @@ impl<T: Fits<K>, K> JoinCell<T, K> {
         (CellState::of(found), Receipt::of(seat))
     }
 
-    /// Returns the value that was left in the cell, if it is there now.
+    /// Takes the value out of the cell, if the child has left it there and nobody has fetched it.
     pub fn fetch(&self) -> Result<(T, Receipt<K>), Missed<K>>
         ensures value { IfOk result (λ got. T.fits self.now.key got.0) }
         ensures fetched { IfOk result (λ got. got.1 ≡ shown self.now.table Fetched) }
@@ -125,7 +125,8 @@ impl<T: Fits<K>, K> JoinCell<T, K> {
         Ok((value, Receipt::of(seat)))
     }
 
-    /// Returns the value that was put back into the cell, if it is there now, with the cell's sending end.
+    /// Takes the value out of the cell that was put back into it, if it is there now. Returns it with the cell's
+    /// sending end.
     pub fn take_back(&self) -> Result<(T, SendingEnd<T, K>), Missed<K>>
         ensures value { IfOk result (λ got. T.may_wait self.now.key got.0) }
         ensures sending_end { IfOk result (λ got. got.1 ≡ self.now.table) }
@@ -144,8 +145,8 @@ impl<T: Fits<K>, K> JoinCell<T, K> {
         Ok((value, SendingEnd::of(seat)))
     }
 
-    /// Does nothing. The contract is a law: at most one call has fetched from a cell. So if one receipt of the cell is
-    /// the receipt of a fetch, no other is.
+    /// Does nothing. The contract is a law: at most one call has fetched from a cell. So of all receipts of a cell at
+    /// most one is that of a fetch.
     pub fn fetched_once(&self, fetched: Receipt<K>, other: Receipt<K>)
         requires fetched { fetched ≡ shown self.now.table Fetched }
         requires other { other.table ≡ self.now.table }

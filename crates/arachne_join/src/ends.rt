@@ -1,4 +1,5 @@
-//! A cell of a block between its uses, and the two ends of one use.
+//! Reusable cells: opening one gives a `Sender` and a `Receiver` for one value, and receiving the value gives the cell
+//! back.
 ghost use Rattle.std.specs.Prelude.{◌≡◌, ◌<◌, IfOk, IfErr};
 ghost use Rattle.std.specs.Arc.{arc_value};
 ghost use Rattle.arachne_join.specs.BlockSteps.{IsUnusedAt};
@@ -10,7 +11,7 @@ use std::marker::Model;
 use std::snapshot::Snapshot;
 use std::sync::Arc;
 
-/// A cell that nobody uses. The cell is opened for one value at a time, and is returned when that value is fetched.
+/// A cell that nobody uses. `open` uses it for one value, and `Receiver::fetch` returns it with that value.
 ///
 /// Contracts see the identity of the cell, and how many values have passed through it.
 #[derive(Drop)]
@@ -33,7 +34,7 @@ impl<T: Fits<K>, K> Model for UnusedCell<T, K> {
     ghost invariant = { λ c. IsPlaced (arc_value c.block) c.seat.table_id c.index c.full c.seat.me.0.passed × IsUnusedAt c.index c.seat.me.0.passed c.seat.me };
 }
 
-/// The end of an opened cell by which a value is left. If the sender is dropped, the cell stays empty for ever.
+/// The sending end of an opened cell. If the sender is dropped, the cell stays empty for ever.
 ///
 /// Contracts see the opening: the cell, how many values had passed through the cell before, and the key.
 #[derive(Drop)]
@@ -57,9 +58,9 @@ impl<T: Fits<K>, K> Model for Sender<T, K> {
     ghost invariant = { λ s. IsPlaced (arc_value s.block) s.seat.table_id s.index s.full s.seat.me.0.passed × IsSendingAt s.index s.seat.me.0.passed s.key.value s.seat.me };
 }
 
-/// The end of an opened cell by which the value is fetched. If the receiver is dropped, the cell is not used again.
+/// The receiving end of an opened cell. If the receiver is dropped, the cell is not used again.
 ///
-/// Contracts see the opening, as for a `Sender`, and how many times the receiver looked and found no value.
+/// Contracts see the opening, as for a `Sender`, and how often `fetch` found no value.
 #[derive(Drop)]
 pub struct Receiver<T: Fits<K>, K> {
     block: Arc<CellBlock<T, K>>,
@@ -141,7 +142,7 @@ impl<T: Fits<K> + Drop, K> UnusedCell<T, K> {
 }
 
 impl<T: Fits<K> + Drop, K> Sender<T, K> {
-    /// Leaves the value, which the receiver then fetches. Takes no memory and waits for nobody.
+    /// Sends the value to the receiver. Takes no memory and waits for nobody.
     pub fn leave(self, value: T)
         requires { T.fits self.key value }
     {
@@ -159,7 +160,7 @@ impl<T: Fits<K> + Drop, K> Sender<T, K> {
 impl<T: Fits<K> + Drop, K> Receiver<T, K> {
     /// Returns the value, if it was left in the cell, and the cell, which can be opened again.
     ///
-    /// If one load shows that no value was left, returns the receiver as an error.
+    /// Reads the cell's word once. If there is no value yet, returns the receiver as an error.
     pub fn fetch(self) -> Result<(T, UnusedCell<T, K>), Receiver<T, K>>
         ensures value { IfOk result (λ got. T.fits self.opening.key got.0) }
         ensures cell { IfOk result (λ got. got.1 ≡ used_once_more self.opening.cell) }

@@ -2,11 +2,12 @@
 //! fetches the value once.
 //!
 //! A cell is made for a key, which only proofs know. Only a value that fits the key can be left in the cell, so each
-//! fetched value fits the key. The cell is one word and one slot of an `atomic_table`: no call locks, waits, or
-//! compares the value with the key.
+//! fetched value fits the key. The cell is one atomic word and one *slot* (a field that one thread at a time may
+//! access) of an `atomic_table`: no call locks, waits, or compares the value with the key.
 //!
-//! A `JoinCell` has a table of its own. An `UnusedCell` shares a table with the other cells of its block, and is used
-//! again.
+//! A `JoinCell` has a table of its own. An `UnusedCell` shares a table with the other cells of its block, and is opened
+//! for one value after another. A *seat* is a thread's right to change the table; callers see it only as the ends of a
+//! cell.
 #![tactic(auto)]
 
 mod block;

@@ -1,32 +1,32 @@
-//! The part of a block's cells that a seat has, and the content of a cell's slot.
+//! The cells of a block that a seat owns or may use, and the content of a cell's slot.
 use std::snapshot::Snapshot;
 
-/// The part of a block's cells that a seat has. These types are only for proofs: no value of them is made.
+/// The cells of a block that a seat owns or may use. These types are only for proofs: no value of them is made.
 pub enum Part<K> {
     /// All cells from an index on, which no other seat has had before.
     Rest,
-    /// A cell that was never used, whose slot is in the table.
+    /// One cell that was never used. Its slot (the field for the value) is in the table.
     Fresh,
-    /// A cell between two uses.
+    /// One cell, unused since its last value was fetched.
     Unused,
-    /// A cell for this key, before its ends are separated.
+    /// One cell that was opened for this key, before it is split into a sender and a receiver.
     Opened(K),
-    /// The end that leaves the value, with the slot.
+    /// The sending end of a cell that was opened for this key, with the cell's empty slot.
     Sending(K),
-    /// The end that fetches the value, and how many times it looked and found no value.
+    /// The receiving end of a cell that was opened for this key, and how often it found no value.
     Receiving(K, u64),
-    /// Nothing: the seat's rights are used up.
+    /// Nothing: the seat has given its cell to another seat.
     Spent,
 }
 
-/// A seat's part, the index of its cell, and the number of values that have passed through that cell.
+/// The cells of a seat, the index of its cell, and the number of values that have passed through that cell.
 pub struct PartView<K> {
     pub part: Part<K>,
     pub index: usize,
     pub passed: u64,
 }
 
-/// The content beside a cell's word: nothing, the key of the next value, or a value.
+/// The content of a cell's slot: nothing, the key of the next value, or a value.
 #[derive(Drop)]
 pub enum Content<T, K> {
     /// No value.

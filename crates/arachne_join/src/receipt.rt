@@ -1,4 +1,4 @@
-//! The evidence that a call on a cell returns, for contracts, of its effect and of what it saw.
+//! Values without bytes that tell contracts what a call on a cell did, or which state it found.
 ghost use Rattle.std.specs.Prelude.{◌≡◌, []};
 ghost use Rattle.arachne_join.specs.Views.{shown};
 
@@ -6,7 +6,7 @@ use crate::view::View;
 use atomic_table::{Badge, Seat};
 use std::marker::Model;
 
-/// Shows what a call did or saw at a cell.
+/// Records for contracts what one call did at a cell, or which state it found the cell in.
 ///
 /// A receipt has no bytes, and may be dropped.
 #[derive(Drop)]

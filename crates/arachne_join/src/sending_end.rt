@@ -1,4 +1,4 @@
-//! The end of a cell at which its owner leaves the value, once.
+//! The sending end of a cell, which is used up when its owner leaves the value.
 ghost use Rattle.std.specs.Prelude.{◌≡◌};
 ghost use Rattle.arachne_join.specs.Steps.{Sends};
 ghost use Rattle.arachne_join.specs.Views.{shown};
@@ -13,7 +13,8 @@ use crate::view::View;
 use atomic_table::Seat;
 use std::marker::Model;
 
-/// The only sending end of a cell, with the cell's slot. To leave a value in the cell uses up the sending end.
+/// The only sending end of a cell, with the cell's empty slot (the field for the value). Leaving a value uses up the
+/// sending end.
 ///
 /// A sending end has no bytes. If the sending end is dropped, the cell stays empty. Contracts see the identity of its
 /// cell's table.
@@ -43,7 +44,7 @@ impl<T, K> SendingEnd<T, K> {
 }
 
 impl<T: Fits<K>, K> SendingEnd<T, K> {
-    /// Leaves the value, which a fetch then returns. Takes no memory and waits for nobody.
+    /// Leaves the value in the cell, from which one `fetch` can take it. Takes no memory and waits for nobody.
     pub fn leave(self, cell: &JoinCell<T, K>, value: T) -> Receipt<K>
         requires cell { self ≡ cell.now.table }
         requires value { T.fits cell.now.key value }
@@ -55,7 +56,7 @@ impl<T: Fits<K>, K> SendingEnd<T, K> {
         Receipt::of(seat)
     }
 
-    /// Puts back a value that may only wait in the cell, and can't be fetched from it.
+    /// Puts a value into the cell that only `take_back` can take, and no `fetch`.
     ///
     /// Whoever takes the value back gets the sending end with it. Takes no memory and waits for nobody.
     pub fn put_back(self, cell: &JoinCell<T, K>, waiting: T) -> Receipt<K>

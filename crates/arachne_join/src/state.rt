@@ -1,4 +1,4 @@
-//! The four states of a cell, and the words that stand for them.
+//! The four states of a cell, and the number in the cell's atomic word for each.
 ghost use Rattle.std.specs.Prelude.{◌≡◌};
 ghost use Rattle.arachne_join.specs.States.{state_of};
 

@@ -1,4 +1,4 @@
-//! The rule of a cell's table (its invariant), and what a seat knows after each step. These types are only for proofs.
+//! The invariant of a cell's table, and the effect of each atomic operation on a seat. These types are only for proofs.
 ghost use Rattle.std.specs.Prelude.{◌≡◌, ◌≢◌, Some, [], ◌∷◌};
 ghost use Rattle.arachne_join.specs.declared.view.Role.TheVariants.{Maker, Sender, Left, PutBack, Fetched, Never};
 ghost use Rattle.arachne_join.specs.Views.{view, blank};
@@ -17,7 +17,7 @@ impl<T: Fits<K>, K> TableRule<Option<T>, View<K>, K> for CellRule {
     ghost first = { λ key. view (Some key) Maker };
 }
 
-/// The step by which the first seat takes the slot (the field for the value), and becomes the sending end.
+/// The operation by which the first seat takes the slot (the field for the value), and becomes the sending end.
 pub(crate) struct TakeSlot;
 
 impl<T, K> Play<Option<T>, View<K>> for TakeSlot {
@@ -36,7 +36,7 @@ impl<T, K> Play<Option<T>, View<K>> for PutBack {
     ghost then = { λ _ m n w. Becomes PutBack w };
 }
 
-/// The step by which a new seat reads the cell's word.
+/// The load of the cell's word by a new seat.
 pub(crate) struct Look;
 
 impl<T, K> Play<Option<T>, View<K>> for Look {
@@ -55,14 +55,14 @@ impl<T: Fits<K>, K> Play<Option<T>, View<K>> for TakeBack {
     ghost then = { λ _ m n w. Takes T.may_wait 3 Sender m n w };
 }
 
-/// The step by which the seat that fetched puts the empty slot back into the cell.
+/// The operation by which the seat that fetched the value puts the empty slot back into the table.
 pub(crate) struct ReturnSlot;
 
 impl<T, K> Play<Option<T>, View<K>> for ReturnSlot {
     ghost then = { λ _ m n w. Becomes Fetched w };
 }
 
-/// The step that joins another seat into the seat that fetched the value.
+/// The join of another seat into the seat that fetched the value.
 pub(crate) struct JoinFetched;
 
 impl<K> Join<View<K>> for JoinFetched {

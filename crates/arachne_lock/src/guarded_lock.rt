@@ -1,4 +1,4 @@
-//! The state of a lock for hosts, as it is stored while no seat has it in hand.
+//! The state of a lock for hosts, as it is stored while no seat holds it.
 ghost use Rattle.std.specs.Prelude.{◌≡◌, [], Option};
 ghost use Rattle.arachne_lock.specs.State.{unused, IsAsked, IsFreed, IsWithdrawn, IsChecked};
 ghost use Rattle.arachne_lock.specs.Deeds.{events_of, asked_events, freed_events, withdrawn_events};

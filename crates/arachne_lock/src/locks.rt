@@ -21,13 +21,13 @@ use std::marker::Model;
 /// The number of words of two cache lines, which processors fetch together.
 const SPACING: usize = 16;
 
-/// The value of a lock's guard word (its atomic word) while no seat has the lock's state in hand.
+/// The value of a lock's guard word (its atomic word) while no seat holds the lock's state.
 const HOME: u64 = 0;
 
 /// The value of a lock's guard word while a seat has the lock's state.
 const TAKEN: u64 = 1;
 
-/// A set of locks. Each lock has a guard word: an atomic word that is 1 while a seat has the lock's state in hand, and
+/// A set of locks. Each lock has a guard word: an atomic word that is 1 while a seat holds the lock's state, and
 /// otherwise 0.
 ///
 /// Each kernel thread uses all of the locks through one seat of its own. A task is identified by a number that the host

@@ -1,9 +1,9 @@
-//! The numbers by which a table knows its seats. In the code such a number is a *carrier*.
+//! Gives each seat (a thread's right to call the table) a number. In the code this number is the seat's *carrier*.
 ghost use Rattle.std.specs.Prelude.{◌≡◌, ◌≢◌, ◌+◌, ◌<◌};
 
 use std::marker::Model;
 
-/// Gives each seat its number, the carrier. Contracts see the last number that was given.
+/// The counter that gives each seat its number. Contracts see the last number that was given.
 #[derive(Debug, Drop)]
 pub struct Carriers {
     last: u32,
@@ -18,14 +18,14 @@ impl Model for Carriers {
 }
 
 impl Carriers {
-    /// Creates the numbers of seats; the first number, 0, is in use already.
+    /// Creates the counter, at 0: the number of the first seat.
     pub fn new() -> Self
         ensures { result ≡ 0 }
     {
         Carriers { last: 0 }
     }
 
-    /// Returns a number (carrier) for a seat that is split off the seat with the number `other`.
+    /// Returns a number for a seat that is split off the seat with the number `other`.
     ///
     /// The result is greater than all numbers before, until the numbers of 32 bits are used up. After that the numbers
     /// begin at 0 again, and still two seats that are split from each other have different numbers.

@@ -1,4 +1,4 @@
-//! The state of a table (a World), and the values of the threads that no seat has in hand.
+//! The state of a table, with the values of the threads that no seat holds.
 ghost use Rattle.std.specs.Prelude.{◌≡◌, ◌<◌, ◌≤◌, ◌*◌, ℕ, IfOk, OnOk, OnErr, IfErr, IfSome, IfNone, None, Some, replicate, slice_set, Ok, Err, IsTrue, ◌↔◌};
 ghost use Rattle.arachne_core.specs.ContextTable.{world_of, Answers};
 ghost use Rattle.arachne_core.specs.World.{Allowed, HoldsIn, IsContext};
@@ -16,10 +16,9 @@ use arachne_core::{
 use std::alloc::{AllocError, Global};
 use std::marker::Model;
 
-/// The state of a table (a World), and for each context the value of its thread, if no seat has that thread in hand.
+/// The state of a table (a `World`), and for each context the value of its thread, if no seat holds that thread.
 ///
-/// The value of a thread is *at home* while the table has the value. A seat that has taken a thread has the thread's
-/// value.
+/// The value of a thread is *at home* while it is stored here. Whoever takes the thread gets the value with it.
 #[derive(Drop)]
 pub struct Homes<T: Tagged> {
     world: World,
@@ -59,7 +58,7 @@ impl<T: Tagged + Drop> Homes<T> {
         Ok(Homes { world, values })
     }
 
-    /// Returns the World, the state of the table.
+    /// Returns the state of the table without the threads' values.
     pub fn world(&self) -> &World
         ensures world { result.now ≡ self.now.table }
         ensures owned_once { OwnedOnce (world_of self.now.table) }
@@ -102,7 +101,7 @@ impl<T: Tagged + Drop> Homes<T> {
         self.world.reserve(posts, retires)
     }
 
-    /// Applies an event that leaves the threads' values in place.
+    /// Applies an event that moves no thread's value.
     pub fn apply(&mut self, event: Event) -> Result<(), NotApplied>
         requires { LeavesValues event }
         ensures answer { Answers event self.old.table self.new.table result }
@@ -168,7 +167,7 @@ impl<T: Tagged + Drop> Homes<T> {
         }
     }
 
-    /// Returns whether the seat `carrier` has the thread of this id and tag in hand.
+    /// Returns whether the seat `carrier` holds the thread of this id and tag.
     pub fn holds(&self, carrier: u32, id: ThreadId, tag: u64) -> bool
         ensures { IsTrue result ↔ HoldsThread (world_of self.now.table) carrier id tag }
     {
@@ -185,7 +184,7 @@ impl<T: Tagged + Drop> Homes<T> {
         }
     }
 
-    /// Puts back a thread that the seat `carrier` has in hand.
+    /// Puts back a thread that the seat `carrier` holds.
     pub fn put_back(&mut self, carrier: u32, id: ThreadId, value: T, rest: Rest)
         requires { HoldsThread (world_of self.old.table) carrier id (T.tag_of value) }
         ensures made { Answers (event.Rest carrier id.context rest) self.old.table self.new.table (Ok tt) }
@@ -205,7 +204,7 @@ impl<T: Tagged + Drop> Homes<T> {
 }
 
 impl<T: Tagged + Drop> Homes<T> {
-    /// Returns the threads that no seat has in hand, in the order of the contexts.
+    /// Returns the threads that no seat holds, in the order of the contexts.
     ///
     /// If memory is refused, the table is returned unchanged.
     pub fn close(self, alloc: Global) -> Result<Vec<(ThreadId, T)>, Self>

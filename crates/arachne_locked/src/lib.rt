@@ -1,8 +1,9 @@
 //! A context table whose whole state is behind one lock: simpler and slower than the table on atomic words.
 //!
-//! The lock protects the state of the table (a World) and the values of the threads that no seat has in hand. Each call
-//! applies its events to the state, one after another, so between any two calls no two threads share a context or a
-//! place. Tests compare the table on atomic words with this one.
+//! The lock protects the state of the table (a `World` of `arachne_core`) and the values of the threads that no *seat*
+//! holds. A seat is one kernel thread's right to call the table; it holds a thread from the take until the thread is
+//! put back or ended. Each call applies its events to the state, one after another, so between any two calls no two
+//! threads share a context or a place. Tests compare the table on atomic words with this one.
 #![tactic(auto)]
 
 mod carriers;

@@ -1,4 +1,4 @@
-//! The calls on a table behind a lock: each takes the lock, makes its step on the state, and frees the lock.
+//! The calls on a table behind a lock: each takes the lock, changes the state, and frees the lock.
 ghost use Rattle.std.specs.Prelude.{◌≡◌, ◌<◌, ◌≤◌, ◌*◌, ◌≢◌, ℕ, IsTrue, IfOk, IfErr};
 ghost use Rattle.arachne_core.specs.Occupancy.{IsOccupancyWord};
 ghost use Rattle.arachne_contexts.specs.Words.{HasNoPlace, ShowsFull, ShowsNoRoom};

@@ -1,10 +1,10 @@
-//! The number of places of each core, kept where a call can read it without the lock.
+//! The number of places of each core, outside the lock.
 ghost use Rattle.std.specs.Prelude.{◌≡◌, ◌≤◌};
 
 use arachne_core::SLOTS;
 use std::marker::Model;
 
-/// The number of places of each core, known outside the lock.
+/// The number of places of each core, which calls can read without the lock.
 ///
 /// Contracts see a `Slots` as a number.
 #[derive(Clone, Copy, Debug)]

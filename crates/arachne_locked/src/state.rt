@@ -1,4 +1,5 @@
-//! The data behind the lock of a locked table: the place of each thread, and the values of threads in no seat's hand.
+//! The data behind the lock of a locked table: the place of each thread, and the values of the threads that no seat
+//! holds.
 ghost use Rattle.std.specs.Prelude.{◌≡◌, ◌≢◌, ◌*◌, ◌<◌, ◌≤◌, ◌↔◌, ℕ, [], ◌∷◌, Ok, IfOk, OnOk, OnErr, IfErr, IfSome, IfNone, MatchBool, IsTrue, true, false, Some, slice_set};
 ghost use Rattle.arachne_core.specs.ContextTable.{world_of, ShowsCore, IsVacantFrom, Answers, marked};
 ghost use Rattle.arachne_core.specs.World.{Allowed, IsContext, IsPlace, HasClaimed, HoldsIn, IsAtRest, id_of};
@@ -21,8 +22,8 @@ use arachne_core::{
 use std::alloc::{AllocError, Global};
 use std::marker::Model;
 
-/// The state of a table (a World) and the values of the threads that no seat has in hand, with memory reserved for each
-/// post and each end of a thread that may follow.
+/// The state of a table (a `World`) and the values of the threads that no seat holds. Memory is reserved for each post
+/// that may follow, and for the end of each thread.
 #[derive(Drop)]
 pub struct TableState<T: Tagged> {
     homes: Homes<T>,
@@ -73,7 +74,7 @@ impl<T: Tagged + Drop> TableState<T> {
     }
 
     /// Does nothing. The contract is a law: no two threads share a context or a place, and the table has a thread's
-    /// value exactly if no seat has the thread in hand.
+    /// value exactly if no seat holds the thread.
     pub fn is_owned_once(&self)
         ensures owned_once { OwnedOnce (world_of self.now.table) }
         ensures home { IsHome T.tag_of (world_of self.now.table) self.now.values }
@@ -133,7 +134,7 @@ impl<T: Tagged + Drop> TableState<T> {
 
     // ---- claims
 
-    /// Claims a context, after memory is reserved for the thread that may be put there.
+    /// Applies `claim`, after it has reserved memory for the thread that may be put into the context.
     fn claim_context(&mut self, claim: Event) -> Result<(), AllocError>
         requires claim { IsClaim claim }
         requires allowed { Allowed (world_of self.old.table) claim }
@@ -315,7 +316,7 @@ impl<T: Tagged + Drop> TableState<T> {
         Ok(held.value)
     }
 
-    /// Ends the thread of a context that the seat `carrier` has in hand.
+    /// Ends the thread of a context, which the seat `carrier` holds.
     fn end(&mut self, carrier: u32, context: u32)
         requires { HoldsIn (world_of self.old.table) carrier context }
         ensures events { Takes (world_of self.old.table) (ends (world_of self.old.table) carrier context) (world_of self.new.table) }
@@ -406,7 +407,7 @@ impl<T: Tagged + Drop> TableState<T> {
         self.move_to(carrier, from, place, to)
     }
 
-    /// Moves a thread that no seat has in hand, and whose core is not exclusive.
+    /// Moves a thread that no seat holds, and whose core is not exclusive.
     fn move_to(&mut self, carrier: u32, from: u32, place: Place, to: u8) -> Moved
         requires within { IsContext (world_of self.old.table) from }
         requires at { (world_of self.old.table).at from ≡ place }
@@ -433,7 +434,8 @@ impl<T: Tagged + Drop> TableState<T> {
         Moved::Moved
     }
 
-    /// Claims the target, moves the thread to it, and frees the place that the thread left.
+    /// Claims context `target`, moves the thread of context `from` to its place, and frees the place that the thread
+    /// left.
     fn swap(&mut self, carrier: u32, from: u32, target: u32)
         requires { CanMove (world_of self.old.table) from target }
         ensures events { Takes (world_of self.old.table) (event.Claim carrier target ∷ event.Move carrier from target ∷ event.Release carrier target ∷ []) (world_of self.new.table) }
@@ -456,7 +458,7 @@ impl<T: Tagged + Drop> TableState<T> {
 
     // ---- the end
 
-    /// Returns the threads that no seat has in hand, in the order of the contexts.
+    /// Returns the threads that no seat holds, in the order of the contexts.
     ///
     /// If memory is refused, the table is returned unchanged.
     pub fn close(self, alloc: Global) -> Result<Vec<(ThreadId, T)>, Self>

@@ -1,4 +1,5 @@
-//! The claims of a seat, and the handles of the threads that it has in hand, until it spends them.
+//! The places that a seat has claimed and not used yet, and the handles of the threads that it has taken and not put
+//! back.
 
 use arachne_contexts::{Identified, Placed};
 use arachne_core::{Place, ThreadId};
@@ -10,7 +11,7 @@ pub struct LockedClaim {
     pub(crate) place: Place,
 }
 
-/// The handle of a thread that a seat has in hand.
+/// The handle of a thread that a seat has taken and not put back.
 #[derive(Debug, Drop)]
 pub struct LockedHold {
     pub(crate) id: ThreadId,

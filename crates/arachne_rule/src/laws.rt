@@ -1,10 +1,11 @@
-//! The laws of the steps, one for each kind of step. Each is a function with an empty body, whose contract is the law.
+//! One law for each kind of atomic operation (*step*) on the table. Each is a function with an empty body, whose
+//! contract is the law.
 //!
-//! A law is about a *board* (the table's words, its slots, and what each seat knows), which shows a *World* (the state
-//! of the table in the definitions), and about the seat that makes the step. The law says that the step's event is
-//! allowed in that World, and that the board with the one word changed shows the World after that event (`Steps`). So
-//! between any two steps no two threads share a context or a place (`OwnedOnce`). `EachCarried` and the like say to
-//! which seats and contexts a law applies.
+//! A law is about a concrete state (the table's words, its slots, and the record of each seat), about the abstract
+//! state (`World`) that it stands for, and about the seat that makes the step. The law says that the step's event is
+//! allowed in that abstract state, and that the concrete state after the step stands for the abstract state after the
+//! event (`Steps`). So between any two steps no two threads share a context or a place (`OwnedOnce`). `EachCarried` and
+//! the like say to which seats and contexts a law applies.
 ghost use Rattle.std.specs.Prelude.{◌≡◌, ◌≢◌, ℕ, ◌+◌, ◌-◌, ◌^◌, ◌<◌, ◌≤◌, ◌⊎◌, Some, true, false, bit_and, bit_or, []};
 ghost use mathlib.Core.Option as slot;
 ghost use lib.ListN.{get_elem?};
@@ -34,16 +35,16 @@ use arachne_core::SLOTS;
 
 // ---- loads
 
-/// A load of an occupancy word or a mark word by any seat is the event `Still`: it changes nothing in the World (the
-/// table's state).
+/// A load of an occupancy word or a mark word by any seat is the event `Still`: the table's abstract state stays the
+/// same.
 pub fn a_look_is_still<T>()
     ensures { EachNoting T (λ s noting. Steps s event.Still (after_look s noting)) }
 {}
 
-/// If a seat has claimed a context, or has its thread in hand, a load of the word of the context's place finds the
-/// context's number.
+/// If a seat has claimed a context, or holds its thread, a load of the word of the context's place finds the context's
+/// number.
 ///
-/// The context's empty slot is then with the seat, and not in the table.
+/// With this load the seat takes the context's empty slot (the field for the thread's value) out of the table.
 pub fn learning_is_still<T>()
     ensures { EachCarried T (λ s c. c.named ≡ true → c.away ≡ false → IsNamedAtHome s c × Steps s event.Still (after_learning s c)) }
 {}
@@ -51,7 +52,7 @@ pub fn learning_is_still<T>()
 // ---- claims
 
 /// A compare-exchange that adds a free index to the occupancy word of an open core is the event `Claim` of the context
-/// that stands at that index.
+/// at that index.
 pub fn a_claim_is_claim<T>()
     ensures { EachFreePlace T (λ s p. (x : ℕ) × (s.world.at x ≡ p) × Steps s (event.Claim s.seat x) (after_claim s p x)) }
 {}
@@ -81,36 +82,36 @@ pub fn a_take_is_take<T>()
     ensures { EachMarked T mark.Ready (λ s x. (value : T) × HasAtHome s x (Some value) × Steps s (event.Take s.seat x) (after_take s x value)) }
 {}
 
-/// If the seat has a context's thread in hand, a store of the context's number to the word of its place changes nothing
-/// in the World. The context's empty slot is returned to the table.
+/// If the seat holds a context's thread, a store of the context's number to the word of its place leaves the abstract
+/// state as it is. The context's empty slot is returned to the table.
 pub fn keeping_the_name_is_still<T>()
     ensures { EachCarried T (λ s c. c.held ≡ true → Steps s event.Still (after_keeping_name s c)) }
 {}
 
-/// If the seat has a context's thread in hand, a swap of the context's mark word to FREE is the event `Retire`: the
-/// thread ends.
+/// If the seat holds a context's thread, a swap of the context's mark word to FREE is the event `Retire`: the thread
+/// ends.
 ///
 /// The swap puts the next generation into the word, so the generation must not be the last. The place stays claimed.
 pub fn a_retire_is_retire<T>()
     ensures { EachCarried T (λ s c. c.held ≡ true → c.named ≡ true → c.generation < s.world.last → Steps s (event.Retire s.seat c.context) (after_retire s c)) }
 {}
 
-/// If the seat has a context's thread in hand and the generation is the last, a swap of the context's mark word to
-/// SPENT is the event `Retire`.
+/// If the seat holds a context's thread and the generation is the last, a swap of the context's mark word to SPENT is
+/// the event `Retire`.
 pub fn a_last_retire_is_retire<T>()
     ensures { EachCarried T (λ s c. c.held ≡ true → c.generation ≡ s.world.last → Steps s (event.Retire s.seat c.context) (after_last_retire s c)) }
 {}
 
 // ---- rest and wake
 
-/// If the seat has a context's thread in hand, a store of READY to the context's mark word is the event `Rest`, as
-/// ready. With this step the thread's value is returned to the table.
+/// If the seat holds a context's thread, a store of READY to the context's mark word is the event `Rest`, as ready.
+/// With this step the thread's value is returned to the table.
 pub fn resting_ready_is_rest<T>()
     ensures { EachHeld T (λ s c value. Steps s (event.Rest s.seat c.context rest.Ready) (after_rest_ready s c value)) }
 {}
 
-/// A compare-exchange of a context's mark word from HELD to BLOCKED, by the seat that has its thread in hand, is the
-/// event `Rest`, as blocked. With this step the thread's value is returned to the table.
+/// A compare-exchange of a context's mark word from HELD to BLOCKED, by the seat that holds its thread, is the event
+/// `Rest`, as blocked. With this step the thread's value is returned to the table.
 pub fn resting_blocked_is_rest<T>()
     ensures { EachHeld T (λ s c value. (mark_at s c.context).mark ≡ mark.Held → Steps s (event.Rest s.seat c.context rest.Blocked) (after_rest_blocked s c value)) }
 {}
@@ -141,8 +142,7 @@ pub fn an_open_is_open_core<T>()
 
 // ---- a move
 
-/// A compare-exchange that changes only the place in the mark word of a thread that no seat has in hand is the event
-/// `Move`.
+/// A compare-exchange that changes only the place in the mark word of a thread that no seat holds is the event `Move`.
 ///
 /// The new place is that of a context that the seat has claimed on another core, and neither core may be exclusive. The
 /// thread's value stays in the table.
@@ -151,19 +151,19 @@ pub fn a_move_is_move<T>()
 {}
 
 /// After a move, the seat's compare-exchange of a place word from the displaced context's number to another context's
-/// changes nothing in the World.
+/// leaves the abstract state as it is.
 ///
-/// The displaced context is the one that stood at the thread's new place. Any place word and any other context will do.
+/// The displaced context is the one that was at the thread's new place. Any place word and any other context will do.
 pub fn naming_the_target_is_still<T>()
     ensures { EachUnnamed T (λ s p x. Steps s event.Still (after_naming_target s p x)) }
 {}
 
-/// A store of a claimed context's place to its mark word changes nothing in the World.
+/// A store of a claimed context's place to its mark word leaves the abstract state as it is.
 pub fn replacing_is_still<T>()
     ensures { EachCarried T (λ s c. c.held ≡ false → Steps s event.Still (after_replacing s c)) }
 {}
 
-/// A store of a claimed context's number to the word of its place changes nothing in the World.
+/// A store of a claimed context's number to the word of its place leaves the abstract state as it is.
 ///
 /// The context's mark word must already show that place.
 pub fn naming_the_source_is_still<T>()
@@ -172,34 +172,34 @@ pub fn naming_the_source_is_still<T>()
 
 // ---- seats
 
-/// A split of a seat changes nothing in the World.
+/// A split of a seat leaves the table's abstract state as it is.
 pub fn a_split_is_still<T>()
     ensures { EachSeat T (λ s. Steps s event.Still (after_split s)) }
 {}
 
-/// A join of a seat that has no claim and no thread in hand into another seat changes nothing in the World.
+/// A join of a seat that holds no claim and no thread into another seat leaves the table's abstract state as it is.
 pub fn a_join_is_still<T>()
     ensures { EachOtherSeat T (λ s other added o. o.carried ≡ [] → Steps s event.Still (after_join s other added o)) }
 {}
 
 // ---- the rule of a whole table
 
-/// The rule, the invariant of the table, holds for a new table.
+/// The table's invariant holds for a new table.
 pub fn the_rule_holds_at_first<T>()
     ensures { EachFirst T (λ tag_in bits shape words. Holds tag_in bits shape (first_table shape words)) }
 {}
 
-/// If the rule holds, no two threads of the World that the words show share a context or a place, and the history leads
-/// to that World.
+/// In each state that meets the invariant no two threads share a context or a place, and the history of all steps leads
+/// from a new table to that state.
 ///
-/// The events of the history, applied to the World of a new table, give the World that the words show. The steps of the
-/// history, applied to the words of a new table, give the words as they are.
+/// The steps of the history, applied to the words of a new table, give the words as they are. Their events, applied to
+/// the abstract state of a new table, give the abstract state that these words stand for.
 pub fn a_table_shows_a_run<T>()
     ensures { EachTable T (λ t. OwnedOnce t.rule.world × IsReplayed t) }
 {}
 
-/// A step that may come next keeps the rule (the invariant of the table), whatever its kind, if the words after it show
-/// the World after its event.
+/// A step of any kind keeps the table's invariant, if its event is allowed and the words after the step stand for the
+/// abstract state after the event.
 ///
 /// The step is then the newest of the history.
 pub fn a_step_keeps_the_rule<T>()
@@ -214,18 +214,17 @@ pub fn an_occupancy_word_stands_apart()
         → (name_index n p + SPACING ≤ occ_index n core) ⊎ (occ_index n core + SPACING ≤ name_index n p) }
 {}
 
-/// The steps that a seat in use has noted are exactly its own steps.
+/// The steps in a seat's record are exactly its own steps.
 ///
-/// Each noted step is in the history at its index: it found the number that was in its word, and its event was allowed.
+/// Each of them is in the table's history: it found the number that was in its word, and its event was allowed.
 pub fn a_record_is_a_step<T>()
     ensures all { EachKnown T (λ t h k. k.records ≡ records_of h t.rule.history) }
     ensures each { EachKnown T (λ t h k. (at : ℕ) (r : Record) → get_elem? k.records at ≡ slot.some r → IsStepIn t h r) }
 {}
 
-/// Two seats that have the same context (claimed, or its thread in hand), or contexts at the same place, are the same
-/// seat.
+/// No context and no place is claimed or held by two seats.
 ///
-/// So no context and no place belongs to two seats.
+/// If two seats have claimed or hold the same context, or contexts at the same place, they are the same seat.
 pub fn a_context_has_one_carrier<T>()
     ensures context { EachTwoSeats T (λ s j o. (c f : Carried) → IsContext s.world c.context → Carries s.known c → Carries o f → c.context ≡ f.context → s.seat ≡ j) }
     ensures place { EachTwoCarried T (λ s c j f. c.place ≡ f.place → (c.context ≡ f.context) × (s.seat ≡ j)) }
@@ -243,12 +242,13 @@ pub fn a_word_shows_no_index_past_the_places<T>()
     ensures { EachCore T (λ tag_in bits w d b core. IsVacantFrom w.slots (occupancy_of (b.occ core))) }
 {}
 
-/// If a word shows a closed core with no index occupied, the core is drained.
+/// If an occupancy word shows a closed core with no index occupied, the core is closed and empty in the abstract state
+/// too.
 pub fn a_drained_word_shows_a_drained_core<T>()
     ensures { EachCore T (λ tag_in bits w d b core. is_closed (b.occ core) ≡ true → HasNoOccupied w.slots (b.occ core) → IsDrained w core) }
 {}
 
-/// If one seat has the whole weight (no other seat is in use), no claim and no thread in hand, each thread that was put
+/// If one seat has the whole weight (no other seat is in use), no claim, and holds no thread, each thread that was put
 /// into the table has ended, or its value is in a slot of the table.
 pub fn what_was_posted_has_ended_or_is_left<T>()
     ensures { EachWhole T (λ t k slots. IsSettled t.tag_in k (left_from t.bits 0 t.table.words slots)) }

@@ -1,4 +1,5 @@
-//! The order of a table's words: behind the mark words, each core has a block of its own.
+//! The order of a table's words: first the mark words of all contexts, then for each core its occupancy word and place
+//! words.
 use arachne_core::SLOTS;
 
 /// The number of words of two cache lines, which processors fetch together.

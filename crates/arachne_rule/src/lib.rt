@@ -1,8 +1,9 @@
-//! The rule of the context table on atomic words: the invariant between any two steps.
+//! The rule of the context table on atomic words: the invariant that holds between any two atomic operations.
 //!
-//! The words, the slots and what the seats know show a World (the state of the table in the definitions) in which no
-//! two threads share a context or a place. Each kind of step is one event of that World. The steps themselves are made
-//! by `arachne_words`.
+//! The table's atomic words, its slots (the fields with threads' values) and the records of its seats (the rights to
+//! call it) stand for one abstract state, a *World* of `arachne_core`, in which no two threads share a context or a
+//! place. Each atomic operation (*step*) on a word is one event of that abstract state. The operations themselves are
+//! in `arachne_words`.
 #![tactic(auto)]
 
 pub mod laws;

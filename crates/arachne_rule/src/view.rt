@@ -1,32 +1,34 @@
-//! The model of a seat and of a table in the rule. These types are only for proofs: no value of them is made.
+//! The parts of a seat and of a table that the invariant speaks of. These types are only for proofs: no value of them
+//! is made.
 
 use arachne_core::{Place, ThreadId};
 use arachne_weights::Token;
 use std::collections::LinkedList;
 
-/// A context that a seat carries: the seat has claimed the context, or has its thread in hand.
+/// A context that a seat has claimed, or whose thread it holds.
 pub struct Carried {
     pub context: u32,
-    /// The place at which the context stands.
+    /// The place at which the context is.
     pub place: Place,
     /// The place that the context's mark word shows.
     pub shown: Place,
     pub generation: u64,
-    /// True if the seat has the context's thread in hand, false if it has claimed the context.
+    /// True if the seat holds the context's thread, false if it has claimed the context.
     pub held: bool,
-    /// The tag of the thread, if the seat has one in hand.
+    /// The tag of the thread, if the seat holds one.
     pub tag: u64,
     /// True if the context's core is exclusive.
     pub alone: bool,
     /// True if the word of the context's place names the context.
     pub named: bool,
-    /// True if the context's slot is with the seat, and not in the table.
+    /// True if the seat has taken the context's slot (the field for a thread's value) out of the table.
     pub away: bool,
 }
 
-/// The kinds of step on a word of the table.
+/// The kinds of atomic operation on a word of the table.
 ///
-/// Each context has a slot, which is the field for a thread's value. A slot is in the table, or with a seat.
+/// Each context has a slot, which is the field for a thread's value. A slot is in the table, or a seat has taken it
+/// out.
 pub enum Kind {
     /// A load of an occupancy word or of a mark word.
     Look,
@@ -43,36 +45,35 @@ pub enum Kind {
     /// A store of a place word: the place of a taken context names that context, and the context's empty slot goes to
     /// the table.
     KeepName,
-    /// A swap of a mark word: a thread that the seat has in hand has ended.
+    /// A swap of a mark word: a thread that the seat holds has ended.
     Retire,
     /// A subtraction from an occupancy word: an index is free again.
     Release,
-    /// A store of a mark word: a thread that the seat has in hand is put back as ready, and its value goes to the
-    /// table.
+    /// A store of a mark word: a thread that the seat holds is put back as ready, and its value goes to the table.
     RestReady,
-    /// An exchange of a mark word: a thread that the seat has in hand is put back as blocked, and its value goes to the
+    /// An exchange of a mark word: a thread that the seat holds is put back as blocked, and its value goes to the
     /// table.
     RestBlocked,
     /// An exchange of a mark word: a blocked thread becomes ready.
     Wake,
-    /// An exchange of a mark word: a thread that a seat has in hand is marked as woken.
+    /// An exchange of a mark word: a thread that a seat holds is marked as woken.
     MarkWoken,
     /// The closed bit of an occupancy word is set.
     Close,
     /// The closed bit of an occupancy word is cleared.
     Open,
-    /// A thread that no worker has in hand gets another place, by an exchange of its context's mark word (the atomic
-    /// with its state and place).
+    /// A thread that no worker holds gets another place, by an exchange of its context's mark word (the atomic with its
+    /// state and place).
     Move,
-    /// An exchange of a place word: the target of a move names the context that came there.
+    /// An exchange of a place word: the new place of a moved thread names that thread's context.
     NameTarget,
-    /// A store of a mark word: the context whose place a move took shows its new place.
+    /// A store of a mark word: the free context with which a moved thread's context changed places shows its new place.
     Replace,
-    /// A store of a place word: the place that a move left names the context that stands there now.
+    /// A store of a place word: the old place of a moved thread names the context that is there now.
     NameSource,
 }
 
-/// A step on a word: its kind, the word's index, and the numbers in the word before and after it.
+/// One atomic operation on a word: its kind, the word's index, and the numbers in the word before and after it.
 pub struct Record {
     pub kind: Kind,
     pub word: usize,
@@ -80,21 +81,21 @@ pub struct Record {
     pub after: u64,
 }
 
-/// The knowledge of a seat: what it has in hand, and what it has done.
+/// The record of a seat: the contexts that it has claimed or holds, and what it has done.
 pub struct Known {
-    /// The contexts that the seat has claimed, and those whose threads it has in hand.
+    /// The contexts that the seat has claimed, and those whose threads it holds.
     pub carried: LinkedList<Carried>,
     /// The threads that the seat has put into the table, with their tags.
     pub given: LinkedList<(ThreadId, u64)>,
     /// The threads that the seat has ended, with their tags.
     pub ended: LinkedList<(ThreadId, u64)>,
-    /// The steps that the seat has made, the newest first.
+    /// The atomic operations that the seat has made, the newest first.
     pub records: LinkedList<Record>,
 }
 
 pub type View = Token<Known>;
 
-/// The key of a table: its number of cores, the number of places of each, and the first and the last generation.
+/// The shape of a table: its number of cores, the number of places of each, and the first and the last generation.
 pub struct Shape {
     pub cores: u8,
     pub places_per_core: u8,

@@ -1,4 +1,4 @@
-//! The state of a sleep lock, as it is stored while no seat has it in hand.
+//! The state of a sleep lock, as it is stored while no seat holds it.
 ghost use Rattle.std.specs.Prelude.{◌≡◌, [], None};
 ghost use Rattle.arachne_sleep.specs.History.{IsSound};
 ghost use Rattle.arachne_sleep.specs.Calls.{IsAsked, IsFreed, IsChecked, pass_asked};

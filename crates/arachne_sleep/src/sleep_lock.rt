@@ -28,13 +28,13 @@ const WORDS: usize = 32;
 /// The index of the guard word.
 const GUARD: usize = 16;
 
-/// The value of the guard word (the lock's atomic word) while no seat has the lock's state in hand.
+/// The value of the guard word (the lock's atomic word) while no seat holds the lock's state.
 const HOME: u64 = 0;
 
 /// The value of the guard word while a seat has the lock's state.
 const TAKEN: u64 = 1;
 
-/// A sleep lock with a guard word: an atomic word that is 1 while a seat has the lock's state in hand, and otherwise 0.
+/// A sleep lock with a guard word: an atomic word that is 1 while a seat holds the lock's state, and otherwise 0.
 ///
 /// Each kernel thread uses the lock through a seat of its own. `ask`, `free` and `check` try once to set the guard
 /// word. If the guard word is set already, a call returns `Contended`, and nothing has changed. If not, the call does

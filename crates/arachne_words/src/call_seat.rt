@@ -3,9 +3,9 @@ use arachne_rule::View;
 use atomic_table::Seat;
 use std::marker::Model;
 
-/// A seat while a call runs. It may have taken slots (the fields for threads' values) out of the table.
+/// A seat while a call runs. It may have taken slots (the fields with threads' values) out of the table.
 ///
-/// Contracts see the seat's table, its weight, what it knows, and those slots.
+/// Contracts see the seat's table, its weight, its record, and those slots.
 #[derive(Drop)]
 pub(crate) struct CallSeat<T> {
     pub(crate) seat: Seat<Option<T>, View>,

@@ -1,4 +1,4 @@
-//! Claims a free place of a core, or a whole empty core, and gives a claimed place back.
+//! Reserves a free place of a core, or a whole empty core, for a new thread, and gives a reserved place back.
 ghost use Rattle.std.specs.Prelude.{◌≡◌, ◌<◌, true, false, slice_index_or, IfSome, IfNone, IfOk, IfErr};
 ghost use Rattle.arachne_core.specs.Occupancy.{occupancy_word};
 ghost use Rattle.arachne_rule.specs.Layout.{occ_index};
@@ -14,13 +14,13 @@ use crate::table::WordContexts;
 use arachne_contexts::{Claimed, Tagged};
 use arachne_core::{COUNT_ONE, EXCLUSIVE, OccWord, Place, SLOTS};
 
-/// The occupancy word of a core that a single claim has taken as a whole.
+/// The occupancy word of a core that one thread has for itself: exclusive, and only index 0 is taken.
 const WHOLE_CORE: u64 = EXCLUSIVE + COUNT_ONE + 1;
 
 /// Returns the number that a claim adds to its core's occupancy word, and that the release of the claim subtracts
 /// again.
 ///
-/// The number has the index's bit, one in the count, and the exclusive bit if the whole core was claimed.
+/// The number has the index's bit, a one in the field of the count, and the exclusive bit if `alone` is true.
 fn claim_sum(index: u8, alone: bool) -> u64
     requires { index < SLOTS }
     ensures { result ≡ sum_of alone index }
@@ -94,7 +94,7 @@ impl<T: Tagged + Drop> WordContexts<T> {
         }
     }
 
-    /// Tries once to claim a whole core, whose occupancy word was 0.
+    /// Tries once to claim a whole empty core, by an exchange of its occupancy word from 0.
     fn try_claim_alone(&self, seat: &mut CallSeat<T>, core: u8) -> Result<(), u64>
         requires own { seat.old.table ≡ self.now.table }
         requires core { core < self.now.shape.cores }

@@ -1,4 +1,4 @@
-//! The end of a table, with the threads that were put into it and have not ended.
+//! Closes a table, and returns the threads that have not ended.
 ghost use Rattle.std.specs.Prelude.{◌≡◌, IfOk, IfErr};
 ghost use Rattle.arachne_rule.specs.Ending.{IsSettled};
 ghost use Rattle.arachne_contexts.specs.Answers.{IsByContext};

@@ -1,4 +1,4 @@
-//! Ends a thread that a seat has in hand, and frees its place for another.
+//! Ends a thread that a seat holds, and frees its place for another.
 ghost use Rattle.std.specs.Prelude.{◌≡◌, ℕ, ◌<◌};
 ghost use Rattle.arachne_rule.specs.Views.{without};
 ghost use Rattle.arachne_words.specs.Seats.{HasThread};
@@ -13,7 +13,7 @@ use arachne_contexts::{Held, Tagged};
 use arachne_core::{Mark, MarkWord};
 
 impl<T: Tagged + Drop> WordContexts<T> {
-    /// Ends a thread whose context can have another generation. The seat then has the context claimed.
+    /// Ends a thread whose context can have another one. The seat then has a claim of the thread's place.
     fn retire(&self, seat: &mut CallSeat<T>, hold: &WordHold)
         requires own { seat.old.table ≡ self.now.table }
         requires thread { (tag : ℕ) × HasThread self.now seat.old.known hold.now tag }

@@ -1,8 +1,11 @@
 //! The context table on atomic words: each call reads and changes a few words, and takes no lock.
 //!
-//! Each core has an occupancy word, each context a mark word and a slot for its thread's value, and each place a word
-//! that names its context. A seat changes these words by single atomic steps, which neither wait nor allocate. Between
-//! any two steps they show a state of the table in which no context and no place belongs to two threads.
+//! A *context* is the record of one thread. Its *mark word* packs its state, its place and its generation; its *slot*
+//! is a field with the thread's value, empty while a worker runs the thread. Each core has an *occupancy word*, with a
+//! bit for each place that is taken, and each *place* a word with the number of the context there. A *seat* is one
+//! kernel thread's right to call the table; the seat *holds* a thread from the take until the thread is put back or
+//! ended. Calls change the words by single atomic operations, which neither wait nor allocate. Between any two of these
+//! no context and no place belongs to two threads.
 #![tactic(auto)]
 
 mod call_seat;

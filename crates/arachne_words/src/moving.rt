@@ -1,4 +1,4 @@
-//! Moves a thread that no seat has in hand to a claimed place on another core.
+//! Moves a thread that no seat holds to a claimed place on another core.
 ghost use Rattle.std.specs.Prelude.{◌≡◌, ◌≢◌, ℕ, ◌<◌, ◌==◌, if◌then◌else◌, true, false, ◌↔◌, IsTrue, IfSome, IfNone, IfOk, IfErr};
 ghost use Rattle.arachne_core.specs.declared.layout.TheConstants.{CORE_BITS};
 ghost use Rattle.arachne_core.specs.Marked.{mark_word};
@@ -21,7 +21,7 @@ use crate::table::WordContexts;
 use arachne_contexts::{Moved, Tagged};
 use arachne_core::{Mark, MarkWord, Place};
 
-/// Returns whether a mark word (a context's packed state) says that the context stands at the place.
+/// Returns whether a mark word (a context's packed state) says that the context is at the place.
 fn stands_at(seen: MarkWord, place: Place) -> bool
     ensures { IsTrue result ↔ (seen.place ≡ place) }
 {
@@ -29,9 +29,9 @@ fn stands_at(seen: MarkWord, place: Place) -> bool
     at.core == place.core && at.index == place.index
 }
 
-/// Returns the reason why the thread of a mark word can't be moved, if there is a reason.
+/// Returns the reason why the thread that a mark word shows can't be moved, or `None` if it can.
 ///
-/// The reasons are: there is no thread, its core is exclusive, or a seat has the thread in hand.
+/// The reasons are: there is no thread, its core is exclusive, or a seat holds the thread.
 fn obstacle(seen: MarkWord) -> Option<Moved>
     ensures some { IfSome result (IsObstacle seen) }
     ensures none { IfNone result (IsRestMark seen.mark × (seen.alone ≡ false)) }
@@ -45,7 +45,7 @@ fn obstacle(seen: MarkWord) -> Option<Moved>
 }
 
 impl<T: Tagged + Drop> WordContexts<T> {
-    /// Tries once to move a thread that no seat has in hand to a place on another core, at which the seat has claimed a
+    /// Tries once to move a thread that no seat holds to a place on another core, at which the seat has claimed a
     /// context.
     fn try_move(
         &self,
@@ -73,7 +73,7 @@ impl<T: Tagged + Drop> WordContexts<T> {
         Ok(())
     }
 
-    /// Stores the number of a moved context in the word of its new place, unless that word was changed meanwhile.
+    /// Writes the number of a moved context into the word of its new place, unless that word has changed meanwhile.
     fn name_target(
         &self,
         seat: &mut CallSeat<T>,
@@ -92,7 +92,8 @@ impl<T: Tagged + Drop> WordContexts<T> {
         shared.compare_exchange::<NameTarget>(&mut seat.seat, word, replaced as u64, context as u64)
     }
 
-    /// Stores, in the mark word of the context that a move has displaced, that context's new place.
+    /// Writes its new place into the mark word of the free context with which the moved thread's context changes
+    /// places.
     fn replace(&self, seat: &mut CallSeat<T>, context: usize, free: MarkWord)
         requires own { seat.old.table ≡ self.now.table }
         requires claimed { (c : Carried) × IsClaimed self.now seat.old.known c × (context ≡ c.context) × (free ≡ marked_free c) }
@@ -102,7 +103,7 @@ impl<T: Tagged + Drop> WordContexts<T> {
         shared.store::<Replace>(&mut seat.seat, context, free.word());
     }
 
-    /// Stores, in the word of the place `source` that a move left, the number of the context that stands there now.
+    /// Writes into the word of the place `source`, which a move has left, the number of the context that is there now.
     fn name_source(&self, seat: &mut CallSeat<T>, source: Place, context: usize)
         requires own { seat.old.table ≡ self.now.table }
         requires place { IsPlaceIn self.now.shape source }
@@ -114,8 +115,8 @@ impl<T: Tagged + Drop> WordContexts<T> {
         shared.store::<NameSource>(&mut seat.seat, word, context as u64);
     }
 
-    /// Makes the remaining steps of a move, after the exchange of the thread's mark word (the atomic with its state and
-    /// place). Context `replaced`, which stood at the target, stands at the source now.
+    /// Completes a move after the exchange of the thread's mark word (the atomic with its state and place): context
+    /// `replaced`, which was at the target, is at the source now.
     fn move_off(
         &self,
         seat: &mut CallSeat<T>,
@@ -138,7 +139,7 @@ impl<T: Tagged + Drop> WordContexts<T> {
         self.release(seat, source, false);
     }
 
-    /// Moves a thread that no seat has in hand to a place that the seat has claimed on another core.
+    /// Moves a thread that no seat holds to a place that the seat has claimed on another core.
     ///
     /// If the thread's mark word has changed, the place is freed again.
     fn move_to(
@@ -176,8 +177,8 @@ impl<T: Tagged + Drop> WordContexts<T> {
         Moved::Moved
     }
 
-    /// Claims a place on the target core for a thread that no seat had in hand when its mark word was read, and moves
-    /// the thread there.
+    /// Claims a place on the target core for a thread that no seat held when its mark word was read, and moves the
+    /// thread there.
     fn move_seen(
         &self,
         seat: &mut CallSeat<T>,
@@ -209,8 +210,7 @@ impl<T: Tagged + Drop> WordContexts<T> {
         self.move_to(seat, moving, seen, source, target)
     }
 
-    /// Moves the thread at a place to the lowest free index of another core, if no seat has the thread in hand. Tries
-    /// once.
+    /// Moves the thread at a place to the lowest free index of another core, if no seat holds the thread. Tries once.
     ///
     /// The thread's value stays in its slot, and only the place in its mark word changes.
     pub fn move_one(&self, seat: &mut WordSeat<T>, place: Place, to: u8) -> Moved

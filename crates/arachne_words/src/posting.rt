@@ -17,8 +17,8 @@ use arachne_contexts::Tagged;
 use arachne_core::{Mark, MarkWord, Place, ThreadId};
 
 impl<T: Tagged + Drop> WordContexts<T> {
-    /// Reads which context stands at a place that the seat has claimed, and takes the context's slot (the field for a
-    /// thread's value), which is empty.
+    /// Reads which context is at a place that the seat has claimed, and takes the context's empty slot (the field for a
+    /// thread's value) out of the table.
     pub(crate) fn take_slot(&self, seat: &mut CallSeat<T>, place: Place) -> usize
         requires own { seat.old.table ≡ self.now.table }
         requires place { IsPlaceIn self.now.shape place }

@@ -1,4 +1,4 @@
-//! The seats of the table, their claims, and the handles of the threads that they have in hand.
+//! A kernel thread's right to call the table, the places that it has claimed, and handles of the threads that it holds.
 ghost use Rattle.std.specs.Prelude.{◌≡◌};
 
 use crate::call_seat::CallSeat;
@@ -9,8 +9,8 @@ use std::marker::Model;
 
 /// A seat at a table, through which a kernel thread calls the table. The seat has a part of the table's whole weight.
 ///
-/// Contracts see the identity of the seat's table, the seat's weight, and what the seat knows: the claims that it has
-/// not spent, the threads that it has in hand, the threads that it has posted and ended, and the steps that it has
+/// Contracts see the identity of the seat's table, the seat's weight, and the seat's record: the claims that it has not
+/// spent, the threads that it holds, the threads that it has posted and ended, and the atomic operations that it has
 /// made.
 #[derive(Drop)]
 pub struct WordSeat<T> {
@@ -53,7 +53,7 @@ impl Placed for WordClaim {
     }
 }
 
-/// The handle of a thread that a seat has in hand.
+/// The handle of a thread that a seat has taken and not put back.
 #[derive(Drop)]
 pub struct WordHold {
     pub(crate) id: ThreadId,

@@ -1,4 +1,4 @@
-//! The first seat of a table, and the split and the join of seats.
+//! Makes a table with its first seat, splits a seat in two, and joins two seats into one.
 ghost use Rattle.std.specs.Prelude.{◌≡◌, ◌↔◌, ◌≤◌, [], IsTrue, IfOk, length};
 ghost use Rattle.arachne_core.specs.declared.layout.TheConstants.{CORES, LAST_GENERATION, SLOTS};
 ghost use Rattle.arachne_weights.specs.Weight.{whole, first_part, second_part, joined};
@@ -84,8 +84,8 @@ impl<T: Tagged + Drop> WordContexts<T> {
         self.table.shared.join_seat::<Deal>(&mut seat.seat, spent);
     }
 
-    /// Splits a seat in two, each with half of its weight, rounded up for the first. The first half keeps what `seat`
-    /// knows.
+    /// Splits a seat in two, each with half of its weight, rounded up for the first. The first keeps the record of
+    /// `seat`.
     ///
     /// If the weight is 1 or 0, both seats get weight 0.
     pub fn split(&self, seat: WordSeat<T>) -> (WordSeat<T>, WordSeat<T>)
@@ -115,7 +115,7 @@ impl<T: Tagged + Drop> WordContexts<T> {
         )
     }
 
-    /// Joins two seats into one, which knows all threads that either has put into the table or ended.
+    /// Joins two seats into one, whose record has all threads that either has put into the table or ended.
     ///
     /// The weight of the result is the sum of both weights, but at most the whole.
     pub fn join_seats(&self, seat: WordSeat<T>, other: WordSeat<T>) -> WordSeat<T>
@@ -148,7 +148,7 @@ impl<T: Tagged + Drop> WordContexts<T> {
         seat.weight.is_whole()
     }
 
-    /// Returns the number of claims that the seat has not spent and of threads that it has in hand.
+    /// Returns the number of claims that the seat has not spent and of threads that it holds.
     pub fn out(&self, seat: &WordSeat<T>) -> u32
         ensures { result ≡ length seat.now.known.carried }
     {

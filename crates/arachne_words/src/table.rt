@@ -1,4 +1,4 @@
-//! The table, the indexes of its words, and the loads of a seat.
+//! The table, the indexes of its words, and the calls that read one word.
 ghost use Rattle.std.specs.Prelude.{◌≡◌, ◌+◌, ◌*◌, ◌<◌, true};
 ghost use Rattle.arachne_core.specs.declared.layout.TheConstants.{CORE_BITS};
 ghost use Rattle.arachne_core.specs.Occupancy.{IsOccupancyWord, occupancy_of, occupancy_word};

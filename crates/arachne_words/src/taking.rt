@@ -1,4 +1,4 @@
-//! Takes the ready thread at a place into a seat's hand, with the thread's value.
+//! Takes the ready thread at a place, with its value, so that the seat holds it.
 ghost use Rattle.std.specs.Prelude.{◌≡◌, ◌↔◌, IsTrue, ◌<◌, ◌∷◌, Some, None, IfOk, IfErr};
 ghost use Rattle.atomic_table.specs.Table.{rest};
 ghost use Rattle.arachne_core.specs.declared.mark.Mark.TheVariants as Mark;
@@ -57,7 +57,8 @@ impl<T: Tagged + Drop> WordContexts<T> {
             .unwrap()
     }
 
-    /// Stores a taken context's number in the word of its place, and puts the context's empty slot back into the table.
+    /// Writes the number of a taken thread's context into the word of its place, and puts the context's empty slot back
+    /// into the table.
     fn keep_name(&self, seat: &mut CallSeat<T>, context: usize, place: Place)
         requires own { seat.old.table ≡ self.now.table }
         requires place { IsPlaceIn self.now.shape place }

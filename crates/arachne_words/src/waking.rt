@@ -1,4 +1,4 @@
-//! Wakes a thread by its id: a blocked thread becomes ready, and one in a worker's hand is marked as woken.
+//! Wakes a thread by its id: a blocked thread becomes ready, and one held by a worker is marked as woken.
 ghost use Rattle.std.specs.Prelude.{◌≡◌, ◌<◌, IfOk, IfErr};
 ghost use Rattle.arachne_core.specs.declared.mark.Mark.TheVariants as Mark;
 ghost use Rattle.arachne_core.specs.declared.layout.TheConstants.{CORE_BITS};
@@ -36,7 +36,7 @@ impl<T: Tagged + Drop> WordContexts<T> {
         Ok(())
     }
 
-    /// Tries once to mark as woken a thread that a worker has in hand.
+    /// Tries once to mark as woken a thread that a worker holds.
     fn try_mark_woken(
         &self,
         seat: &mut CallSeat<T>,
@@ -61,8 +61,8 @@ impl<T: Tagged + Drop> WordContexts<T> {
 
     /// Wakes the thread of this id. Any id may be passed. Tries once.
     ///
-    /// A blocked thread is then ready. If a worker has the thread in hand, the thread is marked, so that it is ready
-    /// when it is put back.
+    /// A blocked thread is then ready. If a worker holds the thread, the thread is marked, so that it is ready when it
+    /// is put back.
     pub fn wake(&self, seat: &mut WordSeat<T>, id: ThreadId) -> Woken
         requires own { seat.old.table ≡ self.now.table }
         ensures seat { (seat.new.table ≡ seat.old.table) × (seat.new.weight ≡ seat.old.weight) }
