@@ -1,4 +1,4 @@
-//! Finds which classes of threads a program forks: normal, exclusive.
+//! Finds out if a program forks exclusive threads, which have a core for themselves.
 ghost use Rattle.std.specs.Prelude.{◌≡◌};
 ghost use Rattle.arachne_program.specs.Program.{tree_of};
 ghost use Rattle.arachne_jobs.specs.Classes.{forks_exclusive};

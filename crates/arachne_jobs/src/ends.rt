@@ -1,22 +1,22 @@
-//! A job's ends of join cells: one at which it leaves its outcome, and those at which it gets its children's.
+//! The ends of join cells that a job has: the sending end for its own outcome, and a receiving end for each child.
 use crate::left::LeftInCell;
 use crate::waiting::WaitCell;
 use crate::wanted::{OutcomeReceiver, OutcomeSender, Wanted};
 use arachne_join::SendingEnd;
 
-/// An end of a cell: the one at which a thread leaves its outcome, or one at which it gets a child's outcome.
+/// One end of a join cell that a job has.
 #[derive(Drop)]
 pub enum End {
-    /// The thread leaves its outcome here.
+    /// The sending end by which the job leaves its own outcome.
     Leaves(OutcomeSender),
-    /// The thread gets a child's outcome here.
+    /// The receiving end by which the job gets a child's outcome.
     Awaits(OutcomeReceiver),
-    /// The thread gets the outcome of a child that waits. The child's cell is in a list of its own.
+    /// The receiving end for a child that waits for a place. Its cell is in `Job::waits`.
     Waits,
 }
 
-/// The cell in which a child waits or has waited. The parent has no sending end of this cell; the child gets the
-/// sending end when the child is taken out of the cell.
+/// The cell in which a child waits or has waited for a place. Whoever takes the child out of the cell gets the cell's
+/// sending end with it.
 #[derive(Drop)]
 pub struct WaitEnd<'p> {
     pub(crate) cell: WaitCell<'p>,

@@ -1,4 +1,4 @@
-//! The reasons why a job of a run can't go on, made from the errors of memory, joins and places.
+//! The reasons why a job of a run can't go on, and conversions from the errors of `arachne_machine`.
 use arachne_machine::{DetachedOutcome, NotJoined, NotPlaced};
 use std::alloc::AllocError;
 use thiserror::Error;

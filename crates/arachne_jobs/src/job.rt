@@ -1,4 +1,4 @@
-//! The value of a context in a run: a thread of the program.
+//! A job: a thread of the program with its ends of join cells, as a value of the context table.
 ghost use Rattle.std.specs.Prelude.{◌≡◌, ◌≤◌, ◌<◌, ℕ, List, [], false, true, vec_capacity, vec_len, IfErr, IfNone, IfOk, IfSome, IsSome, OnErr, OnOk, None, Some};
 ghost use Rattle.arachne_program.specs.declared.program.Program.{Program};
 ghost use Rattle.arachne_program.specs.Program.{source_of};
@@ -31,14 +31,14 @@ use arachne_program::{Name, Program};
 use std::alloc::{AllocError, Global};
 use std::marker::Model;
 
-/// A thread of the program, with its ends of join cells. In the first cell the thread leaves its own outcome. In each
-/// other cell it gets the outcome of a child that it has forked and not joined, the newest child's last.
+/// A thread of the program, with its ends of join cells. By the first end it leaves its own outcome. By each other end
+/// it gets the outcome of a child that it has forked and not joined, the newest child's last.
 ///
 /// Contracts see the thread, and the id under which its parent runs.
 #[derive(Drop)]
 pub struct Job<'p> {
     thread: Thread<'p>,
-    /// The job's ties to other jobs, without a lifetime.
+    /// The job's ends of cells and its parent's id. The type has no lifetime.
     ties: Box<Ties>,
     /// The box into which the job's outcome is written.
     contents: Box<Contents>,
@@ -298,7 +298,7 @@ impl<'p> JobOf<'p> for Job<'p> {
 }
 
 impl<'p> Job<'p> {
-    /// Returns the job of this thread, and the end at which its outcome is got.
+    /// Makes a job of this thread. Returns it with the receiving end for its outcome.
     #[inline(always)]
     fn of(
         alloc: Global,
@@ -323,7 +323,7 @@ impl<'p> Job<'p> {
         Ok((job, receiver))
     }
 
-    /// Runs the job for at most `left` steps. A tally whose amount can be noted as due doesn't stop the job.
+    /// Runs the job for at most `left` steps. A tally whose amount `openings` can collect doesn't stop the job.
     #[inline(always)]
     fn advance_over(
         &mut self,
@@ -400,7 +400,7 @@ impl<'p> Job<'p> {
         Ok(())
     }
 
-    /// Adds the end at which the job gets the outcome of one more child.
+    /// Adds the receiving end for the outcome of one more child.
     fn expect(&mut self, receiver: OutcomeReceiver) -> Result<(), JobFault>
         requires { IsOf (program_of self.old.thread) receiver.opening.key }
         ensures { self.new ≡ self.old }
@@ -410,8 +410,8 @@ impl<'p> Job<'p> {
         Ok(())
     }
 
-    /// Joins the awaited child if the child has ended, or runs the child in this job's place if it still waits. Returns
-    /// false if neither is so: then the job can't go on.
+    /// Joins the awaited child if it has ended, or lets it run in this job's place if it still waits for a place.
+    /// Returns false if neither is so: then the job can't go on.
     fn join(&mut self, spares: &mut JobSpares<'p>) -> Result<bool, JobFault>
         requires { IsAwaiting self.old.thread }
         ensures tag { tag_of self.new.thread ≡ tag_of self.old.thread }
@@ -433,7 +433,8 @@ impl<'p> Job<'p> {
         }
     }
 
-    /// Takes the content of the awaited child's cell. The cell is then used up; if it had no content, it stays.
+    /// Takes the outcome or the waiting child out of the awaited child's cell, and drops the cell. If the cell has
+    /// neither, keeps it.
     fn find(&mut self, spares: &mut JobSpares<'p>) -> Result<Found<'p>, JobFault>
         ensures same { self.new ≡ self.old }
         ensures found { IfOk result (IsFoundOf (program_of self.old.thread)) }

@@ -35,6 +35,6 @@ pub enum Found<'p> {
     Outcome(DetachedOutcome),
     /// The child still waited. It was taken out of its cell.
     Child(Thread<'p>),
-    /// The child is at a place of its own, or will be put at one.
+    /// Neither: the child is at a place of its own, or a worker has taken it to give it one.
     Nothing,
 }

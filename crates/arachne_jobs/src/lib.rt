@@ -1,5 +1,11 @@
-//! The values of contexts in a run, threads of a task program with the cells of their children, and how workers see
-//! them.
+//! The jobs of a run: threads of a task program, with the join cells through which parents get their children's
+//! outcomes.
+//!
+//! A *job* is a thread with a place of its own. It leaves its outcome in one join cell, and gets its children's
+//! outcomes from others. A forked child that finds no free place may *wait* in its cell. A *ticket* in a queue stands
+//! for the child, until a worker with a free place, or the parent that awaits the child, takes it out of the cell. A
+//! *tag* is the number by which a run knows a thread. The traits in the module `slice` are all that workers see of a
+//! job.
 #![tactic(auto)]
 
 mod classes;

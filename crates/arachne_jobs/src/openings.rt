@@ -1,5 +1,5 @@
-//! The data that a worker needs for the slices of its threads: the answers at their forks, and the amount that the
-//! threads tallied.
+//! Decides at a fork if the child may get a place of its own, and collects the amounts that threads tally, for the
+//! threads of one worker.
 ghost use Rattle.std.specs.Prelude.{◌≡◌, ◌↔◌, ◌≤◌, ◌+◌, ◌%◌, ◌^◌, false, true, if◌then◌else◌, IsTrue};
 ghost use Rattle.arachne_jobs.specs.declared.openings.TheConstants.{LARGE};
 
@@ -9,8 +9,9 @@ use crate::tags::Tags;
 use arachne_machine::Placing;
 use arachne_program::Class;
 
-/// The data that a worker needs for the slices of its threads: its tags, the number of forks without a pause for which
-/// the chooser's word must still be drawn, and the amount that must still be added to a ledger.
+/// The data of a worker that the slices of its threads change: its unused tags, the number of random words that must
+/// still be drawn from the core's generator for forks without a pause, and the amount that must still be added to a
+/// ledger.
 #[derive(Drop)]
 pub struct Openings {
     pub tags: Tags,
@@ -24,7 +25,7 @@ pub struct Openings {
 const LARGE: u64 = 1024;
 
 impl Openings {
-    /// Returns the means of a worker that has no tag left, need not draw a word, and has nothing to add to a ledger.
+    /// Returns the data of a new worker: no tags, no word to draw, and nothing to add to a ledger.
     pub fn new() -> Openings
         ensures { (result.tags.left ≡ 0) × (result.draws ≡ 0) × (result.is_large ≡ false) × (result.due.amount ≡ 0) }
     {
@@ -36,8 +37,8 @@ impl Openings {
         }
     }
 
-    /// Records that a word of the chooser (the core's random generator) must still be drawn, unless the child `may`
-    /// have a place. If the child gets no place, the fork is no pause, so that no word is drawn now.
+    /// Records that a word must still be drawn from the core's random generator, unless the child `may` have a place:
+    /// each fork draws one word, and a fork without a pause can't draw it itself.
     #[inline(always)]
     fn owe_unless(&mut self, may: bool)
         ensures { self.new ≡ record self.old { draws = if may then self.old.draws else (self.old.draws + 1) % 2 ^ 64 } }
@@ -47,7 +48,7 @@ impl Openings {
         }
     }
 
-    /// Notes how many iterations of a sweep the child that is forked has to make.
+    /// Records how many iterations of a sweep the forked child has to make.
     #[inline(always)]
     fn note_turns(&mut self, turns: u64)
         ensures others { self.new ≡ record self.old { is_large = self.new.is_large } }
@@ -57,8 +58,7 @@ impl Openings {
     }
 }
 
-/// The answers to a thread at its forks: whether the forked child may get a place or wait for one; if not, a tag for
-/// the child.
+/// Decides, for the forks of one slice, if the child may get a place or wait for one. If not, gives the child a tag.
 #[derive(Drop)]
 pub(crate) struct ForkPlacing<'a> {
     pub(crate) room: &'a Room,
@@ -67,7 +67,7 @@ pub(crate) struct ForkPlacing<'a> {
 
 impl<'a> ForkPlacing<'a> {
     /// Returns whether a child with `turns` iterations to make may get a place or wait for one. If not, records that a
-    /// word of the chooser must still be drawn for the fork.
+    /// word must still be drawn from the core's random generator for this fork.
     #[inline(always)]
     fn may_have_a_place(&mut self, class: Class, turns: u64) -> bool
         ensures exclusive { class ≡ Class.Exclusive → IsTrue result }

@@ -1,4 +1,5 @@
-//! The queue of tickets of children that wait, with the number of children that wait.
+//! Pushes to and pops from the queue of tickets, which stand for children that wait for a place, and counts these
+//! children.
 ghost use Rattle.std.specs.Prelude.{◌≡◌, ◌++◌, ◌∷◌, [], IfErr, IfNone, IfSome, OnErr, OnOk};
 ghost use Rattle.arachne_spill.specs.Views.{IsPassOf};
 
@@ -28,7 +29,7 @@ pub fn put_ticket<R: Wait, K: Tagged + Drop>(
     Ok(())
 }
 
-/// Takes the oldest ticket out of the queue, and counts that it was taken.
+/// Takes the oldest ticket out of the queue, and counts one waiting child less.
 #[inline(always)]
 pub fn next_ticket<R: Wait, K: Tagged + Drop>(
     rt: &R,
@@ -46,10 +47,10 @@ pub fn next_ticket<R: Wait, K: Tagged + Drop>(
     Some(ticket)
 }
 
-/// The most tickets of children that still wait that are moved to the end of the queue while room is made.
+/// The most tickets of children that still wait which `make_room` moves to the end of the queue.
 const MOST_LIVE: u32 = 8;
 
-/// Makes room for a ticket, if room is wanted and the queue is full.
+/// Makes room for a ticket, if `is_wanted` is true and the queue is full.
 ///
 /// Drops the tickets of children that no longer wait, the oldest first. A ticket of a child that still waits goes to
 /// the end of the queue.

@@ -1,5 +1,5 @@
-//! Words that all workers of a run share and read before each fork: counts of free places and waiting children, next
-//! tags.
+//! Shared counters that a worker reads before each fork: the free places, the children that wait for a place, and the
+//! tags in use.
 ghost use Rattle.std.specs.Prelude.{◌≡◌, ◌↔◌, ◌+◌, ◌<◌, ◌≤◌, ◌*◌, ◌%◌, ◌^◌, IsTrue};
 ghost use Rattle.arachne_jobs.specs.declared.tags.TheConstants.{BLOCK};
 
@@ -7,11 +7,10 @@ use crate::tags::BLOCK;
 use crossbeam_utils::CachePadded;
 use std::sync::atomic::{AtomicU64, Ordering};
 
-/// The numbers of free places, of children that wait for a place, and of blocks of tags that are drawn.
+/// Shared counters: the free places, the children that wait for a place, and the blocks of tags that workers have got.
 ///
-/// The numbers of free places and of children that wait may be a little off. The numbers only say whether it is worth
-/// looking for a place at a fork: the table decides who gets a place, and a child's cell decides who runs the child.
-/// Each number has a cache line of its own.
+/// The first two may be a little off. They only say whether it is worth trying to claim a place at a fork: the table
+/// decides who gets a place, and a child's cell decides who runs the child. Each counter has a cache line of its own.
 #[derive(Drop)]
 pub struct Room {
     free: CachePadded<AtomicU64>,
@@ -22,8 +21,8 @@ pub struct Room {
 }
 
 impl Room {
-    /// Returns words that show all places of these cores as free, no waiting child (`most_waiting` is the most), and no
-    /// block of tags as drawn. The root's tag, 0, is in no block.
+    /// Returns counters for a run in which all places are free, no child waits, and no block of tags is in use. At most
+    /// `most_waiting` children may wait. The root's tag, 0, is in no block.
     pub fn new(cores: u8, slots: u8, most_waiting: u64) -> Room
         ensures { result.most ≡ most_waiting }
     {
@@ -79,14 +78,14 @@ impl Room {
         self.waiting.fetch_add(1, Ordering::SeqCst);
     }
 
-    /// Counts a child's ticket that was taken.
+    /// Counts one waiting child less, since a worker has taken its ticket.
     #[inline(always)]
     pub(crate) fn ticket_was_taken(&self) {
         self.waiting.fetch_sub(1, Ordering::SeqCst);
     }
 
-    /// Draws a block and returns its first tag. No other thread of the run has a tag of that block, if fewer than 2^58
-    /// blocks are drawn.
+    /// Gives the caller a block of tags, and returns the first. No other worker gets a tag of that block, as long as
+    /// there are fewer than 2^58 blocks.
     pub fn next_block(&self) -> u64
         ensures { result % BLOCK ≡ 1 }
     {
@@ -109,7 +108,7 @@ fn places_of(cores: u8, slots: u8) -> u64
     u64::from(cores) * u64::from(slots)
 }
 
-/// Reads a number as 0 if it is below 0, as it is for a moment if something is taken before it was counted.
+/// Reads a counter. Returns 0 if it is below 0, as it is for a moment if a ticket is taken before it was counted.
 #[inline(always)]
 fn seen(number: &AtomicU64) -> u64 {
     or_zero(number.load(Ordering::SeqCst))

@@ -1,4 +1,4 @@
-//! The traits by which workers see jobs: a worker runs a part of a job's slice, and replies to its pause.
+//! The traits by which workers run jobs: run a job for some steps, then do what it stopped for.
 ghost use Rattle.std.specs.Prelude.{◌≡◌, ◌≤◌, ℕ, List, [], Option, false, IfOk, IfSome, IsSome, None, OnOk, Some};
 ghost use Rattle.arachne_program.specs.Program.{source_of};
 ghost use Rattle.arachne_program.specs.Checked.{IsChecked};
@@ -25,48 +25,49 @@ pub enum Slice<Child> {
     Forks(Class, Child),
     /// The job awaits a child that has not ended.
     Blocks,
-    /// The job asks for this lock, and goes on once the request has a reply.
+    /// The job asks for this lock. The worker asks the lock, and calls `answer` once the job holds it.
     Asks(u64),
-    /// The job has asked for this lock before, and has no reply yet.
+    /// The job has asked for this lock before, and `answer` was not called since.
     Awaits(u64),
-    /// The job frees this lock, and goes on once the request has a reply.
+    /// The job frees this lock. The worker frees it, and calls `answer`.
     Frees(u64),
-    /// The job adds this amount to this ledger while an amount for another ledger is due, and goes on once the request
-    /// has a reply.
+    /// The job adds this amount to this ledger, while an amount for another ledger must still be added. The worker adds
+    /// both, and calls `answer`.
     Tallies(u64, u64),
     /// The job has ended.
     Ends,
 }
 
-/// A thread that runs, as its workers see it: its name, the tag of the thread that goes on next, how it rests, and the
-/// reply to its pause.
+/// A thread as its workers see it: its name, its tag, if it is ready or blocked, and the answer to its last request.
 pub trait RunThread: Tagged + Drop {
     /// The numbers of the forks that lead to the thread from the root.
     ghost name_of: { Self → List ℕ };
 
-    /// The tag of the thread that goes on next: the job's own tag, or that of a thread that runs in its place.
+    /// The tag of the thread that makes the next step: this thread, or one that runs in its place.
     ghost running_tag_of: { Self → ℕ };
 
     /// The id under which the thread's parent runs. The root has no parent.
     ghost parent_of: { Self → Option ThreadId };
 
-    /// The pause that has no reply yet.
+    /// The request that the worker has not answered yet.
     ghost pause_of: { Self → Option Pending };
 
     /// Returns the thread's name. A thread that runs in its place has another name.
     fn name(&self) -> &Name
         ensures { result.now ≡ name_of self.now };
 
-    /// Returns the tag of the thread that goes on next. If there is a pause, it is this thread's.
+    /// Returns the tag of the thread that makes the next step, and has made any pending request: this thread, or one
+    /// that runs in its place.
     fn running_tag(&self) -> u64
         ensures { result ≡ running_tag_of self.now };
 
-    /// Returns how the thread rests: ready if its pause has a reply, blocked if it waits. Returns `None` if the thread
-    /// can't rest.
+    /// Returns whether the worker must put the thread back as ready or as blocked. Returns `None` if it can't put the
+    /// thread back.
     fn rest(&self) -> Option<Rest>
         ensures { IfSome result (λ rest. MayRest rest (pause_of self.now)) };
 
-    /// Replies that the thread's request is done: the thread holds the lock, the lock is free, or the amount was added.
+    /// Answers the thread's request, once the worker has done it: the thread holds the lock, the lock is free, or the
+    /// amount was added.
     ///
     /// The error is `Foreign` if the thread asks for nothing.
     fn answer(&mut self) -> Result<(), JobFault>
@@ -76,7 +77,7 @@ pub trait RunThread: Tagged + Drop {
         ensures answered { OnOk result (pause_of self.new ≡ None) };
 }
 
-/// A ticket, which stands for a child that waits for a place.
+/// A ticket, which stands in a queue for a child that waits for a place.
 pub trait RunTicket: Tagged + Drop {
     /// Returns whether the ticket's child still waits. The child is not taken.
     fn still_waits(&self) -> bool;
@@ -88,7 +89,7 @@ pub trait RunSpares: Drop {
     fn none(alloc: Global) -> Self;
 }
 
-/// The value of a context in a run: a thread with all that its slices and its forks need.
+/// A thread with a place of its own, with the calls that run it for some steps and create its children.
 pub trait RunJob: RunThread {
     /// A thread that was forked and has no place yet.
     type Child: Drop;
@@ -99,13 +100,13 @@ pub trait RunJob: RunThread {
     /// The memory of ended threads that a worker keeps.
     type Spares: RunSpares;
 
-    /// The job forks this child, and has no reply to the fork yet.
+    /// The job has forked this child, and the worker has not decided yet where it runs.
     ghost forks: { Self → Self.Child → Type 0 };
 
     /// Runs the job for at most `left` steps, and subtracts the steps that were made from `left`.
     ///
-    /// A thread that waits makes no step. A child for which there is no place runs in this job's place. Amounts that
-    /// the job tallies must still be added to their ledgers after the call.
+    /// A thread that waits makes no step. A child for which there is no place runs in this job's place. The caller must
+    /// still add the amounts in `openings` to their ledgers.
     fn slice(
         &mut self,
         left: &mut u32,
@@ -119,7 +120,7 @@ pub trait RunJob: RunThread {
         ensures parent { Self.parent_of self.new ≡ Self.parent_of self.old }
         ensures left { IfOk result (λ slice. IsLeft forks Self.pause_of slice self.new) };
 
-    /// Makes the child a job of its own with this tag. The child's parent runs under the id `parent`.
+    /// Makes a job of the forked child, with this tag. The child's parent runs under the id `parent`.
     fn fork_off(
         &mut self,
         alloc: Global,
@@ -135,7 +136,8 @@ pub trait RunJob: RunThread {
         ensures childs_parent { IfOk result (λ job. Self.parent_of job ≡ Some me) }
         ensures answered { OnOk result (Self.pause_of self.new ≡ None) };
 
-    /// Lets the child wait, with this tag, for a place or until this job (which runs under this id) awaits it.
+    /// Lets the forked child wait for a place, with this tag, until a worker finds one or this job (with the id `me`)
+    /// awaits the child.
     ///
     /// Returns the child's ticket. Returns `None` if `waits` is false or memory is refused: then the child runs in this
     /// job's place.
@@ -169,9 +171,9 @@ pub trait RunJob: RunThread {
         ensures parent { IfOk result (λ parent. parent ≡ Self.parent_of self) };
 }
 
-/// The jobs that stand for the threads of a task program: how the root's job is made.
+/// A job type for the threads of a task program, with the call that makes the root's job.
 pub trait JobOf<'p>: RunJob {
-    /// Returns the root's job, which has the tag 0, and the end of the cell from which its outcome is fetched.
+    /// Returns the root's job, which has the tag 0, and the receiving end for its outcome.
     fn begin(
         alloc: Global,
         program: &'p Program,

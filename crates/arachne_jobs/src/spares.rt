@@ -6,9 +6,10 @@ use arachne_join::SpareCells;
 use arachne_machine::{DetachedOutcome, Spares as SpareThreads};
 use std::alloc::Global;
 
-/// The memory of threads that have ended, the ties of their jobs to other jobs, and join cells that are no longer used.
+/// Memory for new threads: the states of ended threads, the [`Ties`] of their jobs, and join cells that are unused
+/// again.
 ///
-/// Each worker has its own store, so that most forks take memory only for a long name.
+/// Each worker has its own store, so that most forks allocate only for a long name.
 #[derive(Drop)]
 pub struct JobSpares<'p> {
     pub(crate) threads: SpareThreads<'p>,

@@ -1,4 +1,4 @@
-//! The ties of a job to other jobs (its ends of cells, and its parent's id), in one box, and the ties of ended jobs.
+//! A job's ends of join cells and its parent's id, in one box that later jobs reuse.
 ghost use Rattle.std.specs.Prelude.{◌≡◌, ◌≤◌, ◌+◌, [], IfOk, vec_len, vec_capacity};
 
 use crate::ends::End;
@@ -13,10 +13,10 @@ pub struct Ties {
     pub(crate) parent: Option<ThreadId>,
 }
 
-/// The most ties of ended jobs that are kept.
+/// The most boxes of ended jobs that are kept.
 const MOST: usize = 64;
 
-/// The ties of ended jobs, with the room of their lists, for jobs that begin.
+/// The boxes of ended jobs, with the capacity of their lists, for new jobs.
 #[derive(Drop)]
 pub struct SpareTies {
     ties: Vec<Box<Ties>>,
@@ -40,7 +40,7 @@ impl SpareTies {
         }
     }
 
-    /// Returns ties to this parent and to no cell, with room for the end of one cell.
+    /// Returns a box with this parent and no cell, with room for the end of one cell.
     #[inline(always)]
     pub(crate) fn take(
         &mut self,
@@ -67,7 +67,7 @@ impl SpareTies {
         Ok(ties)
     }
 
-    /// Keeps the ties of an ended job, unless `MOST` are kept already.
+    /// Keeps the box of an ended job, unless `MOST` are kept already.
     #[inline(always)]
     pub(crate) fn keep(&mut self, ties: Box<Ties>) {
         if self.ties.len() < MOST {

@@ -21,7 +21,7 @@ type Cell<'p> = JoinCell<LeftInCell<'p>, Wanted>;
 
 type CellEnd<'p> = SendingEnd<LeftInCell<'p>, Wanted>;
 
-/// One owner's share of the cell in which a child waits. Contracts see the purpose of the cell, and its table.
+/// A shared reference to the cell in which a child waits. Contracts see for which outcome the cell is, and its table.
 #[derive(Drop)]
 pub struct WaitCell<'p> {
     cell: Arc<Cell<'p>>,
@@ -103,8 +103,8 @@ impl<'p> WaitCell<'p> {
         Ok((WaitCell { cell }, Ticket { cell: ticket, tag }))
     }
 
-    /// Takes the outcome or the child out of the cell, for the parent that awaits it. If the cell has neither, the
-    /// error shows a state of the cell in which no child waited.
+    /// Takes the outcome or the child out of the cell, for the parent that awaits it. If the cell has neither, returns
+    /// as the error the state in which the cell was found.
     pub(crate) fn find(&self) -> Result<Found<'p>, Missed<Wanted>>
         ensures found { IfOk result (IsFoundFor self.now.key) }
         ensures missed { IfErr result (λ missed. (missed.state ≢ CellState.Waiting) × (missed.receipt ≡ shown self.now.table (Saw missed.state))) }
@@ -128,8 +128,8 @@ impl<'p> WaitCell<'p> {
         }
     }
 
-    /// Leaves the child's outcome in this cell, by the cell's sending end. Returns a receipt, which shows that the
-    /// outcome was left.
+    /// Leaves the child's outcome in this cell, by the cell's sending end `end`. Returns a receipt, by which contracts
+    /// see that the outcome was left.
     pub(crate) fn leave(self, end: CellEnd<'p>, outcome: DetachedOutcome) -> Receipt<Wanted>
         requires end { end ≡ self.table }
         requires outcome { IsWanted self.key outcome }
@@ -155,8 +155,7 @@ impl<'p> RunTicket for Ticket<'p> {
 }
 
 impl<'p> Ticket<'p> {
-    /// Takes the child, if it still waits, with the child's cell and the end by which the child leaves its outcome
-    /// there.
+    /// Takes the child, if it still waits, with its cell and the cell's sending end.
     pub(crate) fn take(self) -> Option<(Waiting<'p>, WaitCell<'p>, CellEnd<'p>)>
         ensures child { IfSome result (λ taken. IsFor taken.0.thread taken.1.key × HasNotBegun taken.0.thread) }
         ensures told { IfSome result (λ taken. IsTold taken.0 self.entry.key) }
@@ -173,7 +172,7 @@ impl<'p> Ticket<'p> {
     }
 }
 
-/// Returns an empty cell with two owners, and its sending end.
+/// Returns two references to a new empty cell, and its sending end.
 fn shared_cell<'p>(
     alloc: Global,
     wanted: &Wanted,

@@ -1,4 +1,4 @@
-//! Says of a join cell which outcome it is for: that of a thread of a given name, for a given parent.
+//! The key of a join cell: the name of the thread whose outcome the cell is for, and its parent.
 ghost use Rattle.std.specs.Prelude.{◌≡◌};
 ghost use Rattle.arachne_jobs.specs.Cells.{IsFor};
 ghost use Rattle.arachne_jobs.specs.Threads.{tag_of};
@@ -9,7 +9,7 @@ use arachne_machine::{DetachedOutcome, Thread};
 use arachne_program::{Name, Program};
 use std::snapshot::Snapshot;
 
-/// The purpose of a cell: the outcome of the thread of this name in this program. A value of this type has no bytes.
+/// The key of a cell for the outcome of the thread of this name in this program. A value of this type has no bytes.
 #[derive(Drop)]
 pub struct Wanted {
     /// The thread's program.
@@ -23,7 +23,7 @@ pub struct Wanted {
 }
 
 impl Wanted {
-    /// Returns the purpose of the cell for the outcome of `thread`, which `parent` awaits.
+    /// Returns the key of the cell for the outcome of `thread`, which `parent` awaits.
     #[inline(always)]
     pub(crate) fn of(thread: &Thread<'_>, parent: Option<ThreadId>) -> Wanted
         ensures thread { IsFor thread.now result }
@@ -45,8 +45,8 @@ impl Fits<Wanted> for DetachedOutcome {
     ghost fits = { IsWanted };
 }
 
-/// The end of a join cell at which a thread leaves its outcome.
+/// The sending end of a join cell, by which a thread leaves its outcome.
 pub type OutcomeSender = Sender<DetachedOutcome, Wanted>;
 
-/// The end of a join cell at which a parent gets its child's outcome.
+/// The receiving end of a join cell, by which a parent gets its child's outcome.
 pub type OutcomeReceiver = Receiver<DetachedOutcome, Wanted>;

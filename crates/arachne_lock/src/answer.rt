@@ -2,7 +2,7 @@
 use std::alloc::AllocError;
 use thiserror::Error;
 
-/// The result of asking for a lock, if the lock does not refuse the ask.
+/// The result of asking for a lock, if the call succeeds.
 ///
 /// The events of each lock are numbered from 0, modulo 2^64.
 #[derive(Clone, Copy, Debug, PartialEq, Eq)]
@@ -19,12 +19,12 @@ pub enum Admitted {
     },
 }
 
-/// The result of a try at a lock: the call was made, or another kernel thread was at the lock: try again.
+/// The result of a call on a lock that tries once: its answer, or that another kernel thread was in a call on the lock.
 #[derive(Clone, Copy, Debug, PartialEq, Eq)]
 pub enum Attempt<A> {
-    /// No other kernel thread was at the lock, so the call was made. This is its result.
+    /// The call has run. This is its result.
     Answered(A),
-    /// Another kernel thread was at the lock. Nothing has changed, and the call may be repeated.
+    /// Another kernel thread was in a call on the lock. Nothing has changed, and the call may be repeated.
     Contended,
 }
 
@@ -48,7 +48,7 @@ impl From<AllocError> for AskRefusal {
     }
 }
 
-/// The owner has freed the lock: the task that owns it next, if one waited.
+/// The result of freeing a lock: the task that owns it next, if one waited.
 #[derive(Clone, Copy, Debug, PartialEq, Eq)]
 pub struct Released {
     /// The number of the task that holds the lock now and must be woken, if any task waited. It had waited longest.

@@ -14,7 +14,7 @@ pub enum QueueEvent {
     Leave(u64),
 }
 
-/// The effect of a call on a lock, as contracts see it.
+/// The effect of one call on a lock, for contracts.
 #[derive(Clone, Copy)]
 pub enum LockDeed {
     Nothing,

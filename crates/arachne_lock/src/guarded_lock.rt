@@ -12,7 +12,7 @@ use std::marker::Model;
 
 /// A lock's state, on cache lines of its own, and the effect of the last call on the lock.
 ///
-/// The effect, 24 bytes, is only for proofs: the step that gives the guard back reads the effect here.
+/// The effect, 24 bytes, is only for proofs: it goes into the log of the seat that gives the guard back.
 #[derive(Drop)]
 pub struct GuardedLock {
     state: CachePadded<LockEntry>,

@@ -4,8 +4,8 @@ use crate::view::KnownLocks;
 use atomic_table::Seat;
 use std::marker::Model;
 
-/// One kernel thread's right to use a set of locks. Contracts also see in it a log of what was done by it. A seat has
-/// no bytes.
+/// One kernel thread's right to use a set of locks. Contracts see in it a log of the calls that were made through it. A
+/// seat has no bytes.
 ///
 /// A seat must be used, split and joined with the locks that it came from.
 #[derive(Drop)]

@@ -1,4 +1,5 @@
-//! A set of locks that kernel threads share. No call on a lock waits.
+//! A set of locks that kernel threads share. A call that finds another kernel thread in a call on the same lock returns
+//! at once.
 ghost use Rattle.std.specs.Prelude.{◌≡◌, ◌<◌, ℕ, List, MatchBool, IsFalse, IfOk, Option, [], ◌∷◌, ◌^◌, vec_len, slice_index};
 ghost use Rattle.arachne_lock.specs.declared.event.QueueEvent.{QueueEvent};
 ghost use Rattle.arachne_lock.specs.State.{IsAsked, IsFreed, IsWithdrawn, IsChecked};
@@ -183,7 +184,7 @@ impl Locks {
 
     /// Splits off a seat for another kernel thread.
     ///
-    /// The new seat begins with what this seat has seen, and with no tries or events of its own.
+    /// The new seat's log begins with the histories that this seat has read, and with no tries or events.
     pub fn split(&self, seat: &mut LockSetSeat) -> LockSetSeat
         requires { IsSeatOf self.now seat.old }
         ensures first { seat.new ≡ first_half seat.old }
@@ -193,7 +194,7 @@ impl Locks {
         LockSetSeat { seat: other }
     }
 
-    /// Joins `other` into `seat`, which then has all that both have done and seen.
+    /// Joins `other` into `seat`, which then has the logs of both.
     pub fn join(&self, seat: &mut LockSetSeat, other: LockSetSeat)
         requires seat { IsSeatOf self.now seat.old }
         requires other { IsSeatOf self.now other }
@@ -203,7 +204,7 @@ impl Locks {
         self.table.shared.join_seat::<Divide>(&mut seat.seat, spent);
     }
 
-    /// Tries once to take a lock's guard. Returns whether the seat has the guard, and with it the lock's state.
+    /// Tries once to set a lock's guard word, and with it to get the lock's state. Returns whether it has.
     fn take(&self, seat: &mut Seat<GuardedLock, KnownLocks>, lock: usize) -> bool
         requires at { IsLockAt self.now seat.old.table_id lock }
         requires idle { seat.old.me ≡ idle seat.old.me.0.log }
@@ -217,7 +218,7 @@ impl Locks {
         shared.compare_exchange::<TakeGuard>(seat, guard_word(lock), HOME, TAKEN) == HOME
     }
 
-    /// Gives a lock's guard back, and with it the lock's state.
+    /// Gives a lock's state back, and clears the lock's guard word.
     fn give_back(&self, seat: &mut Seat<GuardedLock, KnownLocks>, lock: usize)
         requires at { IsLockAt self.now seat.old.table_id lock }
         requires guarded { (history : List QueueEvent) × (guarded : Guarded) × IsReturnable lock history seat.old.me guarded }

@@ -1,9 +1,9 @@
-//! The rule of the locks' table (its invariant), and the kinds of step on it. These types are only for proofs.
+//! The invariant of the locks' table, and the kinds of atomic operation on it. These types are only for proofs.
 use crate::guarded_lock::GuardedLock;
 use crate::view::KnownLocks;
 use atomic_table::{Join, Play, Split, TableRule};
 
-/// The rule of the locks' table: each lock has one history. The table's key, which never changes, is the number of
+/// The invariant of the locks' table: each lock has one history. The table's key, which never changes, is the number of
 /// locks.
 pub struct LockRule;
 
@@ -15,7 +15,7 @@ impl TableRule<GuardedLock, KnownLocks, usize> for LockRule {
     ghost first = { first_view };
 }
 
-/// The step that tries once to take a lock's guard.
+/// The compare-exchange that tries once to take a lock's guard.
 pub(crate) struct TakeGuard;
 
 impl Play<GuardedLock, KnownLocks> for TakeGuard {
@@ -24,7 +24,7 @@ impl Play<GuardedLock, KnownLocks> for TakeGuard {
     ghost then = { Takes };
 }
 
-/// The step that gives a lock's guard back.
+/// The store that gives a lock's guard back.
 pub(crate) struct ReturnGuard;
 
 impl Play<GuardedLock, KnownLocks> for ReturnGuard {

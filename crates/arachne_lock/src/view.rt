@@ -1,15 +1,15 @@
-//! The knowledge of a seat about a set of locks. These types are only for proofs: no value of them is made.
+//! The log that proofs keep for each seat of a set of locks. These types are only for proofs: no value of them is made.
 use crate::QueueEvent;
 use std::collections::LinkedList;
 
-/// An event that a seat made, with its lock and its index in that lock's history.
+/// An event that a call through a seat caused, with its lock and its index in that lock's history.
 pub struct LoggedEvent {
     pub lock: usize,
     pub at: usize,
     pub event: QueueEvent,
 }
 
-/// A lock's history, as a seat saw it.
+/// A lock's history when a call through the seat read it.
 pub struct Sight {
     pub lock: usize,
     pub history: LinkedList<QueueEvent>,
@@ -21,13 +21,13 @@ pub struct Try {
     pub found: u64,
 }
 
-/// The log of a seat: what it has done and seen.
+/// The log of a seat: the events that its calls caused, and the histories that they read.
 pub struct EventLog {
-    /// The events that the seat made, oldest first.
+    /// The events that calls through the seat caused, oldest first.
     pub made: LinkedList<LoggedEvent>,
-    /// The histories that the seat saw, the newest first.
+    /// The histories that the seat's calls read, the newest first.
     pub seen: LinkedList<Sight>,
-    /// The tries that the seat made, the newest first.
+    /// The tries of the seat's calls, the newest first.
     pub tries: LinkedList<Try>,
     /// The number of splits of this seat, and of each seat that was joined into it.
     pub splits: u64,

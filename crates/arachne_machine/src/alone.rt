@@ -1,4 +1,4 @@
-//! Runs all threads of a program on one kernel thread, in turn.
+//! Runs a whole program on the calling kernel thread, one slice of one thread after another.
 ghost use Rattle.std.specs.Prelude.{[], ◌≡◌, ◌+◌, ◌∷◌, ◌≤◌, ◌<◌, List, map, reverse, sum_by, None, Some, IfOk, OnOk};
 ghost use Rattle.arachne_program.specs.Program.{source_of};
 ghost use Rattle.arachne_program.specs.Meaning.{meaning_of};
@@ -16,11 +16,11 @@ use crate::thread::Thread;
 use arachne_program::{Line, Meaning, Program, Sequence};
 use std::alloc::{AllocError, Global};
 
-/// Returns the meaning of a program, which runs on the calling kernel thread.
+/// Runs a program on the calling kernel thread. Returns its value, ledger sums and lines.
 ///
-/// All threads are in one list. The newest thread runs for at most `budget` steps at a time; a budget of 0 counts as 1.
-/// A lock that a thread asks for is granted at once, and the thread runs on until it frees the lock: no thread of a
-/// checked program forks while it holds a lock.
+/// The newest thread runs for at most `budget` steps at a time; a budget of 0 counts as 1. A lock that a thread asks
+/// for is granted at once, and the thread runs on until it frees the lock: no thread of a checked program forks while
+/// it holds a lock.
 pub fn run_alone(alloc: Global, program: &Program, budget: u32) -> Result<Meaning, AllocError>
     ensures { IfOk result (λ meaning. meaning ≡ meaning_of (source_of program.now)) }
 {
@@ -45,7 +45,7 @@ fn run_all<'p>(alloc: Global, root: Thread<'p>, budget: u32) -> Result<DetachedO
     Ok(outcomes.pop().unwrap())
 }
 
-/// The action of a thread at the end of its turn: it goes on, forks a child or ends.
+/// The result of a thread's slice: the thread goes on later, has forked a child, or has ended.
 #[derive(Drop)]
 enum Turn<'p> {
     /// The thread goes on.
@@ -56,10 +56,10 @@ enum Turn<'p> {
     Ends,
 }
 
-/// Gives a turn to the newest thread, which is not in the list.
+/// Runs the newest thread, which is not in the list `threads`, for one slice.
 ///
-/// An outcome is kept until the parent joins it. The newest outcomes are those of the newest thread's children, then
-/// come those of the next thread's children, and so on.
+/// `outcomes` has the outcomes of ended threads that their parents have not joined yet: last those of the newest
+/// thread's children, before them those of the next thread's children, and so on.
 fn take_turn<'p>(
     threads: &mut Vec<Thread<'p>>,
     outcomes: &mut Vec<DetachedOutcome>,
@@ -91,7 +91,8 @@ fn take_turn<'p>(
     }
 }
 
-/// Advances the newest thread by at most `budget` steps and serves the request at which it pauses, unless it has ended.
+/// Advances the newest thread by at most `budget` steps, and answers the request at which it pauses, unless it has
+/// ended.
 fn go_on<'p>(
     thread: &mut Thread<'p>,
     outcomes: &mut Vec<DetachedOutcome>,
@@ -136,7 +137,7 @@ fn go_on<'p>(
     }
 }
 
-/// Returns the meaning of the program whose root ended with `outcome`.
+/// Returns the value, ledger sums and lines of the program whose root ended with `outcome`.
 fn meaning(alloc: Global, outcome: DetachedOutcome) -> Result<Meaning, AllocError>
     ensures means { IfOk result (λ meaning. meaning ≡ meaning_in outcome) }
     ensures of_its_name { IsOfItsName outcome }

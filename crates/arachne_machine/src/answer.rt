@@ -1,9 +1,10 @@
-//! The caller's answers to a thread that has paused at a fork, an ask, a free or a tally.
+//! Lets a paused thread go on once its caller has done what it asked for: forked a child, got or freed a lock, or added
+//! to a ledger.
 use crate::frame::Control;
 use crate::state::State;
 use crate::tables::add_at;
 
-/// The answers to pauses that need no outcome of a child. These steps take no memory.
+/// The calls that answer a pause. None of them takes memory.
 impl<'p> State<'p> {
     ghost use Rattle.std.specs.Prelude.{◌≡◌, ℕ, Some};
     ghost use Rattle.std.specs.Borrow.{Bor};
@@ -15,7 +16,7 @@ impl<'p> State<'p> {
     ghost use Rattle.arachne_machine.specs.Steps.{HasLine, Turns, pending_of};
     ghost use Rattle.arachne_machine.specs.Runs.{CountsHold, CountsTally, after_fork};
 
-    /// Answers a fork whose child was taken out of the thread. The thread goes on with the expression that it evaluates
+    /// Answers a fork, once the caller has taken the child. The thread goes on with the expression that it evaluates
     /// while the child runs.
     pub fn forked(&mut self)
         requires { pending_of self.old.control ≡ Some pause.Forks }
@@ -42,7 +43,7 @@ impl<'p> State<'p> {
         self.control = Control::Begin(body);
     }
 
-    /// Counts that the innermost thread has held this lock once more.
+    /// Adds one to the number of times that the current thread has held this lock.
     fn count_hold(&mut self, lock: u64)
         requires { HasLine self.old }
         ensures { CountsHold self.old self.new lock }
@@ -65,7 +66,8 @@ impl<'p> State<'p> {
         self.control = Control::Give(value);
     }
 
-    /// Answers a tally whose amount was added to the ledger: adds the amount to the thread's own sums.
+    /// Answers a tally, once the caller has added the amount to the ledger. Adds the amount to the thread's own sums
+    /// too.
     pub fn tallied(&mut self)
         requires { IsTally (pending_of self.old.control) }
         ensures { (ledger amount : ℕ) × (body : Bor Expr) × (counted : TheState) × (self.old.control ≡ control.Tallies ledger amount body) × CountsTally self.old counted ledger amount

@@ -1,4 +1,5 @@
-//! Begins an expression: gives its value if that is known at once, and otherwise begins one of its parts.
+//! The first step of an expression: it gives the value of a number or a variable, and begins a part of any other
+//! expression.
 use crate::frame::{Control, Frame};
 use crate::lookup::{length_in, variable_in};
 use crate::placing::Placing;
@@ -7,7 +8,7 @@ use crate::state::{Progress, State};
 use arachne_program::{Expr, Operation};
 use std::alloc::AllocError;
 
-/// The steps that begin an expression.
+/// The first step of each kind of expression.
 impl<'p> State<'p> {
     ghost use Rattle.std.specs.Prelude.{true, ◌≡◌, ◌≤◌, ◌∷◌, ◌++◌, [], length, slice_index, IfOk, IfSome, OnOk, OnErr};
     ghost use Rattle.std.specs.Borrow.{Bor};
@@ -23,8 +24,7 @@ impl<'p> State<'p> {
     ghost use Rattle.arachne_machine.specs.Steps.{beginning, Changes, IsSame, LeavesOthers, OnStops, Pushes, Reaches, top};
     ghost use Rattle.arachne_machine.specs.Runs.{beginning_in, Comes};
 
-    /// Begins an expression. If the value of the expression is known at once, returns the value and changes nothing
-    /// else.
+    /// Makes the first step of an expression. If that step gives the value, returns the value and changes nothing else.
     #[inline(always)]
     pub fn begin<P: Placing>(
         &mut self,
@@ -67,8 +67,8 @@ impl<'p> State<'p> {
         }
     }
 
-    /// Begins an operation. If at least two steps are left, evaluates operands that are numbers or variables at once,
-    /// by one step each.
+    /// Makes the first step of an operation. If at least two more steps are left, also evaluates operands that are
+    /// numbers or variables, by one step each.
     #[inline(always)]
     fn operate(
         &mut self,
@@ -112,7 +112,7 @@ impl<'p> State<'p> {
         }
     }
 
-    /// Begins a part of an expression. `frame` says what follows once the value of the part is known.
+    /// Pushes `frame`, which says what follows once the value of `part` is known, and makes `part` the next expression.
     #[inline(always)]
     fn enter(&mut self, frame: Frame<'p>, part: &'p Expr) -> Result<Progress<'p>, AllocError>
         ensures begins { IfOk result (λ begun. begun ≡ ways.Begin part.entry) }
@@ -123,7 +123,7 @@ impl<'p> State<'p> {
         Ok(Progress::Begin(part))
     }
 
-    /// Asks for a lock, which is released once the value of `body` is known.
+    /// Pauses to ask for a lock, which the thread releases once the value of `body` is known.
     #[inline(always)]
     fn ask(&mut self, lock: u64, body: &'p Expr) -> Result<Progress<'p>, AllocError>
         ensures stops { IfOk result (λ asked. asked ≡ ways.Stops) }

@@ -8,10 +8,10 @@ use arachne_program::Sequence;
 use std::alloc::{AllocError, Global};
 use std::mem::replace;
 
-/// The contents of an outcome, without its program.
+/// The value, sums and lines of an outcome, without a reference to the program.
 ///
-/// The contents of a [`crate::DetachedOutcome`] are in a box that exists before the thread ends. Only that box is moved
-/// from the thread that ends to the thread that joins it.
+/// The box of a [`crate::DetachedOutcome`] is allocated before the thread ends. From the thread that ends to the thread
+/// that joins it only the box is moved.
 #[derive(Debug, Drop)]
 pub struct Contents {
     pub(crate) value: u64,
@@ -24,7 +24,7 @@ pub struct Contents {
 }
 
 impl Contents {
-    /// Creates a box with vacant contents.
+    /// Allocates a box for an outcome, with no lines and empty sums.
     pub fn new(alloc: Global) -> Result<Box<Contents>, AllocError> {
         Ok(Box::new(alloc, Contents::vacant(alloc))?)
     }
@@ -41,7 +41,7 @@ impl Contents {
 
     /// Takes out the value, the sums and the lines.
     ///
-    /// Takes memory for a list of the lists of lines. If that memory is refused, nothing has changed.
+    /// Allocates a list. If memory is refused, nothing has changed.
     pub(crate) fn take_parts(&mut self) -> Result<OutcomeParts, AllocError>
         ensures value { IfOk result (λ parts. parts.value ≡ self.old.value) }
         ensures sums { IfOk result (λ parts. parts.sums ≡ self.old.sums.items) }

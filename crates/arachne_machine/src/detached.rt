@@ -1,4 +1,4 @@
-//! An outcome in a box, without a reference to its program, for cells whose type has no lifetime.
+//! The outcome of a thread in a box, without a reference to the program, so that its type has no lifetime.
 ghost use Rattle.std.specs.Prelude.{◌≡◌, ◌∷◌, IfOk, IfErr};
 ghost use Rattle.arachne_machine.specs.Outcome.{IsOfItsName};
 
@@ -36,7 +36,7 @@ impl Model for DetachedOutcome {
 impl DetachedOutcome {
     /// Returns the value, the sums and the lines.
     ///
-    /// Takes memory for a list of the lists of lines. If that memory is refused, the outcome is the error.
+    /// Allocates a list. If memory is refused, returns the outcome as the error.
     pub fn into_parts(self) -> Result<OutcomeParts, DetachedOutcome>
         ensures value { IfOk result (λ parts. parts.value ≡ self.value) }
         ensures sums { IfOk result (λ parts. parts.sums ≡ self.sums) }

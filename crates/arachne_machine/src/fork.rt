@@ -19,7 +19,8 @@ impl<'p> State<'p> {
     ghost use Rattle.arachne_machine.specs.Runs.{Comes};
     ghost use Rattle.arachne_machine.specs.Steps.{CountsFork, HasLine, IsForkOf, IsSame, IsSpawned};
 
-    /// Forks a child of this class. The child's number is the number of the fork. The thread goes on with `during`.
+    /// Forks a child of this class, which begins with `child`. The thread goes on with `during`, and keeps a frame that
+    /// joins the child and goes on with `after`.
     pub fn fork(
         &mut self,
         class: Class,
@@ -44,7 +45,7 @@ impl<'p> State<'p> {
         )
     }
 
-    /// Makes a fork whose child will run in this thread's place.
+    /// Makes a fork without a pause: the child will run in this thread's place, once the value of `during` is known.
     #[inline(always)]
     pub fn fork_here(
         &mut self,
@@ -68,8 +69,8 @@ impl<'p> State<'p> {
         Ok(Progress::Begin(during))
     }
 
-    /// Forks a child of this class that begins with `begins`. The thread keeps `frame` for the time after the join, and
-    /// goes on with `next`.
+    /// Creates a child of this class that begins with `begins`. Pushes `frame`, which joins the child later, and goes
+    /// on with `next`.
     #[inline(always)]
     fn spawn(
         &mut self,
@@ -102,7 +103,7 @@ impl<'p> State<'p> {
         Ok(Progress::Forks(class, state))
     }
 
-    /// Begins a part of a sweep. If the part is longer than the grain, its left half is forked.
+    /// Begins a part of a sweep. Forks the left half if the part is longer than the sweep's grain.
     #[inline(always)]
     pub fn cover<P: Placing>(
         &mut self,

@@ -1,4 +1,4 @@
-//! The next action of a thread, and the frames that say what follows it.
+//! The next action of a thread, and its stack frames: what follows once a value is known.
 use arachne_program::{Expr, Operation, Reduction};
 
 /// A part of a sweep: the numbers from `first` to below `end`.
@@ -16,14 +16,14 @@ pub struct Stretch<'p> {
 pub enum Control<'p> {
     /// The thread begins an expression.
     Begin(&'p Expr),
-    /// The thread hands a value to the newest frame.
+    /// The thread passes a value to its newest frame.
     Give(u64),
     /// The thread begins a part of a sweep.
     Cover(Stretch<'p>),
-    /// The thread has forked a child, and begins this expression once the child has been taken out of the thread.
+    /// The thread has forked a child, and begins this expression once the caller has taken the child.
     Forked(&'p Expr),
-    /// The thread has forked the left half of a part of a sweep, and begins the right half once the child for the left
-    /// half has been taken out of the thread.
+    /// The thread has forked the left half of a part of a sweep, and begins the right half once the caller has taken
+    /// the child for the left half.
     Halved(Stretch<'p>),
     /// The thread awaits the outcome of its child of this number, and goes on with the expression `after`. `during` is
     /// the value of the expression that the thread has evaluated meanwhile.
@@ -43,7 +43,7 @@ pub enum Control<'p> {
         lock: u64,
         body: &'p Expr,
     },
-    /// The thread releases a lock, and then hands the value to the next frame.
+    /// The thread releases a lock, and then passes the value to the next frame.
     Frees {
         lock: u64,
         value: u64,
@@ -58,7 +58,7 @@ pub enum Control<'p> {
     Ended(u64),
 }
 
-/// The action that follows once a value is known.
+/// A stack frame: the action that follows once the value of a part of an expression is known.
 #[derive(Clone, Copy)]
 pub enum Frame<'p> {
     /// The value is an index into this array.
@@ -73,9 +73,9 @@ pub enum Frame<'p> {
     Extend(&'p Expr),
     /// The value is an amount for this ledger, and the expression is next.
     Amount(u64, &'p Expr),
-    /// This lock is released, and the value is handed to the next frame.
+    /// The thread releases this lock, and passes the value to the next frame.
     Release(u64),
-    /// The child of this number is joined, and this expression is next.
+    /// The thread joins the child of this number, and then evaluates this expression.
     Join {
         number: u64,
         after: &'p Expr,
@@ -123,6 +123,6 @@ pub enum Frame<'p> {
         so_far: u64,
         body: &'p Expr,
     },
-    /// The environment is truncated to this length, and the value is handed to the next frame.
+    /// The thread truncates its environment to this length, and passes the value to the next frame.
     Restore(usize),
 }

@@ -1,4 +1,4 @@
-//! Gives a value to the frame that waits for it, and that frame's value to the next, until one must make a step.
+//! Passes a value to the newest frame, and the value of that frame to the next, until a frame needs a step.
 use crate::frame::{Control, Frame, Stretch};
 use crate::lookup::item_in;
 use crate::placing::Placing;
@@ -6,7 +6,7 @@ use crate::state::{Progress, State};
 use arachne_program::Expr;
 use std::alloc::AllocError;
 
-/// The steps that hand a value on.
+/// The functions that pass a value to frames.
 impl<'p> State<'p> {
     ghost use Rattle.std.specs.Prelude.{true, ◌≡◌, ◌+◌, ◌<◌, ◌≤◌, ◌++◌, ◌∷◌, [], length, slice_index, vec_len, vec_capacity, IfOk, IsErr, OnOk, OnErr};
     ghost use Rattle.arachne_program.specs.Program.{source_of};
@@ -21,11 +21,11 @@ impl<'p> State<'p> {
     ghost use Rattle.arachne_machine.specs.Runs.{Comes, FoldsOn, HandsResult, IsOneStep, IsPoppedIn, RunsOn, SweepsOn, giving_in, seen_in};
     ghost use Rattle.arachne_machine.specs.declared.state.Progress.TheVariants as ways;
 
-    /// Gives a value to the newest frame, and that frame's value to the next, until a frame says what follows or none
-    /// is left.
+    /// Passes a value to the newest frame, and the value of that frame to the next, until a frame has a next action or
+    /// none is left.
     ///
     /// The value of a child that ran in its parent's place goes to the parent. If memory is refused, the thread keeps
-    /// the value, and a later step gives it to the frame.
+    /// the value, and passes it to the frame in a later step.
     #[inline(always)]
     pub fn give<P: Placing>(
         &mut self,
@@ -50,8 +50,8 @@ impl<'p> State<'p> {
         }
     }
 
-    /// Hands a value to the newest frame of the innermost thread. If the innermost thread has no frame, it has ended,
-    /// and its parent goes on.
+    /// Passes a value to the newest frame of the current thread. If the thread has no frame left, it has ended with
+    /// this value, and its parent goes on.
     #[inline(always)]
     fn hand_newest<P: Placing>(
         &mut self,
@@ -81,8 +81,7 @@ impl<'p> State<'p> {
         self.join_here(value, left)
     }
 
-    /// Records that the thread must give the value to its newest frame later, since memory was refused, and returns the
-    /// error.
+    /// Keeps the value for the newest frame until a later step, since memory was refused, and returns the error.
     #[cold]
     #[inline(never)]
     pub fn refused(&mut self, value: u64) -> Result<Progress<'p>, AllocError>
@@ -93,7 +92,7 @@ impl<'p> State<'p> {
         Err(AllocError)
     }
 
-    /// Reserves room for the variables and the frame that may come with a value.
+    /// Reserves room for the variables and the frame that one value can add.
     pub fn reserve_turn(&mut self) -> Result<(), AllocError>
         ensures same { IsSame self.old self.new }
         ensures environment { OnOk result (vec_len self.new.environment + 2 ≤ vec_capacity self.new.environment) }
@@ -103,8 +102,7 @@ impl<'p> State<'p> {
         self.frames.try_reserve(1)
     }
 
-    /// Hands a value to `frame`, which was the newest frame and was popped. If memory is refused, `frame` is the newest
-    /// frame again.
+    /// Passes a value to `frame`, which the caller has popped. If memory is refused, pushes `frame` again.
     #[inline(always)]
     fn hand<P: Placing>(
         &mut self,
@@ -159,7 +157,7 @@ impl<'p> State<'p> {
         }
     }
 
-    /// Undoes the step in which this value was handed to this frame.
+    /// Undoes the step that passed this value to this frame.
     #[cold]
     #[inline(never)]
     fn stand_before(&mut self, frame: Frame<'p>, value: u64)
@@ -170,7 +168,7 @@ impl<'p> State<'p> {
         self.control = Control::Give(value);
     }
 
-    /// Hands a value to a frame that begins no child.
+    /// Passes a value to a frame that begins no child.
     #[inline(always)]
     fn hand_within(&mut self, frame: Frame<'p>, value: u64, left: &mut u32) -> Progress<'p>
         requires within { IsWithin frame }
@@ -216,7 +214,7 @@ impl<'p> State<'p> {
         }
     }
 
-    /// Hands a value to a frame at which the thread pauses, or at which a fold or a sweep begins.
+    /// Passes a value to a frame at which the thread pauses, or at which a fold or a sweep begins.
     #[inline(always)]
     fn hand_on(&mut self, frame: Frame<'p>, value: u64, left: &mut u32) -> Progress<'p>
         requires later { IsPauseOrRange frame }
@@ -263,7 +261,7 @@ impl<'p> State<'p> {
         }
     }
 
-    /// Hands a value to a frame at which a fold or a sweep begins.
+    /// Passes a value to a frame at which a fold or a sweep begins.
     #[inline(always)]
     fn hand_to_range(&mut self, frame: Frame<'p>, value: u64, left: &mut u32) -> Progress<'p>
         requires range { IsOfRange frame }
@@ -300,8 +298,8 @@ impl<'p> State<'p> {
         }
     }
 
-    /// Begins an expression after a frame was popped. `frame` takes the memory of that frame, and says what follows
-    /// once the value of the expression is known.
+    /// Begins an expression after a frame was popped. Pushes `frame`, which says what follows and takes no memory,
+    /// since it takes the room of the popped one.
     #[inline(always)]
     pub fn go_on(&mut self, frame: Frame<'p>, part: &'p Expr) -> Progress<'p>
         requires { vec_len self.old.frames + 1 ≤ vec_capacity self.old.frames }
@@ -327,8 +325,8 @@ impl<'p> State<'p> {
         Progress::Begin(body)
     }
 
-    /// Hands on the result of a fold, of a part of a sweep or of its two halves. This is a step of its own, and is made
-    /// at once if a step is left.
+    /// Passes on the result of a fold, of a part of a sweep or of its two halves. This is a step of its own, and is
+    /// made now if a step is left.
     #[inline(always)]
     pub fn hand_result(&mut self, value: u64, left: &mut u32) -> Progress<'p>
         ensures same { Changes self.old (seen_in result self.new) self.old.environment.items self.old.frames.items (control.Give value) }

@@ -1,4 +1,4 @@
-//! The children that begin in their parent's place, and the ways in which they are joined.
+//! Begins children in their parent's place, and joins them and others.
 use crate::contents::Contents;
 use crate::frame::{Control, Frame};
 use crate::level::{Level, Parent, move_parents};
@@ -19,7 +19,7 @@ pub enum Unjoined {
     Memory,
 }
 
-/// The steps that begin children in their parent's place, and that join them.
+/// The functions that begin a child in its parent's place, and that join children.
 impl<'p> State<'p> {
     ghost use Rattle.std.specs.Prelude.{◌≡◌, ◌≢◌, ◌+◌, ◌≤◌, ◌<◌, ◌^◌, ◌∷◌, ◌++◌, ◌↔◌, [], ℕ, length, reverse, vec_len, vec_capacity, Err, Some, IsTrue, IfOk, OnOk, OnErr};
     ghost use Rattle.arachne_machine.specs.declared.frame.Frame.TheVariants as frames;
@@ -34,7 +34,7 @@ impl<'p> State<'p> {
     ghost use Rattle.arachne_machine.specs.Outcome.{finished};
     ghost use Rattle.arachne_machine.specs.declared.join.Unjoined.TheVariants.{Foreign};
 
-    /// Returns whether the innermost thread awaits the child of this name.
+    /// Returns whether the current thread awaits the child of this name.
     pub fn awaits(&self, name: &Name) -> bool
         requires joins { pending_of self.now.control ≡ Some pause.Joins }
         requires line { HasLine self.now }
@@ -48,7 +48,7 @@ impl<'p> State<'p> {
         }
     }
 
-    /// Begins the child of this number in the place of the innermost thread, which awaits the child.
+    /// Begins the child of this number in the place of the current thread, which awaits the child.
     ///
     /// If memory is refused, nothing has changed but capacities.
     #[inline(always)]
@@ -76,8 +76,8 @@ impl<'p> State<'p> {
         Ok(())
     }
 
-    /// Makes the innermost thread wait for a child that goes on in the innermost thread's place. The child has its line
-    /// at `place`, and has forked `forks` threads. There must be room for one more parent.
+    /// Makes a child the current thread, and lets the thread that was current wait for it. The child has its line at
+    /// `place`, and has forked `forks` threads. There must be room for one more parent.
     #[inline(always)]
     fn descend(&mut self, awaits: Control<'p>, place: usize, forks: u64)
         requires { vec_len self.old.parents + 1 ≤ vec_capacity self.old.parents }
@@ -95,7 +95,7 @@ impl<'p> State<'p> {
         };
     }
 
-    /// Lets the awaited child, with the threads that run in the child's place, go on in the place of the innermost
+    /// Lets the awaited child, with the threads that run in the child's place, go on in the place of the current
     /// thread.
     ///
     /// If memory is refused, nothing has changed but capacities.
@@ -127,9 +127,9 @@ impl<'p> State<'p> {
         Ok(())
     }
 
-    /// Makes the innermost thread wait for a child, and takes over the levels of the child's threads. The frames of the
-    /// child's threads come behind the frames of this state, and the lines of these threads begin at `place`. There
-    /// must be room for the parents.
+    /// Lets the current thread wait for a child, and takes over the child and the threads that run in its place. Their
+    /// frames come behind the frames of this state, and their lines begin at `place`. There must be room for the
+    /// parents.
     #[inline(always)]
     fn take_levels(&mut self, child: &State<'p>, place: usize)
         requires room { vec_len self.old.parents + vec_len child.now.parents + 1 ≤ vec_capacity self.old.parents }
@@ -149,7 +149,7 @@ impl<'p> State<'p> {
 
     /// Ends the child that has run in its parent's place: the parent joins the child, with this value, and goes on.
     ///
-    /// If memory is refused, a later step gives the value to the parent.
+    /// If memory is refused, a later step passes the value to the parent.
     #[inline(always)]
     pub fn join_here(&mut self, value: u64, left: &mut u32) -> Result<Progress<'p>, AllocError>
         requires parent { HasParent self.old }
@@ -182,7 +182,7 @@ impl<'p> State<'p> {
         }
     }
 
-    /// Makes the child's value, and then that of `during`, the newest variables. There must be room for two more
+    /// Appends the child's value, and then the value `during`, to the variables. There must be room for two more
     /// variables.
     #[inline(always)]
     fn bind_joined(&mut self, value: u64, during: u64)
@@ -197,7 +197,7 @@ impl<'p> State<'p> {
         self.frames.push_reserved(Frame::Restore(length));
     }
 
-    /// Joins an outcome with these contents, if the outcome is that of the awaited child.
+    /// Joins the outcome with these contents, if it is that of the awaited child.
     ///
     /// After an error nothing has changed but capacities.
     pub fn join(&mut self, contents: &mut Contents) -> Result<(), Unjoined>

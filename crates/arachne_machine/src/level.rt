@@ -1,4 +1,4 @@
-//! The part of a state that belongs to one of its threads, and the threads that wait.
+//! The part of a state that belongs to one of the threads that run in it.
 ghost use Rattle.std.specs.Prelude.{◌≡◌, ◌+◌, ◌≤◌, ◌<◌, ◌^◌, ℕ, ◌++◌, false, length, reverse, vec_len, vec_capacity, IsTrue};
 ghost use Rattle.arachne_machine.specs.Strands.{Fits, moved_parents};
 
@@ -7,12 +7,11 @@ use crate::frame::Control;
 /// The part of a state that belongs to one of the threads that run in its place.
 #[derive(Clone, Copy)]
 pub struct Level {
-    /// The number of frames below the thread's own.
+    /// The number of frames of the threads outside this one: its own frames begin at this index.
     pub start: usize,
     /// The number of threads that the thread has forked.
     pub forks: u64,
-    /// The index of the thread's line among the lines below the outermost thread. The line of the outermost thread is
-    /// kept apart.
+    /// The index of the thread's line in `State::lines`. The line of the outermost thread is not there.
     pub place: usize,
 }
 
@@ -30,8 +29,7 @@ impl Level {
 
     /// Returns the level with `start` more frames before its own.
     ///
-    /// The line of the outermost thread, which was kept apart, is then at `place`, and the lines of the others are
-    /// behind this line.
+    /// The line of the outermost thread moves to the index `place`, and the lines of the others behind it.
     #[inline(always)]
     pub fn moved(self, outermost: bool, start: usize, place: usize) -> Level
         requires start { start + self.start < 2 ^ 64 }
@@ -52,7 +50,7 @@ impl Level {
     }
 }
 
-/// A thread that waits for the thread that runs in its place.
+/// A thread that waits for the child that runs in its place.
 #[derive(Clone, Copy)]
 pub struct Parent<'p> {
     pub level: Level,
@@ -60,7 +58,7 @@ pub struct Parent<'p> {
     pub control: Control<'p>,
 }
 
-/// Appends `others`, the threads of another state that wait, to `parents`, the outermost first.
+/// Appends `others`, the waiting threads of another state, to `parents`, the outermost first.
 ///
 /// `start` frames come before the frames of `others`, whose lines begin at `place`. There must be room for `others`.
 pub fn move_parents<'p>(

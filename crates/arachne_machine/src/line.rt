@@ -9,15 +9,15 @@ use std::mem::replace;
 /// The place at which a thread ran.
 #[derive(Clone, Copy, Debug, PartialEq, Eq)]
 pub enum Ran {
-    /// The thread ran at a place that its parent's worker found at the fork.
+    /// At a place of its own, which its parent's worker found at the fork.
     Slot,
-    /// The thread ran at a place that a worker found for it later, while it waited.
+    /// At a place of its own, which a worker found later, while the thread waited.
     Spill,
-    /// The thread ran in its parent's place.
+    /// In its parent's place: in the parent's state, as a call would.
     InPlace,
 }
 
-/// The tag of a thread, and the place at which it runs.
+/// The tag of a thread, and the kind of place at which it runs.
 #[derive(Clone, Copy, Debug)]
 pub struct Label {
     /// The tag (a number) under which the thread runs.
@@ -39,7 +39,7 @@ pub struct ThreadLine {
 }
 
 impl ThreadLine {
-    /// Returns a line that belongs to no thread. Takes no memory.
+    /// Returns an empty line, which belongs to no thread. Takes no memory.
     #[inline(always)]
     pub(crate) fn vacant(alloc: Global) -> ThreadLine {
         ThreadLine {
@@ -50,7 +50,7 @@ impl ThreadLine {
         }
     }
 
-    /// Returns this line, and leaves a line of no thread here.
+    /// Returns this line, and leaves an empty line here.
     #[inline(always)]
     pub(crate) fn take(&mut self, alloc: Global) -> ThreadLine
         ensures { result ≡ self.old }
@@ -59,7 +59,7 @@ impl ThreadLine {
     }
 }
 
-/// A thread's record, in a list that stores separately how often each lock was held.
+/// A reference to the line of one thread in a [`LineList`], which stores the parts of a line separately.
 #[derive(Drop)]
 pub struct LineView<'a> {
     name: &'a Name,
@@ -79,7 +79,7 @@ impl<'a> Model for LineView<'a> {
 impl<'a> LineView<'a> {
     ghost use Rattle.arachne_machine.specs.declared.line.ThreadLine.{ThreadLine};
 
-    /// Returns the record that has these parts.
+    /// Returns the line that has these parts.
     #[inline(always)]
     pub(crate) fn new(name: &'a Name, label: Label, holds: &'a [u64]) -> LineView<'a>
         ensures { result ≡ record { name = name.now; tag = label.tag; holds = holds.now; ran = label.ran } }
@@ -119,7 +119,7 @@ impl<'a> LineView<'a> {
         self.label.ran
     }
 
-    /// Returns a copy of the record. Takes memory for the copy.
+    /// Returns a copy of the line. Takes memory for the copy.
     pub(crate) fn to_line(&self, alloc: Global) -> Result<ThreadLine, AllocError>
         ensures { IfOk result (λ line. line ≡ self.now) }
     {

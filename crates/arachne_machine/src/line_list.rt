@@ -1,4 +1,4 @@
-//! The lines of threads in one list, which stores separately how often each lock was held.
+//! A list of threads' lines, with one flat array for how often each thread held each lock.
 ghost use Rattle.std.specs.Prelude.{◌≡◌, ◌+◌, ◌<◌, ◌∷◌, ◌++◌, [], ℕ, length, get_or, IfOk, IfSome, MatchOption, OnOk, OnErr};
 ghost use Rattle.arachne_program.specs.Effects.{tabulated};
 ghost use Rattle.arachne_machine.specs.declared.line.ThreadLine.{ThreadLine};
@@ -10,15 +10,15 @@ use arachne_program::Name;
 use std::alloc::{AllocError, Global};
 use std::marker::Model;
 
-/// A thread's name and label.
+/// The name, tag and kind of place of a thread: its line without the holds.
 #[derive(Debug, Drop)]
 struct Mark {
     name: Name,
     label: Label,
 }
 
-/// The lines of a program's threads, one for each thread; `locks` is the number of locks of the program. One list says
-/// how often each thread held each lock.
+/// The lines of a program's threads, one for each thread. `locks` is the number of locks of the program, and `holds`
+/// has as many numbers for each line.
 #[derive(Debug, Drop)]
 pub struct LineList {
     locks: usize,
@@ -51,7 +51,7 @@ impl LineList {
         }
     }
 
-    /// Returns a list of one line, which is taken out of `own`. If memory is refused, nothing has changed.
+    /// Moves the line `own` into a list of its own. If memory is refused, nothing has changed.
     pub fn of(alloc: Global, own: &mut ThreadLine) -> Result<LineList, AllocError>
         ensures ok { IfOk result (λ list. list ≡ record { locks = length own.old.holds; lines = own.old ∷ [] }) }
         ensures err { OnErr result (own.new ≡ own.old) }
@@ -93,7 +93,7 @@ impl LineList {
         )
     }
 
-    /// Counts that the thread whose line is at this index has held this lock once more.
+    /// Adds one to the number of times that the thread with the line at this index has held this lock.
     #[inline(always)]
     pub fn count_hold(&mut self, place: usize, lock: u64)
         requires { place < length self.old.lines }

@@ -1,4 +1,4 @@
-//! The lines of threads in order, in a form in which large numbers of them are moved at most once.
+//! The lines of threads in order, in several lists, so that joining a child with many descendants copies few lines.
 ghost use Rattle.std.specs.Prelude.{◌≡◌, ◌+◌, ◌-◌, ◌≤◌, ◌<◌, ◌^◌, List, [], ◌∷◌, ◌++◌, get_or, length, vec_len, vec_capacity, IfOk, IfErr, OnOk, OnErr};
 ghost use Rattle.arachne_program.specs.Effects.{tabulated};
 ghost use Rattle.arachne_machine.specs.declared.line.ThreadLine.{ThreadLine};
@@ -12,15 +12,13 @@ use std::alloc::{AllocError, Global};
 use std::marker::Model;
 use std::mem::replace;
 
-/// The maximum number of lines that are moved behind others. A list of more lines isn't moved, and stays a list of its
-/// own.
+/// The longest list whose lines are copied behind others at a join. A longer list stays a list of its own.
 const MOST_MOVED: usize = 1000;
 
 /// The maximum number of lines.
 const MOST: usize = usize::MAX / 2;
 
-/// The lines of threads, in order, in few lists. So a large number of lines is moved only once, when the list is
-/// complete.
+/// The lines of threads, in order, in few lists. So most lines are moved only once, when the report is complete.
 #[derive(Debug, Drop)]
 pub struct Lines {
     earlier: Vec<LineList>,
@@ -124,7 +122,7 @@ impl Lines {
         line_in(&self.earlier, place)
     }
 
-    /// Counts that the thread whose line is at this index has held this lock once more.
+    /// Adds one to the number of times that the thread with the line at this index has held this lock.
     pub fn count_hold(&mut self, place: usize, lock: u64)
         requires { place < length self.old }
         ensures { CountsHoldAt self.old self.new place lock }
@@ -230,7 +228,8 @@ fn line_in(lists: &Vec<LineList>, place: usize) -> LineView<'_>
     lists[at].at(left)
 }
 
-/// Counts that a lock was held once more by the thread whose line is at this index, counted over all of `lists`.
+/// Adds one to the number of times that the thread with the line at this index, counted over all of `lists`, has held
+/// this lock.
 #[cold]
 #[inline(never)]
 fn count_hold_in(lists: &mut Vec<LineList>, place: usize, lock: u64)

@@ -8,7 +8,8 @@ use arachne_program::{Name, Program, Sequence};
 use std::marker::Model;
 
 /// The outcome of a thread that has ended: its value, the ledger sums, and the lines of the thread and of its
-/// descendants. It is the outcome that the program's meaning gives for the thread of that name.
+/// descendants. The invariant: it is the outcome that the specs' evaluation of the program gives for the thread of that
+/// name.
 #[derive(Debug, Drop)]
 pub struct Outcome<'p> {
     pub(crate) program: &'p Program,
@@ -65,7 +66,7 @@ impl<'p> Outcome<'p> {
 
     /// Returns the value, the sums and the lines.
     ///
-    /// Takes memory for a list of the lists of lines. If that memory is refused, the outcome is the error.
+    /// Allocates a list. If memory is refused, returns the outcome as the error.
     pub fn into_parts(self) -> Result<OutcomeParts, Outcome<'p>>
         ensures value { IfOk result (λ parts. parts.value ≡ self.entry.value) }
         ensures sums { IfOk result (λ parts. parts.sums ≡ self.entry.sums) }

@@ -1,4 +1,4 @@
-//! The reasons why a thread pauses, and the pauses that are pending.
+//! The reasons why a thread pauses: what its caller must do before the thread can go on.
 use crate::thread::Thread;
 use arachne_program::Class;
 use std::fmt;
@@ -9,9 +9,9 @@ use thiserror::Error;
 pub enum Pause<'p> {
     /// The budget is used up. Advance the thread again.
     Budget,
-    /// The thread forks a child of this class. Take the child and call `forked`, or hand the child to `in_place`.
+    /// The thread forks a child of this class. Take the child and call `forked`, or pass the child to `in_place`.
     Forks(Class, Thread<'p>),
-    /// The thread awaits the outcome of a child. Hand that outcome to `joined`, or hand the child to `in_place`.
+    /// The thread awaits the outcome of a child. Pass that outcome to `joined`, or pass the child to `in_place`.
     Joins,
     /// The thread asks for this lock. Call `granted` once it has the lock.
     Asks(u64),
@@ -59,7 +59,7 @@ impl<O> fmt::Debug for NotJoined<O> {
     }
 }
 
-/// The reason why a child was not placed. The child is returned with the reason.
+/// The reason why a child can't run in this thread's place. The child is returned with the reason.
 #[derive(Drop, Error)]
 pub enum NotPlaced<'p> {
     /// The child is not the awaited child.

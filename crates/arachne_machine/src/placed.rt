@@ -1,4 +1,4 @@
-//! The children that a thread's caller has put in the thread's place, and that have not begun.
+//! Keeps children that the caller wants to run in this thread's place, until the thread awaits them.
 use crate::frame::Control;
 use crate::line::Ran;
 use crate::placing::Placing;
@@ -16,7 +16,7 @@ pub enum Unplaced<'p> {
     Memory(Box<State<'p>>),
 }
 
-/// The steps of a thread with the children that its caller has put in its place. The newest child is the last of
+/// The functions that advance a thread which has children waiting in its place. The newest child is the last of
 /// `placed`.
 impl<'p> State<'p> {
     ghost use Rattle.std.specs.Prelude.{◌≡◌, ◌≤◌, None, Some, true, All, IfOk, OnOk, OnErr};
@@ -29,8 +29,8 @@ impl<'p> State<'p> {
 
     /// Advances by at most `left` steps, until the thread pauses, and subtracts the steps that were made from `left`.
     ///
-    /// If the innermost thread begins to await the newest child of `placed`, that child goes on in its place. Returns
-    /// the child if the thread pauses for a fork. If memory is refused, the thread is left before the step that was
+    /// If the current thread begins to await the newest child of `placed`, that child goes on in its place. Returns the
+    /// child if the thread pauses for a fork. If memory is refused, the thread is left before the step that was
     /// refused, which is not subtracted.
     pub fn advance_with<P: Placing>(
         &mut self,
@@ -64,7 +64,7 @@ impl<'p> State<'p> {
         Ok(None)
     }
 
-    /// If the innermost thread awaits the newest child of `placed`, lets that child go on in its place. Returns whether
+    /// If the current thread awaits the newest child of `placed`, lets that child go on in its place. Returns whether
     /// the child goes on.
     #[inline(always)]
     fn take_up(
@@ -84,8 +84,8 @@ impl<'p> State<'p> {
         }
     }
 
-    /// Lets the newest child of `placed` go on in this thread's place, if the innermost thread awaits it. Returns
-    /// whether the child goes on.
+    /// Lets the newest child of `placed` go on in this thread's place, if the current thread awaits it. Returns whether
+    /// the child goes on.
     ///
     /// If memory is refused, the thread is left before the step in which it began to await the child.
     #[cold]
@@ -120,9 +120,9 @@ impl<'p> State<'p> {
 
     /// Puts a child, which the caller gives back, in this thread's place to run there.
     ///
-    /// A child that was just forked waits in this thread's place, and will begin before `others`, the children that the
-    /// caller had put in the child's place. An awaited child goes on at once, and `others` become the newest children
-    /// of `placed`. After an error nothing has changed but capacities.
+    /// A child that was just forked waits until it is awaited, and will begin before `others`, the children that wait
+    /// in the child's place. An awaited child goes on at once, and `others` become the newest children of `placed`.
+    /// After an error nothing has changed but capacities.
     pub fn place(
         &mut self,
         placed: &mut Vec<Box<State<'p>>>,
@@ -143,8 +143,8 @@ impl<'p> State<'p> {
         }
     }
 
-    /// Puts a child that was just forked in this thread's place. The child waits there, and will begin before
-    /// `grandchildren`, the children that the caller had put in the child's place.
+    /// Puts a child that was just forked in this thread's place. The child waits until it is awaited, and will begin
+    /// before `grandchildren`, the children that wait in the child's place.
     fn wait_with(
         &mut self,
         placed: &mut Vec<Box<State<'p>>>,
@@ -166,8 +166,8 @@ impl<'p> State<'p> {
         Ok(())
     }
 
-    /// Lets the awaited child go on in this thread's place. `others`, the children that the caller had put in the
-    /// child's place, become the newest of `placed`.
+    /// Lets the awaited child go on in this thread's place. `others`, the children that wait in the child's place,
+    /// become the newest of `placed`.
     fn go_on_with(
         &mut self,
         placed: &mut Vec<Box<State<'p>>>,

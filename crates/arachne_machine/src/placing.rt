@@ -1,17 +1,17 @@
-//! The questions that a thread asks its caller. At a fork: whether the child may get a place. At a tally: whether the
-//! caller takes the amount.
+//! Traits by which a caller decides, without a pause, whether a forked child gets a place of its own, and takes the
+//! amounts of tallies.
 ghost use Rattle.std.specs.Prelude.{◌≡◌, ℕ, Bool, true, false, IsTrue};
 ghost use Rattle.arachne_machine.specs.Tallying.{GainsAt};
 
 use arachne_program::Class;
 
-/// The questions of a thread at its forks. Any answer is correct.
+/// The caller's decisions at forks. Any answer is correct.
 pub trait Placing {
     /// True if `is_any` returns true for each child.
     ghost gives_all: { Bool };
 
-    /// Returns whether a child of this class may get a place of its own. If true, the fork is a pause. If false, the
-    /// child runs in its parent's place, and the fork is no pause.
+    /// Returns whether a child of this class may get a place of its own. If true, the thread pauses at the fork. If
+    /// false, the child runs in its parent's place, and the thread doesn't pause.
     fn is_any(&mut self, class: Class) -> bool
         ensures { gives_all ≡ true → IsTrue result };
 
@@ -26,7 +26,7 @@ pub trait Placing {
     fn tag(&mut self) -> u64;
 }
 
-/// A taker of amounts that must still be added to ledgers.
+/// Collects the amounts of a thread's tallies, which the caller must still add to the ledgers.
 pub trait Tallying {
     /// The amount that must still be added to each ledger, modulo 2^64.
     ghost due_to: { Self → ℕ → ℕ };
@@ -37,7 +37,7 @@ pub trait Tallying {
         ensures full { result ≡ false → self.new ≡ self.old };
 }
 
-/// Answers each fork's question with yes: each child may get a place of its own, so that each fork is a pause.
+/// Lets each child have a place of its own, so that each fork is a pause.
 #[derive(Clone, Copy, Debug)]
 pub struct Everywhere;
 

@@ -1,4 +1,4 @@
-//! Keeps the memory of ended threads, so that new threads need not ask the system for memory.
+//! Reuses the memory of ended threads for new ones.
 use crate::contents::Contents;
 use crate::state::State;
 use arachne_program::Program;
@@ -8,10 +8,9 @@ use std::marker::Model;
 /// The maximum number of states of ended threads that are kept, and of boxes of outcomes that are kept.
 const MOST: usize = 64;
 
-/// The memory that ended threads leave for new threads, for the threads of one core.
+/// The memory of ended threads that new threads of the same core reuse.
 ///
-/// It keeps the boxed states of ended threads, whose environment and frame vectors keep their capacity, and the boxes
-/// in which outcomes were that a join has read.
+/// It keeps the boxed states of ended threads, with the capacity of their vectors, and the boxes of joined outcomes.
 #[derive(Drop)]
 pub struct Spares<'p> {
     most: usize,

@@ -1,4 +1,4 @@
-//! The state of a thread between two steps: what it does next, its variables, and what follows.
+//! The state of a thread between two steps: its next action, its variables and its frames.
 use crate::contents::Contents;
 use crate::frame::{Control, Frame};
 use crate::level::{Level, Parent};
@@ -25,7 +25,7 @@ impl Own {
     ghost use Rattle.std.specs.Prelude.{◌≡◌};
     ghost use Rattle.arachne_machine.specs.Strands.{own_line};
 
-    /// Returns data that belong to no thread. Takes no memory.
+    /// Returns empty data, which belong to no thread. Takes no memory.
     fn vacant(alloc: Global) -> Own {
         Own {
             name: Name::root(alloc),
@@ -51,7 +51,7 @@ impl Own {
         }
     }
 
-    /// Puts back the name and the holds of the thread's line. The tag, and the place at which the thread ran, stay.
+    /// Undoes `take_line`: puts the line's name and holds back.
     pub fn put_back(&mut self, line: ThreadLine)
         ensures name { self.new.name ≡ line.name }
         ensures holds { self.new.holds.items ≡ line.holds }
@@ -75,16 +75,16 @@ pub struct State<'p> {
     pub alloc: Global,
     /// The data of the outermost thread's line.
     pub own: Own,
-    /// The lines below the outermost thread, in order: those of joined threads, and those of the threads that run in
-    /// its place, each at its index.
+    /// The lines of the outermost thread's descendants, in order: of those that were joined, and of those that run in
+    /// its place.
     pub lines: Lines,
     /// For each ledger, the sum of the amounts that all threads of this state have tallied, modulo 2^64.
     pub sums: Vec<u64>,
     /// The threads that wait for a thread that runs in their place, the outermost first.
     pub parents: Vec<Parent<'p>>,
-    /// The innermost thread, which goes on.
+    /// The current thread's part of the state.
     pub level: Level,
-    /// The innermost thread's environment. Each parent's environment is a prefix of it.
+    /// The values of the current thread's variables. Those of each parent are a prefix of them.
     pub environment: Vec<u64>,
     /// The frames (what follows the current expression) of all threads, the outermost thread's first. The newest frame
     /// is the last.
@@ -95,9 +95,9 @@ pub struct State<'p> {
 /// The result of a part of a step.
 #[derive(Drop)]
 pub enum Progress<'p> {
-    /// This value is handed to the newest frame.
+    /// The step has given this value, for the newest frame.
     Value(u64),
-    /// The step has been made, and this expression is begun next.
+    /// The step has been made, and the next one begins this expression.
     Begin(&'p Expr),
     /// The step has been made, and the next action is in the state.
     Goes,
@@ -147,7 +147,7 @@ impl<'p> State<'p> {
         Ok(state)
     }
 
-    /// Returns a state that belongs to no thread of the program.
+    /// Returns an empty state, which belongs to no thread of the program.
     #[cold]
     #[inline(never)]
     pub fn vacant(alloc: Global, program: &'p Program) -> State<'p> {
@@ -248,7 +248,7 @@ impl<'p> State<'p> {
         }
     }
 
-    /// Sets the next action to begin the expression in `begins`. If `begins` is `None`, the next action stays.
+    /// Makes the expression in `begins` the next action. If `begins` is `None`, the next action stays.
     #[inline(always)]
     fn settle(&mut self, begins: Option<&'p Expr>)
         ensures { self.new ≡ current_in begins.entry self.old }
@@ -258,11 +258,10 @@ impl<'p> State<'p> {
         }
     }
 
-    /// Makes a step, and also those of the next steps that need only what is known after it. Subtracts these further
-    /// steps from `left`.
+    /// Makes a step, and those next steps that it can make in the same call. Subtracts the further steps from `left`.
     ///
-    /// The step begins the expression `begins`. If there is none, it begins a part of a sweep, or takes a value that
-    /// was left over. If the step gives a value at once, the value goes to the expression that waits for it.
+    /// The step begins the expression `begins`. If there is none, it begins a part of a sweep, or takes up a value that
+    /// an earlier step kept when memory was refused. If the step gives a value, passes it to the newest frame.
     #[inline(always)]
     fn make<P: Placing>(
         &mut self,
@@ -288,8 +287,8 @@ impl<'p> State<'p> {
         }
     }
 
-    /// Begins the expression, if there is one. Otherwise takes the value that was left over, or begins a part of a
-    /// sweep (a loop whose range is halved among threads).
+    /// Begins the expression, if there is one. Otherwise takes up the value that an earlier step kept when memory was
+    /// refused, or begins a part of a sweep (a loop whose range is halved among threads).
     #[inline(always)]
     fn begin_next<P: Placing>(
         &mut self,
@@ -311,7 +310,7 @@ impl<'p> State<'p> {
         }
     }
 
-    /// Takes a value that was left over since memory was refused, or begins a part of a sweep.
+    /// Takes up a value that an earlier step kept when memory was refused, or begins a part of a sweep.
     #[inline(always)]
     fn resume<P: Placing>(
         &mut self,
@@ -333,7 +332,7 @@ impl<'p> State<'p> {
         }
     }
 
-    /// Returns the pending pause, which was not answered yet.
+    /// Returns the pause that the caller has not answered yet, if there is one.
     pub fn pending(&self) -> Option<Pending>
         ensures { result ≡ pending_of self.now.control }
     {
@@ -348,7 +347,7 @@ impl<'p> State<'p> {
         }
     }
 
-    /// Returns the name of the innermost thread.
+    /// Returns the name of the current thread.
     #[inline(always)]
     pub fn running_name(&self) -> &Name
         requires { HasLine self.now }
@@ -360,7 +359,7 @@ impl<'p> State<'p> {
         self.lines.at(self.level.place).name()
     }
 
-    /// Returns the tag of the innermost thread.
+    /// Returns the tag of the current thread.
     pub fn running_tag(&self) -> u64
         requires { HasLine self.now }
         ensures { result ≡ (top self.now).own.label.tag }
@@ -371,7 +370,7 @@ impl<'p> State<'p> {
         self.lines.at(self.level.place).tag()
     }
 
-    /// Takes out the contents of the outcome of a thread that has ended.
+    /// Takes the value, sums and lines out of the state of a thread that has ended.
     #[inline(always)]
     pub fn finish(&mut self) -> Contents
         requires ended { pending_of self.old.control ≡ Some pause.Ended }

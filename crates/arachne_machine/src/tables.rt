@@ -1,4 +1,4 @@
-//! Lists with a number for each ledger or each lock: how to make one of zeros, and to add to its numbers.
+//! Makes lists of zeros, one for each ledger or lock, and adds to their numbers.
 ghost use Rattle.std.specs.Prelude.{◌≡◌, ℕ, ◌+◌, ◌==◌, if◌then◌else◌, ◌++◌, length, IfOk, OnOk, OnErr};
 ghost use Rattle.arachne_program.specs.Effects.{tabulated};
 

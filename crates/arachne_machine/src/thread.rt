@@ -1,4 +1,4 @@
-//! A thread with the threads that run in its place, and the calls that advance, answer and join it.
+//! A thread of a task program: creates it, advances it by steps, answers its pauses, and joins its children.
 ghost use Rattle.std.specs.Prelude.{◌≡◌, ◌≢◌, ◌↔◌, ◌≤◌, ◌+◌, ◌-◌, ℕ, ◌∷◌, [], ◌++◌, true, false, Err, None, Some, IfOk, IfSome, OnOk, IfErr, OnErr, IsTrue};
 ghost use Rattle.arachne_program.specs.Effects.{tabulated};
 ghost use Rattle.arachne_machine.specs.Suspended.{IsAnswered, IsAsk, IsFree, IsFresh, IsNext, IsTally, Joined, SameThread, added, awaited, own_line_of, raised};
@@ -33,11 +33,11 @@ use std::snapshot::Snapshot;
 
 /// A thread of a program between two steps, with the threads that run in its place.
 ///
-/// A child that was placed in this thread runs once its parent awaits it, and the parent goes on once the child has
-/// ended. A thread is not `Clone`: each thread runs once.
+/// A child that the caller passes to `in_place` runs once its parent awaits it, and the parent goes on once the child
+/// has ended. A thread is not `Clone`: each thread runs once.
 #[derive(Drop)]
 pub struct Thread<'p> {
-    /// The thread, and the threads that have begun in its place.
+    /// The state of the thread and of those that have begun in its place.
     state: Box<State<'p>>,
     /// Children that the caller has put in this thread's place and that have not begun, the newest last.
     placed: Vec<Box<State<'p>>>,
@@ -96,8 +96,8 @@ impl<'p> Thread<'p> {
         self.state.program
     }
 
-    /// Returns the tag of the innermost thread that runs in this thread's place. That thread makes the next step, and
-    /// if a pause is pending, it is that thread's.
+    /// Returns the tag of the current thread: this thread or one that runs in its place. The current thread makes the
+    /// next step, and has made any pending pause.
     pub fn running_tag(&self) -> u64
         ensures { result ≡ self.now.running.label.tag }
     {
@@ -114,7 +114,7 @@ impl<'p> Thread<'p> {
         self.state.own.label.tag = tag;
     }
 
-    /// Records that a place was found for the thread, which has not begun, while it waited.
+    /// Records for the thread's line that it got its place while it waited. The thread must not have begun.
     pub fn set_spilled(&mut self)
         requires { self.old.parents ≡ [] }
         ensures spilled { self.new ≡ record self.old { running = spilled_of self.old.running } }
@@ -123,8 +123,8 @@ impl<'p> Thread<'p> {
         self.state.own.label.ran = Ran::Spill;
     }
 
-    /// Returns the pending pause, if there is one. It is the pause of the innermost thread, which runs in this thread's
-    /// place.
+    /// Returns the pause that the caller has not answered yet, if there is one. It is a pause of the current thread:
+    /// this one, or one that runs in its place.
     pub fn pending(&self) -> Option<Pending>
         ensures pending { result ≡ pending_in self.now }
         ensures next { IsNext self.now.running.pending self.now.running.trace }
@@ -134,8 +134,7 @@ impl<'p> Thread<'p> {
         self.state.pending()
     }
 
-    /// Advances by at most `budget` steps. To begin a node of an expression is a step of its own, and each fork is a
-    /// pause.
+    /// Advances by at most `budget` steps. Each node of an expression is a step, and each fork a pause.
     ///
     /// If memory is refused, the thread is left before the step that was refused, and the same call goes on from this
     /// step.
@@ -161,8 +160,8 @@ impl<'p> Thread<'p> {
     /// at least one at any other pause.
     ///
     /// If there is no place for the child of a fork, the fork is no pause: the child runs in this thread's place, once
-    /// it is awaited. Any other child begins with memory that ended threads have left. If memory is refused, the thread
-    /// is left before the step that was refused, as with `advance`.
+    /// it is awaited. Any other child reuses memory that ended threads have left. If memory is refused, the thread is
+    /// left before the step that was refused, as with `advance`.
     pub fn advance_within<P: Placing>(
         &mut self,
         left: &mut u32,
@@ -223,8 +222,7 @@ impl<'p> Thread<'p> {
         Ok(Pause::Budget)
     }
 
-    /// Makes the tally at which the thread has paused. Returns whether the thread has paused at a tally and `due` has
-    /// taken the tally's amount.
+    /// If the thread has paused at a tally and `due` takes its amount, answers the pause. Returns whether it has.
     #[inline(always)]
     fn tally<D: Tallying>(&mut self, due: &mut D) -> bool
         ensures made { result ≡ true → (ledger amount : ℕ) × IsTallied ledger amount self.old self.new × GainsAt (D.due_to due.old) ledger amount (D.due_to due.new) }
@@ -262,7 +260,7 @@ impl<'p> Thread<'p> {
         Ok(forked)
     }
 
-    /// Replies to a fork pause whose child will run elsewhere. Takes no memory.
+    /// Answers the pause at a fork whose child the caller has taken. Takes no memory.
     pub fn forked(&mut self)
         requires { pending_in self.old ≡ Some pause.Forks }
         ensures whole { SameWhole self.old self.new }
@@ -302,7 +300,7 @@ impl<'p> Thread<'p> {
         }
     }
 
-    /// Answers a request for a lock, which the thread holds now. Takes no memory.
+    /// Answers the pause at a request for a lock: the thread holds it now. Takes no memory.
     pub fn granted(&mut self)
         requires { IsAsk (pending_in self.old) }
         ensures whole { SameWhole self.old self.new }
@@ -317,7 +315,7 @@ impl<'p> Thread<'p> {
         self.state.granted();
     }
 
-    /// Answers the release of a lock, which the thread no longer holds. Takes no memory.
+    /// Answers the pause at the release of a lock: the thread no longer holds it. Takes no memory.
     pub fn freed(&mut self)
         requires { IsFree (pending_in self.old) }
         ensures whole { SameWhole self.old self.new }
@@ -332,7 +330,7 @@ impl<'p> Thread<'p> {
         self.state.freed();
     }
 
-    /// Answers a tally, whose amount was added to the ledger. Takes no memory.
+    /// Answers the pause at a tally: the caller has added the amount to the ledger. Takes no memory.
     pub fn tallied(&mut self)
         requires { IsTally (pending_in self.old) }
         ensures whole { SameWhole self.old self.new }
@@ -371,7 +369,7 @@ impl<'p> Thread<'p> {
         }
     }
 
-    /// Joins the outcome of the awaited child, like `joined`, from a box. The box is kept for new threads.
+    /// Joins the outcome of the awaited child, like `joined`, from a box. `spares` keeps the box.
     pub fn joined_into(
         &mut self,
         outcome: DetachedOutcome,
@@ -404,7 +402,7 @@ impl<'p> Thread<'p> {
         }
     }
 
-    /// Joins an outcome of this program with these contents. After an error nothing has changed.
+    /// Joins the outcome with these contents, if it is that of the awaited child. After an error nothing has changed.
     #[inline(always)]
     fn join(&mut self, program: &Snapshot<Program>, contents: &mut Contents) -> Result<(), Unjoined>
         requires pending { pending_in self.old ≡ Some pause.Joins }
@@ -440,8 +438,8 @@ impl<'p> Thread<'p> {
         }
     }
 
-    /// Returns the outcome of a thread that has ended, in the box `contents`. Memory that the thread no longer needs is
-    /// kept for new threads.
+    /// Returns the outcome of a thread that has ended, in the box `contents`. `spares` keeps the memory that the thread
+    /// no longer needs.
     pub fn finish_into(self, contents: Box<Contents>, spares: &mut Spares<'p>) -> DetachedOutcome
         requires { pending_in self ≡ Some pause.Ended }
         ensures program { result.program ≡ (whole self.entry).program }
@@ -470,7 +468,7 @@ fn thread_of<'p>(state: Box<State<'p>>) -> Thread<'p>
     }
 }
 
-/// Returns the pause that callers see: the fork if a child was forked, and the pending pause otherwise.
+/// Returns the pause for the caller: the fork with its child if one was forked, and otherwise the pending pause.
 #[inline(always)]
 fn pause_of<'p>(forked: Option<(Class, Box<State<'p>>)>, pending: Option<Pending>) -> Pause<'p>
     requires { IfSome forked (λ f. IsSoundChild f.1.value) }

@@ -1,4 +1,4 @@
-//! The lines of a run's threads, in the lists in which they were made.
+//! The lines of all threads of a run, without copying them into one list.
 ghost use Rattle.std.specs.Prelude.{◌≡◌, ◌==◌, ◌≤◌, ◌+◌, ◌∷◌, ◌++◌, [], length, vec_len, vec_capacity, IfOk, IfErr, MatchOption};
 ghost use Rattle.std.specs.Iterator.{YieldsFirst, item_count};
 ghost use Rattle.arachne_machine.specs.Lines.{lines_from, lines_in};
@@ -8,7 +8,7 @@ use crate::line_list::LineList;
 use std::alloc::{AllocError, Global};
 use std::marker::Model;
 
-/// Lines in order, in the lists in which they were made. No line is moved until a `Vec` of all lines is needed.
+/// Lines in order, in several lists. They are copied into one only by `into_vec` and `to_vec`.
 #[derive(Debug, Drop)]
 pub struct ThreadLines {
     count: usize,
@@ -61,7 +61,7 @@ impl ThreadLines {
         }
     }
 
-    /// Returns the lines in one `Vec`, as copies. If memory is refused, the lines are the error.
+    /// Copies the lines into one `Vec`. If memory is refused, returns the lines as the error.
     pub fn into_vec(self, alloc: Global) -> Result<Vec<ThreadLine>, ThreadLines>
         ensures items { IfOk result (λ lines. lines.items ≡ self) }
         ensures handed_back { IfErr result (λ lines. lines ≡ self) }
@@ -84,12 +84,12 @@ impl ThreadLines {
     }
 }
 
-/// The lines that an iteration has not returned yet.
+/// An iterator over the lines in order.
 #[derive(Drop)]
 pub struct LinesLeft<'a> {
     /// The lists that have lines left.
     lists: &'a [LineList],
-    /// The number of lines of the first list that were returned.
+    /// The number of lines of the first list that the iterator has returned.
     place: usize,
 }
 

@@ -1,5 +1,5 @@
 //! Iterations of folds and sweeps. An iteration whose body has no effects and needs no more steps than are left is made
-//! at once.
+//! in one call.
 use crate::frame::Frame;
 use crate::state::{Progress, State};
 use crate::worth::body_at_once;

@@ -1,8 +1,8 @@
-//! The laws of the steps on a guard word, a lock's atomic word (1 while a seat has the lock's state, else 0). There is
-//! one for each kind of step: a function with an empty body, whose contract is the law.
+//! One law for each kind of atomic operation (*step*) on a lock's guard word, which is 1 while a seat has the lock's
+//! state, else 0. Each is a function with an empty body, whose contract is the law.
 //!
-//! A law says what the seat knows after the step, and that the step keeps the rule (the invariant) of the lock's table,
-//! whatever the state of the table is.
+//! A law says what the seat's log has after the step, and that the step keeps the invariant of the lock's table in
+//! whatever state the table is.
 ghost use Rattle.std.specs.Prelude.{◌≡◌, ℕ, ◌==◌, List, [], ◌∷◌, slice_get, Some};
 ghost use mathlib.Core.Option.{some};
 ghost use lib.ListN.{get_elem?};
@@ -19,22 +19,22 @@ ghost use Rattle.arachne_sleep.specs.Trace.{Entry, Tells, records_of, IsStepOf};
 ghost use Rattle.arachne_sleep.specs.Rule.{Board, IsKept, idle_known, first_view, first_seat, second_seat, joined_seat, spent_seat};
 ghost use Rattle.arachne_sleep.specs.Steps.{Mine, idle, Takes, GivesBack, IsReturnable};
 
-/// The table of a new lock satisfies the rule, the invariant of a lock's table.
+/// The table of a new lock meets the invariant.
 pub fn the_rule_holds_at_first()
     ensures { (number : ℕ) (guarded : Guarded) → guarded.state ≡ record { number = number; history = [] }
         → IsKept number (opening first_words (guarded ∷ []) (first_view number)) }
 {}
 
-/// A compare-exchange of a lock's guard word from 0 to 1 keeps the rule, the invariant of the lock's table.
+/// A compare-exchange of a lock's guard word from 0 to 1 keeps the invariant of the lock's table.
 ///
-/// If the exchange succeeds, the seat has the lock's state, whose history begins with each history that the seat had
-/// seen. If the exchange fails, the seat has seen that the guard was taken.
+/// If the exchange succeeds, the seat has the lock's state, whose history begins with each history that the seat's log
+/// has. If the exchange fails, the log has that the guard was taken.
 pub fn a_try_keeps_the_rule()
     ensures { (number slots id weight : ℕ) (log : SeatLog)
         → Allows (IsKept number) slots id (idle weight log) guard_word (λ n. either (n == 0) 1 n) (Takes (idle weight log)) }
 {}
 
-/// A store of 0 to a lock's guard word keeps the rule, the invariant of the lock's table.
+/// A store of 0 to a lock's guard word keeps the invariant of the lock's table.
 ///
 /// The table has the lock's state again, with a history that begins with the history that the seat took.
 pub fn giving_back_keeps_the_rule()
@@ -42,25 +42,24 @@ pub fn giving_back_keeps_the_rule()
         → Allows (IsKept number) slots id me guard_word (λ _. 0) (λ _ after. GivesBack me after) }
 {}
 
-/// A split of a seat keeps the rule, the invariant of the lock's table. The new seat has seen what the other seat has
-/// seen, and has done nothing.
+/// A split of a seat keeps the invariant of the lock's table. The new seat's log has the histories that the other seat
+/// has seen, and no events.
 pub fn a_split_keeps_the_rule()
     ensures { (number id weight : ℕ) (log : SeatLog)
         → Splits (IsKept number) id (held weight (idle_known log)) (first_seat (held weight (idle_known log))) (second_seat (held weight (idle_known log))) }
 {}
 
-/// A join of another seat into a seat keeps the rule, the invariant of the lock's table. The seat then has all that the
-/// other has done and seen.
+/// A join of another seat into a seat keeps the invariant of the lock's table. The seat's log then has all that the
+/// other's has.
 pub fn a_join_keeps_the_rule()
     ensures { (number id weight : ℕ) (log : SeatLog) (other added : ℕ) (theirs : SeatLog)
         → Joins (IsKept number) id (held weight (idle_known log)) other (held added (idle_known theirs))
         (joined_seat (held weight (idle_known log)) (held added (idle_known theirs))) spent_seat }
 {}
 
-/// The steps that a seat in use has noted are exactly its own steps.
+/// The steps in a seat's log are exactly its own steps.
 ///
-/// Each noted step is in the trace of all steps: the step found the number that was in the guard word at its place in
-/// the trace.
+/// Each of them is in the trace of all steps: it found the number that was in the guard word at its place in the trace.
 pub fn a_record_is_a_step()
     ensures all { (number : ℕ) (board : Board) → (rule : IsKept number board) → (place weight : ℕ) (known : Known)
         → get_elem? board.views place ≡ some (held weight known) → known.log.records ≡ records_of place rule.trace }

@@ -15,7 +15,7 @@ use std::marker::Model;
 /// A lock's state, on cache lines of its own, and the index (in the lock's history) of the grant that the last call
 /// reported.
 ///
-/// The index is only for proofs: the step that gives the guard back reads the index here.
+/// The index is only for proofs: it names the grant in the log of the seat that gives the guard back.
 #[derive(Drop)]
 pub struct GuardedState {
     state: CachePadded<LockState>,

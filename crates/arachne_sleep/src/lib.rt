@@ -2,8 +2,9 @@
 //!
 //! [`LockState`] is the state of a sleep lock: its owner, the threads that wait for it, in order, and the history of
 //! all asks, grants and frees. [`SleepLock`] is a sleep lock that kernel threads share. Each kernel thread calls the
-//! lock through a [`LockSeat`], in which contracts see a log of what was done by it. [`SleepLocks`] are several such
-//! locks, used through [`LockSeats`]. No call waits.
+//! lock through a [`LockSeat`], in which contracts see a log of the calls. An atomic word, the *guard*, says if a seat
+//! has the lock's state; a call that finds it taken returns at once, and the caller may try again. [`SleepLocks`] are
+//! several such locks, used through [`LockSeats`]. No call waits.
 #![tactic(auto)]
 
 mod answer;

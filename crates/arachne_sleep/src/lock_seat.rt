@@ -8,7 +8,7 @@ use arachne_weights::Weight;
 use atomic_table::Seat;
 use std::marker::Model;
 
-/// A part of the right to use one sleep lock. Contracts also see in it a log of what was done by it.
+/// A part of the right to use one sleep lock. Contracts see in it a log of the calls that were made through it.
 ///
 /// A seat must be used, split and joined with the lock that it came from. If a seat is dropped, its weight is lost, and
 /// no seat can have the whole weight any more.

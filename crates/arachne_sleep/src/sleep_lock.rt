@@ -1,4 +1,4 @@
-//! A sleep lock that kernel threads share. No call on the lock waits.
+//! A sleep lock that kernel threads share. A call that finds another kernel thread in a call returns at once.
 ghost use Rattle.std.specs.Prelude.{◌≡◌, ◌↔◌, List, MatchBool, IsTrue, IsOk, IfOk, None, [], ◌∷◌};
 ghost use Rattle.arachne_sleep.specs.declared.event.LockEvent.{LockEvent};
 ghost use Rattle.arachne_sleep.specs.History.{IsSound};
@@ -56,7 +56,7 @@ impl Model for SleepLock {
     ghost invariant = { λ l. IsLaidOut l.table.shared.table_id l.table.shared.key l.number };
 }
 
-/// Returns the state of a new lock, as the only one of a list.
+/// Returns a list with one item, the state of a new lock.
 fn first_slots(alloc: Global, number: u8) -> Result<Vec<GuardedState>, AllocError>
     ensures { IfOk result (λ slots. IsFirstSlot number slots.items) }
 {
@@ -124,7 +124,7 @@ impl SleepLock {
         Tried::Answered(answer)
     }
 
-    /// Returns the thread's pass, which shows that it owns the lock, or `None` if the thread doesn't own the lock.
+    /// Returns evidence that the thread owns the lock, or `None` if it doesn't.
     pub fn check(&self, seat: &mut LockSeat, who: Who) -> Tried<Option<Pass>>
         requires { IsSeatOf self.now seat.old }
         ensures seat { IsSeatOf self.now seat.new × (seat.new.weight ≡ seat.old.weight) }
@@ -140,8 +140,8 @@ impl SleepLock {
 
     /// Splits a seat in two, each with half of its weight, rounded up for the first.
     ///
-    /// The first seat keeps what `seat` has done and seen, the second only what `seat` has seen. If the weight is 1 or
-    /// 0, both seats get weight 0.
+    /// The first seat keeps the log of `seat`, the second only the histories that it has seen. If the weight is 1 or 0,
+    /// both seats get weight 0.
     pub fn split(&self, seat: LockSeat) -> (LockSeat, LockSeat)
         requires { IsSeatOf self.now seat }
         ensures first { result.0 ≡ first_half seat }
@@ -166,7 +166,7 @@ impl SleepLock {
         }
     }
 
-    /// Joins two seats into one, which has all that both have done and seen.
+    /// Joins two seats into one, which has the logs of both.
     ///
     /// The weight of the result is the sum of both weights, but at most the whole.
     pub fn join_seats(&self, seat: LockSeat, other: LockSeat) -> LockSeat
@@ -227,7 +227,7 @@ impl SleepLock {
         guarded.into_history()
     }
 
-    /// Tries once to take the guard. Returns whether the seat has the guard, and with it the lock's state.
+    /// Tries once to set the guard word, and with it to get the lock's state. Returns whether it has.
     fn take(&self, seat: &mut Seat<GuardedState, View>) -> bool
         requires own { seat.old.table_id ≡ self.now.table }
         requires idle { seat.old.me ≡ idle seat.old.me.0.weight seat.old.me.0.known.log }
@@ -240,7 +240,7 @@ impl SleepLock {
         shared.compare_exchange::<Take>(seat, GUARD, HOME, TAKEN) == HOME
     }
 
-    /// Gives the guard back, and with it the lock's state.
+    /// Gives the lock's state back, and clears the guard word.
     fn give_back(&self, seat: &mut Seat<GuardedState, View>)
         requires own { seat.old.table_id ≡ self.now.table }
         requires guarded { (guarded : Guarded) × (before : List LockEvent) × IsReturnable seat.old.me guarded before }

@@ -95,7 +95,7 @@ impl SleepLocks {
         self.locks[k].free(&mut seats.seats[k], who)
     }
 
-    /// Returns the pass of a thread that owns a lock, as [`SleepLock::check`] does.
+    /// Returns evidence that a thread owns a lock, as [`SleepLock::check`] does.
     pub fn check(&self, seats: &mut LockSeats, lock: u8, who: Who) -> Tried<Option<Pass>>
         requires own { AreSeatsOf self.now seats.old }
         requires lock { lock < length self.now }

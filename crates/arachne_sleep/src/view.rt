@@ -1,15 +1,15 @@
-//! The knowledge of a seat about its lock. These types are only for proofs: no value of them is made.
+//! The log that proofs keep for each seat of a lock. These types are only for proofs: no value of them is made.
 use crate::{LockEvent, Pass};
 use arachne_weights::Token;
 use std::collections::LinkedList;
 
-/// An event that a seat made, and its index in the lock's history.
+/// An event that a call through a seat caused, and its index in the lock's history.
 pub struct PlacedEvent {
     pub at: usize,
     pub event: LockEvent,
 }
 
-/// The kinds of step on the guard word.
+/// The kinds of atomic operation on the guard word.
 pub enum Kind {
     /// A compare-exchange from 0 to 1. If the exchange succeeds, the seat has the lock's state.
     Take,
@@ -17,7 +17,7 @@ pub enum Kind {
     GiveBack,
 }
 
-/// A step on a word: its kind, the word's index, and the numbers in the word before and after it.
+/// One atomic operation on a word: its kind, the word's index, and the numbers in the word before and after it.
 pub struct Record {
     pub kind: Kind,
     pub word: usize,
@@ -25,17 +25,17 @@ pub struct Record {
     pub after: u64,
 }
 
-/// The log of a seat: what it has done and seen.
+/// The log of a seat: the events that its calls caused, and the histories that they read.
 pub struct SeatLog {
     /// The lock's number.
     pub number: u8,
-    /// The events that the seat made.
+    /// The events that calls through the seat caused.
     pub made: LinkedList<PlacedEvent>,
-    /// The passes that the seat got.
+    /// The evidence of grants that the seat's calls have returned.
     pub passes: LinkedList<Pass>,
-    /// The last history that the seat saw, and the last ones of the seats that were joined into it since then.
+    /// The history that the seat's last call read, and those of the seats that were joined into it since then.
     pub seen: LinkedList<LinkedList<LockEvent>>,
-    /// The steps that the seat made, the newest first.
+    /// The seat's atomic operations, the newest first.
     pub records: LinkedList<Record>,
 }
 
