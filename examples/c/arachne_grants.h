@@ -26,8 +26,8 @@ extern "C" {
 enum {
     /* The call succeeded. */
     ARACHNE_GRANTS_DONE = 0,
-    /* The handle holds nothing, or is in use although it must be empty, or the event is not allowed now. Nothing
-     * has changed. */
+    /* The handle is empty, or is in use although it must be empty, or the event is not allowed now. Nothing has
+     * changed. */
     ARACHNE_GRANTS_REFUSED = 1,
     /* Memory was refused. Nothing has changed. */
     ARACHNE_GRANTS_NO_MEMORY = 2,
@@ -96,7 +96,7 @@ typedef struct {
 
 /* The action that the caller must take on a thread. Fields that the action does not use are 0. */
 typedef struct {
-    /* TAKEN, PLACED, GRANTED or NOTHING, or REFUSED if the handle holds nothing. */
+    /* TAKEN, PLACED, GRANTED or NOTHING, or REFUSED if the handle is empty. */
     uint32_t code;
     uint32_t core;
     size_t client;
@@ -111,9 +111,9 @@ typedef struct {
     uint32_t held;
 } arachne_share;
 
-/* Makes an arbiter of the cores 0 to `cores` - 1, without clients, in a handle that holds nothing.
+/* Makes an arbiter of the cores 0 to `cores` - 1, without clients, in an empty handle.
  *
- * Returns DONE; REFUSED if the handle holds something, or if `cores` is greater than 1,024; NO_MEMORY.
+ * Returns DONE; REFUSED if the handle is in use, or if `cores` is greater than 1,024; NO_MEMORY.
  *
  * Threads: safe beside calls with other handles; two at once with `arbiter` are undefined behaviour. */
 uint32_t arachne_arbiter_new(arachne_arbiter *arbiter, uint32_t cores);
@@ -160,7 +160,8 @@ uint32_t arachne_arbiter_wait(arachne_arbiter *arbiter, size_t client, size_t pl
  * Threads: safe beside calls with other handles; two at once with `arbiter` are undefined behaviour. */
 uint32_t arachne_arbiter_end(arachne_arbiter *arbiter, size_t client, size_t place);
 
-/* Decides anew how many cores each client may have. Returns DONE or REFUSED.
+/* Computes again how many cores each client may have, from what all clients ask for now. Returns DONE or
+ * REFUSED.
  *
  * Threads: safe beside calls with other handles; two at once with `arbiter` are undefined behaviour. */
 uint32_t arachne_arbiter_decide(arachne_arbiter *arbiter);
@@ -179,8 +180,8 @@ arachne_action arachne_arbiter_take_back(arachne_arbiter *arbiter, size_t client
  * Threads: safe beside calls with other handles; two at once with `arbiter` are undefined behaviour. */
 arachne_action arachne_arbiter_give(arachne_arbiter *arbiter);
 
-/* Returns the number of cores that a client may have, and the number that it has; 0 and 0 if the handle holds
- * nothing.
+/* Returns the number of cores that a client may have, and the number that it has; 0 and 0 if the handle is
+ * empty.
  *
  * Threads: safe beside calls with other handles; two at once with `arbiter` are undefined behaviour. */
 arachne_share arachne_arbiter_share(arachne_arbiter *arbiter, size_t client);

@@ -9,7 +9,7 @@ use crate::seat::ExecSeat;
 
 impl Executor {
     /// Returns the blocks of a shard that may have ready jobs, a bit for each, by one load. A block whose bit is clear
-    /// has no ready job, or some thread is in the midst of a call that will set the bit.
+    /// has no ready job, or another thread is in a call that will set the bit, or find that it needn't.
     pub fn shown(&self, seat: &mut ExecSeat, shard: usize) -> u64
         requires own { seat.old.table ≡ self.now.table }
         requires shard { shard < self.now.shards }

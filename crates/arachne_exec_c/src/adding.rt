@@ -1,4 +1,4 @@
-//! A share of a set of ledgers (sums that many threads add to), with the ledgers.
+//! The value behind a handle on ledgers: a share (the right to add to them), with the ledgers.
 ghost use Rattle.std.specs.Prelude.{◌≡◌, ◌↔◌, IfOk, IfErr, IfSome, IfNone, IsSome, MatchBool, IsTrue};
 ghost use Rattle.std.specs.Option.{ForSome};
 ghost use Rattle.std.specs.declared.option.Option.TheVariants.{None, Some};
@@ -63,7 +63,7 @@ impl Adding {
         Some(self.ledgers.read(&mut self.share, ledger))
     }
 
-    /// Splits the share in two. Fails, with nothing changed, if the ledgers' `Arc` can't be cloned.
+    /// Splits the share in two. Fails, with nothing changed, if the reference count of the ledgers can't grow.
     pub(crate) fn split(self) -> Result<(Adding, Adding), Adding>
         ensures ok { IfOk result (λ parts. (parts.0 ≡ first_of self) × (parts.1 ≡ second_of self)) }
         ensures err { IfErr result (λ same. same ≡ self) }

@@ -1,16 +1,16 @@
-//! The codes that calls return to C: one set for all of them.
+//! The codes that the C functions return.
 
 /// The call succeeded.
 pub(crate) const DONE: u32 = 0;
 
-/// The handle holds nothing, or it holds something although it must be empty; or the handle's seat may not make this
-/// call now; or there is no such block, lock or ledger. Nothing has changed.
+/// The handle is empty, or it is in use although it must be empty; or the handle's seat may not make this call now; or
+/// there is no such block, lock or ledger. Nothing has changed.
 pub(crate) const REFUSED: u32 = 1;
 
 /// Memory was refused. Nothing has changed.
 pub(crate) const NO_MEMORY: u32 = 2;
 
-/// Another thread was at the lock. Nothing has changed: try again.
+/// Another thread was in a call on the lock. Nothing has changed: try again.
 pub(crate) const CONTENDED: u32 = 3;
 
 /// Another thread was first. Nothing has changed: try again, with another number if the call registers a worker.
@@ -40,13 +40,14 @@ pub(crate) const LEFT: u32 = 11;
 /// No place of the block is free.
 pub(crate) const FULL: u32 = 12;
 
-/// The job is held by the handle: run it.
+/// The handle holds the job: run it.
 pub(crate) const RUN: u32 = 13;
 
-/// The worker has set its idle bit, and then found the summary words of its shards empty: sleep until you are unparked.
+/// The worker has set its idle bit, and then found no block of its shards that may have a ready job: sleep until you
+/// are unparked.
 pub(crate) const PARK: u32 = 14;
 
-/// No job was taken, or a block may have a job: try again.
+/// The call took no job, or found that a block may have one: try again.
 pub(crate) const AGAIN: u32 = 15;
 
 /// The job is ready.
@@ -55,12 +56,12 @@ pub(crate) const READY: u32 = 16;
 /// The job waits for a wake.
 pub(crate) const BLOCKED: u32 = 17;
 
-/// The job is ready or runs, and the wake is recorded. A take or a start uses up that record. If neither follows, the
-/// job is ready again when it would block next. A wake for the next job of a free place, by the name that this job will
-/// have, is recorded in the same way.
+/// The job is ready or runs, and the wake is recorded. A take or a start clears that record. If neither follows, the
+/// job becomes ready instead of blocked at its next rest. A wake for the next job of a free place, by the name that
+/// this job will have, is recorded in the same way.
 pub(crate) const MARKED: u32 = 18;
 
-/// A wake of the job was recorded already.
+/// An earlier wake of the job is still recorded.
 pub(crate) const ALREADY_MARKED: u32 = 19;
 
 /// No job has this name now.

@@ -20,10 +20,10 @@ use crate::executing::Executing;
 use arachne_exec::MOST_SHARDS;
 use std::alloc::Global;
 
-/// Makes an executor of `shards` shards, and puts its first seat into a handle that holds nothing.
+/// Makes an executor of `shards` shards, and puts its first seat into an empty handle.
 ///
 /// Shard s has the blocks 64 s to 64 s + 63, each of 64 places; worker s % 64 looks after it. Returns DONE; REFUSED if
-/// the handle holds something, or if `shards` is greater than 256; NO_MEMORY.
+/// the handle is in use, or if `shards` is greater than 256; NO_MEMORY.
 #[unsafe(no_mangle)]
 pub extern "C" fn arachne_exec_new(alloc: Global, exec: &mut ArachneExec, shards: usize) -> u32
     ensures { IsMade shards (held exec.old) (held exec.new) result }
@@ -41,9 +41,9 @@ pub extern "C" fn arachne_exec_new(alloc: Global, exec: &mut ArachneExec, shards
     DONE
 }
 
-/// Splits a seat in two, for another thread: `other` gets the second part, with no job in hand and no worker number.
+/// Splits a seat in two, for another thread: `other` gets the second part, which holds no job and has no worker number.
 ///
-/// Returns DONE; REFUSED if `exec` holds nothing or `other` holds something; NO_MEMORY.
+/// Returns DONE; REFUSED if `exec` is empty or `other` is in use; NO_MEMORY.
 ///
 /// After more than 127 splits in a row, each of a part of the one before, splits still succeed but the executor can't
 /// be ended any more.
@@ -77,9 +77,9 @@ pub extern "C" fn arachne_exec_split(
 
 /// Joins the seat of `other` into that of `exec`, so that `other` holds nothing.
 ///
-/// Returns DONE, or REFUSED if one of the handles holds nothing, or if `other` holds a job or is a worker. Both handles
-/// must be of one executor, which is not checked. If they are of two executors, the executor of `other` can't be ended
-/// any more, and the end of the executor of `exec` may return too few jobs.
+/// Returns DONE, or REFUSED if one of the handles is empty, or if `other` holds a job or is a worker. Both handles must
+/// be of one executor, which is not checked. If they are of two executors, the executor of `other` can't be ended any
+/// more, and the end of the executor of `exec` may return too few jobs.
 #[unsafe(no_mangle)]
 pub extern "C" fn arachne_exec_join(
     alloc: Global,
@@ -107,10 +107,10 @@ pub extern "C" fn arachne_exec_join(
 /// Ends the executor, writes the jobs that are left to the beginning of `left`, and empties the handle.
 ///
 /// The jobs that are left were spawned and have not ended; jobs of number 0 are not written. A number that several jobs
-/// have is written once for each of these jobs. Returns DONE with the count of jobs written; REFUSED if the handle
-/// holds nothing or holds a job, or if not all other handles were joined into this one; NO_MEMORY. Returns REFUSED also
-/// if `left` has less room than 4,096 jobs for each shard. Unless the code is DONE, the count is 0, and the executor
-/// and `left` are unchanged.
+/// have is written once for each of these jobs. Returns DONE with the count of jobs written; REFUSED if the handle is
+/// empty or holds a job, or if not all other handles were joined into this one; NO_MEMORY. Returns REFUSED also if
+/// `left` has less room than 4,096 jobs for each shard. Unless the code is DONE, the count is 0, and the executor and
+/// `left` are unchanged.
 #[unsafe(no_mangle)]
 pub extern "C" fn arachne_exec_end(
     alloc: Global,
@@ -129,7 +129,7 @@ pub extern "C" fn arachne_exec_end(
 
 /// Frees the seat of a handle, if it has one, and the executor with the last of its handles.
 ///
-/// A job in hand stays at its place for ever, and the other handles can't end the executor any more.
+/// A job that the handle holds stays at its place for ever, and the other handles can't end the executor any more.
 #[unsafe(no_mangle)]
 pub extern "C" fn arachne_exec_close(alloc: Global, exec: &mut ArachneExec)
     ensures { held exec.new ≡ None }
@@ -139,8 +139,8 @@ pub extern "C" fn arachne_exec_close(alloc: Global, exec: &mut ArachneExec)
 
 /// Makes the seat the worker with a number from 0 to 63.
 ///
-/// Returns DONE; LOST if another seat has that number; REFUSED if the handle holds nothing, if its seat is a worker
-/// already, or if `worker` is greater than 63.
+/// Returns DONE; LOST if another seat has that number; REFUSED if the handle is empty, if its seat is a worker already,
+/// or if `worker` is greater than 63.
 #[unsafe(no_mangle)]
 pub extern "C" fn arachne_exec_register(alloc: Global, exec: &mut ArachneExec, worker: u32) -> u32
     ensures { IsTold (MayRegister worker) (Registers worker) refused (held exec.old) (held exec.new) result }
@@ -153,7 +153,7 @@ pub extern "C" fn arachne_exec_register(alloc: Global, exec: &mut ArachneExec, w
     told
 }
 
-/// Frees the seat's worker number. Returns DONE, or REFUSED if the handle holds nothing or its seat is no worker.
+/// Frees the seat's worker number. Returns DONE, or REFUSED if the handle is empty or its seat is no worker.
 #[unsafe(no_mangle)]
 pub extern "C" fn arachne_exec_leave(alloc: Global, exec: &mut ArachneExec) -> u32
     ensures { IsTold IsWorker Leaves refused (held exec.old) (held exec.new) result }
@@ -168,8 +168,9 @@ pub extern "C" fn arachne_exec_leave(alloc: Global, exec: &mut ArachneExec) -> u
 
 /// Puts a job at a free place of a block, where it is ready: one try.
 ///
-/// Returns READY with the job's name, and the worker to unpark; FULL; LOST; REFUSED if the handle holds nothing or
-/// there is no such block. A job with the number 0 is not returned by `arachne_exec_end`.
+/// Returns READY with the job's name, and the worker to unpark; FULL if no place of the block is free; LOST if another
+/// thread was first; REFUSED if the handle is empty or there is no such block. A job with the number 0 is not returned
+/// by `arachne_exec_end`.
 #[unsafe(no_mangle)]
 pub extern "C" fn arachne_exec_spawn(
     alloc: Global,
@@ -187,10 +188,10 @@ pub extern "C" fn arachne_exec_spawn(
     told
 }
 
-/// Tries once to put a job at a free place of a block and into the handle's hand, so that nobody else can take the job.
+/// Tries once to put a job at a free place of a block, so that the handle holds the job and nobody else can take it.
 ///
-/// Returns RUN with the job's name and number; FULL; LOST; REFUSED if the handle holds nothing or holds a job, or if
-/// there is no such block.
+/// Returns RUN with the job's name and number; FULL if no place of the block is free; LOST if another thread was first;
+/// REFUSED if the handle is empty or holds a job, or if there is no such block.
 #[unsafe(no_mangle)]
 pub extern "C" fn arachne_exec_spawn_here(
     alloc: Global,
@@ -210,8 +211,8 @@ pub extern "C" fn arachne_exec_spawn_here(
 
 /// Returns the blocks of a shard that may have ready jobs, a bit for each of its 64 blocks, by one load.
 ///
-/// A block whose bit is clear has no ready job, or another call still has to set the bit or find that it needn't.
-/// Returns 0 also if the handle holds nothing or there is no such shard.
+/// A block whose bit is clear has no ready job, or another thread is in a call that will set the bit, or find that it
+/// needn't. Returns 0 also if the handle is empty or there is no such shard.
 #[unsafe(no_mangle)]
 pub extern "C" fn arachne_exec_shown(alloc: Global, exec: &mut ArachneExec, shard: usize) -> u64
     ensures { IsTold (HasShard shard) (LooksAt (summary_at shard)) 0 (held exec.old) (held exec.new) result }
@@ -226,7 +227,7 @@ pub extern "C" fn arachne_exec_shown(alloc: Global, exec: &mut ArachneExec, shar
 
 /// Returns the places of a block that have a ready job, a bit for each of its 64 places, by one load.
 ///
-/// Returns 0 also if the handle holds nothing or there is no such block.
+/// Returns 0 also if the handle is empty or there is no such block.
 #[unsafe(no_mangle)]
 pub extern "C" fn arachne_exec_ready(alloc: Global, exec: &mut ArachneExec, block: usize) -> u64
     ensures { IsTold (HasBlock block) (LooksAt (ready_at block)) 0 (held exec.old) (held exec.new) result }
@@ -239,10 +240,10 @@ pub extern "C" fn arachne_exec_ready(alloc: Global, exec: &mut ArachneExec, bloc
     told
 }
 
-/// Tries once to take a ready job of a block into the handle's hand. Any worker may look after the block.
+/// Tries once to take a ready job of a block, so that the handle holds it. Any worker may look after the block.
 ///
-/// Returns RUN with the job's name and number; AGAIN; REFUSED if the handle holds nothing or holds a job, or if there
-/// is no such block.
+/// Returns RUN with the job's name and number; AGAIN if it took none; REFUSED if the handle is empty or holds a job, or
+/// if there is no such block.
 #[unsafe(no_mangle)]
 pub extern "C" fn arachne_exec_take(
     alloc: Global,
@@ -259,13 +260,13 @@ pub extern "C" fn arachne_exec_take(
     told
 }
 
-/// Takes up to `most` ready jobs of one block (64 places) in one atomic step. They are then held by the handle: nobody
+/// Takes up to `most` ready jobs of one block (64 places) by one atomic operation. The handle then holds them: nobody
 /// else can run them. A `most` of 0 counts as 1.
 ///
-/// Returns the places of the jobs that were taken, a bit for each of the block's 64 places. The job at the lowest place
-/// is the newest: calls on the job in hand concern this job, and then the job at the next place, once the newest rests
-/// or has ended. `arachne_exec_start` returns the newest job's name and number. Returns 0 if no job was taken, if the
-/// handle is empty or holds a job already, or if there is no such block.
+/// Returns the places of the jobs that were taken, a bit for each of the block's 64 places. The next calls concern the
+/// job at the lowest place, and once it rests or has ended the job at the next place. `arachne_exec_start` returns that
+/// job's name and number. Returns 0 if no job was taken, if the handle is empty or holds a job already, or if there is
+/// no such block.
 #[unsafe(no_mangle)]
 pub extern "C" fn arachne_exec_take_many(
     alloc: Global,
@@ -283,8 +284,8 @@ pub extern "C" fn arachne_exec_take_many(
     told
 }
 
-/// Begins to run the newest job in hand, of several that were taken at once: uses up a wake that has come since the
-/// take.
+/// Begins to run the next of the jobs that `arachne_exec_take_many` has taken: clears the record of a wake that has
+/// come since the take.
 ///
 /// Returns RUN with the job's name and number, or REFUSED if the handle holds no job.
 #[unsafe(no_mangle)]
@@ -299,10 +300,10 @@ pub extern "C" fn arachne_exec_start(alloc: Global, exec: &mut ArachneExec) -> A
     told
 }
 
-/// Takes the next job of the worker's blocks into the handle's hand.
+/// Takes the next ready job of the worker's blocks, or lets the worker park.
 ///
-/// Returns RUN with the job's name and number; PARK; AGAIN; REFUSED if the handle holds nothing, if its seat is no
-/// worker, or if a job is in hand.
+/// Returns RUN with the job's name and number; PARK if the worker must sleep; AGAIN if the caller must call again;
+/// REFUSED if the handle is empty or holds a job, or if its seat is no worker.
 #[unsafe(no_mangle)]
 pub extern "C" fn arachne_exec_next(alloc: Global, exec: &mut ArachneExec) -> ArachneExecTold
     ensures { IsTold MayGoOn (Tells GoesOn told_next) (code_alone refused) (held exec.old) (held exec.new) result }
@@ -315,10 +316,10 @@ pub extern "C" fn arachne_exec_next(alloc: Global, exec: &mut ArachneExec) -> Ar
     told
 }
 
-/// Sets the worker's idle bit, and then checks if a block of the worker may have ready jobs. This is the last part of
-/// `arachne_exec_next`.
+/// Sets the worker's idle bit, and then checks if a block of the worker may have ready jobs. `arachne_exec_next` does
+/// the same if it finds no job.
 ///
-/// Returns PARK; AGAIN, with the bit cleared again; REFUSED if the handle holds nothing or its seat is no worker.
+/// Returns PARK; AGAIN, with the bit cleared again; REFUSED if the handle is empty or its seat is no worker.
 #[unsafe(no_mangle)]
 pub extern "C" fn arachne_exec_may_park(alloc: Global, exec: &mut ArachneExec) -> u32
     ensures { IsTold IsWorker ParksOrNot refused (held exec.old) (held exec.new) result }
@@ -333,7 +334,7 @@ pub extern "C" fn arachne_exec_may_park(alloc: Global, exec: &mut ArachneExec) -
 
 /// Clears the worker's idle bit, after a sleep that ended by itself.
 ///
-/// Returns DONE, or REFUSED if the handle holds nothing or its seat is no worker.
+/// Returns DONE, or REFUSED if the handle is empty or its seat is no worker.
 #[unsafe(no_mangle)]
 pub extern "C" fn arachne_exec_wake_up(alloc: Global, exec: &mut ArachneExec) -> u32
     ensures { IsTold IsWorker WakesUp refused (held exec.old) (held exec.new) result }
@@ -346,7 +347,8 @@ pub extern "C" fn arachne_exec_wake_up(alloc: Global, exec: &mut ArachneExec) ->
     told
 }
 
-/// Makes the job in hand ready. Returns READY with the worker to unpark, or REFUSED if the handle holds no job.
+/// Makes the job that the handle holds ready again. Returns READY with the worker to unpark, or REFUSED if the handle
+/// holds no job.
 #[unsafe(no_mangle)]
 pub extern "C" fn arachne_exec_rest_ready(alloc: Global, exec: &mut ArachneExec) -> ArachneExecTold
     ensures { IsToldOf (λ place. Tells (Yields place) (λ unpark. code_unparking 16 (whom unpark place))) (code_alone refused) (held exec.old) (held exec.new) result }
@@ -359,9 +361,9 @@ pub extern "C" fn arachne_exec_rest_ready(alloc: Global, exec: &mut ArachneExec)
     told
 }
 
-/// Lets the job in hand wait for a wake.
+/// Lets the job that the handle holds wait for a wake.
 ///
-/// Returns BLOCKED; READY with the worker to unpark, if a wake has come that no take or start has used up; REFUSED if
+/// Returns BLOCKED; READY with the worker to unpark, if a wake has come since the job was taken or started; REFUSED if
 /// the handle holds no job.
 #[unsafe(no_mangle)]
 pub extern "C" fn arachne_exec_rest_blocked(
@@ -378,7 +380,7 @@ pub extern "C" fn arachne_exec_rest_blocked(
     told
 }
 
-/// Ends the job in hand, and frees its place. Returns DONE, or REFUSED if the handle holds no job.
+/// Ends the job that the handle holds, and frees its place. Returns DONE, or REFUSED if the handle holds no job.
 ///
 /// A place is used for at most 2^44 - 1 jobs.
 #[unsafe(no_mangle)]
@@ -395,8 +397,9 @@ pub extern "C" fn arachne_exec_finish(alloc: Global, exec: &mut ArachneExec) -> 
 
 /// Wakes the job of a name: one try.
 ///
-/// Returns READY with the worker to unpark, if the job was blocked; MARKED; ALREADY_MARKED; GONE; LOST; REFUSED if the
-/// handle holds nothing.
+/// Returns READY with the worker to unpark, if the job was blocked; MARKED if it wasn't, and this wake is recorded;
+/// ALREADY_MARKED if a wake was recorded before; GONE if no job has the name; LOST if another thread was first; REFUSED
+/// if the handle is empty.
 #[unsafe(no_mangle)]
 pub extern "C" fn arachne_exec_wake(
     alloc: Global,
@@ -413,10 +416,10 @@ pub extern "C" fn arachne_exec_wake(
     told
 }
 
-/// Tries once to wake the job of a name, and to take the job into the handle's hand if it was blocked.
+/// Tries once to wake the job of a name, and takes the job if it was blocked, so that the handle holds it.
 ///
-/// Returns RUN with the job's name and number; MARKED; ALREADY_MARKED; GONE; LOST; REFUSED if the handle holds nothing
-/// or holds a job.
+/// Returns RUN with the job's name and number, if the job was blocked. MARKED, ALREADY_MARKED, GONE and LOST are as in
+/// `arachne_exec_wake`; REFUSED if the handle is empty or holds a job.
 #[unsafe(no_mangle)]
 pub extern "C" fn arachne_exec_wake_here(
     alloc: Global,

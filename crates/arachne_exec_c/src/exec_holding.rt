@@ -1,4 +1,4 @@
-//! The calls on an executor by the seat of a handle, if the handle has one.
+//! Each call on an executor by a handle that may be empty, with the code that C gets.
 ghost use Rattle.std.specs.Prelude.{◌≡◌, ◌↔◌, ◌%◌, ◌^◌, MatchBool, IsTrue};
 ghost use Rattle.std.specs.Option.{ForSome, IsSomeAnd};
 ghost use Rattle.std.specs.declared.option.Option.TheVariants.{None, Some};
@@ -254,7 +254,7 @@ pub(crate) fn end_held(
     }
 }
 
-/// Returns true if the handle holds a seat with no job and no worker number.
+/// Returns true if the handle has a seat that holds no job and has no worker number.
 fn is_idle_held(held: &Option<Executing>) -> bool
     ensures { IsTrue result ↔ IsSomeAnd held.now IsIdle }
 {
@@ -264,8 +264,8 @@ fn is_idle_held(held: &Option<Executing>) -> bool
     }
 }
 
-/// Joins the seat in `theirs` into the seat in `mine`, if both are there and the seat in `theirs` holds no job and no
-/// worker number.
+/// Joins the seat in `theirs` into the seat in `mine`, if both are there and the seat in `theirs` holds no job and has
+/// no worker number.
 #[tactic(auto, using(crate::proofs::ExecCut::not_joined))]
 pub(crate) fn join_held(mine: &mut Option<Executing>, theirs: &mut Option<Executing>) -> u32
     requires { (a b : Exec) → mine.old ≡ Some a → theirs.old ≡ Some b → b.executor ≡ a.executor }

@@ -14,9 +14,10 @@ use arachne_exec::{
 #[repr(C)]
 #[derive(Clone, Copy)]
 pub struct ArachneExecTold {
-    /// The name of the job that was spawned or is in hand: 20 bits for its place, and 44 for the place's generation.
+    /// The name of the job that was spawned, or that the handle holds: 20 bits for its place, and 44 for the place's
+    /// generation.
     pub name: u64,
-    /// The number of the job in hand, as it was spawned.
+    /// The number of the job that the handle holds, with which it was spawned.
     pub job: u64,
     pub code: u32,
     /// The worker whose thread the caller must unpark, or NOBODY.

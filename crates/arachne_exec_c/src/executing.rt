@@ -1,4 +1,5 @@
-//! A seat at an executor, with the executor, the jobs in hand, and the number of the worker.
+//! The value behind a handle on an executor: a seat with its executor, its worker number, and the places of the jobs
+//! that it holds.
 ghost use Rattle.std.specs.Prelude.{◌≡◌, ◌↔◌, ℕ, ◌+◌, ◌*◌, ◌/◌, ◌^◌, ◌<◌, ◌≤◌, IsTrue, IsFalse, IfOk, IfErr, IfSome};
 ghost use Rattle.std.specs.declared.option.Option.TheVariants.{None, Some};
 ghost use Rattle.std.specs.Prelude.{◌⊎◌, vec_len};
@@ -28,9 +29,9 @@ use std::sync::Arc;
 pub struct Executing {
     executor: Arc<Executor>,
     seat: ExecSeat,
-    /// The place of the newest job in hand.
+    /// The place of the newest job that the seat holds.
     hand: Option<usize>,
-    /// The other places of the same block whose jobs are in hand, a bit for each.
+    /// The other places of the same block whose jobs the seat holds, a bit for each.
     more: u64,
     /// One more than the seat's worker number; 0 if the seat is no worker.
     worker: usize,
@@ -105,7 +106,7 @@ impl Executing {
         self.worker > 0
     }
 
-    /// Returns the place of the newest job in hand.
+    /// Returns the place of the newest job that the seat holds.
     pub(crate) fn hand(&self) -> Option<usize>
         ensures { result ≡ self.now.hand }
     {
@@ -157,8 +158,8 @@ impl Executing {
         taken
     }
 
-    /// Takes up to `most` jobs of a block by one step. Returns the jobs' places, a bit for each. The job at the lowest
-    /// place is the newest in hand.
+    /// Takes up to `most` ready jobs of a block by one atomic operation. Returns the jobs' places, a bit for each. The
+    /// job at the lowest place counts as the newest.
     pub(crate) fn take_many(&mut self, block: usize, most: u32) -> u64
         requires { MayTake block self.old }
         ensures { TakesMany block most self.old self.new result }
@@ -169,7 +170,7 @@ impl Executing {
         bits
     }
 
-    /// Begins to run the newest job in hand.
+    /// Begins to run the newest job that the seat holds.
     pub(crate) fn start(&mut self, place: usize) -> HeldJob
         requires { self.old.hand ≡ Some place }
         ensures { Starts place self.old self.new result }
@@ -286,17 +287,17 @@ impl Executing {
         })
     }
 
-    /// Returns true if this seat has the whole weight of the executor (no other seat is in use), and no job in hand.
+    /// Returns true if this seat has the whole weight of the executor (no other seat is in use), and holds no job.
     fn may_end(&self) -> bool
         ensures { IsTrue result → IsEmptyHanded self.now × (self.now.seat.weight ≡ whole) }
     {
         self.hand.is_none() && self.executor.is_whole(&self.seat)
     }
 
-    /// Ends the executor, if this seat has the whole weight (no other seat is in use) and no job in hand, and `room`
+    /// Ends the executor, if this seat has the whole weight (no other seat is in use) and holds no job, and `room`
     /// suffices for a job of each place.
     ///
-    /// Returns the jobs that are left; or the unchanged value, with the code for C.
+    /// Returns the jobs that have not ended; or the unchanged value, with the code for C.
     pub(crate) fn end(self, alloc: Global, room: usize) -> Result<Vec<u64>, (Executing, u32)>
         ensures ended { IfOk result (λ jobs. HasEnded self jobs.items × (vec_len jobs ≤ room)) }
         ensures same { IfErr result (λ back. (back.0 ≡ self) × ((back.1 ≡ refused) ⊎ (back.1 ≡ no_memory))) }

@@ -10,9 +10,9 @@ use crate::adding::{Adding, cut, join_held};
 use crate::codes::{DONE, NO_MEMORY, REFUSED};
 use std::alloc::Global;
 
-/// Makes `count` ledgers, each of total 0, and puts their first share into a handle that holds nothing.
+/// Makes `count` ledgers, each of total 0, and puts their first share into an empty handle.
 ///
-/// Returns DONE; REFUSED if the handle holds something; NO_MEMORY.
+/// Returns DONE; REFUSED if the handle is in use; NO_MEMORY.
 #[unsafe(no_mangle)]
 pub extern "C" fn arachne_ledgers_new(alloc: Global, adder: &mut ArachneAdder, count: usize) -> u32
     ensures { IsMade count (held adder.old) (held adder.new) result }
@@ -32,7 +32,7 @@ pub extern "C" fn arachne_ledgers_new(alloc: Global, adder: &mut ArachneAdder, c
 
 /// Adds an amount to a ledger.
 ///
-/// Returns false, with nothing changed, if the handle holds nothing or there is no such ledger.
+/// Returns false, with nothing changed, if the handle is empty or there is no such ledger.
 #[unsafe(no_mangle)]
 pub extern "C" fn arachne_ledger_add(
     alloc: Global,
@@ -59,8 +59,8 @@ pub extern "C" fn arachne_ledger_add(
 
 /// Reads the total of a ledger, modulo 2^64, once all other handles were joined into this one.
 ///
-/// Returns false, with nothing changed, if another handle was not joined into this one, if the handle holds nothing, or
-/// if there is no such ledger.
+/// Returns false, with nothing changed, if another handle was not joined into this one, if the handle is empty, or if
+/// there is no such ledger.
 #[unsafe(no_mangle)]
 pub extern "C" fn arachne_ledger_total(
     alloc: Global,
@@ -92,7 +92,7 @@ pub extern "C" fn arachne_ledger_total(
 
 /// Splits a share in two, for another thread: `other` gets the second part, to which nothing was added.
 ///
-/// Returns DONE; REFUSED if `adder` holds nothing or `other` holds something; NO_MEMORY.
+/// Returns DONE; REFUSED if `adder` is empty or `other` is in use; NO_MEMORY.
 ///
 /// After more than 127 splits in a row, each of a part of the one before, splits still succeed but no total can be
 /// read.
@@ -126,9 +126,9 @@ pub extern "C" fn arachne_ledger_split(
 
 /// Joins the share of `other` into that of `adder`, so that `other` holds nothing.
 ///
-/// Returns false, with nothing changed, if one of the handles holds nothing. Both handles must be of one set of
-/// ledgers, which is not checked. If they are of two sets, totals of the ledgers of `adder` may be read before all of
-/// their handles were joined, and totals of the ledgers of `other` can't be read any more.
+/// Returns false, with nothing changed, if one of the handles is empty. Both handles must be of one set of ledgers,
+/// which is not checked. If they are of two sets, totals of the ledgers of `adder` may be read before all of their
+/// handles were joined, and totals of the ledgers of `other` can't be read any more.
 #[unsafe(no_mangle)]
 pub extern "C" fn arachne_ledger_join(
     alloc: Global,

@@ -13,9 +13,9 @@ use crate::seated::{
 use crate::told::{ArachneLockTold, code_alone};
 use std::alloc::Global;
 
-/// Makes `count` locks, and puts the first seat into a handle that holds nothing.
+/// Makes `count` locks, and puts the first seat into an empty handle.
 ///
-/// Returns DONE; REFUSED if the handle holds something; NO_MEMORY.
+/// Returns DONE; REFUSED if the handle is in use; NO_MEMORY.
 #[unsafe(no_mangle)]
 pub extern "C" fn arachne_locks_new(alloc: Global, locks: &mut ArachneLocks, count: usize) -> u32
     ensures { IsMade count (held locks.old) (held locks.new) result }
@@ -35,7 +35,7 @@ pub extern "C" fn arachne_locks_new(alloc: Global, locks: &mut ArachneLocks, cou
 
 /// Splits a seat in two, for another thread: `other` gets the new seat.
 ///
-/// Returns DONE; REFUSED if `locks` holds nothing or `other` holds something; NO_MEMORY.
+/// Returns DONE; REFUSED if `locks` is empty or `other` is in use; NO_MEMORY.
 #[unsafe(no_mangle)]
 #[tactic(auto, using(crate::proofs::SeatCut::is_split))]
 pub extern "C" fn arachne_locks_split(
@@ -66,7 +66,7 @@ pub extern "C" fn arachne_locks_split(
 
 /// Joins the seat of `other` into that of `locks`, so that `other` holds nothing.
 ///
-/// Returns DONE, or REFUSED if one of the handles holds nothing. Both handles must be of one set of locks, which is not
+/// Returns DONE, or REFUSED if one of the handles is empty. Both handles must be of one set of locks, which is not
 /// checked. If they are of two sets, the seat of `other` is only freed, as by `arachne_locks_close`.
 #[unsafe(no_mangle)]
 pub extern "C" fn arachne_locks_join(
@@ -102,8 +102,9 @@ pub extern "C" fn arachne_locks_close(alloc: Global, locks: &mut ArachneLocks)
 
 /// Tries once to ask for a lock for `who`.
 ///
-/// Returns GRANTED; QUEUED; ALREADY_IN; NO_MEMORY, only if `who` would have to wait; CONTENDED; REFUSED if the handle
-/// holds nothing or there is no such lock.
+/// Returns GRANTED if `who` holds the lock now; QUEUED if `who` waits for it; ALREADY_IN if `who` held it or waited
+/// before; NO_MEMORY, only if `who` would have to wait; CONTENDED if another thread was in a call on the lock; REFUSED
+/// if the handle is empty or there is no such lock.
 #[unsafe(no_mangle)]
 pub extern "C" fn arachne_lock_ask(
     alloc: Global,
@@ -123,8 +124,8 @@ pub extern "C" fn arachne_lock_ask(
 
 /// Tries once to free a lock that `who` holds.
 ///
-/// Returns FREED; HANDED_ON, to `next`; NOT_HOLDER; CONTENDED; REFUSED if the handle holds nothing or there is no such
-/// lock.
+/// Returns FREED if nobody waited; HANDED_ON if the waiter `next` owns the lock now; NOT_HOLDER if `who` didn't hold
+/// it; CONTENDED if another thread was in a call on the lock; REFUSED if the handle is empty or there is no such lock.
 #[unsafe(no_mangle)]
 pub extern "C" fn arachne_lock_free(
     alloc: Global,
@@ -144,8 +145,9 @@ pub extern "C" fn arachne_lock_free(
 
 /// Tries once to take `who` out of the queue of a lock, such as when the future of `who` is dropped.
 ///
-/// Returns LEFT; GRANTED if `who` was granted the lock meanwhile, and must free it; NOT_HOLDER; CONTENDED; REFUSED if
-/// the handle holds nothing or there is no such lock.
+/// Returns LEFT if `who` waits no longer; GRANTED if `who` was granted the lock meanwhile, and must free it; NOT_HOLDER
+/// if `who` neither waited nor held it; CONTENDED if another thread was in a call on the lock; REFUSED if the handle is
+/// empty or there is no such lock.
 #[unsafe(no_mangle)]
 pub extern "C" fn arachne_lock_withdraw(
     alloc: Global,
@@ -163,10 +165,10 @@ pub extern "C" fn arachne_lock_withdraw(
     told
 }
 
-/// Tries once to look if `who` holds a lock.
+/// Tries once to find out if `who` holds a lock.
 ///
-/// Returns GRANTED with the number of the grant to `who`; NOT_HOLDER; CONTENDED; REFUSED if the handle holds nothing or
-/// there is no such lock.
+/// Returns GRANTED with the number of the grant to `who`; NOT_HOLDER if `who` doesn't hold the lock; CONTENDED if
+/// another thread was in a call on the lock; REFUSED if the handle is empty or there is no such lock.
 #[unsafe(no_mangle)]
 pub extern "C" fn arachne_lock_check(
     alloc: Global,

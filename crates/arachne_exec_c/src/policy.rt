@@ -30,8 +30,7 @@ pub struct ArachneSample {
     pub elapsed: u64,
 }
 
-/// Makes an estimator that no sample was given to yet. Returns false, with nothing changed, if `max` is greater than
-/// 64.
+/// Makes an estimator that has judged no sample yet. Returns false, with nothing changed, if `max` is greater than 64.
 #[unsafe(no_mangle)]
 pub extern "C" fn arachne_estimator_new(
     up: u64,

@@ -1,4 +1,4 @@
-//! A seat at a set of locks (the right of one thread to use them), with the locks.
+//! The value behind a handle on locks: a seat (one thread's right to use them), with the locks.
 ghost use Rattle.std.specs.Prelude.{◌≡◌, ◌↔◌, IsTrue, IfOk, IfErr, MatchBool};
 ghost use Rattle.std.specs.Option.{ForSome};
 ghost use Rattle.std.specs.declared.option.Option.TheVariants.{None, Some};

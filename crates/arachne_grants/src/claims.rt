@@ -1,8 +1,8 @@
-//! Decides which of the daemon's clients goes first if several of them ask for one core more.
+//! Decides which of several clients that ask for one core more gets it first.
 ghost use Rattle.std.specs.Prelude.{◌≡◌};
 ghost use Rattle.arachne_grants.specs.Claims.{before_alike, claim_of, gets_before, goes_before, level_before, reserve_of};
 
-/// A client of the machine: its priority, and the numbers of cores that it reserves, asks for and has.
+/// A client of the daemon: its priority, and the numbers of cores that it reserves, asks for and has.
 #[derive(Clone, Copy, Debug, PartialEq, Eq)]
 pub struct Client {
     /// The client's priority; 0 goes first.
@@ -15,13 +15,13 @@ pub struct Client {
     pub held: u32,
 }
 
-/// A client's claim to the next core. It decides whether the client goes before others or behind them.
+/// A client's claim to one core more, by which clients are ordered.
 #[derive(Clone, Copy, Debug, PartialEq, Eq)]
 pub(crate) struct Claim {
-    /// True if the client gets its reserve already.
+    /// True if the client has been given its reserve already.
     pub beyond: bool,
     pub priority: u8,
-    /// The number of cores that the client gets already.
+    /// The number of cores that the client has been given already.
     pub gets: u32,
     /// True if the client doesn't have the claimed core yet (it has at most `gets` cores), so that granting the claim
     /// moves a core to it.
@@ -29,7 +29,7 @@ pub(crate) struct Claim {
 }
 
 impl Client {
-    /// A client that asks for nothing. It stands at a place that no client has.
+    /// The entry at a place that no client has: it asks for nothing.
     pub(crate) const NONE: Client = Client {
         priority: 0,
         reserved: 0,
@@ -45,7 +45,7 @@ impl Client {
         self.reserved.min(self.asks)
     }
 
-    /// Returns the client's claim to one core more, if it gets `gets` cores.
+    /// Returns the client's claim to one core more, once it has been given `gets` cores.
     pub(crate) fn claim(&self, gets: u32) -> Claim
         ensures { result ≡ claim_of self.now gets }
     {
@@ -57,7 +57,7 @@ impl Client {
         }
     }
 
-    /// Returns the number of cores that this client gets by those of its claims that go before `claim`.
+    /// Returns the number of this client's claims that go before `claim`: it is given as many cores before that one.
     pub(crate) fn gets_before(&self, claim: &Claim) -> u32
         ensures { result ≡ gets_before claim.now self.now }
     {
@@ -68,9 +68,9 @@ impl Client {
         }
     }
 
-    /// Returns how many of this client's first `most` cores go before `claim`.
+    /// Returns how many of this client's first `most` claims go before `claim`.
     ///
-    /// The number is right if all of these cores, or none, are below the client's reserve.
+    /// The number is right if all of these claims, or none, are below the client's reserve.
     fn before_alike(&self, claim: &Claim, most: u32) -> u32
         ensures { result ≡ before_alike claim.now self.now most }
     {
@@ -83,8 +83,8 @@ impl Client {
         }
     }
 
-    /// Returns the number of cores up to which this client's claims go before `claim`, which is another client's of the
-    /// same priority.
+    /// Returns the number of cores up to which this client's claims go before `claim`. The claim must be another
+    /// client's of the same priority.
     fn level_before(&self, claim: &Claim) -> u32
         ensures { result ≡ level_before claim.now self.now }
     {
@@ -105,8 +105,8 @@ impl Claim {
         moves: false,
     };
 
-    /// Returns true if this claim goes before `other`. A client that has less than its reserve goes first, then one of
-    /// higher priority, then one that gets fewer cores, then one that has the core already.
+    /// Returns true if this claim goes before `other`. A client below its reserve goes first, then one of higher
+    /// priority, then one that was given fewer cores, then one that already has the core.
     pub(crate) fn goes_before(&self, other: &Claim) -> bool
         ensures { result ≡ goes_before self.now other.now }
     {

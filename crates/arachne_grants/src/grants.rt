@@ -1,14 +1,14 @@
-//! Decides how many cores each client gets.
+//! Divides a machine's cores among its clients, by reserve, priority and request.
 ghost use Rattle.std.specs.Prelude.{◌≡◌, ◌+◌, ◌<◌, ◌≤◌, ◌↔◌, length, sum, IfSome, IsTrue};
 ghost use Rattle.arachne_grants.specs.Grants.{AreEnough, AreFilled, AreGrants, IsBounded, IsByPriority, IsDecided, IsFair, IsInOrder, IsInTurn, IsLeast, IsNext, IsReserved, IsUsed};
 
 use crate::claims::{Claim, Client};
 
-/// Returns the number of cores that each client gets, at its place in `targets`.
+/// Writes the number of cores that each client gets into `targets`, at the client's index.
 ///
 /// One core at a time goes to the client that asks for more and has the first claim. If claims are equal, the core goes
-/// to the client that came first. The cores of many claims are given in one step, so the time grows only with the
-/// logarithm of the number of cores.
+/// to the client that came first. Many claims are met at a time, so that the time grows only with the logarithm of the
+/// number of cores.
 pub fn targets(clients: &[Client], cores: u32, targets: &mut [u32])
     requires { length targets.old ≡ length clients.now }
     ensures order { IsInOrder clients.now targets.new }
@@ -29,14 +29,14 @@ pub fn targets(clients: &[Client], cores: u32, targets: &mut [u32])
     }
 }
 
-/// The law that the promises of `targets` decide its result: any two results that are bounded, used, in order and in
-/// turn give each client the same number of cores.
+/// The clauses of `targets` leave one result only: any two results that meet them give each client the same number of
+/// cores.
 pub fn targets_are_decided(clients: &[Client], cores: u32)
     ensures { IsDecided clients.now cores }
 {}
 
-/// Finds the last claim such that there are enough cores for all claims before it, and gives each client the cores for
-/// its claims before that one. Returns the number of cores given.
+/// Finds the last claim for which there are enough cores for all claims before it, and gives each client a core for
+/// each of its claims before that one. Returns the number of cores given.
 fn fill_levels(clients: &[Client], cores: u32, targets: &mut [u32]) -> u32
     requires { length targets.old ≡ length clients.now }
     ensures few { result ≤ cores }
@@ -53,8 +53,8 @@ fn fill_levels(clients: &[Client], cores: u32, targets: &mut [u32]) -> u32
     given
 }
 
-/// Returns the last claim such that there are enough cores for all claims before it. Claims are ordered by whether the
-/// reserve is met, then by priority, then by number of cores, then by whether the client has these cores.
+/// Returns the last claim for which there are enough cores for all claims before it, in the order of
+/// [`Claim::goes_before`].
 fn last_filled(clients: &[Client], cores: u32) -> Claim
     ensures { AreEnough clients.now cores result }
 {

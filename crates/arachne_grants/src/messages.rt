@@ -1,4 +1,4 @@
-//! The messages that a client sends: four numbers of 32 bits each, the lowest byte first.
+//! Reads the messages that clients send to the daemon: four numbers of 32 bits each, the lowest byte first.
 ghost use Rattle.std.specs.Prelude.{◌≡◌, ◌+◌, ◌<◌, ◌≤◌, IfErr, IfOk, length};
 ghost use Rattle.arachne_grants.specs.Messages.{number_at, numbers_in, AreOf, IsFaultOf, IsFirstWrong, IsMessageOf, IsUnambiguous};
 
@@ -19,7 +19,7 @@ const WAIT: u32 = 3;
 
 const ASK: u32 = 4;
 
-/// A client's message to the daemon: it begins, asks for a number of cores, or reports an act of one of its threads.
+/// A client's message to the daemon: it registers, asks for a number of cores, or reports what one of its threads does.
 #[derive(Clone, Copy, Debug, PartialEq, Eq)]
 pub enum ClientMessage {
     /// A client's first message: its priority (0 goes first), the number of cores that it reserves, and the most cores
@@ -86,7 +86,7 @@ pub fn read_message(bytes: &[u8]) -> Result<ClientMessage, MessageFault>
     })
 }
 
-/// The law that bytes begin with at most one message, and that bytes which begin with one have no fault.
+/// Bytes begin with at most one message, and bytes that begin with one have no fault.
 pub fn messages_are_unambiguous(bytes: &[u8])
     ensures { IsUnambiguous bytes.now }
 {}

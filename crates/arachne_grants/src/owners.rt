@@ -51,7 +51,7 @@ pub fn give_free(owners: &mut [Option<u8>], clients: &[Client], targets: &[u32])
     }
 }
 
-/// Counts the cores that each client has, a number by which `targets` decides.
+/// Sets each client's `held` to the number of cores that it has.
 pub fn count_held(clients: &mut [Client], owners: &[Option<u8>])
     requires cores { length owners.now < 2 ^ 32 }
     requires clients { length clients.old ≤ 256 }
@@ -97,8 +97,8 @@ fn count(owner: Option<u8>, held: &mut [u32])
     }
 }
 
-/// Returns the owner of a core if the owner keeps the core, and counts the core for the owner. The owner keeps the core
-/// if it has fewer than its target by the counts so far.
+/// Returns the owner of a core if it keeps the core: if the cores that were counted for it are fewer than its target.
+/// Then counts the core for it.
 fn keep(owner: Option<u8>, targets: &[u32], held: &mut [u32]) -> Option<u8>
     requires { length held.old ≡ 256 }
     ensures only { (result ≡ owner) ⊎ (result ≡ None) }
@@ -117,8 +117,8 @@ fn keep(owner: Option<u8>, targets: &[u32], held: &mut [u32]) -> Option<u8>
     owner
 }
 
-/// Returns the owner of a core after free cores are given: the owner that it has, or else a client that has less than
-/// its target by the counts so far. Counts the core for that client.
+/// Returns the owner of a core or, if it has none, the client that gets it: one for which fewer cores were counted than
+/// its target. Counts the core for that client.
 fn give(owner: Option<u8>, clients: &[Client], targets: &[u32], held: &mut [u32]) -> Option<u8>
     requires sized { length held.old ≡ 256 }
     requires targets { length targets.now ≡ length clients.now }

@@ -1,4 +1,4 @@
-//! A client of the daemon: the cores that it asked for, and the states of its threads.
+//! The daemon's record of one client: the cores that it asks for, and the states of its threads.
 ghost use Rattle.std.specs.Prelude.{◌≡◌, ◌+◌, ◌<◌, IfSome, None, count_by, length, position};
 ghost use Rattle.arachne_grants.specs.Sessions.{can_wait, core_of, gives_way, has_core, is_ready, is_usable, is_waiting, placed, unplaced, wants_of, with_mark, AreMarked, IsLastPlaced};
 
@@ -7,8 +7,8 @@ use crate::claims::Client;
 /// The most threads that a client may have.
 pub const MAX_THREADS: usize = 64;
 
-/// The state of the thread at one of a client's places. A thread that floats never waits: the daemon moves it to a core
-/// and away from it while it runs.
+/// The state of the thread at one of a client's places. A thread that *floats* never waits for a core: the daemon moves
+/// it to a core and away from it while it runs.
 #[derive(Clone, Copy, Debug, PartialEq, Eq)]
 pub enum ClientThread {
     /// There is no thread at this place.
@@ -120,7 +120,7 @@ impl ClientThread {
 }
 
 impl Session {
-    /// The session at a place that no client has.
+    /// The entry at a place that no client has.
     pub(crate) const NONE: Session = Session {
         taken: false,
         priority: 0,
@@ -150,8 +150,8 @@ impl Session {
             .count() as u32
     }
 
-    /// Returns the client as `targets` sees it. The client asks for at most the cores that it may have, and at most as
-    /// many as it has threads for.
+    /// Returns the client's request, for [`targets`](crate::targets). The client asks for at most the cores that it may
+    /// have, and at most as many as it has threads for.
     pub(crate) fn wants(&self) -> Client
         ensures { result ≡ wants_of self.now }
     {
@@ -196,7 +196,7 @@ impl Session {
         }
     }
 
-    /// Marks the cores that the client's threads have.
+    /// Sets `marks` to true at each core that one of the client's threads has.
     pub(crate) fn mark(&self, marks: &mut [bool])
         ensures { AreMarked marks.old marks.new self.now.threads (length self.now.threads) }
     {
@@ -206,7 +206,7 @@ impl Session {
     }
 }
 
-/// Marks a core, if there is one.
+/// Sets `marks` to true at `core`, if there is one.
 fn mark_core(core: Option<u16>, marks: &mut [bool])
     ensures { marks.new ≡ with_mark core marks.old }
 {

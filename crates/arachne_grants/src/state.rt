@@ -204,7 +204,7 @@ impl CoreArbiter {
         }
     }
 
-    /// Decides anew the number of cores that each client is allowed.
+    /// Computes again the number of cores that each client is allowed, from what all clients ask for now.
     pub fn decide(&mut self)
         ensures promises { AreGrants (map wants_of self.new.sessions) self.new.cores self.new.allowed }
         ensures answer { IsAnswer (map wants_of self.new.sessions) self.new.cores self.new.allowed }
@@ -324,7 +324,7 @@ impl CoreArbiter {
         self.sessions[client].threads[place] = thread;
     }
 
-    /// Returns all clients as `targets` sees them.
+    /// Returns the requests of all clients, for [`targets`](crate::targets).
     fn clients(&self) -> [Client; MAX_CLIENTS]
         ensures { result ≡ map wants_of self.now.sessions }
     {

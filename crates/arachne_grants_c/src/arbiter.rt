@@ -1,4 +1,4 @@
-//! The C functions by which a daemon makes an arbiter, tells it what its clients do, and asks what to do next.
+//! The C functions by which a daemon makes an arbiter, reports what its clients do, and asks what to do next.
 ghost use Rattle.std.specs.Prelude.{◌≡◌};
 ghost use Rattle.std.specs.declared.option.Option.TheVariants.{None};
 ghost use Rattle.arachne_grants_c.specs.ArbiterHeld.{held};
@@ -12,9 +12,9 @@ use crate::{events, turns};
 use arachne_grants::{CoreArbiter, MAX_CORES};
 use std::alloc::Global;
 
-/// Makes an arbiter of the cores 0 to `cores` - 1, without clients, in a handle that holds nothing.
+/// Makes an arbiter of the cores 0 to `cores` - 1, without clients, in an empty handle.
 ///
-/// Returns DONE; REFUSED if the handle holds something, or if `cores` is greater than 1,024; NO_MEMORY.
+/// Returns DONE; REFUSED if the handle is in use, or if `cores` is greater than 1,024; NO_MEMORY.
 #[unsafe(no_mangle)]
 pub extern "C" fn arachne_arbiter_new(
     alloc: Global,
@@ -156,7 +156,7 @@ pub extern "C" fn arachne_arbiter_end(
     told
 }
 
-/// Decides anew how many cores each client may have. Returns DONE or REFUSED.
+/// Computes again how many cores each client may have, from what all clients ask for now. Returns DONE or REFUSED.
 #[unsafe(no_mangle)]
 pub extern "C" fn arachne_arbiter_decide(alloc: Global, arbiter: &mut ArachneArbiter) -> u32
     ensures { IsTold Decides refused (held arbiter.old) (held arbiter.new) result }
@@ -204,7 +204,7 @@ pub extern "C" fn arachne_arbiter_give(alloc: Global, arbiter: &mut ArachneArbit
     told
 }
 
-/// Returns the number of cores that a client may have, and the number that it has; 0 and 0 if the handle holds nothing.
+/// Returns the number of cores that a client may have, and the number that it has; 0 and 0 if the handle is empty.
 #[unsafe(no_mangle)]
 pub extern "C" fn arachne_arbiter_share(
     alloc: Global,

@@ -9,7 +9,7 @@ use arachne_grants::{Grant, TakenCore};
 #[repr(C)]
 #[derive(Clone, Copy)]
 pub struct ArachneAction {
-    /// TAKEN, PLACED, GRANTED or NOTHING, or REFUSED if the handle holds nothing.
+    /// TAKEN, PLACED, GRANTED or NOTHING, or REFUSED if the handle is empty.
     pub code: u32,
     pub core: u32,
     pub client: usize,

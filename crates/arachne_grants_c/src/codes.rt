@@ -1,10 +1,9 @@
-//! The codes that calls return to C: one set for all of them.
+//! The codes that the C functions return.
 
 /// The call succeeded.
 pub(crate) const DONE: u32 = 0;
 
-/// The handle holds nothing, or is in use although it must be empty, or the event is not allowed now. Nothing has
-/// changed.
+/// The handle is empty, or is in use although it must be empty, or the event is not allowed now. Nothing has changed.
 pub(crate) const REFUSED: u32 = 1;
 
 /// Memory was refused. Nothing has changed.

@@ -1,4 +1,5 @@
-//! The acts of clients (hello, ask, leave) and of their threads (join, wait, end), with the code that C gets for each.
+//! Reports to an arbiter what clients do (hello, ask, leave) and what their threads do (join, wait, end). Each function
+//! returns the code that C gets.
 ghost use Rattle.std.specs.Prelude.{◌≡◌};
 ghost use Rattle.arachne_grants_c.specs.ArbiterTold.{asking, begun, ended, gone, joined, waiting, Changes, HasNumber, HasPlace, IsClient, IsVacant, MayJoin, MayWait};
 

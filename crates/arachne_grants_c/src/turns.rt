@@ -1,4 +1,4 @@
-//! Decides how many cores each client may have, and moves single cores accordingly.
+//! Decides how many cores each client may have, and which core goes to or from which thread next.
 ghost use Rattle.std.specs.Prelude.{◌≡◌};
 ghost use Rattle.arachne_grants_c.specs.ArbiterTold.{share_of, Decides, Gives, Takes};
 

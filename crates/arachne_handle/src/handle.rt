@@ -24,7 +24,7 @@ impl<T> Model for Handle<T> {
 }
 
 impl<T> Handle<T> {
-    /// Returns a handle that holds nothing.
+    /// Returns an empty handle.
     pub fn empty(alloc: Global) -> Handle<T>
         ensures { result.value ≡ None }
     {

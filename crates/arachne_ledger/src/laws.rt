@@ -8,7 +8,7 @@ ghost use Rattle.arachne_weights.specs.Tokens.{held};
 ghost use Rattle.arachne_ledger.specs.declared.share.Known.{Known};
 ghost use Rattle.arachne_ledger.specs.Balance.{Board, IsBalanced, word_of, opening_share, after_add, after_read, after_split, after_join};
 
-/// The law that each ledger's word is the sum of what all shares have added to it, modulo 2^64.
+/// Each ledger's word is the sum of what all shares have added to it, modulo 2^64.
 ///
 /// The law holds for new ledgers, and after each step that a share makes.
 pub fn words_stay_the_sums()

@@ -77,7 +77,8 @@ impl Ledgers {
         self.count
     }
 
-    /// Adds to the share's sum for one ledger, and so to the ledger's word, in one step.
+    /// Adds `amount` to a ledger's word by one atomic operation. Contracts see it in the share's sum for that ledger
+    /// too.
     pub fn add(&self, share: &mut Share, ledger: usize, amount: u64)
         requires own { IsShareOf self.now share.old }
         requires ledger { ledger < self.now.count }
@@ -88,7 +89,7 @@ impl Ledgers {
         shared.fetch_add::<Add>(&mut share.seat, ledger_word(ledger), amount);
     }
 
-    /// Reads the ledger's word, which at each moment is the sum of all shares at that moment, modulo 2^64.
+    /// Reads the ledger's word, which is the sum of all shares at the moment of the load, modulo 2^64.
     ///
     /// If the share has the whole weight (no other share is in use), the result is this share's own sum, modulo 2^64.
     pub fn read(&self, share: &mut Share, ledger: usize) -> u64

@@ -1,4 +1,4 @@
-//! Shares: the right of one thread to add to the ledgers.
+//! A share: one thread's right to add to the ledgers.
 ghost use Rattle.std.specs.Prelude.{◌≡◌, ◌↔◌, IsTrue};
 ghost use Rattle.arachne_ledger.specs.Views.{IsWhole};
 
@@ -13,7 +13,7 @@ pub struct Reading {
     pub number: u64,
 }
 
-/// The knowledge of a share: its own sums, one for each ledger, not reduced modulo 2^64, and its last reading.
+/// The record of a share: the sum of what it has added to each ledger, not reduced modulo 2^64, and its last reading.
 pub struct Known {
     pub sums: LinkedList<u64>,
     pub last_read: Option<Reading>,
@@ -22,7 +22,7 @@ pub struct Known {
 /// A share as the invariant of the ledgers' table sees it. Only contracts use this type: no value of it is made.
 pub type View = Token<Known>;
 
-/// A part of the right to all ledgers of one table. Contracts also see in it the sums of what was added by it.
+/// A part of the right to all ledgers of one table. Contracts see in it the sums of what was added through it.
 ///
 /// A share must be used and joined with the ledgers that it came from. If a share is dropped, its weight is lost, and
 /// no share can have the whole weight any more.

@@ -1,9 +1,9 @@
-//! The rule of the ledgers' table (its invariant), and the kinds of step on it.
+//! The invariant of the ledgers' table, and the kinds of atomic operation on it.
 use crate::share::View;
 use atomic_table::{Join, Play, Split, TableRule};
 
-/// The rule (invariant) that each ledger's word is the sum of what all shares have added to it. The table's key, which
-/// never changes, is the number of ledgers.
+/// The invariant: each ledger's word is the sum of what all shares have added to it. The table's key, which never
+/// changes, is the number of ledgers.
 pub struct Balanced;
 
 impl TableRule<(), View, usize> for Balanced {

@@ -9,7 +9,7 @@ pub struct CoreLoad {
     pub count: u8,
 }
 
-/// Returns the core for a new thread: of two entries that the word picks, the one with fewer threads.
+/// Returns the core for a new thread: of two cores that the random `word` picks, the one with fewer threads.
 ///
 /// On a tie the result is the core of the first entry. With n entries the low 32 bits of the word modulo n pick the
 /// first entry, and the high 32 bits modulo n the second. This is the power of two random choices (Mitzenmacher, 2001),

@@ -1,4 +1,4 @@
-//! The estimator, which advises when to ask for one core more, and when to give a core back.
+//! Advises, from measurements of the load, when to ask for one core more, and when to give a core back.
 ghost use Rattle.std.specs.Prelude.{◌≡◌, ◌≢◌, ◌+◌, ◌-◌, ◌≤◌, true, List, [], ◌∷◌, is_ok, IfOk, OnErr, Ok};
 ghost use Rattle.arachne_policy.specs.declared.samples.Sample.{Sample};
 ghost use Rattle.arachne_policy.specs.Sample.{utilisation_of, is_good};
@@ -9,8 +9,8 @@ use crate::limits::MAX_CORES;
 use crate::samples::{Advice, BadSample, Sample};
 use std::marker::Model;
 
-/// An estimator of the number of cores, which judges samples one after another. The estimator advises one core more by
-/// load, and one fewer by utilisation with hysteresis.
+/// Judges samples (measurements of a period) one after another. It advises one core more by load, and one fewer by
+/// utilisation with hysteresis.
 ///
 /// This is the form of Arachne's load estimator (Qin and others, OSDI 2018). A core is added if scans see too many
 /// runnable threads; the utilisation at which that happened becomes the threshold for the new number of cores. A core
@@ -36,9 +36,9 @@ impl Model for Estimator {
 }
 
 impl Estimator {
-    /// Creates an estimator that no sample was given to yet.
+    /// Creates an estimator that has judged no sample yet.
     ///
-    /// A load over `up` thousandths of a thread per scan (look at one core) asks for a core, up to `max` cores. A
+    /// A load over `up` thousandths of a runnable thread per scan (of one core) asks for a core, up to `max` cores. A
     /// utilisation below the threshold by more than `hysteresis` thousandths of a core gives a core back.
     pub fn new(up: u64, hysteresis: u64, max: u8) -> Self
         requires { max ≤ most_cores }
@@ -59,7 +59,7 @@ impl Estimator {
         }
     }
 
-    /// Creates an estimator that goes on with the thresholds of another estimator. The threshold of n cores is at index
+    /// Creates an estimator with the thresholds that another estimator has learnt. The threshold of n cores is at index
     /// n - 1.
     pub fn resume(up: u64, hysteresis: u64, max: u8, thresholds: &[u64; MAX_CORES]) -> Self
         requires { max ≤ most_cores }

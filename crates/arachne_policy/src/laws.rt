@@ -41,7 +41,7 @@ pub fn advices_are_in_turn()
         → HasJudged settings (samples ++ s ∷ []) (answers ++ a ∷ []) new }
 {}
 
-/// The law that the limits in the code are those of the definitions.
+/// The limits in the code are those of the definitions.
 pub fn limits_are_the_definitions()
     ensures cores { MAX_CORES ≡ most_cores }
     ensures counts { MAX_COUNT ≡ most_counted }

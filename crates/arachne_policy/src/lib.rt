@@ -1,5 +1,5 @@
 //! Decisions about cores: the core for a new thread, when to ask for a core and when to give one back, and whether a
-//! list of core orders is in order.
+//! list of orders to grant or release cores is valid.
 //!
 //! Every call is a pure function over numbers: none takes memory, none waits, and none knows the table of contexts.
 #![tactic(auto)]

@@ -1,4 +1,4 @@
-//! Orders that grant cores and take them back, and the check that a list of them is in order.
+//! Orders that grant cores and take them back, and the check that a list of them is valid.
 ghost use Rattle.std.specs.Prelude.{◌≡◌, ◌↔◌, IsOk, IfErr};
 ghost use Rattle.arachne_policy.specs.Orders.{order_fault, IsFirstFault, AreInOrder};
 
@@ -58,11 +58,11 @@ impl CoreOrder {
     }
 }
 
-/// Checks that the orders are in order on a machine of `cores` cores.
+/// Checks that a list of orders is valid on a machine of `cores` cores.
 ///
 /// Each order must name one of the machine's cores, none may release core 0, and none may be due before the order that
-/// precedes it. Returns the first order with a fault. If that order has several faults, returns the first in the order
-/// of `OrderFaultKind`.
+/// precedes it. Returns the first order with a fault. If that order has several faults, returns the one that
+/// `OrderFaultKind` lists first.
 pub fn check_orders(orders: &[CoreOrder], cores: u64) -> Result<(), OrderFault>
     ensures accepts { IsOk result ↔ AreInOrder cores orders.now }
     ensures first { IfErr result (IsFirstFault cores orders.now) }

@@ -12,7 +12,7 @@ use thiserror::Error;
 pub struct Sample {
     /// The number of cores that the runtime had.
     pub cores: u64,
-    /// The number of runnable threads that each scan (look at one core) saw, summed over the scans.
+    /// The number of runnable threads that each scan (of one core) saw, summed over the scans.
     pub runnable: u64,
     /// The number of times that a core was scanned for runnable threads.
     pub scans: u64,
@@ -77,7 +77,7 @@ impl Sample {
             && self.busy <= self.cores * self.elapsed
     }
 
-    /// Returns the average number of runnable threads that a scan (look at one core) saw, in thousandths of a thread.
+    /// Returns the average number of runnable threads that a scan (of one core) saw, in thousandths of a thread.
     pub(crate) fn load(&self) -> u64
         requires { self.now.runnable ≤ most_counted }
         ensures { result ≡ load_of self.now }

@@ -11,13 +11,13 @@ use std::alloc::{AllocError, Global};
 /// its size.
 const LARGEST: usize = 1 << 46;
 
-/// From this size down, each next size is only `APART` bytes smaller: the C library keeps some freed blocks of each
-/// such size, and uses them only for blocks of that size.
+/// Up to this size the C library keeps freed blocks of each size, and uses them only for blocks of that size. So from
+/// here on each next size is only `APART` bytes smaller.
 const KEPT: usize = 1024;
 
 const APART: usize = 16;
 
-/// The size, in bytes, of the smallest blocks that a hoard takes.
+/// The size, in bytes, of the smallest blocks that a [`Hoard`] takes.
 const SMALLEST: usize = 16;
 
 /// The maximum number of blocks that a hoard takes.
@@ -28,7 +28,7 @@ const SMALL: usize = 20_000;
 
 const SMALL_SIZE: usize = 40;
 
-/// The size, in bytes, of the first block that `take_again` tries. It takes no larger ones.
+/// The size, in bytes, of the largest blocks that `take_again` takes.
 const PIECE: usize = 1 << 20;
 
 /// All memory that a process can get, except for what was given back. The blocks are not written to, so they use little

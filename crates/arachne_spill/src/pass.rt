@@ -1,4 +1,4 @@
-//! The pass of one thread, with the tags that it has pushed and popped.
+//! A pass: one thread's right to use a queue, with a record of the tags that it has pushed and popped.
 use arachne_weights::{Token, Weight};
 use crossbeam_queue::Pass;
 use std::collections::LinkedList;
@@ -13,7 +13,7 @@ pub struct Known {
 /// A pass as the queue's invariant sees it. No value of this type is made.
 pub type View = Token<Known>;
 
-/// A part of the right to use a queue. Contracts also see in it the tags that were pushed and popped by it.
+/// A part of the right to use a queue. Contracts see in it the tags that were pushed and popped by it.
 ///
 /// A pass is used and joined only with its own queue. If a pass is dropped, its weight is lost, and no pass can have
 /// the whole weight any more.

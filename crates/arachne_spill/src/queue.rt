@@ -73,7 +73,7 @@ impl<T: Tagged + Drop> SpillQueue<T> {
         self.ring.pop_as::<Pop, R>(rt, &mut pass.pass)
     }
 
-    /// Returns the number of items in the queue at one moment of the call. The call looks again while others push.
+    /// Returns the number of items in the queue at one moment of the call. The call reads again as long as others push.
     ///
     /// The clauses on the number are of use only if the pass has the whole weight, as with [`SpillQueue::push`].
     pub fn len<R: Wait>(&self, rt: &R, pass: &mut SpillPass<T>) -> usize

@@ -1,4 +1,5 @@
-//! A team of kernel threads. Each works with a part of one share, and returns its part at its end.
+//! Starts a team of kernel threads and joins them. A value (the team's *share*) is split among them, and each returns
+//! its part at its end.
 #![tactic(auto)]
 
 mod start;

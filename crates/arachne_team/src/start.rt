@@ -9,7 +9,7 @@ use std::sync::Wait;
 use std::thread::{self, Promise, PromisedHandle, Threads};
 use std::time::Clock;
 
-/// The promise that the share that a kernel thread returns belongs to this team.
+/// What contracts know of each kernel thread's result: the share that it returns belongs to this team.
 #[derive(Drop)]
 struct Returns<W> {
     team: Snapshot<W>,
@@ -102,7 +102,8 @@ fn part_off<H: Wait, S, W: Team<S>, O>(
     team.part_off(rt, share)
 }
 
-/// Joins the other kernel threads, and returns all parts of the share joined, if each kernel thread returned its own.
+/// Joins the other kernel threads, and returns all parts of the share joined, or `None` if one of the kernel threads
+/// has lost its part.
 fn join_all<H: Threads + Wait, S: Drop, W: Team<S>>(
     rt: &H,
     team: &W,

@@ -1,4 +1,5 @@
-//! The trait of teams: the work of the kernel threads, and their shares.
+//! The trait by which a caller says what each kernel thread of a team does, and how the team's share is split and
+//! joined.
 ghost use Rattle.std.specs.Prelude.{ℕ, ◌≡◌, ◌<◌, IfSome};
 
 use std::sync::Wait;
@@ -16,8 +17,7 @@ pub enum TeamFault {
 /// The work of a team's kernel threads, each with a share of type `S`. The threads are numbered from 0, which is the
 /// thread that starts the others.
 ///
-/// Kernel threads are started only through this trait, whatever their shares are: see
-/// [`work_together`](crate::work_together).
+/// [`work_together`](crate::work_together) starts them.
 pub trait Team<S> {
     /// True if the share belongs to this team.
     ghost has: { Self → S → Type 0 };
@@ -49,9 +49,8 @@ pub trait Team<S> {
         requires other { Self.has self.now other }
         ensures { IfSome result (Self.has self.now) };
 
-    /// Called if a kernel thread does not begin. No further kernel thread will begin.
+    /// Called if a kernel thread could not be started. No further one is started.
     ///
-    /// The threads that have begun run until they end by themselves. If these threads wait for one another, `fail` must
-    /// make them end.
+    /// Those that have begun run until they end by themselves. If they wait for one another, `fail` must make them end.
     fn fail<R: Wait>(&self, rt: &R, fault: TeamFault);
 }

@@ -6,13 +6,12 @@ ghost use Rattle.arachne_weights.specs.declared.token.Token.{Token};
 ghost use Rattle.arachne_weights.specs.Weight.{whole};
 ghost use Rattle.arachne_weights.specs.Tokens.{IsReachable, spent, total_weight};
 
-/// The law that all tokens together have at most the whole weight.
+/// All tokens of an object together have at most the whole weight.
 pub fn tokens_within_the_whole<K>()
     ensures { (nothing : K) (tokens : List (Token K)) → IsReachable nothing tokens → total_weight tokens ≤ whole }
 {}
 
-/// The law that if one token has the whole weight, each other token was joined into it, directly or through other
-/// tokens.
+/// If one token has the whole weight, each other token was joined into it, directly or through other tokens.
 pub fn whole_is_alone<K>()
     ensures { (nothing : K) (tokens : List (Token K)) → IsReachable nothing tokens
         → (i j : ℕ) (t u : Token K) → get_elem? tokens i ≡ some t → t.weight ≡ whole → j ≢ i → get_elem? tokens j ≡ some u

@@ -1,4 +1,4 @@
-//! A part of the whole weight 2^127, which is halved when a holder is split and added when two are joined.
+//! A part of the whole weight 2^127, which is halved at a split and added up at a join.
 ghost use Rattle.std.specs.Prelude.{◌≡◌, ◌↔◌, IsTrue};
 ghost use Rattle.arachne_weights.specs.Weight.{whole, first_part, second_part, joined};
 

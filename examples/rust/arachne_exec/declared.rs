@@ -17,14 +17,14 @@ pub const API_VERSION: u32 = 1;
 /// The call succeeded.
 pub const DONE: u32 = 0;
 
-/// The handle holds nothing, or it holds something although it must be empty; or the handle's seat may not make
-/// this call now; or there is no such block, lock or ledger. Nothing has changed.
+/// The handle is empty, or it is in use although it must be empty; or the handle's seat may not make this call now;
+/// or there is no such block, lock or ledger. Nothing has changed.
 pub const REFUSED: u32 = 1;
 
 /// Memory was refused. Nothing has changed.
 pub const NO_MEMORY: u32 = 2;
 
-/// Another thread was at the lock. Nothing has changed: try again.
+/// Another thread was in a call on the lock. Nothing has changed: try again.
 pub const CONTENDED: u32 = 3;
 
 /// Another thread was first. Nothing has changed: try again, with another number if the call registers a worker.
@@ -54,14 +54,14 @@ pub const LEFT: u32 = 11;
 /// No place of the block is free.
 pub const FULL: u32 = 12;
 
-/// The job is in the handle's hand: run it.
+/// The handle holds the job: run it.
 pub const RUN: u32 = 13;
 
-/// The worker has set its idle bit, and then found the summary words of its shards empty: sleep until you are
-/// unparked.
+/// The worker has set its idle bit, and then found no block of its shards that may have a ready job: sleep until
+/// you are unparked.
 pub const PARK: u32 = 14;
 
-/// No job was taken, or a block may have a job: try again.
+/// The call took no job, or found that a block may have one: try again.
 pub const AGAIN: u32 = 15;
 
 /// The job is ready.
@@ -70,12 +70,12 @@ pub const READY: u32 = 16;
 /// The job waits for a wake.
 pub const BLOCKED: u32 = 17;
 
-/// The job is ready or runs, and the wake is recorded. A take or a start uses up that record. If neither follows,
-/// the job is ready again when it would block next. A wake for the next job of a free place, by the name that this
-/// job will have, is recorded in the same way.
+/// The job is ready or runs, and the wake is recorded. A take or a start clears that record. If neither follows,
+/// the job becomes ready instead of blocked at its next rest. A wake for the next job of a free place, by the name
+/// that this job will have, is recorded in the same way.
 pub const MARKED: u32 = 18;
 
-/// A wake of the job was recorded already.
+/// An earlier wake of the job is still recorded.
 pub const ALREADY_MARKED: u32 = 19;
 
 /// No job has this name now.
@@ -116,10 +116,10 @@ pub struct ArachneExecLeft {
 #[repr(C)]
 #[derive(Clone, Copy, Debug, PartialEq, Eq)]
 pub struct ArachneExecTold {
-    /// The name of the job that was spawned or is in hand: 20 bits for its place, and 44 for the place's
-    /// generation.
+    /// The name of the job that was spawned, or that the handle holds: 20 bits for its place, and 44 for the
+    /// place's generation.
     pub name: u64,
-    /// The number of the job in hand, as it was spawned.
+    /// The number of the job that the handle holds, with which it was spawned.
     pub job: u64,
     pub code: u32,
     /// The worker whose thread the caller must unpark, or NOBODY.
@@ -179,18 +179,18 @@ pub struct ArachneSample {
 }
 
 unsafe extern "C" {
-    /// Makes an executor of `shards` shards, and puts its first seat into a handle that holds nothing.
+    /// Makes an executor of `shards` shards, and puts its first seat into an empty handle.
     ///
     /// Shard s has the blocks 64 s to 64 s + 63, each of 64 places; worker s % 64 looks after it. Returns DONE;
-    /// REFUSED if the handle holds something, or if `shards` is greater than 256; NO_MEMORY.
+    /// REFUSED if the handle is in use, or if `shards` is greater than 256; NO_MEMORY.
     ///
     /// Threads: safe beside calls with other handles; two at once with `exec` are undefined behaviour.
     pub fn arachne_exec_new(exec: *mut ArachneExec, shards: usize) -> u32;
 
-    /// Splits a seat in two, for another thread: `other` gets the second part, with no job in hand and no worker
+    /// Splits a seat in two, for another thread: `other` gets the second part, which holds no job and has no worker
     /// number.
     ///
-    /// Returns DONE; REFUSED if `exec` holds nothing or `other` holds something; NO_MEMORY.
+    /// Returns DONE; REFUSED if `exec` is empty or `other` is in use; NO_MEMORY.
     ///
     /// After more than 127 splits in a row, each of a part of the one before, splits still succeed but the executor
     /// can't be ended any more.
@@ -200,9 +200,9 @@ unsafe extern "C" {
 
     /// Joins the seat of `other` into that of `exec`, so that `other` holds nothing.
     ///
-    /// Returns DONE, or REFUSED if one of the handles holds nothing, or if `other` has a job in hand or is a
-    /// worker. Both handles must be of one executor, which is not checked. If they are of two executors, the
-    /// executor of `other` can't be ended any more, and the end of the executor of `exec` may return too few jobs.
+    /// Returns DONE, or REFUSED if one of the handles is empty, or if `other` holds a job or is a worker. Both
+    /// handles must be of one executor, which is not checked. If they are of two executors, the executor of `other`
+    /// can't be ended any more, and the end of the executor of `exec` may return too few jobs.
     ///
     /// Threads: safe beside calls with other handles; two at once with `exec` or `other` are undefined behaviour.
     pub fn arachne_exec_join(exec: *mut ArachneExec, other: *mut ArachneExec) -> u32;
@@ -211,132 +211,133 @@ unsafe extern "C" {
     ///
     /// The jobs that are left were spawned and have not ended; jobs of number 0 are not written. A number that
     /// several jobs have is written once for each of these jobs. Returns DONE with the count of jobs written;
-    /// REFUSED if the handle holds nothing or has a job in hand, or if not all other handles were joined into this
-    /// one; NO_MEMORY. Returns REFUSED also if `left` has less room than 4,096 jobs for each shard. Unless the code
-    /// is DONE, the count is 0, and the executor and `left` are unchanged.
+    /// REFUSED if the handle is empty or holds a job, or if not all other handles were joined into this one;
+    /// NO_MEMORY. Returns REFUSED also if `left` has less room than 4,096 jobs for each shard. Unless the code is
+    /// DONE, the count is 0, and the executor and `left` are unchanged.
     ///
     /// Threads: safe beside calls with other handles; two at once with `exec` are undefined behaviour.
     pub fn arachne_exec_end(exec: *mut ArachneExec, left: *mut u64, left_room: usize) -> ArachneExecLeft;
 
     /// Frees the seat of a handle, if it has one, and the executor with the last of its handles.
     ///
-    /// A job in hand stays at its place for ever, and the other handles can't end the executor any more.
+    /// A job that the handle holds stays at its place for ever, and the other handles can't end the executor any
+    /// more.
     ///
     /// Threads: safe beside calls with other handles; two at once with `exec` are undefined behaviour.
     pub fn arachne_exec_close(exec: *mut ArachneExec);
 
     /// Makes the seat the worker with a number from 0 to 63.
     ///
-    /// Returns DONE; LOST if another seat has that number; REFUSED if the handle holds nothing, if its seat is a
-    /// worker already, or if `worker` is greater than 63.
+    /// Returns DONE; LOST if another seat has that number; REFUSED if the handle is empty, if its seat is a worker
+    /// already, or if `worker` is greater than 63.
     ///
     /// Threads: safe beside calls with other handles; two at once with `exec` are undefined behaviour.
     pub fn arachne_exec_register(exec: *mut ArachneExec, worker: u32) -> u32;
 
-    /// Frees the seat's worker number. Returns DONE, or REFUSED if the handle holds nothing or its seat is no
-    /// worker.
+    /// Frees the seat's worker number. Returns DONE, or REFUSED if the handle is empty or its seat is no worker.
     ///
     /// Threads: safe beside calls with other handles; two at once with `exec` are undefined behaviour.
     pub fn arachne_exec_leave(exec: *mut ArachneExec) -> u32;
 
     /// Puts a job at a free place of a block, where it is ready: one try.
     ///
-    /// Returns READY with the job's name, and the worker to unpark; FULL; LOST; REFUSED if the handle holds nothing
-    /// or there is no such block. A job with the number 0 is not returned by `arachne_exec_end`.
+    /// Returns READY with the job's name, and the worker to unpark; FULL if no place of the block is free; LOST if
+    /// another thread was first; REFUSED if the handle is empty or there is no such block. A job with the number 0
+    /// is not returned by `arachne_exec_end`.
     ///
     /// Threads: safe beside calls with other handles; two at once with `exec` are undefined behaviour.
     pub fn arachne_exec_spawn(exec: *mut ArachneExec, block: usize, job: u64) -> ArachneExecTold;
 
-    /// Tries once to put a job at a free place of a block and into the handle's hand, so that nobody else can take
-    /// the job.
+    /// Tries once to put a job at a free place of a block, so that the handle holds the job and nobody else can
+    /// take it.
     ///
-    /// Returns RUN with the job's name and number; FULL; LOST; REFUSED if the handle holds nothing or has a job in
-    /// hand, or if there is no such block.
+    /// Returns RUN with the job's name and number; FULL if no place of the block is free; LOST if another thread
+    /// was first; REFUSED if the handle is empty or holds a job, or if there is no such block.
     ///
     /// Threads: safe beside calls with other handles; two at once with `exec` are undefined behaviour.
     pub fn arachne_exec_spawn_here(exec: *mut ArachneExec, block: usize, job: u64) -> ArachneExecTold;
 
     /// Returns the blocks of a shard that may have ready jobs, a bit for each of its 64 blocks, by one load.
     ///
-    /// A block whose bit is clear has no ready job, or another call still has to set the bit or find that it
-    /// needn't. Returns 0 also if the handle holds nothing or there is no such shard.
+    /// A block whose bit is clear has no ready job, or another thread is in a call that will set the bit, or find
+    /// that it needn't. Returns 0 also if the handle is empty or there is no such shard.
     ///
     /// Threads: safe beside calls with other handles; two at once with `exec` are undefined behaviour.
     pub fn arachne_exec_shown(exec: *mut ArachneExec, shard: usize) -> u64;
 
     /// Returns the places of a block that have a ready job, a bit for each of its 64 places, by one load.
     ///
-    /// Returns 0 also if the handle holds nothing or there is no such block.
+    /// Returns 0 also if the handle is empty or there is no such block.
     ///
     /// Threads: safe beside calls with other handles; two at once with `exec` are undefined behaviour.
     pub fn arachne_exec_ready(exec: *mut ArachneExec, block: usize) -> u64;
 
-    /// Tries once to take a ready job of a block into the handle's hand. Any worker may look after the block.
+    /// Tries once to take a ready job of a block, so that the handle holds it. Any worker may look after the block.
     ///
-    /// Returns RUN with the job's name and number; AGAIN; REFUSED if the handle holds nothing or has a job in hand,
-    /// or if there is no such block.
+    /// Returns RUN with the job's name and number; AGAIN if it took none; REFUSED if the handle is empty or holds a
+    /// job, or if there is no such block.
     ///
     /// Threads: safe beside calls with other handles; two at once with `exec` are undefined behaviour.
     pub fn arachne_exec_take(exec: *mut ArachneExec, block: usize) -> ArachneExecTold;
 
-    /// Takes up to `most` ready jobs of one block (64 places) in one atomic step. They are then in the handle's
-    /// hand: nobody else can run them. A `most` of 0 counts as 1.
+    /// Takes up to `most` ready jobs of one block (64 places) by one atomic operation. The handle then holds them:
+    /// nobody else can run them. A `most` of 0 counts as 1.
     ///
-    /// Returns the places of the jobs that were taken, a bit for each of the block's 64 places. The job at the
-    /// lowest place is the newest: calls on the job in hand concern this job, and then the job at the next place,
-    /// once the newest rests or has ended. `arachne_exec_start` returns the newest job's name and number. Returns 0
-    /// if no job was taken, if the handle is empty or has a job in hand already, or if there is no such block.
+    /// Returns the places of the jobs that were taken, a bit for each of the block's 64 places. The next calls
+    /// concern the job at the lowest place, and once it rests or has ended the job at the next place.
+    /// `arachne_exec_start` returns that job's name and number. Returns 0 if no job was taken, if the handle is
+    /// empty or holds a job already, or if there is no such block.
     ///
     /// Threads: safe beside calls with other handles; two at once with `exec` are undefined behaviour.
     pub fn arachne_exec_take_many(exec: *mut ArachneExec, block: usize, most: u32) -> u64;
 
-    /// Begins to run the newest job in hand, of several that were taken at once: uses up a wake that has come since
-    /// the take.
+    /// Begins to run the next of the jobs that `arachne_exec_take_many` has taken: clears the record of a wake that
+    /// has come since the take.
     ///
-    /// Returns RUN with the job's name and number, or REFUSED if the handle has no job in hand.
+    /// Returns RUN with the job's name and number, or REFUSED if the handle holds no job.
     ///
     /// Threads: safe beside calls with other handles; two at once with `exec` are undefined behaviour.
     pub fn arachne_exec_start(exec: *mut ArachneExec) -> ArachneExecTold;
 
-    /// Takes the next job of the worker's blocks into the handle's hand.
+    /// Takes the next ready job of the worker's blocks, or lets the worker park.
     ///
-    /// Returns RUN with the job's name and number; PARK; AGAIN; REFUSED if the handle holds nothing, if its seat is
-    /// no worker, or if a job is in hand.
+    /// Returns RUN with the job's name and number; PARK if the worker must sleep; AGAIN if the caller must call
+    /// again; REFUSED if the handle is empty or holds a job, or if its seat is no worker.
     ///
     /// Threads: safe beside calls with other handles; two at once with `exec` are undefined behaviour.
     pub fn arachne_exec_next(exec: *mut ArachneExec) -> ArachneExecTold;
 
-    /// Sets the worker's idle bit, and then checks if a block of the worker may have ready jobs. This is the last
-    /// part of `arachne_exec_next`.
+    /// Sets the worker's idle bit, and then checks if a block of the worker may have ready jobs.
+    /// `arachne_exec_next` does the same if it finds no job.
     ///
-    /// Returns PARK; AGAIN, with the bit cleared again; REFUSED if the handle holds nothing or its seat is no
-    /// worker.
+    /// Returns PARK; AGAIN, with the bit cleared again; REFUSED if the handle is empty or its seat is no worker.
     ///
     /// Threads: safe beside calls with other handles; two at once with `exec` are undefined behaviour.
     pub fn arachne_exec_may_park(exec: *mut ArachneExec) -> u32;
 
     /// Clears the worker's idle bit, after a sleep that ended by itself.
     ///
-    /// Returns DONE, or REFUSED if the handle holds nothing or its seat is no worker.
+    /// Returns DONE, or REFUSED if the handle is empty or its seat is no worker.
     ///
     /// Threads: safe beside calls with other handles; two at once with `exec` are undefined behaviour.
     pub fn arachne_exec_wake_up(exec: *mut ArachneExec) -> u32;
 
-    /// Makes the job in hand ready. Returns READY with the worker to unpark, or REFUSED if the handle has no job in
-    /// hand.
+    /// Makes the job that the handle holds ready again. Returns READY with the worker to unpark, or REFUSED if the
+    /// handle holds no job.
     ///
     /// Threads: safe beside calls with other handles; two at once with `exec` are undefined behaviour.
     pub fn arachne_exec_rest_ready(exec: *mut ArachneExec) -> ArachneExecTold;
 
-    /// Lets the job in hand wait for a wake.
+    /// Lets the job that the handle holds wait for a wake.
     ///
-    /// Returns BLOCKED; READY with the worker to unpark, if a wake has come that no take or start has used up;
-    /// REFUSED if the handle has no job in hand.
+    /// Returns BLOCKED; READY with the worker to unpark, if a wake has come since the job was taken or started;
+    /// REFUSED if the handle holds no job.
     ///
     /// Threads: safe beside calls with other handles; two at once with `exec` are undefined behaviour.
     pub fn arachne_exec_rest_blocked(exec: *mut ArachneExec) -> ArachneExecTold;
 
-    /// Ends the job in hand, and frees its place. Returns DONE, or REFUSED if the handle has no job in hand.
+    /// Ends the job that the handle holds, and frees its place. Returns DONE, or REFUSED if the handle holds no
+    /// job.
     ///
     /// A place is used for at most 2^44 - 1 jobs.
     ///
@@ -345,39 +346,39 @@ unsafe extern "C" {
 
     /// Wakes the job of a name: one try.
     ///
-    /// Returns READY with the worker to unpark, if the job was blocked; MARKED; ALREADY_MARKED; GONE; LOST; REFUSED
-    /// if the handle holds nothing.
+    /// Returns READY with the worker to unpark, if the job was blocked; MARKED if it wasn't, and this wake is
+    /// recorded; ALREADY_MARKED if a wake was recorded before; GONE if no job has the name; LOST if another thread
+    /// was first; REFUSED if the handle is empty.
     ///
     /// Threads: safe beside calls with other handles; two at once with `exec` are undefined behaviour.
     pub fn arachne_exec_wake(exec: *mut ArachneExec, name: u64) -> ArachneExecTold;
 
-    /// Tries once to wake the job of a name, and to take the job into the handle's hand if it was blocked.
+    /// Tries once to wake the job of a name, and takes the job if it was blocked, so that the handle holds it.
     ///
-    /// Returns RUN with the job's name and number; MARKED; ALREADY_MARKED; GONE; LOST; REFUSED if the handle holds
-    /// nothing or has a job in hand.
+    /// Returns RUN with the job's name and number, if the job was blocked. MARKED, ALREADY_MARKED, GONE and LOST
+    /// are as in `arachne_exec_wake`; REFUSED if the handle is empty or holds a job.
     ///
     /// Threads: safe beside calls with other handles; two at once with `exec` are undefined behaviour.
     pub fn arachne_exec_wake_here(exec: *mut ArachneExec, name: u64) -> ArachneExecTold;
 
-    /// Makes `count` locks, and puts the first seat into a handle that holds nothing.
+    /// Makes `count` locks, and puts the first seat into an empty handle.
     ///
-    /// Returns DONE; REFUSED if the handle holds something; NO_MEMORY.
+    /// Returns DONE; REFUSED if the handle is in use; NO_MEMORY.
     ///
     /// Threads: safe beside calls with other handles; two at once with `locks` are undefined behaviour.
     pub fn arachne_locks_new(locks: *mut ArachneLocks, count: usize) -> u32;
 
     /// Splits a seat in two, for another thread: `other` gets the new seat.
     ///
-    /// Returns DONE; REFUSED if `locks` holds nothing or `other` holds something; NO_MEMORY.
+    /// Returns DONE; REFUSED if `locks` is empty or `other` is in use; NO_MEMORY.
     ///
     /// Threads: safe beside calls with other handles; two at once with `locks` or `other` are undefined behaviour.
     pub fn arachne_locks_split(locks: *mut ArachneLocks, other: *mut ArachneLocks) -> u32;
 
     /// Joins the seat of `other` into that of `locks`, so that `other` holds nothing.
     ///
-    /// Returns DONE, or REFUSED if one of the handles holds nothing. Both handles must be of one set of locks,
-    /// which is not checked. If they are of two sets, the seat of `other` is only freed, as by
-    /// `arachne_locks_close`.
+    /// Returns DONE, or REFUSED if one of the handles is empty. Both handles must be of one set of locks, which is
+    /// not checked. If they are of two sets, the seat of `other` is only freed, as by `arachne_locks_close`.
     ///
     /// Threads: safe beside calls with other handles; two at once with `locks` or `other` are undefined behaviour.
     pub fn arachne_locks_join(locks: *mut ArachneLocks, other: *mut ArachneLocks) -> u32;
@@ -389,15 +390,17 @@ unsafe extern "C" {
 
     /// Tries once to ask for a lock for `who`.
     ///
-    /// Returns GRANTED; QUEUED; ALREADY_IN; NO_MEMORY, only if `who` would have to wait; CONTENDED; REFUSED if the
-    /// handle holds nothing or there is no such lock.
+    /// Returns GRANTED if `who` holds the lock now; QUEUED if `who` waits for it; ALREADY_IN if `who` held it or
+    /// waited before; NO_MEMORY, only if `who` would have to wait; CONTENDED if another thread was in a call on the
+    /// lock; REFUSED if the handle is empty or there is no such lock.
     ///
     /// Threads: safe beside calls with other handles; two at once with `locks` are undefined behaviour.
     pub fn arachne_lock_ask(locks: *mut ArachneLocks, lock: usize, who: u64) -> ArachneLockTold;
 
     /// Tries once to free a lock that `who` holds.
     ///
-    /// Returns FREED; HANDED_ON, to `next`; NOT_HOLDER; CONTENDED; REFUSED if the handle holds nothing or there is
+    /// Returns FREED if nobody waited; HANDED_ON if the waiter `next` owns the lock now; NOT_HOLDER if `who` didn't
+    /// hold it; CONTENDED if another thread was in a call on the lock; REFUSED if the handle is empty or there is
     /// no such lock.
     ///
     /// Threads: safe beside calls with other handles; two at once with `locks` are undefined behaviour.
@@ -405,45 +408,46 @@ unsafe extern "C" {
 
     /// Tries once to take `who` out of the queue of a lock, such as when the future of `who` is dropped.
     ///
-    /// Returns LEFT; GRANTED if `who` was granted the lock meanwhile, and must free it; NOT_HOLDER; CONTENDED;
-    /// REFUSED if the handle holds nothing or there is no such lock.
+    /// Returns LEFT if `who` waits no longer; GRANTED if `who` was granted the lock meanwhile, and must free it;
+    /// NOT_HOLDER if `who` neither waited nor held it; CONTENDED if another thread was in a call on the lock;
+    /// REFUSED if the handle is empty or there is no such lock.
     ///
     /// Threads: safe beside calls with other handles; two at once with `locks` are undefined behaviour.
     pub fn arachne_lock_withdraw(locks: *mut ArachneLocks, lock: usize, who: u64) -> ArachneLockTold;
 
-    /// Tries once to look if `who` holds a lock.
+    /// Tries once to find out if `who` holds a lock.
     ///
-    /// Returns GRANTED with the number of the grant to `who`; NOT_HOLDER; CONTENDED; REFUSED if the handle holds
-    /// nothing or there is no such lock.
+    /// Returns GRANTED with the number of the grant to `who`; NOT_HOLDER if `who` doesn't hold the lock; CONTENDED
+    /// if another thread was in a call on the lock; REFUSED if the handle is empty or there is no such lock.
     ///
     /// Threads: safe beside calls with other handles; two at once with `locks` are undefined behaviour.
     pub fn arachne_lock_check(locks: *mut ArachneLocks, lock: usize, who: u64) -> ArachneLockTold;
 
-    /// Makes `count` ledgers, each of total 0, and puts their first share into a handle that holds nothing.
+    /// Makes `count` ledgers, each of total 0, and puts their first share into an empty handle.
     ///
-    /// Returns DONE; REFUSED if the handle holds something; NO_MEMORY.
+    /// Returns DONE; REFUSED if the handle is in use; NO_MEMORY.
     ///
     /// Threads: safe beside calls with other handles; two at once with `adder` are undefined behaviour.
     pub fn arachne_ledgers_new(adder: *mut ArachneAdder, count: usize) -> u32;
 
     /// Adds an amount to a ledger.
     ///
-    /// Returns false, with nothing changed, if the handle holds nothing or there is no such ledger.
+    /// Returns false, with nothing changed, if the handle is empty or there is no such ledger.
     ///
     /// Threads: safe beside calls with other handles; two at once with `adder` are undefined behaviour.
     pub fn arachne_ledger_add(adder: *mut ArachneAdder, ledger: usize, amount: u64) -> bool;
 
     /// Reads the total of a ledger, modulo 2^64, once all other handles were joined into this one.
     ///
-    /// Returns false, with nothing changed, if another handle was not joined into this one, if the handle holds
-    /// nothing, or if there is no such ledger.
+    /// Returns false, with nothing changed, if another handle was not joined into this one, if the handle is empty,
+    /// or if there is no such ledger.
     ///
     /// Threads: safe beside calls with other handles; two at once with `adder` are undefined behaviour.
     pub fn arachne_ledger_total(adder: *mut ArachneAdder, ledger: usize, total: *mut u64) -> bool;
 
     /// Splits a share in two, for another thread: `other` gets the second part, to which nothing was added.
     ///
-    /// Returns DONE; REFUSED if `adder` holds nothing or `other` holds something; NO_MEMORY.
+    /// Returns DONE; REFUSED if `adder` is empty or `other` is in use; NO_MEMORY.
     ///
     /// After more than 127 splits in a row, each of a part of the one before, splits still succeed but no total can
     /// be read.
@@ -453,7 +457,7 @@ unsafe extern "C" {
 
     /// Joins the share of `other` into that of `adder`, so that `other` holds nothing.
     ///
-    /// Returns false, with nothing changed, if one of the handles holds nothing. Both handles must be of one set of
+    /// Returns false, with nothing changed, if one of the handles is empty. Both handles must be of one set of
     /// ledgers, which is not checked. If they are of two sets, totals of the ledgers of `adder` may be read before
     /// all of their handles were joined, and totals of the ledgers of `other` can't be read any more.
     ///
@@ -467,7 +471,7 @@ unsafe extern "C" {
     /// Threads: safe beside calls with other handles; two at once with `adder` are undefined behaviour.
     pub fn arachne_ledger_close(adder: *mut ArachneAdder);
 
-    /// Makes an estimator that no sample was given to yet. Returns false, with nothing changed, if `max` is greater
+    /// Makes an estimator that has judged no sample yet. Returns false, with nothing changed, if `max` is greater
     /// than 64.
     ///
     /// Threads: safe beside calls with other memory; two at once with `estimator` are undefined behaviour.

@@ -16,7 +16,7 @@ pub const API_VERSION: u32 = 1;
 /// The call succeeded.
 pub const DONE: u32 = 0;
 
-/// The handle holds nothing, or is in use although it must be empty, or the event is not allowed now. Nothing has
+/// The handle is empty, or is in use although it must be empty, or the event is not allowed now. Nothing has
 /// changed.
 pub const REFUSED: u32 = 1;
 
@@ -96,7 +96,7 @@ impl ArachneArbiter {
 #[repr(C)]
 #[derive(Clone, Copy, Debug, PartialEq, Eq)]
 pub struct ArachneAction {
-    /// TAKEN, PLACED, GRANTED or NOTHING, or REFUSED if the handle holds nothing.
+    /// TAKEN, PLACED, GRANTED or NOTHING, or REFUSED if the handle is empty.
     pub code: u32,
     pub core: u32,
     pub client: usize,
@@ -122,9 +122,9 @@ unsafe extern "C" {
     /// Threads: safe beside any call, if nobody writes to `bytes` meanwhile.
     pub fn arachne_message_read(bytes: *const u8, bytes_count: usize) -> ArachneMessage;
 
-    /// Makes an arbiter of the cores 0 to `cores` - 1, without clients, in a handle that holds nothing.
+    /// Makes an arbiter of the cores 0 to `cores` - 1, without clients, in an empty handle.
     ///
-    /// Returns DONE; REFUSED if the handle holds something, or if `cores` is greater than 1,024; NO_MEMORY.
+    /// Returns DONE; REFUSED if the handle is in use, or if `cores` is greater than 1,024; NO_MEMORY.
     ///
     /// Threads: safe beside calls with other handles; two at once with `arbiter` are undefined behaviour.
     pub fn arachne_arbiter_new(arbiter: *mut ArachneArbiter, cores: u32) -> u32;
@@ -172,7 +172,8 @@ unsafe extern "C" {
     /// Threads: safe beside calls with other handles; two at once with `arbiter` are undefined behaviour.
     pub fn arachne_arbiter_end(arbiter: *mut ArachneArbiter, client: usize, place: usize) -> u32;
 
-    /// Decides anew how many cores each client may have. Returns DONE or REFUSED.
+    /// Computes again how many cores each client may have, from what all clients ask for now. Returns DONE or
+    /// REFUSED.
     ///
     /// Threads: safe beside calls with other handles; two at once with `arbiter` are undefined behaviour.
     pub fn arachne_arbiter_decide(arbiter: *mut ArachneArbiter) -> u32;
@@ -192,8 +193,8 @@ unsafe extern "C" {
     /// Threads: safe beside calls with other handles; two at once with `arbiter` are undefined behaviour.
     pub fn arachne_arbiter_give(arbiter: *mut ArachneArbiter) -> ArachneAction;
 
-    /// Returns the number of cores that a client may have, and the number that it has; 0 and 0 if the handle holds
-    /// nothing.
+    /// Returns the number of cores that a client may have, and the number that it has; 0 and 0 if the handle is
+    /// empty.
     ///
     /// Threads: safe beside calls with other handles; two at once with `arbiter` are undefined behaviour.
     pub fn arachne_arbiter_share(arbiter: *mut ArachneArbiter, client: usize) -> ArachneShare;
