@@ -1,4 +1,4 @@
-//! The command line: its grammar for the parser, and the request that its words make.
+//! Parses the arguments of `arachne` into a request.
 ghost use Rattle.std.specs.Prelude.{◌≡◌, IfOk, IfErr, IfSome, map, None, Ok, Some, true, false};
 ghost use Rattle.arachne_cli.specs.CommandLine.{IsAllowed, IsNoOrderAmong, IsNoOrderMet, IsUnasked, asked_by, check_command, eval_command, is_set, machine_command, names_flag, no_order_met, number_option, number_under, order_words, orders_rule, policy_asked, policy_command, program, request_met, run_alone, run_asked, run_command, task_commands, with_orders};
 ghost use Rattle.arachne_cli.specs.Orders.{orders_of};
@@ -16,16 +16,16 @@ use clap::{Arg, ArgAction, ArgMatches, Command, Error};
 use std::alloc::{AllocError, Global};
 use std::convert::AsStr;
 
-/// A request that the words of the command line make.
+/// The request that the command line makes.
 #[derive(Debug, Drop)]
 pub enum Request {
     /// Run a program on several cores.
     Run(RunSettings),
-    /// Answer the request on one thread.
+    /// One of the commands that need one kernel thread only.
     Serial(SerialRequest),
 }
 
-/// A request that one thread answers.
+/// A command that needs one kernel thread only.
 #[derive(Clone, Copy, Debug)]
 pub enum SerialRequest {
     /// Evaluate a program and, with `names`, print a line for each of its threads.
@@ -49,16 +49,16 @@ pub struct RunSettings {
     pub slots: u64,
     /// True if a line for each thread is printed.
     pub names: bool,
-    /// The orders by which cores are taken back and granted again.
+    /// The orders that close and open cores while the program runs.
     pub orders: Sequence<CoreOrder>,
 }
 
-/// The reason why the words of the command line are no request.
+/// The reason why the command line makes no request.
 #[derive(Debug, Drop)]
 pub enum NotAsked {
-    /// The order word of this index is the first malformed one.
+    /// The argument of this index, among those for orders, is the first that is not a valid order.
     NoOrder { index: usize },
-    /// The parser of command lines refused the words, or memory was refused. The error has the text to print.
+    /// The parser of command lines refused the arguments, or memory was refused. The error has the text to print.
     Refused(Error),
 }
 
@@ -123,7 +123,7 @@ fn names_flag<'a>(alloc: Global) -> Arg<'a>
         .help("Print a line for each thread")
 }
 
-/// Returns the argument that takes any number of order words.
+/// Returns the argument that takes any number of orders to close or open cores.
 fn order_words<'a>(alloc: Global) -> Arg<'a>
     ensures rule { rule_of result ≡ orders_rule }
     ensures local { result.global ≡ false }
@@ -303,7 +303,7 @@ fn number_in(matches: &ArgMatches<'_>, option: &str) -> Option<u64>
     }
 }
 
-/// Returns the request to judge samples, if the words ask for at most 64 cores.
+/// Returns the request to judge samples, if it is for at most 64 cores.
 fn policy_in(matches: &ArgMatches<'_>) -> Option<Request>
     ensures asked { result ≡ policy_asked (rows_of (found_of matches.now)) }
     ensures allowed { IfSome result IsAllowed }
@@ -321,9 +321,9 @@ fn policy_in(matches: &ArgMatches<'_>) -> Option<Request>
     })))
 }
 
-/// Returns the orders that the words spell.
+/// Parses orders to close or open cores.
 ///
-/// Fails with the index of the first malformed word, or if memory is refused.
+/// Fails with the index of the first word that is no order, or if memory is refused.
 fn orders_in(alloc: Global, words: &[&str]) -> Result<Sequence<CoreOrder>, NotAsked>
     ensures orders { IfOk result (λ orders. orders_of (map (λ word. word.now) words.now) ≡ Ok orders) }
     ensures none { IfErr result (IsNoOrderAmong (map (λ word. word.now) words.now)) }
@@ -340,7 +340,7 @@ fn orders_in(alloc: Global, words: &[&str]) -> Result<Sequence<CoreOrder>, NotAs
     Ok(Sequence::from(orders))
 }
 
-/// Returns the orders that the order words spell. Fails as `orders_in` does.
+/// Returns the orders among the parsed arguments. Fails as `orders_in` does.
 fn orders_met(alloc: Global, matches: &ArgMatches<'_>) -> Result<Sequence<CoreOrder>, NotAsked>
     ensures orders { IfOk result (λ orders. orders_of (order_words (rows_of (found_of matches.now))) ≡ Ok orders) }
     ensures none { IfErr result (IsNoOrderAmong (order_words (rows_of (found_of matches.now)))) }
@@ -351,7 +351,7 @@ fn orders_met(alloc: Global, matches: &ArgMatches<'_>) -> Result<Sequence<CoreOr
     }
 }
 
-/// Returns the request for a run. Fails if one of its order words is malformed, or if memory is refused.
+/// Returns the request for a run. Fails if one of its orders is malformed, or if memory is refused.
 fn run_in(alloc: Global, matches: &ArgMatches<'_>) -> Result<Option<Request>, NotAsked>
     ensures asked { IfOk result (λ request. request ≡ run_asked (rows_of (found_of matches.now))) }
     ensures allowed { IfOk result (λ request. IfSome request IsAllowed) }
@@ -402,9 +402,9 @@ fn request_in(alloc: Global, matches: &ArgMatches<'_>) -> Result<Option<Request>
     }
 }
 
-/// Returns the request that the words make. The first of the words is the program's own name.
+/// Parses the arguments. The first of them is the program's own name.
 ///
-/// Fails if the program does not take the words, if an order word is malformed, or if memory is refused.
+/// Fails if the program has no such arguments, if an order is malformed, or if memory is refused.
 pub fn read_words<'a, S: AsStr>(alloc: Global, words: &'a [S]) -> Result<Request, NotAsked>
     ensures asked { IfOk result (λ request. asked_by (map S.text words.entry.now) ≡ Some request) }
     ensures allowed { IfOk result IsAllowed }

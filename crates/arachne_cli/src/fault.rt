@@ -1,4 +1,4 @@
-//! The faults of a request that one thread answers, and the line that is printed for a fault.
+//! The errors of the commands `eval`, `check` and `policy`, and the line that the program prints for each.
 ghost use Rattle.std.specs.Prelude.{◌≡◌};
 ghost use Rattle.arachne_cli.specs.Fault.{fault_number, fault_place, line_of};
 ghost use Rattle.arachne_cli.specs.declared.fault.Fault.TheVariants.{InText, InProgram, Memory};
@@ -7,18 +7,18 @@ use arachne_lang::{CheckFault, TextFault};
 use std::alloc::AllocError;
 use std::fmt;
 
-/// The reason why a request that one thread answers fails.
+/// The reason why a command fails.
 ///
-/// The program's status is 2 if an order word is malformed, else 1.
+/// The program's exit status is 2 for `NoOrder`, else 1.
 #[derive(Clone, Copy, Debug)]
 pub enum Fault {
-    /// The reader has refused the program's text, for this fault.
+    /// The program's text has this syntax error.
     InText(TextFault),
-    /// The checker has refused the program of the text, for this fault.
+    /// The text is a program, but the checker has refused it for this fault.
     InProgram(CheckFault),
     /// The first sample that cannot be judged is on this line.
     BadSample { line: usize },
-    /// The order word of this index is the first malformed one of a run.
+    /// The argument of this index, among those for orders of a run, is the first that is not a valid order.
     NoOrder { index: usize },
     /// Memory was refused.
     Memory,
@@ -65,7 +65,7 @@ impl Fault {
         }
     }
 
-    /// Returns the number by which the printed line names the fault.
+    /// Returns the number of the fault in the printed line.
     fn number(self) -> u8
         ensures { result ≡ fault_number self }
     {
@@ -92,7 +92,7 @@ impl Fault {
         }
     }
 
-    /// Returns where in its input the request has the fault, as the printed line says it.
+    /// Returns the byte, line or node of the fault, for the printed line.
     fn place(self) -> Place
         ensures { result ≡ fault_place self }
     {
@@ -125,7 +125,7 @@ pub struct FaultLine {
     pub place: Place,
 }
 
-/// The place of a fault, which the line of the fault names after the number.
+/// The byte, line or node of a fault.
 #[derive(Clone, Copy)]
 pub enum Place {
     Nowhere,

@@ -1,4 +1,4 @@
-//! Judges samples of a load one after another, as the command `policy` does.
+//! The command `policy`: judges samples of a load one after another.
 
 ghost use Rattle.std.specs.Prelude.{◌≡◌, ◌≢◌, ◌≤◌, length, IfOk, IfErr, string_bytes};
 ghost use Rattle.arachne_policy.specs.declared.limits.TheConstants.{MAX_CORES};

@@ -1,4 +1,4 @@
-//! The command line of `arachne`, and the commands that one thread answers: `eval`, `check` and `policy`.
+//! The command line of `arachne`, and its commands that need one kernel thread only: `eval`, `check` and `policy`.
 #![tactic(auto)]
 
 mod command_line;

@@ -1,14 +1,14 @@
-//! Reads a number or a word at the front of a text: the parts of a sample (`samples`) and of a core order (`orders`).
+//! Reads a number or a word at the front of a text, for the modules `samples` and `orders`.
 ghost use Rattle.std.specs.Prelude.{◌≡◌, ◌+◌, ◌*◌, ◌^◌};
 ghost use Rattle.arachne_lang.specs.Reading.{digits_at, figures_at, number_at, word_at};
 ghost use Rattle.arachne_cli.specs.Reading.{Gives};
 
 use arachne_lang::TextFault;
 
-/// The reason why reading stops, with the bytes from that place on.
+/// The error of a reading function, with the text from the fault on.
 #[derive(Clone, Copy)]
 pub enum ReadingStop<'t> {
-    /// The text departs from the grammar, or ends too early.
+    /// The text breaks the grammar, or ends too early.
     Departs(&'t [u8]),
     /// The next digit takes a number out of its range.
     Overflows(&'t [u8]),
@@ -17,7 +17,7 @@ pub enum ReadingStop<'t> {
 impl<'t> ReadingStop<'t> {
     ghost use Rattle.arachne_cli.specs.Reading.{fault_within};
 
-    /// Returns the fault for this stop, with its place in the whole `text`.
+    /// Returns this error with the index of its byte in the whole `text`.
     pub fn fault(self, text: &[u8]) -> TextFault
         ensures { result ≡ fault_within text.now self.entry }
     {

@@ -1,4 +1,4 @@
-//! Reads the words of the command line that spell core orders, such as `250:grant:3`.
+//! Parses an order to grant or release a core, such as `250:grant:3`: after 250 slices, grant core 3.
 
 ghost use Rattle.std.specs.Prelude.{◌≡◌, ◌↔◌, ℕ, List, Some, option_map};
 ghost use Rattle.arachne_policy.specs.declared.orders.CoreOrder.{CoreOrder as Order};
@@ -8,7 +8,7 @@ ghost use Rattle.arachne_cli.specs.Orders.{FitsWords, HasReadKind, order_word};
 use crate::numbers::{figures, number, word};
 use arachne_policy::{CoreOrder, OrderKind};
 
-/// Returns the order that a word of the command line spells, such as `250:grant:3`, if the word spells one.
+/// Parses one order, such as `250:grant:3`.
 pub fn read_order(spelled: &str) -> Option<CoreOrder>
     ensures { (order : Order) → (result ≡ Some order) ↔ (FitsWords order × (order_word order ≡ spelled.now)) }
 {

@@ -7,7 +7,7 @@ use arachne_lang::{Line, Meaning, Name};
 use std::alloc::{AllocError, Global};
 use std::fmt::Write;
 
-/// Returns the output for the meaning of a program (its value, totals and threads). With `names` it has a line for each
+/// Returns the output for the result of a program (its value, totals and threads). With `names` it has a line for each
 /// thread.
 pub fn render(alloc: Global, meaning: &Meaning, names: bool) -> Result<String, AllocError>
     ensures { IfOk result (λ text. string_bytes text ≡ output_of names meaning.now) }

@@ -1,4 +1,4 @@
-//! Answers the commands `eval`, `check` and `policy` on one thread, and refuses the command `run`.
+//! A program with the commands `eval`, `check` and `policy`, without `run`.
 ghost use Rattle.std.specs.Prelude.{◌≡◌, ◌≢◌, ◌≤◌, ◌+◌, Bool, List, ℕ, length, map, IfOk, IfErr, IfSome, None, true, string_bytes};
 ghost use Rattle.std.specs.Io.KnownBytes.{Consumes, Keeps};
 ghost use Rattle.arachne_lang.specs.Program.{source_of};
@@ -17,7 +17,7 @@ use std::alloc::Global;
 use std::convert::AsStr;
 use std::io::{Read, Write};
 
-/// Reads the input, and returns the output for a request on it.
+/// Reads the input, and returns the output of a command for it.
 pub fn answer<I: Read>(
     alloc: Global,
     request: SerialRequest,
@@ -36,7 +36,7 @@ pub fn answer<I: Read>(
     }
 }
 
-/// Returns the output of an evaluation of the text's program.
+/// Parses, checks and evaluates a program. Returns the output of `eval`.
 fn evaluation(alloc: Global, text: &[u8], names: bool) -> Result<String, Fault>
     requires { length text.now ≤ input_limit }
     ensures answers { IfOk result (λ output. IsAnswer (SerialRequest.Eval names) text.now (string_bytes output)) }
@@ -49,7 +49,7 @@ fn evaluation(alloc: Global, text: &[u8], names: bool) -> Result<String, Fault>
     Ok(output)
 }
 
-/// Returns the output of a check of the text's program.
+/// Parses and checks a program. Returns the output of `check`.
 fn verdict(alloc: Global, text: &[u8]) -> Result<String, Fault>
     requires { length text.now ≤ input_limit }
     ensures answers { IfOk result (λ output. IsAnswer SerialRequest.Check text.now (string_bytes output)) }
@@ -61,7 +61,7 @@ fn verdict(alloc: Global, text: &[u8]) -> Result<String, Fault>
     Ok(output)
 }
 
-/// Returns the program that a text spells, if that program may run.
+/// Parses and checks a program.
 pub fn checked_program(alloc: Global, text: &[u8]) -> Result<Program, Fault>
     requires { length text.now ≤ input_limit }
     ensures program { IfOk result (λ program. IsProgramOf text.now (source_of program)) }
@@ -74,10 +74,10 @@ pub fn checked_program(alloc: Global, text: &[u8]) -> Result<Program, Fault>
     Ok(program)
 }
 
-/// Runs the program, if its words make a request that one thread answers. Returns the status.
+/// Runs the command that the arguments name, if it isn't `run`. Returns the exit status.
 ///
-/// The first of the words is the program's own name. The status is 0 if all went well, and 1 if there was a fault,
-/// whose line goes to the faults stream. The status is 2 if the words were not understood or ask for a run. Nothing is
+/// The first argument is the program's own name. The status is 0 if all went well, and 1 if there was a fault, whose
+/// line goes to the stream `faults`. The status is 2 if the arguments were not understood or ask for a run. Nothing is
 /// written to the output before the whole output is known.
 pub fn drive<S: AsStr, I: Read, W: Write, E: Write>(
     alloc: Global,
@@ -114,7 +114,7 @@ pub fn drive<S: AsStr, I: Read, W: Write, E: Write>(
     }
 }
 
-/// Writes that one thread does not run a program. Returns the status.
+/// Writes that this program has no command `run`. Returns the exit status.
 fn refuse_run<W: Write>(faults: &mut W) -> u8
     ensures { result ≡ 2 }
 {

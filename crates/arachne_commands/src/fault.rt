@@ -9,10 +9,10 @@ use arachne_policy::{OrderFault, OrderFaultKind};
 use arachne_run::{RunFault, WorkerFault};
 use std::alloc::AllocError;
 
-/// The reason why `arachne` fails: a fault that one thread can meet, or a fault of a run.
+/// The reason why `arachne` fails: an error of `eval`, `check` or `policy`, or one of `run`.
 #[derive(Clone, Copy, Debug)]
 pub enum Fault {
-    /// One of the faults that `eval`, `check` and `policy` can have.
+    /// An error that `eval`, `check` and `policy` can have.
     Cli(CliFault),
     /// The run was refused, or has no report.
     InRun(RunFault),
@@ -80,7 +80,7 @@ fn run_number(fault: RunFault) -> u8
     }
 }
 
-/// Returns the place of a run's fault.
+/// Returns the byte, line or node of a run's fault.
 fn run_place(fault: RunFault) -> Place
     ensures { result ≡ run_place fault }
 {

@@ -1,5 +1,4 @@
-//! The program `arachne` over any words, reader and writers: it runs, evaluates and checks programs of the task
-//! language, and judges samples of a load.
+//! The commands of `arachne` (`run`, `eval`, `check`, `policy`) as functions of any arguments, reader and writers.
 #![tactic(auto)]
 
 mod fault;

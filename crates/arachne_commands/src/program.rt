@@ -1,4 +1,4 @@
-//! One run of the program on any words and streams, and its status.
+//! Runs a command on any arguments and streams.
 ghost use Rattle.std.specs.Prelude.{◌≡◌, ◌≢◌, ◌≤◌, length, IfOk, IfErr, IfSome, ◌+◌, List, ℕ, map, None, true, string_bytes};
 ghost use Rattle.std.specs.Io.KnownBytes.{Consumes, Keeps};
 ghost use Rattle.arachne_cli.specs.declared.fault.Fault.TheVariants.{Read as ReadFailed, Write as WriteFailed};
@@ -20,7 +20,7 @@ use std::sync::Wait;
 use std::thread::Threads;
 use std::time::Clock;
 
-/// Reads the input, and returns the output for a request on it.
+/// Reads the input, and returns the output of a command for it.
 fn answer<R: Threads + Wait + Clock + Sync, I: Read>(
     rt: &R,
     alloc: Global,
@@ -41,7 +41,7 @@ fn answer<R: Threads + Wait + Clock + Sync, I: Read>(
     }
 }
 
-/// Returns the output of a run of the text's program.
+/// Parses, checks and runs a program. Returns the output of `run`.
 fn run_of<R: Threads + Wait + Clock + Sync>(
     rt: &R,
     alloc: Global,
@@ -60,12 +60,12 @@ fn run_of<R: Threads + Wait + Clock + Sync>(
     Ok(output)
 }
 
-/// Runs the program on the words of the command line and on these streams. Returns the status.
+/// Runs the command that the arguments name, on these streams. Returns the exit status.
 ///
-/// The first of the words is the program's own name. The status is 0 if all went well, and 1 if there was a fault,
-/// whose line goes to the faults stream. The status is 2 if an order word of a run is malformed, with the line of that
-/// fault, or if the words were not understood, with the text of `clap`. Nothing is written to the output before all of
-/// it is known. A run may wait, and starts kernel threads.
+/// The first argument is the program's own name. The status is 0 if all went well, and 1 if there was a fault, whose
+/// line goes to the stream `faults`. The status is 2 if an order of a run is malformed, with the line of that fault, or
+/// if the arguments were not understood, with the text of `clap`. Nothing is written to the output before all of it is
+/// known. A run may wait, and starts kernel threads.
 pub fn drive<R: Threads + Wait + Clock + Sync, S: AsStr, I: Read, W: Write, E: Write>(
     rt: &R,
     alloc: Global,

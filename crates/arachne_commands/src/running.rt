@@ -43,8 +43,8 @@ pub fn run_program<'p, R: Threads + Wait + Clock + Sync>(
 
 /// Runs a program as `run` does, over a table on atomic words.
 ///
-/// The table is written out here and the job where this is called, since one call of `run` with both takes the prover
-/// more steps than it allows.
+/// This function names the type of the table, and its caller that of the jobs: a call of `run` that names both takes
+/// the prover more steps than it allows.
 fn run_on_words<
     'p,
     H: Threads + Wait + Clock + Sync,
@@ -73,7 +73,7 @@ where
     run::<H, T, WordContexts<T>, R, G>(rt, alloc, program, setup, choosers, gate)
 }
 
-/// Returns the setup of a run with these settings, and the choosers (random generators) of its cores.
+/// Returns the setup of a run with these settings, and the random generators of its cores.
 fn set_up(
     alloc: Global,
     settings: RunSettings,
@@ -98,17 +98,17 @@ fn set_up(
     Ok((setup, choosers))
 }
 
-/// Returns how many choosers (random generators) to make for `cores` cores: one for each, but none if there are too
-/// many cores.
+/// Returns the number of random generators to make for `cores` cores: one for each, but none if there are too many
+/// cores.
 ///
-/// The run refuses too many cores before it looks at the choosers.
+/// With too many cores the run fails before it needs any.
 fn served(cores: u64) -> u64
     ensures { cores ≤ CORES → result ≡ cores }
 {
     if cores > u64::from(CORES) { 0 } else { cores }
 }
 
-/// Returns the choosers (random generators) of `cores` cores. The seed of core k is `seed + k`.
+/// Returns the random generators of `cores` cores, by which forks choose a core. The seed of core k is `seed + k`.
 fn choosers(alloc: Global, seed: u64, cores: u64) -> Result<Vec<Xoshiro256PlusPlus>, AllocError>
     ensures { IfOk result (λ choosers. choosers.items ≡ choosers_of seed cores) }
 {

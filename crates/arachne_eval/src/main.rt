@@ -1,4 +1,4 @@
-//! The commands of `arachne` that one thread answers: `eval`, `check` and `policy`.
+//! A program with the commands `eval`, `check` and `policy` of `arachne`, and without `run`.
 #![tactic(auto)]
 
 use arachne_cli::{drive, process_words, refuse_words};

@@ -1,4 +1,4 @@
-//! Checks that a program may run: its nesting, the limits, and each node in the order of the text.
+//! Checks that a program may run: how deep it is nested, the limits, and each node in the order of the text.
 ghost use Rattle.std.specs.Prelude.{◌≡◌, ◌+◌, ◌-◌, ◌*◌, ◌^◌, ◌<◌, ◌≤◌, ◌↔◌, ◌++◌, IsTrue, IfOk, SomeIff, length, sum_by, take};
 ghost use Rattle.arachne_program.specs.Program.{tree_of, source_of};
 ghost use Rattle.arachne_program.specs.Nesting.{nesting};
@@ -97,8 +97,8 @@ fn have_items_within(arrays: &[Vec<u64>], items: usize) -> bool
     true
 }
 
-/// Returns `nodes` less the number of nodes of an expression, or `None` if the expression has more nodes. Stops at the
-/// first node that is too many.
+/// Subtracts the number of an expression's nodes from `nodes`. Returns `None` if the expression has more, and stops at
+/// the first node that is too many.
 #[tactic(auto, using(crate::proofs::NodesJudged::node_count_positive))]
 fn nodes_left(expr: &Expr, nodes: u64) -> Option<u64>
     ensures { SomeIff result (node_count (tree_of expr.now) ≤ nodes) (nodes - node_count (tree_of expr.now)) }
@@ -119,12 +119,12 @@ fn nodes_left(expr: &Expr, nodes: u64) -> Option<u64>
     }
 }
 
-/// What decides whether an expression may stand where it does: its program, the holds around it, and the bound
-/// variables.
+/// The context of an expression, by which the checker decides whether it is allowed: the program, whether a lock is
+/// held, and the bound variables.
 #[derive(Clone, Copy)]
 struct Scope<'p> {
     program: &'p Program,
-    /// True if the expression stands within a hold of a lock.
+    /// True if the expression is evaluated while the thread holds a lock.
     within: bool,
     /// The number of variables that the expressions around it bind.
     bound: u64,

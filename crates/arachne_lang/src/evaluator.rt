@@ -1,4 +1,5 @@
-//! Evaluates a program on one thread, with its ledger sums, holds and lines.
+//! Evaluates a program on one thread. Also returns the sums of its ledgers, and for each of its threads how often it
+//! held each lock.
 ghost use Rattle.std.specs.Prelude.{◌≡◌, ◌+◌, ◌^◌, ◌<◌, [], ◌∷◌, ◌++◌, IfOk, length, slice_index};
 ghost use Rattle.arachne_program.specs.declared.program.Class.{Class};
 ghost use Rattle.arachne_program.specs.declared.program.Class.TheVariants.{Normal};
@@ -13,7 +14,7 @@ ghost use Rattle.arachne_lang.specs.Evaluation.{Gains, IsFresh, MayFork, MaySpli
 use arachne_program::{Expr, Line, Meaning, Name, Operation, Program, Reduction, Sequence};
 use std::alloc::{AllocError, Global};
 
-/// The account of the thread that is being evaluated: its own actions, without those of its children.
+/// The counts of the thread that is being evaluated, without those of its children.
 #[derive(Drop)]
 struct Own {
     name: Name,
@@ -24,7 +25,7 @@ struct Own {
 }
 
 impl Own {
-    /// Returns the account of a thread that has done nothing yet.
+    /// Returns the counts of a new thread, all 0.
     fn new(alloc: Global, name: Name, locks: u8) -> Result<Own, AllocError>
         ensures { IfOk result (IsFresh locks name) }
     {
@@ -56,7 +57,7 @@ impl Own {
     }
 }
 
-/// Returns a placeholder for a thread's own line, which is written when the thread has ended.
+/// Returns a placeholder for a thread's line, which the evaluator replaces once the thread has ended.
 fn unwritten_line(alloc: Global) -> Line {
     Line {
         name: Name::root(alloc),
@@ -96,7 +97,7 @@ fn add_at(numbers: &mut [u64], place: u64, amount: u64)
 
 /// Evaluates the expressions of a program, by plain recursion in one thread.
 ///
-/// The only error is that memory was refused. After this error the sums, the holds and the lines have no meaning.
+/// The only error is that memory was refused. After this error the sums and the lines are useless.
 #[derive(Clone, Copy)]
 struct Evaluator<'p> {
     alloc: Global,
@@ -141,7 +142,8 @@ impl Evaluator<'_> {
         Ok(value)
     }
 
-    /// Reduces the `n` numbers from `first` on in a new thread, whose lines are placed as by `run`.
+    /// Reduces the `n` numbers from `first` on in a new thread, whose line and descendants' lines come next in the
+    /// list.
     #[cycle(evaluation)]
     fn run_half(
         &self,

@@ -7,22 +7,22 @@ ghost use Rattle.arachne_program.specs.Meaning.{meaning_of};
 ghost use Rattle.arachne_lang.specs.Spelling.{text_of};
 ghost use Rattle.arachne_lang.specs.Text.{IsAccepted, HasFault, IsFirstFault};
 
-/// The law that the names of a program's threads differ.
+/// The names of a program's threads differ.
 pub fn names_differ()
     ensures { (program : Source) → AllPairs (λ a b. a ≢ b) (map (λ line. line.name) (meaning_of program).threads) }
 {}
 
-/// The law that different programs have different texts.
+/// Different programs have different texts.
 pub fn texts_differ()
     ensures { (some : Source) → (other : Source) → text_of some ≡ text_of other → some ≡ other }
 {}
 
-/// The law that the text of an accepted program has no fault.
+/// The text of an accepted program has no fault.
 pub fn accepted_texts_have_no_fault()
     ensures { (program : Source) → (fault : TextFault) → IsAccepted program → ¬ HasFault (text_of program) fault }
 {}
 
-/// The law that every text is the text of an accepted program, or has a first fault.
+/// Each text is the text of an accepted program, or has a first fault.
 pub fn other_texts_have_a_first_fault()
     ensures { (bytes : List ℕ) → ((program : Source) × IsAccepted program × (text_of program ≡ bytes)) ⊎ ((first : TextFault) × IsFirstFault bytes first) }
 {}

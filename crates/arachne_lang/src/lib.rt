@@ -1,4 +1,4 @@
-//! The task language: the texts of its programs, and their meaning on one thread.
+//! Reads, prints, checks and evaluates programs of the task language, on one thread.
 #![tactic(auto)]
 
 mod checker;

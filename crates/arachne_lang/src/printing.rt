@@ -57,7 +57,7 @@ fn push_number(text: &mut Vec<u8>, number: u64) -> Result<(), AllocError>
     Ok(())
 }
 
-/// Returns the word with which the form of an operation begins.
+/// Returns the word of an operation in the text, as `add`.
 fn word_of(operation: Operation) -> &'static [u8]
     ensures { result.now ≡ operation_word operation }
 {

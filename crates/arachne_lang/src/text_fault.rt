@@ -10,13 +10,13 @@ pub enum TextFault {
     /// The text does not begin with its header.
     #[error("byte {at}: the header is missing")]
     Header { at: usize },
-    /// The text departs from the grammar at this byte, or ends too early.
+    /// The text breaks the grammar at this byte, or ends too early.
     #[error("byte {at}: the text departs from the grammar")]
     Syntax { at: usize },
     /// The byte is the first digit that brings a number over its range.
     #[error("byte {at}: the number is too large")]
     Number { at: usize },
-    /// The byte is the first opening bracket at level 65.
+    /// The byte is the first opening bracket that is nested 65 levels deep.
     #[error("byte {at}: the nesting is too deep")]
     Nesting { at: usize },
 }

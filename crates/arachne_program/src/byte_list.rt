@@ -1,4 +1,4 @@
-//! Lists of up to 30 numbers below 256 in 31 bytes, for thread names that need no memory.
+//! Lists of up to 30 numbers below 256 in 31 bytes, for short thread names, which then need no allocation.
 ghost use Rattle.std.specs.Prelude.{◌≡◌, ◌<◌, [], ◌∷◌, ◌++◌, ◌↔◌, length, IfOk, IsTrue, SomeIff};
 
 use std::alloc::{AllocError, Global};
@@ -67,7 +67,7 @@ impl ByteList {
         }
     }
 
-    /// Returns the numbers with `number` appended, in a `Vec`, which holds a number of any size.
+    /// Returns the numbers with `number` appended, in a `Vec`, since `number` may be 256 or more.
     pub fn widened(&self, alloc: Global, number: u64) -> Result<Vec<u64>, AllocError>
         ensures { IfOk result (λ longer. longer.items ≡ self.now ++ number ∷ []) }
     {

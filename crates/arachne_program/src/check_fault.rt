@@ -6,7 +6,7 @@ use thiserror::Error;
 /// A fault of a node has the node's number. Nodes are numbered in the order of the text, from the root, which is 0.
 #[derive(Clone, Copy, Debug, PartialEq, Eq, Error)]
 pub enum CheckFault {
-    /// The nesting is over 64 levels.
+    /// The expressions are nested deeper than 64 levels.
     #[error("the nesting is too deep")]
     Nesting,
     /// There are more than 4,096 nodes, 64 arrays, 1,000,000 items in all arrays, 16 ledgers or 16 locks.
@@ -24,7 +24,7 @@ pub enum CheckFault {
     /// The node names a variable that is not bound at the node.
     #[error("node {0}: the variable is not bound")]
     Unbound(u64),
-    /// The node is a fork, a sweep or a hold within a hold.
+    /// The node is a fork, a sweep or a hold of a lock, within the hold of another lock.
     #[error("node {0}: a fork, a sweep or a hold within a hold")]
     WithinHold(u64),
     /// The node is a sweep of grain 0.

@@ -1,4 +1,4 @@
-//! The meaning of a program: its value, its ledgers' totals and its threads.
+//! The result of a program's evaluation: its value, its ledgers' totals and its threads.
 use crate::name::Name;
 use crate::sequence::Sequence;
 
@@ -9,7 +9,7 @@ pub struct Line {
     pub holds: Sequence<u64>,
 }
 
-/// The meaning of a program: the result of its evaluation.
+/// The result of a program's evaluation.
 #[derive(Debug, PartialEq, Eq, Drop)]
 pub struct Meaning {
     /// The value of the program's expression.

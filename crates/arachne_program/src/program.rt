@@ -99,7 +99,7 @@ impl Reduction {
 pub enum Expr {
     /// A number.
     Num(u64),
-    /// A variable, by its place in the environment, the oldest being 0.
+    /// A variable, by its index among the bound variables: the oldest is 0.
     Var(u64),
     /// The number of items of an array.
     Len(u64),

@@ -1,4 +1,4 @@
-//! Lists of up to 6 numbers below 2^32 in 28 bytes, for thread names that need no memory.
+//! Lists of up to 6 numbers below 2^32 in 28 bytes, for thread names that then need no allocation.
 ghost use Rattle.std.specs.Prelude.{◌≡◌, ◌<◌, ◌≤◌, ◌^◌, [], ◌∷◌, ◌++◌, ◌↔◌, length, IfOk, IsTrue, SomeIff};
 
 use std::alloc::{AllocError, Global};

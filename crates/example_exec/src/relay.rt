@@ -188,7 +188,8 @@ impl Team<ExecSeat> for Relay {
         Some(share)
     }
 
-    /// Ends the relay early: without this kernel thread the others would wait forever for the jobs of its shard.
+    /// Called if a kernel thread can't be started: ends the relay early, since the others would wait forever for the
+    /// jobs of the missing thread's shard.
     fn fail<R: Wait>(&self, _rt: &R, _fault: TeamFault) {
         self.last.store(self.names.len() as u64, Ordering::SeqCst);
         self.unpark_all();

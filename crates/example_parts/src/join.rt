@@ -15,7 +15,7 @@ use std::thread::{Parker, Threads};
 #[derive(Drop)]
 struct Square(u64);
 
-/// Only the square of a number fits a cell that was made for that number. No other square can be left in the cell.
+/// A cell that was made for a number accepts only the square of that number.
 impl Fits<u64> for Square {
     ghost fits = { λ number square. square.0 ≡ number * number % 2 ^ 64 };
 }

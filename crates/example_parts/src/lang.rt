@@ -17,7 +17,7 @@ locks 1
 (fork n (hold 0 (tally 0 (num 5) (num 1))) (hold 0 (tally 0 (num 7) (num 2))) (add (var 0) (var 1)))
 ";
 
-/// The reason why a text has no meaning.
+/// The reason why a text can't be evaluated.
 #[derive(Debug, Drop, Error)]
 enum Refused {
     #[error(transparent)]

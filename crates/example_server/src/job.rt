@@ -13,7 +13,7 @@ use std::sync::Arc;
 /// A request that the sender has taken from the list.
 #[derive(Clone, Copy)]
 pub struct Request {
-    /// The request's place in the list.
+    /// The request's index in the list.
     pub number: u64,
     pub due: Due,
     /// The time at which the request was taken from the list, in nanoseconds of the clock.
@@ -32,7 +32,7 @@ pub struct Answer {
     ghost waited: { earliest request ≤ began },
 }
 
-/// The job of a request. It has a clock, by which it notes when it begins and ends.
+/// The job of a request. It has a clock, by which it records when it begins and ends.
 #[derive(Drop)]
 pub struct Job {
     request: Request,
@@ -72,7 +72,7 @@ pub fn now<R: Clock>(clock: &R) -> u64 {
     }
 }
 
-/// Returns the number that this many rounds make of `number`.
+/// The work of a request: mixes the bits of `number` for `rounds` rounds.
 fn mix(rounds: u32, number: u64) -> u64
     ensures { result ≡ mixed rounds number }
 {

@@ -1,11 +1,11 @@
-//! The keeper of the cores: it samples the load, and orders cores and gives them back as the core policy advises.
+//! Measures the load, and orders cores or gives them back as the core policy advises.
 ghost use Rattle.std.specs.Prelude.{ℕ, ◌≡◌, ◌+◌, ◌<◌, ◌≤◌, [], ◌∷◌, IfSome};
 ghost use Rattle.arachne_policy.specs.Orders.{AreInOrder};
 
 use arachne_policy::{Advice, CoreOrder, Estimator, OrderKind, Sample};
 use std::alloc::Global;
 
-/// The load over which a core is asked for, in thousandths of a request a scan.
+/// The load above which the server asks for a core, in thousandths of a request per scan of one core.
 const UP: u64 = 1500;
 
 /// The hysteresis of the policy, in thousandths of a core.
@@ -16,7 +16,7 @@ const HYSTERESIS: u64 = 90;
 pub struct Settings {
     /// The most cores that the server may have: up to 63, since a pool has 64 and one is the sender's.
     pub most: u8,
-    /// The nanoseconds after which the load is judged.
+    /// The length of a measurement of the load, in nanoseconds.
     pub interval: u64,
     /// The most nanoseconds that a request may wait for a place.
     pub patience: u64,
@@ -24,7 +24,7 @@ pub struct Settings {
     ghost few: { most < 64 },
 }
 
-/// The sample of an interval, and the advice on the sample.
+/// The measurement of an interval, and the policy's advice on it.
 #[derive(Clone, Copy)]
 pub struct Judged {
     /// The time at which the interval ended, in nanoseconds of the clock.
@@ -33,7 +33,7 @@ pub struct Judged {
     pub advice: Advice,
 }
 
-/// Judges a sample for each interval. The server has the first `held` of its cores.
+/// Measures the load in each interval, and records how many cores the server has: the first `held`.
 #[derive(Drop)]
 pub struct Keeper {
     estimator: Estimator,
@@ -101,7 +101,7 @@ impl Keeper {
         self.follow(advice)
     }
 
-    /// Counts the core that this advice adds or removes, and returns the order for the core, if there is one.
+    /// Adds or removes a core as advised. Returns the order for that core, if there is one.
     fn follow(&mut self, advice: Advice) -> Option<CoreOrder>
         ensures most { self.new.most ≡ self.old.most }
         ensures order { IfSome result (λ order. AreInOrder (self.old.most + 1) (order ∷ [])) }
@@ -120,7 +120,7 @@ impl Keeper {
     }
 }
 
-/// Returns the order for a core, which is due at once.
+/// Returns an order for a core, to be carried out at once.
 #[tactic(auto, using(crate::proofs::Orders::one_in_order))]
 pub fn order(kind: OrderKind, core: u8) -> CoreOrder
     requires { 0 < core }

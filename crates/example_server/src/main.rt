@@ -20,7 +20,7 @@ use start::run;
 use std::env;
 use std::io::Read;
 
-/// Returns the number at a place of the arguments, or `other` if there is none.
+/// Returns the number in argument `place`, or `other` if there is none.
 fn number(words: &[String], place: usize, other: u64) -> u64 {
     let number = words.get(place).and_then(|word| word.as_str().parse().ok());
     number.unwrap_or(other)

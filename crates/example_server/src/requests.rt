@@ -1,4 +1,4 @@
-//! The list of requests: a line for each, with the time at which it is due, its class and its work.
+//! Parses the list of requests: a line for each, with the time at which it arrives, its class and its work.
 use std::alloc::{AllocError, Global};
 
 /// The class of a request: what it needs beside its work.
@@ -7,14 +7,14 @@ pub enum Class {
     Normal,
     /// The request wants a core for itself.
     Exclusive,
-    /// The request waits for the slow part first.
+    /// The request first waits for a timer.
     Slow,
 }
 
-/// A request: when it is due, its class, and its work.
+/// A request: the time at which it arrives, its class, and its work.
 #[derive(Clone, Copy)]
 pub struct Due {
-    /// The time at which the request is due, in nanoseconds since the server began.
+    /// The time at which the request arrives, in nanoseconds since the server began.
     pub at: u64,
     pub class: Class,
     /// The number of rounds of the request's work.

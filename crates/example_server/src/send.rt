@@ -1,5 +1,6 @@
-//! The kernel thread of the sender, for which the list stands for a network. It sends each request as a job when the
-//! request is due, wakes the jobs whose slow part is over, takes the answers, and asks for cores or gives them back.
+//! The *sender*, a kernel thread that reads the list of requests as if it were a network. It spawns a job for each
+//! request at the request's time, wakes the jobs whose timer has expired, takes the answers, and asks for cores or
+//! gives them back.
 ghost use Rattle.std.specs.Prelude.{◌≡◌, ◌+◌, ◌<◌, IfOk, IfSome, IsSome, OnSome, Some, if◌then◌else◌, length, slice_get, vec_len};
 ghost use Rattle.std.specs.VecDeque.{deque_len};
 ghost use Rattle.arachne_pool.specs.Workers.{IsIdleAt, IsWorkerOf};
@@ -15,7 +16,7 @@ use std::collections::VecDeque;
 use std::sync::Wait;
 use std::time::Clock;
 
-/// The nanoseconds between two looks at sleepers and cores. These looks take time from the requests.
+/// The nanoseconds between two checks of the timers and the load, since these checks take time from the requests.
 const BETWEEN_LOOKS: u64 = 20_000;
 
 /// The report of the server.
@@ -29,12 +30,12 @@ pub struct Report {
     pub refused: usize,
     /// The nanoseconds that the work of the answered requests took.
     busy: u64,
-    /// The judgements of the load.
+    /// The measurements of the load, with the policy's advice on each.
     pub judged: Vec<Judged>,
 }
 
-/// Answers or refuses all requests of the server's list. A request for which there is no place is refused once it is
-/// later than the server's patience. Returns `None` if memory is refused, or the pool is stopped before.
+/// Answers or refuses all requests of the server's list. A request for which there is no place is refused once it has
+/// waited longer than `Settings::patience`. Returns `None` if memory is refused, or the pool is stopped before.
 pub fn send<R: Wait + Clock, C: Contexts<Spawned<Job>>>(
     rt: &R,
     server: &Server<'_, C>,
@@ -68,7 +69,7 @@ pub fn send<R: Wait + Clock, C: Contexts<Spawned<Job>>>(
     Some((server.pool.join_waker(rt, worker, waker), report))
 }
 
-/// Does what `send` does, with what the sender has.
+/// The loop of `send`.
 fn send_all<R: Wait + Clock, C: Contexts<Spawned<Job>>>(
     rt: &R,
     server: &Server<'_, C>,
@@ -112,7 +113,7 @@ fn send_all<R: Wait + Clock, C: Contexts<Spawned<Job>>>(
     unreachable!()
 }
 
-/// Returns the request at this place of the list, if its time has come.
+/// Returns the request at index `next` of the list, if its time has come.
 fn due_by(requests: &[Due], next: usize, begin: u64, now: u64) -> Option<Request>
     ensures next { IfSome result (λ request. request.number ≡ next) }
     ensures due { IfSome result (λ request. Some request.due ≡ slice_get requests.now next) }
@@ -129,8 +130,8 @@ fn due_by(requests: &[Due], next: usize, begin: u64, now: u64) -> Option<Request
     })
 }
 
-/// Sends a request that is due, or refuses it if no core has a free place and the request is later than the patience.
-/// Returns whether it did either, and `None` if memory is refused.
+/// Spawns the job of a request, or refuses the request if no core has a free place and it has waited longer than
+/// `Settings::patience`. Returns whether it did either, and `None` if memory is refused.
 fn settles<R: Wait, C: Contexts<Spawned<Job>>>(
     rt: &R,
     server: &Server<'_, C>,
@@ -163,7 +164,7 @@ fn settles<R: Wait, C: Contexts<Spawned<Job>>>(
     }
 }
 
-/// Takes the answer to the request that was sent first, if it was answered. Returns `None` if memory is refused.
+/// Takes the answer to the oldest unanswered request, if its job has ended. Returns `None` if memory is refused.
 fn take_answer(sent: &mut VecDeque<Handle<Job>>, report: &mut Report) -> Option<()>
     ensures all { OnSome result (vec_len report.new.answers + deque_len sent.new ≡ vec_len report.old.answers + deque_len sent.old) }
     ensures refused { report.new.refused ≡ report.old.refused }
@@ -181,7 +182,7 @@ fn take_answer(sent: &mut VecDeque<Handle<Job>>, report: &mut Report) -> Option<
     }
 }
 
-/// Samples the load, and gives the pool the order that follows. Returns `None` if memory is refused.
+/// Measures the load, and passes the order that follows to the pool. Returns `None` if memory is refused.
 fn keep_cores<R: Wait + Clock, C: Contexts<Spawned<Job>>>(
     rt: &R,
     server: &Server<'_, C>,

@@ -1,4 +1,5 @@
-//! The server, which its kernel threads share: one sends requests, and each of the others serves them on a core.
+//! The data that all kernel threads of the server share. One of them sends requests, and each of the others serves them
+//! on a core.
 ghost use Rattle.std.specs.Prelude.{◌≡◌, ◌+◌, IfSome, length, vec_len};
 ghost use Rattle.arachne_pool.specs.Workers.{IsWorkerOf};
 
@@ -14,7 +15,7 @@ use std::alloc::Global;
 use std::sync::{Arc, Wait};
 use std::time::Clock;
 
-/// The server. Kernel thread 0 is the sender's, and each other kernel thread is for the core below its number.
+/// The server. Kernel thread 0 is the sender; kernel thread n runs jobs on core n - 1.
 #[derive(Drop)]
 pub struct Server<'r, C: Seats> {
     pub pool: Pool<C>,
@@ -26,7 +27,8 @@ pub struct Server<'r, C: Seats> {
     ghost cores: { pool.cores ≡ settings.most + 1 },
 }
 
-/// The share of a kernel thread: its worker, and the sender's report once all requests are answered.
+/// The data that each kernel thread gets and returns: its worker, and the sender's report once all requests are
+/// answered.
 #[derive(Drop)]
 pub struct Share<S> {
     pub worker: Worker<S, Job>,

@@ -38,8 +38,8 @@ pub fn run<R: Threads + Wait + Clock + Sync>(
     end::<Table, R>(rt, alloc, server.pool, share)
 }
 
-/// Returns the server before any request is sent, and the share of its kernel threads. The server's pool has one core
-/// more than the settings say, the sender's, on which nothing runs.
+/// Creates the server, and the data that its kernel threads split among them. The server's pool has one core more than
+/// the settings say, for the sender, on which no job runs.
 fn begin<C: Contexts<Spawned<Job>> + Drop>(
     alloc: Global,
     requests: &[Due],

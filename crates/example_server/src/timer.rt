@@ -1,4 +1,4 @@
-//! The slow part for which some requests wait: a timer, which has their jobs woken after a while.
+//! A timer that wakes the jobs of slow requests after two milliseconds.
 ghost use Rattle.arachne_pool.specs.Workers.{IsIdleAt};
 
 use crate::job::Job;
@@ -11,10 +11,10 @@ use std::sync::Wait;
 use std::sync::atomic::AtomicU64;
 use std::sync::atomic::Ordering::SeqCst;
 
-/// The nanoseconds that the slow part of a request takes.
+/// The nanoseconds for which a slow request waits.
 pub const SLOW: u64 = 2_000_000;
 
-/// When the timer must wake the job in a context, and which job that is.
+/// The time at which the timer must wake the job in one context, and that job's generation.
 #[derive(Drop)]
 struct Alarm {
     /// The time at which the job must be woken, or 0 if no alarm is set.
@@ -57,7 +57,7 @@ impl Timer {
         self.alarms.iter().filter(is_set).count() as u64
     }
 
-    /// Returns the id of the job in this context and takes its alarm back, if the alarm's time has come.
+    /// If the alarm of this context is over, clears it and returns the id of the job to wake.
     fn take_due(&self, context: u32, now: u64) -> Option<ThreadId> {
         let alarm = self.alarms.get(context as usize)?;
         let at = alarm.at.load(SeqCst);

@@ -1,11 +1,11 @@
-//! Reads the word at the front of an expression, which says what kind of expression it is.
+//! Reads the keyword of an expression, which says what kind of expression it is.
 ghost use Rattle.arachne_lang.specs.Reading.{Gives, Behind, End, words_at, form_words, words_in_f, words_in_i, words_in_l, words_in_m, words_in_s, words_of_sweeps, sweeps_in_m};
 
 use super::stop::Stop;
 use super::words::word;
 use arachne_program::{Class, Operation, Reduction};
 
-/// The form of an expression, as its word names it.
+/// The kind of an expression, by its keyword.
 #[derive(Clone, Copy)]
 pub enum Head {
     Num,
@@ -22,10 +22,11 @@ pub enum Head {
     Sweep(Reduction),
 }
 
-/// Returns the form whose word stands at the front of the text with a space after it, and the text after that space.
+/// Returns the kind of expression whose keyword is at the front of the text with a space after it, and the text after
+/// that space.
 ///
-/// If words begin alike, the next letter decides. If the next letter is none of those that may follow, the fault is
-/// where the text departs from the word that is tried last.
+/// If no keyword matches, the fault is at the first byte at which the text differs from the last keyword that was
+/// tried.
 #[tactic(auto, unfolding(crate::specs::Reading::form_words))]
 pub fn head_word(text: &[u8]) -> Result<(Head, &[u8]), Stop<'_>>
     ensures { Gives (λ read. (read.0, read.1.now)) result (words_at form_words text.now) }
@@ -46,7 +47,7 @@ pub fn head_word(text: &[u8]) -> Result<(Head, &[u8]), Stop<'_>>
     }
 }
 
-/// Returns `head` and the text after `letters`, the remaining letters of its word.
+/// Returns `head` and the text after `letters`, the remaining letters of its keyword.
 fn ending<'t>(text: &'t [u8], letters: &[u8], head: Head) -> Result<(Head, &'t [u8]), Stop<'t>>
     ensures { Gives (λ read. (read.0, read.1.now)) result (words_at (Behind letters.now (End head)) text.now) }
 {
@@ -116,7 +117,7 @@ fn behind_s(text: &[u8]) -> Result<(Head, &[u8]), Stop<'_>>
     }
 }
 
-/// Reads the word of a sweep's reduction.
+/// Reads the keyword of a sweep's reduction.
 #[tactic(auto, unfolding(crate::specs::Reading::words_of_sweeps))]
 fn reduction(text: &[u8]) -> Result<(Head, &[u8]), Stop<'_>>
     ensures { Gives (λ read. (read.0, read.1.now)) result (words_at words_of_sweeps text.now) }

@@ -1,16 +1,16 @@
-//! The reasons why reading stops, and the faults of the whole text that follow from them.
+//! The error of a reading function, which has the rest of the text, and its conversion to an error with a byte index.
 ghost use Rattle.std.specs.Prelude.{◌≡◌};
 ghost use Rattle.arachne_lang.specs.declared.reading.stop.Stop.TheVariants.{Memory};
 
 use crate::text_fault::TextFault;
 use std::alloc::AllocFailed;
 
-/// The reason why reading stops. If the reason is a fault of the text, it contains the text from the fault on.
+/// The error of a reading function. If it is a fault of the text, it has the text from the fault on.
 #[derive(Clone, Copy)]
 pub enum Stop<'t> {
     /// Memory was refused.
     Memory,
-    /// The text departs from the grammar, or ends before it should.
+    /// The text breaks the grammar, or ends before it should.
     Departs(&'t [u8]),
     /// A digit brings a number over its range.
     Overflows(&'t [u8]),
@@ -21,7 +21,7 @@ pub enum Stop<'t> {
 impl<'t> Stop<'t> {
     ghost use Rattle.arachne_lang.specs.Reading.{fault_within};
 
-    /// Returns this reason as a fault of the whole `text`, which must end with the text that the reason contains.
+    /// Returns this error with the index of its byte in the whole `text`.
     pub fn fault(self, text: &[u8]) -> TextFault
         ensures { result ≡ fault_within text.now self.entry }
     {
