@@ -54,7 +54,8 @@ type Job = Box<dyn FnOnce() + Send>;
 
 struct Thread {
     state: Cell<State>,
-    /// The object that the thread waits for, until when, and in which epoll; and true if the thread was woken.
+    /// The object that the thread waits for, the time until which it waits, and the epoll in which it does; and true if
+    /// it was woken.
     on: Cell<usize>,
     until: Cell<u64>,
     epoll: Cell<i32>,
@@ -92,7 +93,8 @@ struct World {
     switches: Cell<u64>,
     now: Cell<u64>,
     tick: Cell<u64>,
-    /// The next change of priority, the mean number of points between two, and the point at which a thread took over.
+    /// The point of the next change of priority, the mean number of points between two changes, and the last point at
+    /// which another thread took over.
     change: Cell<u64>,
     gap: Cell<u64>,
     began: Cell<u64>,
@@ -242,8 +244,8 @@ impl World {
         }
     }
 
-    /// Lets time pass, as no thread can run: the next thread that sleeps wakes, unless an epoll has an event that no
-    /// thread was notified of.
+    /// Advances the virtual time, since no thread can run: wakes the thread that sleeps for the shortest time, unless
+    /// an epoll has an event of which no thread was notified.
     fn pass_time(&self, timer: u64) {
         for thread in self.all().filter(|thread| thread.state.get() == State::Waits && thread.epoll.get() >= 0) {
             let mut what = [thread.epoll.get(), 1];
@@ -328,7 +330,8 @@ impl World {
     }
 }
 
-/// Makes a point of the calling thread (another thread may take over there), if it is a thread of a run.
+/// Marks a step of the calling thread, before which the scheduler may let another thread run. Does nothing outside of a
+/// run.
 #[inline]
 fn point(what: &'static str, at: &'static Location<'static>) {
     let me = me();
@@ -378,8 +381,8 @@ pub fn fail(what: &str) -> ! {
     unsafe { _exit(1) }
 }
 
-/// Prepares the process for the first run. All threads stay on one processor, so that one wakes another cheaply. A
-/// panic on any thread, and a fault, end the process. `clean` frees what a kernel thread keeps for its next calls.
+/// Prepares the process for the first run. Keeps all threads on one processor, so that one wakes another cheaply. A
+/// panic on any thread, or a fault, ends the process. `clean` frees what a kernel thread keeps for its next calls.
 pub fn prepare(clean: fn()) {
     extern "C" fn fault(_: i32) {
         fail("a fault: something was used after it was freed, most likely");
@@ -461,7 +464,7 @@ pub fn run(name: &'static str, load: fn(), exact: bool, seed: u64, end: fn()) ->
     (world.steps.get(), world.switches.get())
 }
 
-/// Takes the processor from the calling thread for `time`, once `points` more points have passed.
+/// Lets the calling thread not run for `time`, once `points` more points have passed.
 pub fn lose_processor(points: usize, time: std::time::Duration) {
     let world = world();
     let from = world.steps.get() + points as u64;
@@ -478,7 +481,8 @@ pub fn choose(count: usize) -> usize {
 
 const PATTERN: u8 = 0xdb;
 
-/// The blocks that a run has freed, and the number that it has allocated and not freed; counted only if `tracks`.
+/// The blocks of memory that a run has freed, and the number that it has allocated and not freed; counted only if
+/// `tracks`.
 struct Held {
     tracks: Cell<bool>,
     live: Cell<isize>,

@@ -240,8 +240,8 @@ fn resets() {
 /// Nanoseconds of virtual time, in which no machine is late, within which a ready task must begin.
 const SOON: u64 = 5_000_000;
 
-/// Ready tasks behind a poll of 200 ms begin soon: the tasks in its worker's hand, the task to run next, and the tasks
-/// that the poll makes ready.
+/// Ready tasks behind a poll of 200 ms begin soon: the tasks in its worker's local queue, the task to run next, and the
+/// tasks that the poll makes ready.
 fn behind() {
     let (runtime, begun) = (runtime(2 + choose(2)), Arc::new(Count::default()));
     let each = begun.clone();
@@ -270,8 +270,8 @@ fn behind() {
     begun.is(8);
 }
 
-/// A worker has a task in hand, makes another ready in its blocks, and begins a long poll: a free worker runs one at
-/// once.
+/// A worker has a task in its local queue, makes another ready in its blocks, and begins a long poll: a free worker
+/// runs one at once.
 fn apart() {
     let (runtime, begun) = (runtime(2), Arc::new(Mutex::new(Vec::new())));
     thread::sleep(choose(12) as u32 * MS);
@@ -331,7 +331,7 @@ fn stands_on(runtime: Runtime) {
     assert!(late <= 1, "{late} begin late");
 }
 
-/// Polls that take long, spawn and wake in their midst, while another worker makes ready what they have in hand.
+/// Long polls that spawn and wake tasks, while another worker makes the jobs in their workers' local queues ready.
 fn relief() {
     let (runtime, ran, gate) = (runtime(2), Arc::new(Count::default()), Arc::new(Semaphore::new(0)));
     let task = |waits: u32| {
@@ -360,7 +360,8 @@ fn relief() {
     ran.is(4);
 }
 
-/// A worker that wakes each millisecond for its own task looks after a worker whose poll waits for a ready task to run.
+/// A worker that wakes each millisecond for its own task takes over the tasks of a worker whose poll waits for one of
+/// them.
 fn ticks() {
     let (runtime, ran) = (runtime(2), Arc::new(Count::default()));
     let ticking = runtime.spawn(async {
@@ -385,8 +386,8 @@ fn ticks() {
     assert!(runtime.block_on(ticking).unwrap_err().is_cancelled());
 }
 
-/// A worker wakes for a timer that is gone as a task comes to its blocks. The task waits for a task that it has
-/// spawned.
+/// A worker wakes for a timer that was removed, just as a task comes to its blocks. The task waits for a task that it
+/// has spawned.
 fn stale() {
     let (runtime, mut waits, due) = (runtime(2 + choose(2)), sleep(40 * MS), now() + 40_000_000);
     let _ = runtime.enter(|| poll(&mut waits, &Arc::default()));
@@ -677,7 +678,7 @@ fn timers() {
     }
 }
 
-/// Ready tasks in the blocks of a core that was given back are run at once by the worker that looks after them.
+/// The worker that stands in for a core that was given back runs the ready tasks in its blocks at once.
 fn cores() {
     let policy = Policy { every: MS, ..Policy::default() };
     let runtime = Builder::new(4).places(16).slices(None).policy(policy).build().unwrap();
@@ -699,7 +700,7 @@ fn cores() {
     assert!(now() - since < 300_000, "after {} us", (now() - since) / 1000);
 }
 
-/// A core is given back while its worker is in a poll that waits for the jobs in its own hand to run.
+/// A core is given back while its worker is in a poll that waits for the jobs in its own local queues.
 fn returned() {
     let policy = Policy { every: MS, min_cores: 2, ..Policy::default() };
     let runtime = Builder::new(3).places(12).slices(None).policy(policy).build().unwrap();
@@ -807,7 +808,7 @@ fn crowd() {
     assert!(read == 3 || leaves && read == 2);
 }
 
-/// A lock that three tasks want, one of them may leave the line of waiters; and work on the blocking pool.
+/// Three tasks want a lock, and one of them may leave the queue of waiters; there is work on the blocking pool, too.
 fn locks() {
     let (runtime, lock, inside) = (runtime(2), Arc::new(Lock::new(0)), Arc::new(Mutex::new(false)));
     let tasks: Vec<_> = (0..3)

@@ -297,7 +297,7 @@ impl std::ops::Add<Duration> for Instant {
     }
 }
 
-/// The object that threads in an epoll wait for.
+/// The number that stands for an epoll as the object that a thread waits for.
 const TOLD: usize = 1;
 
 #[track_caller]

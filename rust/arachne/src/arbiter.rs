@@ -1,10 +1,10 @@
 //! The client of an arbiter, the daemon of `rust/arbiter`, which grants whole processors to processes.
 //!
-//! Worker 0 floats: it runs with a core of its own or without one. Each other worker waits for a core on a connection
-//! of its own, and gives the core back by waiting again. The number of cores that the runtime may have stands on a page
-//! that the arbiter writes. Each worker compares that number with `active` (the number of active workers) at its looks;
-//! while all workers sleep, the kernel thread that reads the control connection is notified. Without an arbiter, or
-//! once the arbiter has gone, the policy decides.
+//! Worker 0 *floats*: it runs with a core of its own or without one. Each other worker waits for a core on a connection
+//! of its own, and gives the core back by waiting again. The number of cores that the runtime may have is in a shared
+//! page that the arbiter writes. Each worker compares that number with `active` (the number of active workers) whenever
+//! it checks for events; while all workers sleep, the arbiter notifies the kernel thread that reads the control
+//! connection. Without an arbiter, or once the arbiter has gone, the policy decides.
 
 use crate::shared::{Context, Shared};
 use crate::sync::atomic::{AtomicBool, AtomicPtr, AtomicU32, AtomicUsize, Ordering::*};
@@ -31,7 +31,7 @@ const GRANT: u32 = 6;
 const ALLOWED: u32 = 7;
 const REFUSED: u32 = 8;
 
-/// The time after which a runtime looks again for an arbiter that isn't there, or asks one again that has refused.
+/// The time after which a runtime tries again to connect to an arbiter that wasn't there or has refused.
 const AGAIN: Duration = Duration::from_secs(1);
 const REFUSED_AGAIN: Duration = Duration::from_secs(30);
 /// The time for which a worker sleeps before it asks for a core again, if it got none or can't use it yet.
@@ -45,7 +45,7 @@ pub(crate) struct Wish {
     pub(crate) reserved: usize,
 }
 
-/// The state of a runtime's arbiter, which the runtime's kernel threads share.
+/// A runtime's connections to an arbiter, which the runtime's kernel threads share.
 #[derive(Default)]
 pub(crate) struct Client {
     /// The number on the page that the arbiter writes. Once mapped, the page is never unmapped.
@@ -66,7 +66,7 @@ struct State {
     refused: bool,
     /// The control connection, and after it a connection of each worker.
     streams: Vec<Arc<UnixStream>>,
-    /// For each worker the kernel's number of its thread, or 0 until that thread runs.
+    /// For each worker the thread id of its kernel thread, or 0 until that thread runs.
     threads: Vec<u32>,
     /// The event that wakes the second worker, which covers for the first, while the second waits for a core.
     call: Option<File>,
@@ -100,8 +100,8 @@ impl Client {
         *self.state.lock().unwrap() = State::default();
     }
 
-    /// Prepares for an arbiter of a runtime of `workers` workers. Notes the processors that this kernel thread may run
-    /// on. Fails if a descriptor is refused.
+    /// Prepares for an arbiter of a runtime of `workers` workers. Records the processors that this kernel thread may
+    /// run on. Fails if a descriptor is refused.
     pub(crate) fn open(&self, workers: usize) -> io::Result<()> {
         let mut state = self.state.lock().unwrap();
         (state.threads, state.cpus) = (vec![0; workers], sys::affinity());
@@ -145,7 +145,7 @@ impl Client {
         unsafe { (*self.page.load(Relaxed)).load(Relaxed) as usize }
     }
 
-    /// Records the kernel's number of the calling thread, which is the worker's.
+    /// Records the thread id of a worker, which is the calling thread.
     pub(crate) fn names(&self, worker: usize) {
         self.state.lock().unwrap().threads[worker] = sys::thread_number().unwrap_or(u32::MAX);
         self.changed.notify_all();
@@ -184,7 +184,7 @@ impl Client {
         Ok(stream)
     }
 
-    /// Ends all connections, and so the arbiter's account of this runtime.
+    /// Closes all connections, so that the arbiter forgets this runtime.
     fn hang_up(&self, refused: bool) {
         let mut state = self.state.lock().unwrap();
         state.refused |= refused;

@@ -1,4 +1,4 @@
-//! Running a future on the calling thread, yielding, and futures from closures.
+//! `block_on`, `yield_now` and `poll_fn`.
 
 use crate::sync::atomic::{AtomicBool, Ordering::*};
 use crate::sync::thread::{self, Thread};
@@ -66,11 +66,11 @@ pub fn block_on<F: Future>(future: F) -> F::Output {
     }
 }
 
-/// Nanoseconds after which a waiting `block_on` fires the timers of its thread itself.
+/// If the timers of its thread are this late, in nanoseconds, a waiting `block_on` fires them itself.
 const LATE: u64 = 2_000_000;
 
-/// Parks until this thread is unparked, or its timers are late because the worker that looks after them is in a long
-/// poll, or is this thread.
+/// Parks until this thread is unparked, or its timers are late because the worker that fires them is in a long poll, or
+/// is this thread.
 fn park() {
     let timers = timer::of_this_thread();
     let due = timers.map_or(u64::MAX, |timers| timers.next().saturating_add(LATE));

@@ -11,7 +11,7 @@ use std::pin::Pin;
 use std::task::{Context, Poll, Waker};
 
 struct Node {
-    /// True if the waiter was taken out of the line because its turn has come.
+    /// True if the waiter was taken out of the queue because its turn has come.
     called: AtomicBool,
     slot: Slot,
 }
@@ -44,7 +44,7 @@ impl<T> State<T> {
     }
 }
 
-/// Takes the first node out of a line, since its turn has come.
+/// Takes the first waiter out of a queue, since its turn has come.
 fn call(line: &mut VecDeque<Arc<Node>>) -> Option<Arc<Node>> {
     let node = line.pop_front()?;
     node.called.store(true, SeqCst);
@@ -57,7 +57,7 @@ fn wake(node: Option<Arc<Node>>) {
     }
 }
 
-/// Removes a node from a line. If the node's turn had come already, returns the next node, which gets the turn.
+/// Removes a waiter from a queue. If its turn had come already, returns the next waiter, which gets the turn.
 fn leave(line: &mut VecDeque<Arc<Node>>, node: &Arc<Node>) -> Option<Arc<Node>> {
     match line.iter().position(|other| Arc::ptr_eq(other, node)) {
         Some(at) => {

@@ -1,9 +1,9 @@
 //! The number of active cores: the limit that the machine sets, and the policy that follows the load.
 //!
-//! The load is the average over time of the number of tasks that were ready at a worker's looks. The load is judged at
-//! each interval of the policy, and sooner after a request for a core. A worker that gives its core back waits; another
-//! worker looks after its blocks and timers. While only the first worker has a core, the second one covers for it
-//! (`worker/sleepers.rs`). The limit is read each second while there is a policy.
+//! The load is the number of ready tasks that a worker counts whenever it checks for events, averaged over time. The
+//! policy judges it at each of its intervals, and sooner after a request for a core. A worker that gives its core back
+//! waits; another worker runs the jobs of its blocks and fires its timers. While only the first worker has a core, the
+//! second one covers for it (`worker/sleepers.rs`). The limit is read each second while there is a policy.
 
 use crate::core::Estimator;
 use crate::shared::{Context, Shared, Worker};
@@ -43,10 +43,10 @@ pub(crate) enum Advice {
 /// ```
 #[derive(Clone, Copy, Debug)]
 pub struct Policy {
-    /// A core is asked for if the ready tasks per look exceed this on average, in thousandths of a task.
+    /// The policy asks for a core if the ready tasks of a worker exceed this on average, in thousandths of a task.
     pub load: u64,
-    /// A core is given back once the use has fallen, by this many thousandths of a core, below the use at which the
-    /// core was asked for.
+    /// The policy gives a core back once the use has fallen, by this many thousandths of a core, below the use at which
+    /// it asked for the core.
     pub hysteresis: u64,
     /// The time between two judgements.
     pub every: Duration,
@@ -114,14 +114,13 @@ fn quota_of(group: &str) -> Option<usize> {
     Some(words.next()?? * 1000 / words.next()??.max(1))
 }
 
-/// After a request for a core, this many judgements are made at shorter intervals: the usual interval divided by this
-/// number.
+/// After a request for a core, the policy judges the load this many times at shorter intervals: the usual one divided
+/// by this number.
 const SOON: u32 = 4;
 
 /// The least and the most nanoseconds between two judgements under an arbiter.
 const WITH_ARBITER: (u64, u64) = (2_000_000, 5_000_000);
-/// For these nanoseconds after a core was asked for from an arbiter, none is given back: it would go to another
-/// process.
+/// For these nanoseconds after a request to an arbiter, the policy gives no core back: it would go to another process.
 const CALM: u64 = 50_000_000;
 
 /// The state of the policy, which the first worker applies for all.
@@ -254,8 +253,8 @@ fn waited(account: &crate::sync::Mutex<Option<fs::File>>) -> u64 {
 
 /// Returns the load and the use of these workers since `last`.
 ///
-/// A worker's looks count the tasks that were ready while it was busy; while it had no work, no task was ready. The
-/// time in which the worker waited for a processor counts neither as use of a core nor as load.
+/// A worker counts its ready tasks only while it is busy; while it has no work, no task is ready. The time in which a
+/// worker waited for a processor counts neither as use of a core nor as load.
 fn sample(last: &[Totals], totals: &[Totals], elapsed: u64) -> Sample {
     let cores = totals.len() as u64;
     let mut sample = Sample { cores, runnable: 0, scans: (elapsed * cores).max(1), busy: 0, elapsed };
@@ -271,7 +270,8 @@ fn sample(last: &[Totals], totals: &[Totals], elapsed: u64) -> Sample {
 }
 
 impl Shared {
-    /// Gives this worker's core back: makes all jobs in its hand ready, and waits until the core is asked for again.
+    /// Gives this worker's core back: makes all jobs in its local queues ready, and waits until the policy asks for the
+    /// core again.
     ///
     /// Meanwhile, if only the first worker has a core, the second covers for it.
     pub(crate) fn give_back(&self, context: &Context, turn: &mut Turn) {

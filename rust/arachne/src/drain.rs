@@ -1,4 +1,4 @@
-//! The orderly end of a runtime, and limits on what a server accepts.
+//! `shutdown_within` and `stopping`, by which a runtime ends in order, signals, and a limit on concurrent requests.
 
 use crate::block_on::poll_fn;
 use crate::net::Async;
@@ -73,7 +73,8 @@ pub struct Stopping {
     shared: Option<&'static Shared>,
     /// The key and the waker by which the future waits.
     waits: Option<(u64, Waker)>,
-    /// The number of polls since the end began in which the task polled this future before it had tried a socket.
+    /// The number of polls since the end began in which this future was polled before the task had tried to read a
+    /// socket.
     blind: u32,
 }
 

@@ -1,14 +1,14 @@
-//! A worker's hand: its local queues of jobs. Other workers may steal from these queues at any time.
+//! A worker's local queues of jobs (its *hand*). Other workers may steal from these queues at any time.
 
 use crate::core::Job;
 use crate::sync::atomic::{AtomicU64, Ordering::*};
 
-/// The most stolen jobs in a worker's hand.
+/// The most stolen jobs in a worker's local queues.
 pub(crate) const FIRST: usize = 8;
-/// The length of the line (the hand's queue of its own jobs), a power of two.
+/// The length of the *line*, the local queue of a worker's own jobs: a power of two.
 pub(crate) const LINE: usize = 64;
 
-/// The jobs in a worker's hand. Only the worker itself puts jobs into its hand.
+/// The local queues of one worker. Only the worker itself puts jobs into them.
 #[derive(Default)]
 pub(crate) struct Hand {
     pub(crate) next: Next,
@@ -19,18 +19,18 @@ pub(crate) struct Hand {
 }
 
 impl Hand {
-    /// Returns true if no job is in hand.
+    /// Returns true if there is no job in any of the queues.
     pub(crate) fn is_empty(&self) -> bool {
         self.next.is_empty() && self.waits() == 0
     }
 
-    /// Returns the number of jobs in hand behind the job that runs next.
+    /// Returns the number of jobs behind the job that runs next.
     pub(crate) fn waits(&self) -> usize {
         self.first.len() + self.line.len()
     }
 
-    /// Takes the first of the jobs behind the job that runs next. If there is none and `next` is true, takes the job
-    /// that runs next.
+    /// Takes the first job behind the one that runs next. If there is none and `next` is true, takes the job that runs
+    /// next.
     pub(crate) fn take(&self, next: bool) -> Option<Job> {
         let behind = self.first.take(false).or_else(|| self.line.take(false));
         behind.or_else(|| if next { self.next.take(false) } else { None })
@@ -59,7 +59,8 @@ impl Slot {
     }
 }
 
-/// Takes the job of a slot by advancing `count` from `seen`. Returns the current count if another thread was faster.
+/// Takes the job in a slot of a queue by advancing `count` from `seen`. Returns the current count if another thread was
+/// faster.
 ///
 /// If `alone` is true, no other thread ever takes a job, and a plain store suffices.
 ///
@@ -76,7 +77,7 @@ fn take(count: &AtomicU64, seen: u64, slot: &Slot, alone: bool) -> Result<Job, u
     count.compare_exchange(seen, seen + 1, AcqRel, Acquire).map(|_| job)
 }
 
-/// The slot of the job that runs next on a worker. The worker puts the job into the slot, and any thread takes it.
+/// The slot for the job that runs next on a worker. The worker puts a job into it, and any thread may take the job.
 ///
 /// The slot is on cache lines of its own: the worker writes there at each wake, while other threads read its other
 /// queues.
@@ -115,7 +116,7 @@ impl Next {
     }
 }
 
-/// A queue of jobs of a worker. The worker puts jobs into the queue, and any thread takes them.
+/// A queue of jobs of one worker. The worker puts jobs into the queue, and any thread may take them.
 pub(crate) struct Jobs<const ROOM: usize> {
     taken: AtomicU64,
     put: AtomicU64,

@@ -1,4 +1,4 @@
-//! A handle by which any thread spawns tasks on a runtime. The handle may outlive the runtime.
+//! A handle by which any thread spawns tasks on a runtime, and which may outlive the runtime.
 
 use crate::runtime::{Runtime, Stats};
 use crate::shared::{here, Shared};

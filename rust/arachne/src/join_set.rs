@@ -17,7 +17,7 @@ struct Ended {
     waits: Slot,
 }
 
-/// The waker in the handle of a task: it records that the task has ended.
+/// The waker that a task of the set wakes at its end: it records that the task has ended.
 struct Tells {
     number: u64,
     ended: Arc<Ended>,

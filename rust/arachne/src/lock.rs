@@ -72,7 +72,7 @@ impl<T: ?Sized> fmt::Debug for Lock<T> {
 }
 
 impl<T: ?Sized> Lock<T> {
-    /// Waits for the lock, in line. A future that is dropped while it waits leaves the line of waiters.
+    /// Waits for the lock, in the order of the requests. A future that is dropped while it waits leaves the queue.
     ///
     /// ```
     /// let lock = arachne::Lock::new(1);
@@ -201,7 +201,7 @@ impl<T: ?Sized> Drop for Locking<'_, T> {
 pub struct Guard<'a, T: ?Sized> {
     lock: &'a Lock<T>,
     who: u64,
-    /// Keeps the node's address, which is the holder's name in the core, from being used by another node.
+    /// Keeps the node alive, since the core knows the holder by the node's address.
     _node: Option<Arc<Node>>,
 }
 // SAFETY: the guard is the only access to the value, on whatever thread.

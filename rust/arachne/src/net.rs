@@ -65,7 +65,7 @@ struct Registration {
     registering: Mutex<()>,
 }
 
-/// The part of a future that waits until a socket can be read or written. Any number of futures may wait at once.
+/// The part of a future that waits until it can read or write a socket. Any number of futures may wait at once.
 struct Waiting<'a, const READS: bool> {
     of: &'a Registration,
     key: u64,
@@ -154,8 +154,8 @@ mod once {
 
 /// Returns true if the current poll may read now. If not, the task must first yield to its worker.
 ///
-/// A poll may always make one read, and more until its worker's next look is due. Under a waker that isn't the task's
-/// own, as in a `block_on`, no read is put off: such a poll doesn't return to the worker.
+/// A poll may always make one read, and more until its worker must check for events again. If the waker isn't the
+/// task's own, as in a `block_on`, the result is true: such a poll doesn't return to the worker.
 #[inline]
 fn may_read(waker: &Waker) -> bool {
     Worker::with(|worker| match worker {

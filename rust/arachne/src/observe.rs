@@ -1,4 +1,4 @@
-//! Observing a runtime: the states of its tasks, hooks, and a histogram of the time for which ready tasks waited.
+//! Records the states of a runtime's tasks and how long ready tasks waited, and calls hooks.
 //!
 //! A runtime built without `Builder::observed` records none of this, and only makes one test per step.
 

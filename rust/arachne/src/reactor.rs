@@ -1,12 +1,12 @@
 //! The epoll of a runtime: the events of its sockets, and the waking of the worker that sleeps there.
 //!
-//! One worker at a time waits in the epoll. The tasks that these events wake go, in the events' order, to the hand of
-//! the worker that waited (its list of jobs to run next). So a worker asks only for as many events as have room in its
-//! hand (`asks` in worker.rs): at most 8, and fewer if 8 polls take more than about 100 us. A worker that is the only
-//! active one asks for more. The other events stay with the kernel for the next worker that looks, so that they don't
-//! wait for a worker that loses its processor; if there may be more, a sleeping worker is woken. A worker that has
-//! ready jobs of its own looks too; the tasks that it wakes then become ready in their blocks, unless it is the only
-//! active worker.
+//! One worker at a time waits in the epoll. The tasks that these events wake go, in the events' order, into the local
+//! queues of the worker that waited. So a worker asks only for as many events as have room there (`asks` in worker.rs):
+//! at most 8, and fewer if 8 polls take more than about 100 us. A worker that is the only active one asks for more. The
+//! other events stay with the kernel for the next worker that polls the epoll, so that they don't wait for a worker
+//! that loses its processor; if there may be more, the worker wakes a sleeping one. A worker that has ready jobs of its
+//! own polls the epoll too; the tasks that it wakes then become ready in their blocks, unless it is the only active
+//! worker.
 
 use crate::sync::atomic::{AtomicU64, AtomicUsize, Ordering::*};
 use crate::sync::{Arc, Condvar, Mutex};
@@ -26,7 +26,7 @@ const TICK: u64 = 256;
 const OTHER: u64 = NOBODY - 1;
 /// The key of the eventfd that ends a wait.
 const WOKEN: u64 = 0;
-/// The most events of one look.
+/// The most events that one poll of the epoll returns.
 pub(crate) const EVENTS: usize = 64;
 
 /// A waker that is registered for one event. If it belongs to a task of this runtime, it is kept in one word, without a
@@ -230,7 +230,8 @@ struct Sources {
     free: Vec<u32>,
 }
 
-/// The events of one look at the epoll. Events beyond the number asked for stay with the kernel, in order.
+/// The events that one poll of the epoll has returned. Events beyond the number asked for stay with the kernel, in
+/// order.
 pub(crate) struct Found {
     events: [Event; EVENTS],
     count: usize,

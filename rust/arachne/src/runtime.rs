@@ -23,8 +23,8 @@ use std::mem::ManuallyDrop;
 use std::panic::Location;
 use std::time::Duration;
 
-/// The most jobs that a worker may have in hand: the job that runs, the next job and a job that it displaces, the jobs
-/// in line, and the stolen jobs.
+/// The most jobs that a worker may hold: the job that runs, the next job and a job that it displaces, the jobs in its
+/// local queue, and the stolen jobs.
 const HANDS: usize = 3 + crate::worker::HAND + crate::hand::FIRST;
 
 /// The function that each thread calls before its first task.
@@ -183,7 +183,8 @@ impl Builder {
         self
     }
 
-    /// Records what `Runtime::tasks` and `Stats::ready_to_taken` return, for 48 bytes a place and some 100 ns a poll.
+    /// Lets the runtime record what `Runtime::tasks` and `Stats::ready_to_taken` return. This costs 48 bytes for each
+    /// task that there may be, and some 100 ns for each poll.
     ///
     /// ```
     /// let runtime = arachne::Builder::new(1).observed().build().unwrap();
@@ -233,7 +234,7 @@ impl Builder {
     /// Starts a watcher thread that reports polls which take longer than `longer`, and works around them.
     ///
     /// Each such poll is counted in `Stats::slow_polls` and, if `log`, named on the standard error stream. Meanwhile
-    /// the watcher looks after the ready tasks, sockets and timers of the worker that makes the poll.
+    /// the watcher takes over the ready tasks, sockets and timers of the worker that is in the poll.
     ///
     /// ```
     /// use std::time::Duration;
@@ -689,7 +690,7 @@ impl Runtime {
     }
 }
 
-/// The time between two looks for tasks that blocking work has spawned since the end.
+/// The time between two searches for tasks that blocking work has spawned since the end.
 const LOOK: Duration = Duration::from_millis(10);
 
 /// Waits for blocking work that outlives its runtime. Only after this wait may a later runtime use the state of the
@@ -722,7 +723,7 @@ impl Drop for Runtime {
     }
 }
 
-/// Aborts the process if dropped: a panic in a worker's own loop would lose the jobs in its hand.
+/// Aborts the process if dropped: a panic in a worker's own loop would lose the jobs that it holds.
 struct EndsTheProcess;
 impl Drop for EndsTheProcess {
     fn drop(&mut self) {
@@ -783,7 +784,7 @@ fn end_placed(shared: &'static Shared) {
         }
     });
     shared.counts.ended_elsewhere.fetch_add(jobs.len() as u64, SeqCst);
-    // SAFETY: each job was taken out of the table, so it is in this thread's hand, and no name leads to it.
+    // SAFETY: each job was taken out of the table, so this thread holds it, and no name leads to it.
     jobs.into_iter().for_each(|job| unsafe { task::end(job) });
 }
 

@@ -114,7 +114,7 @@ impl Semaphore {
         self.state.lock().unwrap().permits
     }
 
-    /// Waits for a permit, in line. Fails if the semaphore is closed.
+    /// Waits for a permit, in the order of the requests. Fails if the semaphore is closed.
     ///
     /// ```
     /// let permits = arachne::Semaphore::new(1);
@@ -127,7 +127,7 @@ impl Semaphore {
         self.acquire_many(1)
     }
 
-    /// Waits for `wants` permits at once, in line. Fails if the semaphore is closed.
+    /// Waits for `wants` permits at once, in the order of the requests. Fails if the semaphore is closed.
     ///
     /// ```
     /// let permits = arachne::Semaphore::new(5);
@@ -250,8 +250,7 @@ impl Semaphore {
         self.state.lock().unwrap().closed
     }
 
-    /// Gives permits to the first waiters in line, as far as there are enough, and wakes these after the lock is
-    /// released.
+    /// Gives permits to the first waiters, as far as there are enough, and wakes these after the lock is released.
     fn grant(&self, mut state: crate::sync::MutexGuard<'_, State>) {
         let mut granted = Vec::new();
         while state.line.front().map_or(false, |node| node.wants <= state.permits) {
@@ -266,7 +265,7 @@ impl Semaphore {
     }
 }
 
-/// The future of `Semaphore::acquire`. A future that is dropped while it waits leaves the line of waiters.
+/// The future of `Semaphore::acquire`. A future that is dropped while it waits leaves the queue.
 ///
 /// ```
 /// let permits = arachne::Semaphore::new(1);

@@ -40,7 +40,7 @@ static ALL: [AtomicPtr<Shared>; TABLES] = [NO_TABLE; TABLES];
 /// A `Shared` is never freed, since a waker may be kept for ever.
 static POOL: Mutex<(usize, Vec<&'static Shared>)> = Mutex::new((0, Vec::new()));
 
-/// The objects that a runtime's kernel threads share: core, epoll, workers, and the words of sleep and stop.
+/// The state that a runtime's kernel threads share: the core, the epoll, the workers, and which of them sleep.
 pub(crate) struct Shared {
     pub(crate) table: usize,
     pub(crate) root: Mutex<Root>,
@@ -50,14 +50,14 @@ pub(crate) struct Shared {
     pub(crate) waits: Line<AtomicUsize>,
     /// The deputy: the worker that polls the epoll now and then while the worker `waits` runs tasks.
     pub(crate) deputy: Line<AtomicUsize>,
-    /// The time of the last look at the epoll by a worker that runs tasks.
+    /// The time at which a worker that runs tasks last polled the epoll.
     pub(crate) looked: Line<AtomicU64>,
-    /// Milliseconds between two looks of the deputy at the other workers.
+    /// Milliseconds between two checks of the other workers by the deputy.
     pub(crate) rests: AtomicI32,
-    /// Milliseconds between two looks at the other workers by the worker that waits in the epoll.
+    /// Milliseconds between two checks of the other workers by the worker that waits in the epoll.
     pub(crate) pauses: AtomicI32,
-    /// Nanoseconds between two looks of the worker that covers for the first worker, if only the first has a core; else
-    /// 0.
+    /// Nanoseconds between two checks of the first worker by the one that covers for it, if only the first has a core;
+    /// else 0.
     pub(crate) covers: Line<AtomicU64>,
     /// For each shard, its blocks that may have a free place, as bits.
     pub(crate) roomy: Box<[Line<AtomicU64>]>,
@@ -73,7 +73,7 @@ pub(crate) struct Shared {
     pub(crate) queue: Mutex<VecDeque<Raw>>,
     /// The number of tasks in `queue`.
     pub(crate) queued: Line<AtomicUsize>,
-    /// True if no queued task can get a place until a task ends.
+    /// True if the tasks in `queue` can get no place until a task ends.
     pub(crate) clogged: AtomicBool,
     pub(crate) stop: AtomicBool,
     pub(crate) next_home: AtomicUsize,
@@ -103,24 +103,24 @@ pub(crate) struct Counts {
     pub(crate) ended_elsewhere: AtomicU64,
 }
 
-/// The part of a worker that other threads see. Only the worker itself writes its counts.
+/// The state of a worker that other threads read. Only the worker itself writes its counts.
 pub(crate) struct Worker {
     pub(crate) bell: Bell,
     pub(crate) hand: Hand,
     pub(crate) timers: Timers,
     /// True while the worker's core is given back.
     pub(crate) given_back: (Mutex<bool>, Condvar),
-    /// True if the worker has made all jobs in its hand ready, and waits for its core.
+    /// True if the worker has made all jobs in its local queues ready, and waits for its core.
     pub(crate) away: AtomicBool,
     /// The worker's shards. The core knows each shard by a worker number: the shard's index modulo `NUMBERS`.
     pub(crate) shards: Box<[usize]>,
-    /// The number of the worker's shards, from the first on, that ever had a task. This number only grows. The shards
-    /// beyond it are not searched.
+    /// The number of the worker's shards, from the first on, that ever had a task. This number only grows. Searches
+    /// leave out the shards beyond it.
     pub(crate) used: AtomicUsize,
-    /// The block, counted over the worker's shards, in which the next task may find a place.
+    /// The block, counted over the worker's shards, in which the worker tries to place the next task.
     pub(crate) roomy: Line<AtomicUsize>,
-    /// The rights to park, one for each worker number of the worker's shards. Whoever looks after these shards takes
-    /// the lock.
+    /// The rights to park, one for each worker number of the worker's shards. Whoever runs the jobs of these shards
+    /// takes the lock.
     pub(crate) parking: Mutex<Vec<Parking>>,
     pub(crate) polls: AtomicU64,
     pub(crate) spawned: AtomicU64,
@@ -351,7 +351,7 @@ impl Shared {
     }
 
     /// Returns true if the runtime that was made at the count `turns` of the `Door` has ended, or is about to end:
-    /// nobody looks for its events any more.
+    /// nobody waits for its events any more.
     ///
     /// Returns false in a poll of one of that runtime's own tasks: that task is dropped instead.
     pub(crate) fn has_ended(&self, turns: u64) -> bool {
@@ -383,8 +383,7 @@ impl Shared {
         place / (BLOCK * SHARD) % NUMBERS % self.workers.len()
     }
 
-    /// Returns the worker that looks after the blocks and timers of `worker`: itself, or another worker if it has no
-    /// core.
+    /// Returns the worker that runs the jobs and timers of `worker`: itself, or another worker if it has no core.
     #[inline]
     pub(crate) fn keeper(&self, worker: usize) -> usize {
         let active = self.active.0.load(SeqCst);
@@ -402,7 +401,7 @@ pub(crate) struct Context {
     pub(crate) me: usize,
     pub(crate) hands: Hands,
     pub(crate) worker: &'static Worker,
-    /// True if no other thread ever takes jobs out of this worker's hand.
+    /// True if no other thread ever steals from this worker's local queues.
     pub(crate) alone: bool,
     /// The name of the task that runs on this worker.
     pub(crate) current: Cell<u64>,
@@ -412,12 +411,12 @@ pub(crate) struct Context {
     pub(crate) reads: Cell<u32>,
     /// True if a read of a socket was put off in this poll.
     pub(crate) put_off: Cell<bool>,
-    /// The time at which this worker last looked for sockets, timers and other workers' tasks, or was idle.
+    /// The time at which this worker last checked sockets, timers and other workers, or was idle.
     pub(crate) looked: Cell<u64>,
     /// True if a job that is woken on this worker runs next on it. If false, `room` decides where a woken job goes.
     pub(crate) keeps: Cell<bool>,
-    /// If `keeps` is false: the number of woken jobs that still go into this worker's line (its local queue), in order.
-    /// The others become ready in their blocks, and no worker is woken to help.
+    /// If `keeps` is false: the number of woken jobs that still go into this worker's local queue, in order. The others
+    /// become ready in their blocks, without waking a worker to help.
     pub(crate) room: Cell<usize>,
     random: Cell<u64>,
 }
@@ -448,7 +447,7 @@ impl Context {
         }
     }
 
-    /// Calls with this thread's context, or with None if the thread is no worker.
+    /// Calls a function with this thread's context, or with None if the thread is no worker.
     #[inline]
     pub(crate) fn with<R>(call: impl FnOnce(Option<&Context>) -> R) -> R {
         let context = CONTEXT.with(Cell::get);
@@ -469,7 +468,8 @@ impl Context {
         f()
     }
 
-    /// Returns true if the current poll may read a socket: always once, and again until the next look is due.
+    /// Returns true if the current poll may read a socket: always once, and again until the worker must check for
+    /// events.
     ///
     /// So a socket that always has more data doesn't keep its worker.
     #[inline]
@@ -518,7 +518,7 @@ pub(crate) fn entered<R>(shared: &'static Shared, f: impl FnOnce() -> R) -> R {
     f()
 }
 
-/// For each runtime, the seat by which this thread, which is no worker of the runtime, calls it.
+/// For each runtime of which this thread is no worker, the seat (a handle of the core) by which it calls the core.
 struct Visitor {
     seats: Vec<Option<Hands>>,
 }
@@ -533,7 +533,7 @@ impl Drop for Visitor {
     }
 }
 
-/// Calls with a seat of this thread, for a thread that is no worker of the runtime.
+/// Calls a function with a seat (a handle of the core) of this thread, which is no worker of the runtime.
 pub(crate) fn with_hands<R>(shared: &'static Shared, call: impl FnOnce(&Hands) -> R) -> R {
     let mut call = Some(call);
     let visited = SEATS.try_with(|visitor| {

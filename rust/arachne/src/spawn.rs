@@ -1,4 +1,4 @@
-//! Spawning: the functions that make a task, and the choice of its place.
+//! The functions that spawn a task, and the choice of its place.
 
 use crate::core::{Hands, Spawned, SHARD};
 use crate::shared::{add, here, with_hands, Context, Shared};
@@ -105,9 +105,10 @@ impl Shared {
         Spawned::Full
     }
 
-    /// Puts a new task into a place, or into the queue if no place is free.
+    /// Puts a new task into a place of the core, or into the queue if no place is free.
     ///
-    /// The place is this worker's. If `balanced`, or if this thread is no worker, it is each worker's in turn.
+    /// The place is one of this worker's. If `balanced`, or if this thread is no worker, the workers get such tasks in
+    /// turn.
     #[inline]
     pub(crate) fn spawn(&'static self, raw: Raw, balanced: bool) {
         if !self.place_new(raw, balanced) {

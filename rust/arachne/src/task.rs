@@ -24,7 +24,7 @@ const JOINED: u32 = 2;
 const WAITING: u32 = 4;
 /// The thread that ended the task no longer touches it.
 const SETTLED: u32 = 8;
-/// The task must end when a worker runs it next.
+/// A worker that runs the task next must end it.
 const ABORTED: u32 = 16;
 /// There were abort handles before the task ended, so the thread that ends the task touches it until `SETTLED` is set.
 const SHARED: u32 = 32;
@@ -321,7 +321,7 @@ fn at(raw: Raw) -> *mut Header {
 /// and `raw` is consumed.
 ///
 /// # Safety
-/// `raw` must be from `new` and not consumed, and the caller must have the task in hand.
+/// `raw` must be from `new` and not consumed, and the caller must hold the task.
 #[inline]
 pub(crate) unsafe fn run(raw: Raw, table: usize, name: u64, cx: &mut Context<'_>) -> bool {
     let header = at(raw);

@@ -286,7 +286,7 @@ pub(crate) fn of_this_thread() -> Option<&'static Timers> {
     Some(me.map_or(&shared.visitors, |me| &shared.workers[me].0.timers))
 }
 
-/// Returns for how many milliseconds a worker that looks after the timers of `workers` may sleep; -1 is for ever.
+/// Returns for how many milliseconds a worker that fires the timers of `workers` may sleep; -1 is for ever.
 pub(crate) fn rest(shared: &Shared, workers: impl Iterator<Item = usize>) -> i32 {
     let next = workers.map(|worker| shared.next_timer(worker)).min().unwrap_or(u64::MAX);
     if next == u64::MAX {

@@ -1,4 +1,4 @@
-//! The watcher of slow polls: reports them, and looks after the ready tasks, sockets and timers of their workers.
+//! The watcher of slow polls: reports them, and meanwhile runs the ready tasks, sockets and timers of their workers.
 
 use crate::core::{Hands, Job, Rested, SHARD};
 use crate::reactor::EVENTS;
@@ -10,7 +10,7 @@ use crate::timer::now;
 use crate::waker::{waker_of, NOBODY};
 use std::time::Duration;
 
-/// The nanoseconds for which the watcher looks after stuck workers before it searches for others.
+/// The nanoseconds for which the watcher stands in for stuck workers before it searches for others.
 const TURN: u64 = 2_000_000;
 
 struct Seen {
@@ -20,13 +20,13 @@ struct Seen {
     told: bool,
 }
 
-/// Looks at all workers until the runtime stops.
+/// The watcher's loop: checks all workers until the runtime stops.
 pub(crate) fn run(shared: &'static Shared, hands: Hands, longer: Duration, log: bool) {
     let tick = (longer / 20).clamp(Duration::from_micros(500), Duration::from_millis(5));
     let longer = longer.as_nanos() as u64;
     let mut seen: Vec<Seen> =
         shared.workers.iter().map(|_| Seen { polls: 0, name: NOBODY, since: 0, told: false }).collect();
-    // The workers in a long poll, as bits. The watcher looks after their blocks and timers.
+    // The workers in a long poll, as bits. The watcher takes over their blocks and timers.
     let mut stuck = 0;
     while !shared.stop.load(SeqCst) {
         if stuck == 0 {
@@ -129,7 +129,7 @@ fn run_some(shared: &'static Shared, hands: &Hands, worker: usize) -> usize {
 
 fn run_one(shared: &'static Shared, hands: &Hands, job: &Job) {
     let waker = waker_of(shared.table, job.name);
-    // SAFETY: the job is in this thread's hand until it is put back or ended below.
+    // SAFETY: this thread holds the job until it is put back or ended below.
     let about = unsafe { task::about(job.job) };
     shared.observer.begins(job, &about);
     shared.counts.rescued.fetch_add(1, Relaxed);

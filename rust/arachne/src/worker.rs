@@ -1,30 +1,30 @@
 //! A worker's loop: runs ready jobs, polls the epoll and its timers, steals from other workers, and parks.
 //!
-//! The core decides which seat has a job and whether a worker may park. This module decides where a worker looks next,
-//! and which sleeping worker to wake.
+//! The core decides which worker gets a job and whether a worker may park. This module decides where a worker searches
+//! next, and which sleeping worker to wake.
 //!
 //! **Next.** A job that another job makes ready or spawns runs next on the same worker, up to `NEXTS` in a row. A job
 //! that would run next and is displaced by another becomes ready in its block. A job that yields, or would be beyond
-//! `NEXTS`, goes into the worker's line (its local queue).
+//! `NEXTS`, goes into the worker's local queue (its *line*).
 //!
 //! **Order.** Then the worker sweeps its blocks with ready jobs: of each block it runs every job that was ready when
-//! the block's turn came, each of them once. At the end of a round all jobs in the worker's line run, in order. So a
-//! job that is ready again and again makes no other job wait for more than a round.
+//! the block's turn came, each of them once. At the end of a round all jobs in the worker's local queue run, in order.
+//! So a job that is ready again and again makes no other job wait for more than a round.
 //!
-//! **Looking out.** After `LOOK_OUT` polls, or by time if polls are long, a worker looks at its timers and at the
-//! workers that make no progress. From the ready words and the hand of each such worker it takes up to two jobs. The
-//! worker also looks at the epoll, but in a look by time only if no other worker has looked there lately. If polls are
-//! long (fewer than `FEW` fit into `LOOK_TIME`), another worker counts as making no progress while it is in one poll.
-//! Then more jobs are taken only after the stolen jobs and one job of the worker's own have run, and not while the
-//! worker runs its line, unless the other worker has been in its poll for `LONG_POLL`. At every `LONG`th look at a
-//! worker that has made no progress since the first of these looks, the timers of that worker are fired too.
+//! **Looking out.** After `LOOK_OUT` polls of tasks, or by time if polls are long, a worker makes a *look*: it checks
+//! its timers, the epoll, and the workers that make no progress. From the ready words and the local queues of each such
+//! worker it takes up to two jobs. A look by time polls the epoll only if no other worker has polled it lately. If
+//! polls are long (fewer than `FEW` fit into `LOOK_TIME`), another worker counts as making no progress while it is in
+//! one poll. Then the worker takes more jobs only after the stolen jobs and one job of its own have run, and not while
+//! it runs its local queue, unless the other worker has been in its poll for `LONG_POLL`. At every `LONG`th look in a
+//! row that finds the same worker without progress, it fires that worker's timers too.
 //!
-//! **Helping.** Any free worker can take any ready job, also from another worker's hand: first the job that would run
-//! first. An idle worker takes half of another worker's ready jobs or, at last, half of the jobs in that worker's hand
-//! behind the next one. A single job is taken only if that worker sleeps or makes no progress. Stolen jobs run before
-//! all that is ready on the worker that stole them, and may be stolen again. A worker sleeps only if no other worker
-//! has two or more jobs that it could take over. While a worker is idle, the others keep in hand only as many jobs as
-//! run in about `LOOK_TIME`, and wake the idle worker for more.
+//! **Helping.** Any free worker can take any ready job, also from another worker's local queues: first the job that
+//! would run first. An idle worker takes half of another worker's ready jobs or, at last, half of the jobs in that
+//! worker's local queues behind the next one. It takes a single job only if that worker sleeps or makes no progress.
+//! Stolen jobs run before all that is ready on the worker that stole them, and may be stolen again. A worker sleeps
+//! only if no other worker has two or more jobs that it could take over. While a worker is idle, the others keep only
+//! as many jobs in their local queues as run in about `LOOK_TIME`, and wake the idle worker for more.
 
 use crate::core::{place_of, Hands, Job, Rested, Spawned, BLOCK, SHARD};
 use crate::cores::Judge;
@@ -43,32 +43,33 @@ pub(crate) use sleepers::Ends;
 /// The longest chain of jobs that run one after the other because each was made ready by the one before.
 const NEXTS: u32 = 128;
 
-/// A worker looks at the epoll, its timers and other workers after `LOOK_OUT` polls or about `LOOK_TIME` nanoseconds,
-/// even if it has jobs to run. A look that is due by time skips the epoll if another worker has looked at the epoll
-/// within `LOOK_TIME`.
+/// After `LOOK_OUT` polls of tasks or about `LOOK_TIME` nanoseconds a worker checks the epoll, its timers and other
+/// workers, even if it has jobs to run. By time it skips the epoll if another worker has polled it within `LOOK_TIME`.
 const LOOK_OUT: u32 = 64;
 pub(crate) const LOOK_TIME: u64 = 100_000;
-/// The time between two looks of the only active worker: nobody else could run the jobs that a look finds. A look that
-/// is due by time polls the epoll only after `LONELY_LOOK`, since the jobs that it finds run behind those in hand.
+/// The time between two looks of the only active worker: nobody else could run the jobs that a look finds. By time such
+/// a worker polls the epoll only after `LONELY_LOOK`, since the jobs that it finds run behind those in its local
+/// queues.
 const LONELY_TIME: u64 = 500_000;
 const LONELY_LOOK: u64 = 2_000_000;
 /// The worker that applies the core policy reads its clock after this many polls.
 const JUDGED: u32 = 8;
-/// After this many looks in a row at which another worker had made no progress, its timers are fired for it.
+/// After this many looks in a row that found another worker without progress, a worker fires that worker's timers.
 const LONG: u32 = 8;
 /// Nanoseconds in one poll after which a busy worker also takes the job that would run next on the stuck worker.
 const LONG_POLL: u64 = 1_000_000;
-/// A worker clears its empty blocks' bits in the summary after it has looked at this many empty blocks that the summary
+/// A worker clears its empty blocks' bits in the summary after it has found this many empty blocks that the summary
 /// still shows.
 const STALE: u32 = 16;
-/// The most jobs that a worker keeps in hand from one look at the epoll or from another worker. While any worker is
-/// idle, the most jobs in hand in all.
+/// The most jobs in a worker's local queues that come from one poll of the epoll or from another worker. While any
+/// worker is idle, the most jobs there in all.
 const FEW: usize = 8;
-/// The most jobs in a worker's line: those that yielded or ended a chain (`KEPT`), or, for the only worker, of any kind
-/// (`HAND`).
+/// The most jobs in a worker's line (a local queue): those that yielded or ended a chain (`KEPT`), or, for the only
+/// worker, of any kind (`HAND`).
 const KEPT: usize = 16;
 pub(crate) const HAND: usize = 48;
-/// If a look finds this many events and timers beyond the room in hand, another worker is woken to help.
+/// If a look finds this many events and timers more than there is room for in the local queues, the worker wakes
+/// another to help.
 const MANY: usize = 4;
 
 /// The core policy counts at most this many ready jobs of a worker.
@@ -78,7 +79,7 @@ const CROWD: u32 = 128;
 pub(crate) struct Turn {
     /// The number of stolen jobs left to run. Other workers may have taken some of these jobs.
     first: usize,
-    /// The number of jobs of the line (the local queue) to run before the next sweep. Other workers may have taken some
+    /// The number of jobs of the line (a local queue) to run before the next sweep. Other workers may have taken some
     /// of these jobs.
     line_left: usize,
     /// The block that is being swept.
@@ -87,7 +88,7 @@ pub(crate) struct Turn {
     wanted: u64,
     /// The number of the block to sweep next.
     next: usize,
-    /// The number of looks at blocks that were empty, though the summary still shows them.
+    /// The number of empty blocks that a sweep has found, though the summary still shows them.
     stale: u32,
     chain: u32,
     /// The number of polls since the last look or idle time.
@@ -96,19 +97,19 @@ pub(crate) struct Turn {
     most: u32,
     /// True if each look counts the ready jobs for the policy, and checks if the arbiter wants the core back.
     counts: bool,
-    /// For each worker, the number of its polls at the last look at it.
+    /// For each other worker, the number of polls that it had made at this worker's last look.
     seen: Vec<u64>,
-    /// For each worker, the number of looks in a row at which it had made no progress, modulo `LONG`.
+    /// For each other worker, the number of looks in a row at which it had made no progress, modulo `LONG`.
     stood: Vec<u32>,
     /// For each worker, the time since which it has made no progress.
     since: Vec<u64>,
-    /// For each worker, the number of its polls at the last look before this worker slept.
+    /// For each other worker, the number of polls that it had made at the last look before this worker slept.
     met: Vec<u64>,
     /// The time of the last look before this worker slept.
     looked: u64,
-    /// Milliseconds between this worker's looks at the others while it sleeps.
+    /// Milliseconds between this worker's checks of the others while it sleeps.
     rests: i32,
-    /// The number of polls of all workers at the last of these looks.
+    /// The number of polls of all workers at the last of these checks.
     watched: u64,
     /// True if the last look left the worker with stolen jobs to run.
     helps: bool,
@@ -159,8 +160,8 @@ impl Turn {
         now().saturating_sub(context.looked.get()) >= time
     }
 
-    /// Returns how many jobs this worker keeps in hand while another worker is idle: those that run before its next
-    /// look.
+    /// Returns how many jobs this worker keeps in its local queues while another worker is idle: those that run before
+    /// its next look.
     #[inline]
     fn few(&self) -> usize {
         FEW.min(self.most as usize)
@@ -172,8 +173,7 @@ impl Shared {
 
     /// Wakes a worker for a job that has become ready in its block.
     ///
-    /// If `unpark`, wakes the worker that looks after the block; otherwise any sleeping worker, to help, unless
-    /// `quiet`.
+    /// If `unpark`, wakes the worker whose block it is; otherwise any sleeping worker, to help, unless `quiet`.
     #[inline]
     pub(crate) fn published(&self, name: u64, unpark: bool, quiet: bool) {
         if unpark {
@@ -183,7 +183,7 @@ impl Shared {
         }
     }
 
-    /// Makes a job in this worker's hand ready, so that any worker can take it.
+    /// Makes a job that this worker holds ready, so that any worker can take it.
     #[inline]
     pub(crate) fn make_ready(&self, context: &Context, job: &Job) {
         let unpark = context.hands.rest_ready(job);
@@ -209,7 +209,7 @@ impl Shared {
         context.worker.hand.next.put(job);
     }
 
-    /// Makes ready all jobs in a worker's hand. For each job only the worker whose block it belongs to is woken.
+    /// Makes all jobs in a worker's local queues ready. Wakes for each job only the worker whose block it belongs to.
     pub(crate) fn relieve(&self, hands: &Hands, other: usize) {
         while let Some(job) = self.workers[other].0.hand.take(true) {
             hands.gets(&job, other);
@@ -320,14 +320,14 @@ impl Shared {
 
     // --------------------------------------------------------------------------------------- one task
 
-    /// Runs a job in hand. Then ends the job, or puts it back as ready or blocked.
+    /// Polls the task of a job that this worker holds. Then ends the job, or puts it back as ready or blocked.
     #[inline]
     fn run(&self, context: &Context, turn: &mut Turn, job: Job) {
         let name = job.name;
         let waker = waker_of(self.table, name);
         let mut cx = std::task::Context::from_waker(&waker);
         let worker = context.worker;
-        // SAFETY: the job is in this worker's hand until it is put back or ended below.
+        // SAFETY: this worker holds the job until it is put back or ended below.
         let about = unsafe { task::about(job.job) };
         worker.begins(name, &about);
         self.observer.begins(&job, &about);
@@ -372,8 +372,8 @@ impl Shared {
         self.set_behind(context, job, self.kept());
     }
 
-    /// Ends a job. The job's place must be free before `roomy` and `clogged` are looked at: `spawn_at` hides a block
-    /// before it tries the block again, and `begin_queued` sets `clogged` before its second try.
+    /// Ends a job. The job's place must be free before `roomy` and `clogged` are read: `spawn_at` hides a block before
+    /// it tries the block again, and `begin_queued` sets `clogged` before its second try.
     #[inline]
     fn finish(&self, context: &Context, job: &Job) {
         context.hands.finish(job);
@@ -395,8 +395,7 @@ impl Shared {
 
     // --------------------------------------------------------------------------------------- what is next
 
-    /// Returns the next job to run, in this worker's hand. Looks at the epoll, timers and other workers first if that
-    /// is due.
+    /// Takes the next job to run. Makes a look at the epoll, timers and other workers first if it is time for that.
     #[inline]
     fn pick(&'static self, context: &Context, turn: &mut Turn) -> Option<Job> {
         let is_over = |turn: &Turn| turn.most < LOOK_OUT && turn.polls >= 1 && turn.is_over(context, self.is_alone());
@@ -410,7 +409,8 @@ impl Shared {
         self.pick_next(context, turn).or_else(|| self.pick_ready(context, turn))
     }
 
-    /// Takes the job that the last job made ready, unless the chain is too long: then the job goes into the line.
+    /// Takes the job that the last job made ready, unless the chain is too long: then the job goes into the line, the
+    /// local queue.
     #[inline]
     fn pick_next(&self, context: &Context, turn: &mut Turn) -> Option<Job> {
         if let Some(job) = context.worker.hand.next.take(context.alone) {
@@ -425,8 +425,8 @@ impl Shared {
         None
     }
 
-    /// Puts a job behind all that is ready on this worker. The job stays in hand unless `most` jobs are already in
-    /// line.
+    /// Puts a job behind all that is ready on this worker. The job goes into the line (a local queue), or becomes ready
+    /// in its block if `most` jobs are in line already.
     #[inline]
     pub(crate) fn set_behind(&self, context: &Context, job: Job, most: usize) {
         if !context.worker.hand.line.put(job, most) {
@@ -434,7 +434,8 @@ impl Shared {
         }
     }
 
-    /// Returns how many jobs that yielded or ended a chain stay in line: one job while any worker is idle.
+    /// Returns how many jobs that yielded or ended a chain may be in the line (a local queue): one while any worker is
+    /// idle.
     #[inline]
     fn kept(&self) -> usize {
         match self.all_busy() {
@@ -481,7 +482,8 @@ impl Shared {
         }
     }
 
-    /// Takes the next ready job of this worker's blocks, in turn. At the end of a round the jobs in line run first.
+    /// Takes the next ready job of this worker's blocks, in turn. At the end of a round takes the jobs of the line (a
+    /// local queue) first.
     #[inline]
     fn sweep(&self, context: &Context, turn: &mut Turn) -> Option<Job> {
         loop {
@@ -533,8 +535,8 @@ impl Shared {
         None
     }
 
-    /// Puts a queued task into a place of this worker, or of another worker, and keeps the task in hand if possible.
-    /// Returns None if there is no free place.
+    /// Puts a queued task into a place of this worker, or of another worker, and holds the task, so that it runs here,
+    /// if possible. Returns None if there is no free place.
     fn begin_queued(&'static self, context: &Context) -> Option<Option<Job>> {
         let raw = self.pop_queued()?;
         if let Some(job) = self.place(context, raw) {
@@ -579,14 +581,14 @@ impl Shared {
 
     // --------------------------------------------------------------------------------------- others
 
-    /// Returns the workers without a core whose jobs and timers worker `me` looks after.
+    /// Returns the workers without a core whose jobs and timers worker `me` runs.
     fn lodgers(&self, me: usize) -> impl Iterator<Item = usize> {
         let active = self.active.0.load(SeqCst);
         (active..self.workers.len()).filter(move |&other| other % active == me)
     }
 
-    /// Looks at the epoll, the timers and the other workers, even if there are jobs to run. Returns false if the
-    /// arbiter wants this worker's core back.
+    /// Checks the epoll, the timers and the other workers, even if there are jobs to run. Returns false if the arbiter
+    /// wants this worker's core back.
     #[inline(never)]
     fn look_out(&self, context: &Context, turn: &mut Turn, by_time: bool) -> bool {
         if context.worker.hand.line.len() > turn.few() && !self.all_busy() {
@@ -697,17 +699,17 @@ impl Shared {
         got != 0
     }
 
-    /// Returns how many of the tasks woken by a look may stay in this worker's hand.
+    /// Returns how many of the tasks that a look wakes may go into this worker's local queues.
     fn room(&self, context: &Context, turn: &Turn) -> usize {
         let most = if self.is_alone() { HAND } else { turn.few() };
         most.saturating_sub(context.worker.hand.line.len())
     }
 
-    /// Returns how many events to ask the epoll for: as many as fit into this worker's hand.
+    /// Returns how many events to ask the epoll for: as many as have room in this worker's local queues.
     ///
-    /// The other events stay with the kernel, in their order, for the next worker that looks. If they were taken too,
-    /// their tasks would wait if this worker loses its processor, and would run before the jobs in line. A worker with
-    /// no room asks for a few events, whose tasks other workers can take.
+    /// The other events stay with the kernel, in their order, for the next worker that polls the epoll. If this worker
+    /// took them too, their tasks would wait when it loses its processor, and would run before the jobs in line. A
+    /// worker with no room asks for a few events, whose tasks other workers can take.
     fn asks(&self, room: usize) -> usize {
         match room {
             0 if self.is_alone() => EVENTS,
@@ -721,15 +723,16 @@ impl Shared {
         self.active.0.load(Relaxed) == 1
     }
 
-    /// Looks at the epoll and fires the timers that are due. Returns the number of events and timers.
+    /// Polls the epoll and fires the timers whose time has come. Returns the number of events and timers.
     fn look_at_events(&self, context: &Context, room: usize) -> usize {
         let found = if self.reactor.is_used() { self.reactor.look(self.asks(room)) } else { Found::NOTHING };
         self.hear(context, &found, room)
     }
 
-    /// Wakes the tasks of these events, and fires the timers that are due. Returns the number of events and timers.
+    /// Wakes the tasks of these events, and fires the timers whose time has come. Returns the number of events and
+    /// timers.
     ///
-    /// The first `room` of these tasks stay in this worker's hand, without waking another worker.
+    /// The first `room` of these tasks go into this worker's local queues, without waking another worker.
     fn hear(&self, context: &Context, found: &Found, room: usize) -> usize {
         context.keeps.set(false);
         context.room.set(room);
@@ -754,7 +757,7 @@ impl Shared {
         fired
     }
 
-    /// Fires the due timers of the worker `owner`. Returns the number of timers fired.
+    /// Fires the timers of the worker `owner` whose time has come. Returns the number of timers fired.
     pub(crate) fn fire(&self, owner: usize) -> usize {
         if self.next_timer(owner) == u64::MAX {
             return 0;
@@ -775,10 +778,10 @@ impl Shared {
         }
     }
 
-    /// Steals from another worker: half of its ready jobs or, with `last`, half of the jobs in its hand behind the next
-    /// one.
+    /// Steals from another worker: half of its ready jobs or, with `last`, half of the jobs in its local queues behind
+    /// the next one.
     ///
-    /// A worker's single job is stolen only if that worker sleeps or makes no progress. Returns true if any job was
+    /// Steals a worker's single job only if that worker sleeps or makes no progress. Returns true if any job was
     /// stolen.
     fn steal(&self, context: &Context, turn: &mut Turn, last: bool) -> bool {
         let count = self.workers.len();
@@ -837,8 +840,7 @@ impl Shared {
         self.lay_down(context, &mut turn);
     }
 
-    /// Looks for events, unless another worker waits in the epoll, and fires timers. Returns the number of events and
-    /// timers.
+    /// Polls the epoll, unless another worker waits in it, and fires timers. Returns the number of events and timers.
     fn look_when_idle(&self, context: &Context, turn: &mut Turn) -> usize {
         let room = self.room(context, turn);
         if self.waits.0.load(Relaxed) != NO_ONE {
@@ -846,20 +848,21 @@ impl Shared {
         }
         let heard = self.look_at_events(context, room);
         if heard != 0 && self.is_alone() {
-            // This worker's hand may be full now: a look by time before these jobs have run would find no room.
+            // This worker's local queues may be full now: a look by time before these jobs have run would find no room.
             turn.pace(context, now());
             self.looked.0.store(context.looked.get(), Relaxed);
         }
         heard
     }
 
-    /// Takes ready jobs of the workers without a core that this worker looks after. Returns true if any job was taken.
+    /// Takes ready jobs of the workers without a core for which this worker stands in. Returns true if any job was
+    /// taken.
     fn help_lodgers(&self, context: &Context, turn: &mut Turn) -> bool {
         self.lodgers(context.me)
             .any(|other| self.ready(&context.hands, other) != 0 && self.help(context, turn, other, FEW))
     }
 
-    /// Makes all jobs in this worker's hand ready.
+    /// Makes all jobs in this worker's local queues ready.
     pub(crate) fn lay_down(&self, context: &Context, turn: &mut Turn) {
         while let Some(job) = context.worker.hand.take(true) {
             let unpark = context.hands.rest_ready(&job);

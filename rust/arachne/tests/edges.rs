@@ -378,7 +378,8 @@ fn who_waits_for_the_end_may_change() {
     assert_eq!(woken, [0, 0, 1]);
 }
 
-/// A wake reaches the sleeping worker, whichever worker's place the task has, if the other is in an endless poll.
+/// A wake reaches the sleeping worker, in whichever worker's block the task is, if the other worker is in an endless
+/// poll.
 #[test]
 fn a_sleeper_is_woken_beside_a_busy_worker() {
     let runtime = Runtime::new(2);
@@ -430,7 +431,7 @@ fn a_writer_waits_for_room() {
     block_on(writes).unwrap();
 }
 
-/// A future by hand: it panics at its poll, or is ready and panics at its drop.
+/// A future that panics at its poll, or is ready and panics at its drop.
 struct Panics {
     in_drop: bool,
     _kept: OnDrop,
@@ -558,8 +559,7 @@ fn a_sleep_outlives_its_runtime() {
     runtime.block_on(moved);
 }
 
-/// A later runtime has the state of the ended runtime, if it has the same size. No other test has a runtime of 7
-/// workers.
+/// A later runtime of the same size uses the state of an ended one again. No other test has a runtime of 7 workers.
 #[test]
 fn a_socket_of_an_ended_runtime_waits_in_no_later_one() {
     let (ends, signal) = (Runtime::new(7), Signal::heard(10).unwrap());

@@ -472,7 +472,7 @@ fn a_signal_is_heard() {
     assert!(signal.wait());
 }
 
-/// If the signal of a fault were caught, the fault would come again and again.
+/// A fault whose signal were caught would be raised again and again.
 #[test]
 fn signals_of_faults_are_refused() {
     let error = |number| Signal::heard(number).unwrap_err().raw_os_error();
@@ -686,8 +686,8 @@ fn tasks_that_yield_for_ever_run_equally_often() {
     }
 }
 
-/// While all workers are busy, one worker keeps many tasks in its hand. Once another worker is idle, the first makes
-/// most of these tasks ready.
+/// While all workers are busy, one worker keeps many tasks in its local queues. Once another worker is idle, the first
+/// makes most of these tasks ready.
 #[test]
 fn what_is_in_hand_is_for_whoever_has_nothing_to_do() {
     let runtime = Runtime::new(2);
@@ -856,8 +856,8 @@ fn what_is_read_within_block_on_in_a_task_is_not_put_off() {
     assert_eq!(block_on(task).unwrap(), 50);
 }
 
-/// The tasks of the sockets run in the order of the events, also if there are more tasks than a worker may have in
-/// hand.
+/// The tasks of the sockets run in the order of the events, also if there are more tasks than fit into a worker's local
+/// queues.
 #[test]
 fn sockets_are_heard_in_the_order_in_which_they_were_told_of() {
     for count in [8, 200] {
@@ -965,7 +965,7 @@ fn each_kernel_thread_is_started_before_its_first_task() {
     assert_eq!(count.load(SeqCst), 2);
 }
 
-/// The type of a caller whose errors are boxed.
+/// The result type of a caller with boxed errors.
 async fn boxed(task: arachne::JoinHandle<u8>) -> Result<u8, Box<dyn std::error::Error + Send + Sync>> {
     Ok(task.await?)
 }
@@ -1061,7 +1061,7 @@ fn other_descriptors_are_awaited() {
     block_on(asks).unwrap();
 }
 
-/// The types in a program's struct that derives Debug.
+/// A struct that derives Debug and has the crate's types as fields.
 #[derive(Debug)]
 #[allow(dead_code)]
 struct Shown<'a> {

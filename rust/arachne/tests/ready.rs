@@ -27,7 +27,8 @@ fn until(what: &str, most: Duration, done: impl Fn() -> bool) {
     }
 }
 
-/// The record of a round: the number of tasks that are ready behind a blocking one, since when, and their begins.
+/// The record of one repetition: the number of tasks that are ready behind a blocking one, since when, and when they
+/// began.
 #[derive(Clone)]
 struct Seen(Arc<Marks>);
 
@@ -101,7 +102,8 @@ impl Busy {
     }
 }
 
-/// A thread that repeatedly sleeps for a millisecond; its result is when it was last woken late, without a processor.
+/// A thread that repeatedly sleeps for a millisecond. It records when it was last woken late, since no processor was
+/// free.
 struct Calm(Arc<AtomicBool>, thread::JoinHandle<Option<Instant>>);
 
 impl Calm {
@@ -126,8 +128,8 @@ impl Calm {
     }
 }
 
-/// Checks rounds of this function. In each round all tasks behind the poll must begin before the poll ends. In half of
-/// the rounds in which the machine is calm, the tasks must begin soon; this is checked if at least six rounds are calm.
+/// Repeats a test. Each time all tasks behind the poll must begin before the poll ends. In half of the repetitions in
+/// which the machine is calm, the tasks must begin soon; this is checked if at least six are calm.
 fn rounds(soon: Duration, behind: usize, round: impl Fn(&Runtime, &Seen, Duration)) {
     let runtime = Runtime::new(CORES);
     let (mut calm, mut late) = (0, Vec::new());
@@ -220,7 +222,7 @@ fn what_is_next_is_run_after_a_long_sleep() {
     });
 }
 
-/// One look at the epoll has returned the events of all tasks, while the other workers were busy.
+/// One poll of the epoll has returned the events of all tasks, while the other workers were busy.
 #[test]
 fn what_was_told_of_is_run() {
     rounds(SOON, BEHIND, |runtime, seen, pause| {
@@ -336,7 +338,7 @@ fn what_is_behind_is_run_by_one_that_is_busy() {
     }
 }
 
-/// Tasks that yield are stolen out of hands all the time, and each is polled exactly as often as it yields.
+/// Tasks that yield are stolen out of local queues all the time, and each is polled exactly as often as it yields.
 #[test]
 fn a_job_is_taken_once() {
     let runtime = Runtime::new(4);

@@ -88,7 +88,7 @@ fn sockets_are_seen_beside_polls_that_block() {
     }
 }
 
-/// At one look more sockets are ready than a worker may have in hand, and more than one look returns.
+/// More sockets are ready at once than fit into a worker's local queues, and more than one poll of the epoll returns.
 #[test]
 fn more_is_told_at_once_than_one_worker_takes() {
     for cores in 1..4 {
@@ -165,8 +165,8 @@ fn blocks(flag: &AtomicBool) {
     }
 }
 
-/// While a worker is in a poll that waits for the jobs in its hand, another worker runs these jobs, also the job that
-/// would run next. The others sleep when that poll begins, or fall asleep later.
+/// While a worker is in a poll that waits for the jobs in its local queues, another worker runs these jobs, also the
+/// one that would run next. The others sleep when that poll begins, or fall asleep later.
 #[test]
 fn what_is_in_hand_is_run_beside_a_poll_that_blocks() {
     for (cores, pause) in (2..5).flat_map(|cores| [(cores, MS / 4), (cores, 20 * MS)]) {

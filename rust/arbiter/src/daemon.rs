@@ -1,5 +1,5 @@
-//! The daemon's loop: it reads what has come, lets the library decide, and moves threads until each decision is
-//! carried out.
+//! The daemon's loop: it reads messages, lets the proved library decide who gets which core, and moves threads
+//! accordingly.
 
 mod hearing;
 mod turns;
@@ -22,11 +22,11 @@ use turns::Turns;
 
 /// The time for which a client may keep more cores than it is allowed.
 const PATIENCE: Duration = Duration::from_millis(10);
-/// The time between two looks for threads that have ended, and for threads of others on a granted core.
+/// The time between two checks for threads that have ended, and for other threads on a granted core.
 const LOOKS: Duration = Duration::from_secs(1);
-/// The most threads that are looked at before a decision.
+/// The most threads that the daemon checks before it decides again.
 const AT_ONCE: usize = 8;
-/// The most readers of the status that are answered in a round of the daemon's loop.
+/// The most readers of the status that the daemon answers in one pass of its loop.
 const READERS: usize = 8;
 
 struct Thread {
@@ -65,7 +65,7 @@ struct Client {
     forced: u64,
     /// The time by which the client must have given back the cores that were asked back.
     until: Option<Instant>,
-    /// The last turn (a core's move from one client to another) in which the client got a core or gave one, or had no
+    /// The last turn (a move of a core from one client to another) in which the client got a core, gave one, or had no
     /// thread for one.
     turned: u64,
     /// The number of times that the threads of the client's process must still be moved to `rest` (the processors of
@@ -88,7 +88,7 @@ pub struct Arbiter {
     clients_socket: UnixListener,
     readers_socket: UnixListener,
     means: Means,
-    /// The clients and their threads as the library knows them, and every decision.
+    /// The proved library's state: the clients, their threads, and who has which core.
     state: State,
     start: Instant,
     log: bool,
@@ -109,7 +109,7 @@ pub struct Arbiter {
     forced: u64,
     turns: Turns,
     look: Option<Look>,
-    /// The time at which a look at the threads of all clients last began.
+    /// The time at which the daemon last began to check the threads of all clients.
     looked: Instant,
 }
 
@@ -159,7 +159,7 @@ impl Arbiter {
         println!("by force {}, after {:.0} s", self.forced, self.start.elapsed().as_secs_f64());
     }
 
-    /// Returns the milliseconds until something must be done, if nothing comes.
+    /// Returns for how many milliseconds the daemon may wait for messages.
     fn time_left(&self) -> i32 {
         let ends = self.clients.values().filter_map(|client| client.until);
         let next = ends.chain(self.next_turn()).min();
@@ -180,7 +180,8 @@ impl Arbiter {
 
     // ------------------------------------------------------------------------------------------ decisions
 
-    /// Drops clients that have gone, decides anew, and takes and gives cores, until nothing changes any more.
+    /// Drops clients whose connections have ended, lets the library decide, and takes and gives cores, until nothing
+    /// changes any more.
     fn settle(&mut self) {
         loop {
             self.bury();
@@ -366,8 +367,8 @@ impl Arbiter {
 
     // ------------------------------------------------------------------------------------------ looks
 
-    /// Looks at some threads of clients' processes: moves those of a client that has just connected to `rest`, and
-    /// others off cores.
+    /// Checks some threads of clients' processes: moves those of a client that has just connected to `rest`, and others
+    /// off granted cores.
     fn look_at_threads(&mut self) {
         let cpus: Vec<usize> = self.cores.iter().map(|core| core.cpus[0]).collect();
         let threads = self.clients.values().flat_map(|client| client.threads.values());
@@ -389,8 +390,8 @@ impl Arbiter {
         }
     }
 
-    /// Returns the next look: at the threads of a client that has connected, or each second at threads that clients'
-    /// threads may have begun. Each second the daemon also drops threads that have ended.
+    /// Returns the threads to check next: those of a client that has connected, or each second those that clients'
+    /// threads may have started. Each second also drops threads that have ended.
     fn next_look(&mut self, cpus: &[usize]) -> Option<Look> {
         if let Some(client) = self.clients.values_mut().find(|client| client.arrives != 0) {
             client.arrives -= 1;
@@ -409,7 +410,7 @@ impl Arbiter {
         Some(Look { threads: self.means.strangers(cpus, processes), all: false })
     }
 
-    /// Moves the threads on processors that the host began or ceased to take.
+    /// Moves the threads off a processor that the machine's host has taken, or back once the host has returned it.
     fn look_at_host(&mut self) {
         let changed = self.host.look();
         if changed.is_empty() {
@@ -422,7 +423,7 @@ impl Arbiter {
         }
     }
 
-    /// Writes the status to those who have connected for that.
+    /// Writes the daemon's status to each process that has connected to the status socket.
     fn answer_readers(&self) {
         for (mut stream, _) in (0..READERS).map_while(|_| self.readers_socket.accept().ok()) {
             let _ = stream.set_nonblocking(true);

@@ -1,13 +1,13 @@
-//! The processors that the machine's host takes for others, by the kernel's account of stolen time.
+//! Finds the processors that the host of a virtual machine takes for others, by the kernel's count of stolen time.
 
 use std::fs;
 use std::path::PathBuf;
 use std::time::{Duration, Instant};
 
-/// The time between two looks at the account.
+/// The time between two reads of the stolen time.
 pub const WINDOW: Duration = Duration::from_millis(200);
-/// A processor counts as taken once the host has had `MUCH` hundredths of its time between two looks, until the host
-/// has had at most `LITTLE` hundredths of its time at each of `CALM` looks in a row.
+/// A processor counts as taken once the host has stolen `MUCH` per cent of its time between two reads, until it has
+/// stolen at most `LITTLE` per cent at each of `CALM` reads in a row.
 const MUCH: u64 = 15;
 const LITTLE: u64 = 5;
 const CALM: u32 = 5;
@@ -27,8 +27,8 @@ pub struct Host {
 }
 
 impl Host {
-    /// Returns an account of these processors, none of them taken. ARBITER_STAT names another file than the kernel's,
-    /// for tests.
+    /// Begins to watch these processors, none of which counts as taken yet. ARBITER_STAT names another file than the
+    /// kernel's, for tests.
     pub fn new(cpus: Vec<usize>) -> Host {
         let file = std::env::var_os("ARBITER_STAT").unwrap_or_else(|| "/proc/stat".into()).into();
         let processors = cpus.iter().map(|_| Processor { stolen: 0, all: 0, is_taken: false, calm: CALM }).collect();
@@ -40,8 +40,8 @@ impl Host {
         self.processors[nth].is_taken
     }
 
-    /// Looks at the account once `WINDOW` has passed. Returns the places of the processors that are taken or given back
-    /// since the last look.
+    /// Reads the stolen time once `WINDOW` has passed. Returns the indexes of the processors that were taken or given
+    /// back since the last read.
     pub fn look(&mut self) -> Vec<usize> {
         if self.looked.elapsed() < WINDOW {
             return Vec::new();

@@ -62,7 +62,7 @@ extern "C" {
     fn arachne_arbiter_share(arbiter: *mut Handle, client: usize) -> Share;
 }
 
-/// A client's message to the daemon: it begins, asks for a number of cores, or reports an act of one of its threads.
+/// A client's message to the daemon: it registers, asks for a number of cores, or reports what one of its threads does.
 #[derive(Clone, Copy, PartialEq, Eq, Debug)]
 pub enum Message {
     Hello { priority: u32, reserved: u32, most: u32 },
@@ -117,8 +117,8 @@ impl State {
         (code == DONE).then_some(state)
     }
 
-    /// Adds a client. This call and the calls for the other events return false if the event is not allowed now; then
-    /// nothing has changed.
+    /// Adds a client. Like the other calls with a `bool` result, returns false and changes nothing if this is not
+    /// allowed now.
     pub fn hello(&mut self, client: usize, priority: u8, reserved: u32, most: u32) -> bool {
         // SAFETY: nobody else uses the handle, as `&mut` says.
         unsafe { arachne_arbiter_hello(&mut self.0, client, priority, reserved, most) == DONE }

@@ -1,4 +1,4 @@
-//! The ways to keep a core for one kernel thread, and other threads off it.
+//! Keeps a core for one kernel thread and other threads off it, by cpusets or by affinity.
 
 use crate::sys;
 use crate::threads::{family, threads_of, Threads};
@@ -9,8 +9,8 @@ use std::path::{Path, PathBuf};
 pub enum Means {
     /// Cpusets of version 1, in a folder of the arbiter's: `rest`, and a `cpuN` for each processor.
     Cpusets(Sets),
-    /// The affinity of clients' threads, and the processors of groups of version 2, in which other processes are.
-    /// Without a group other processes run on any processor.
+    /// The affinity of clients' threads, and the control groups (version 2) of other processes, whose processors are
+    /// restricted. Without a group other processes run on any processor.
     Affinity(Vec<PathBuf>),
 }
 
@@ -128,15 +128,15 @@ impl Means {
         }
     }
 
-    /// Moves one thread of a client's process to the set `rest`. If a whole process is moved, Linux waits for all
-    /// processors.
+    /// Moves one thread of a client's process to the set `rest`. (To move a whole process at once, Linux would wait for
+    /// all processors.)
     pub fn admit(&self, thread: u32) {
         if let Means::Cpusets(Sets { top, .. }) = self {
             let _ = write(top.join("rest/tasks"), thread);
         }
     }
 
-    /// Lets a thread that is no client's any more run on all processors.
+    /// Lets a thread that no longer belongs to a client run on all processors.
     pub fn release(&self, thread: u32, all: &[usize]) {
         if let Means::Affinity(_) = self {
             let _ = sys::set_affinity(thread, all);
@@ -162,7 +162,7 @@ impl Means {
         Ok(())
     }
 
-    /// Makes the moves that are still to be made.
+    /// Makes the moves that were put off.
     pub fn carry_out(&mut self) {
         if let Means::Cpusets(sets) = self {
             for (thread, set) in std::mem::take(&mut sets.later) {
@@ -195,7 +195,7 @@ impl Means {
         }
     }
 
-    /// Moves a thread that is no client's off its core.
+    /// Moves a thread that belongs to no client off its core.
     pub fn free(&mut self, thread: u32, all: &[usize]) {
         let _ = match self {
             Means::Cpusets(sets) => sets.put(thread, "rest"),

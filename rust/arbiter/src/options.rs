@@ -1,4 +1,4 @@
-//! Reads the words of the command `run`: the processors, the sockets, and the means to keep threads on cores.
+//! Parses the arguments of the command `run`: the processors, the sockets, and how to keep threads on cores.
 
 use crate::{sys, topology};
 use std::fs;
@@ -21,7 +21,7 @@ pub struct Options {
 }
 
 impl Options {
-    /// Reads the words behind `run`. Returns None if the words are wrong.
+    /// Parses the arguments behind `run`. Returns None if they are wrong.
     pub fn read(mut words: impl Iterator<Item = String>) -> Option<Options> {
         let (socket, mut listed) = (words.next()?.into(), false);
         let mut options = Options {

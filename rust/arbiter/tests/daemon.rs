@@ -131,7 +131,7 @@ fn processors() -> Vec<u32> {
     all.split(',').flat_map(|part| ends(part)[0]..=*ends(part).last().unwrap()).collect()
 }
 
-/// Begins a daemon that has one core, which goes from client to client each 40 ms.
+/// Starts a daemon that has one core, which goes from client to client each 40 ms.
 fn with_one_core(name: &str) -> Daemon {
     let two = format!("{},{}", processors()[0], processors()[1]);
     Daemon::at(path_of(name), &["--cores", &two, "--turn", "40"])
@@ -160,7 +160,7 @@ fn a_core_goes_round_among_those_that_want_it_and_can_take_it() {
     assert!(is_silent(&never), "a lower priority gets nothing while a core goes round");
 }
 
-/// The core goes from the first client to the second, which then asks for no core, while a third client waits.
+/// A core goes from the first client to the second, which then asks for no core, while a third client waits.
 #[test]
 fn a_turn_that_is_not_taken_is_no_lower_priority_s() {
     let daemon = with_one_core("not-taken");
@@ -189,7 +189,7 @@ fn a_reserved_core_does_not_go_round() {
     assert!(is_silent(&it.control) && is_silent(&thread));
 }
 
-/// The kernel's account is a folder in which each two processors are one core.
+/// The test's folder says, in place of the kernel's, that each two processors are hyperthreads of one core.
 #[test]
 fn hyperthreads_of_one_core_are_granted_together() {
     let (cpus, folder) = (processors(), path_of("topology"));
@@ -432,7 +432,7 @@ fn the_status_says_who_has_which_core_and_what_was_moved() {
     becomes("nobody has it", || status(&daemon).contains(&format!("processor {cpu}: nobody, for ")));
 }
 
-/// Begins a thread, and returns its number and a function that ends it.
+/// Starts a thread. Returns its id in the kernel and a function that ends it.
 fn begin() -> (u32, impl FnOnce()) {
     let (ends, waits) = mpsc::channel::<()>();
     let (sender, numbers) = mpsc::channel();
@@ -474,7 +474,7 @@ fn a_thread_that_has_the_number_of_one_that_ended_is_not_moved() {
     (again.1)();
 }
 
-/// There are more threads than the daemon looks at before a decision.
+/// There are more threads than the daemon checks before a decision.
 #[test]
 fn all_threads_that_one_with_a_core_begins_leave_it() {
     let daemon = Daemon::new("begins");

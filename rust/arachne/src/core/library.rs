@@ -1,12 +1,12 @@
-//! The proved core: each call of a handle is one of `libarachne_exec_c.a`, as `arachne_exec.h` declares it.
+//! The proved core: each call is one of the functions of `libarachne_exec_c.a`, as `arachne_exec.h` declares them.
 //!
 //! The proofs hold for a program if these rules are kept. Each rule says what keeps it:
 //!
 //! - *A handle is null at first, only the library writes its pointer, and it is never copied*: `Handle` is made by
 //!   `Handle::empty`, moved and never cloned.
 //! - *One thread at a time uses a handle*: no call of the library calls back, and a type that has a handle is `Send`
-//!   and not `Sync`, except `Crew`. A worker that takes a job out of another's hand gets the job's handle with it
-//!   (`hand.rs`).
+//!   and not `Sync`, except `Crew`. A worker that steals a job from another's local queues gets the job's handle with
+//!   it (`hand.rs`).
 //! - *Two handles in one call have one origin*: `Root` splits and joins only its own handles.
 //! - *Pointers are not null*: all are from references.
 //! - *The declarations agree with the archive*: `tests/header.rs` compares each code, field and signature.
@@ -20,8 +20,8 @@
 //! - *`malloc`, `realloc` and `free` are of one allocator*: the C library's; a program that replaces one must replace
 //!   all three.
 //!
-//! A handle, called a seat here, has at most one job in hand, so a thread has several seats. A seat goes with its job:
-//! a thread that steals a job uses the job's seat until it lays the job down.
+//! A handle, called a seat here, holds at most one job, so a thread has several seats. A seat goes with its job: a
+//! thread that steals a job uses the job's seat until it puts the job back.
 
 use super::{Asked, Freed, Job, Line, Rested, Spawned, Woken, BLOCK, MOST_SHARDS, NUMBERS};
 use crate::cores::{Advice, Sample};
@@ -92,11 +92,11 @@ struct Member {
 // the seat until it lays the job down and sets the seat's bit in `laid`, by which the owner gets the seat back.
 unsafe impl Sync for Crew {}
 
-/// A thread's seats: one for each job that it may have in hand, and the first seat for calls that change no hand.
+/// A thread's seats: one for each job that it may hold, and the first one for calls that take and put back no job.
 pub(crate) struct Hands {
     crew: Arc<Crew>,
     me: usize,
-    /// The seats with no job in hand, as bits.
+    /// The seats that hold no job, as bits.
     free: Cell<u64>,
     /// For each seat, the index in a block at which its next take starts: the library keeps such an index per seat, not
     /// per thread.
@@ -105,7 +105,7 @@ pub(crate) struct Hands {
     sweeps: Cell<usize>,
 }
 
-/// The right to sleep as the worker that looks after the shards of one worker number.
+/// The right to sleep as the worker of one worker number's shards.
 pub(crate) struct Parking(Handle);
 
 impl Root {
@@ -117,7 +117,7 @@ impl Root {
         made.then(|| Root(handle))
     }
 
-    /// Makes the seats of `threads` threads, each with at most `most` jobs in hand; `most` is less than 64.
+    /// Makes the seats of `threads` threads, each of which may hold `most` jobs; `most` is less than 64.
     pub(crate) fn crew(&mut self, threads: usize, most: usize) -> Option<Vec<Hands>> {
         let each = 1 + most;
         let seats = (0..threads * each).map(|_| self.0.split()).collect::<Option<Box<[_]>>>()?;
@@ -132,7 +132,7 @@ impl Root {
         Some((0..threads).map(hands).collect())
     }
 
-    /// Takes a thread's seats back, which must have no job in hand. The last thread of a crew joins all its handles.
+    /// Takes a thread's seats back, which must hold no job. The last thread of a crew joins all its handles.
     pub(crate) fn join(&mut self, hands: Hands) {
         for seat in Arc::try_unwrap(hands.crew).map_or(Box::default(), |crew| crew.seats).iter() {
             // SAFETY: two handles of one origin.
@@ -154,8 +154,8 @@ impl Parking {
     /// Asks the core whether the worker may sleep. If the result is true, the worker's idle bit is set, and every
     /// summary word was found empty after that.
     ///
-    /// The call is one of the core's `next`, which also hides empty blocks. If `next` takes a job, the job is made
-    /// ready again.
+    /// The call is one of the core's `next`, which also clears the summary bits of empty blocks. If `next` takes a job,
+    /// makes the job ready again.
     pub(crate) fn park(&self) -> bool {
         // SAFETY: a handle.
         let told = unsafe { arachne_exec_next(self.0.at()) };
@@ -174,7 +174,7 @@ impl Parking {
         }
     }
 
-    /// Clears the idle bit of this worker number: the worker that looks after it is awake.
+    /// Clears the idle bit of this worker number: its worker is awake.
     pub(crate) fn wake_up(&self) {
         // SAFETY: a handle.
         unsafe { arachne_exec_wake_up(self.0.at()) };
@@ -210,14 +210,13 @@ impl Hands {
         self.crew.seats[owner * self.crew.each + which].at()
     }
 
-    /// Returns the seat for calls that change no hand.
+    /// Returns the seat for calls that take and put back no job.
     #[inline]
     fn any(&self) -> *mut arachne_exec {
         self.crew.seats[self.me * self.crew.each].at()
     }
 
-    /// Records that this thread has stolen a job from another thread's hand. The seat by which the job was taken comes
-    /// with the job.
+    /// Records that this thread has stolen a job from another thread. The seat that holds the job comes with it.
     ///
     /// Returns false if other threads already use `AWAY` seats of the thread `of`, to which this seat belongs. The
     /// caller must then make the job ready at once, which gives the seat back to its owner.
@@ -230,7 +229,7 @@ impl Hands {
         owner != of || away.fetch_add(1, Relaxed) < AWAY
     }
 
-    /// Puts a job into a place of the block. With `keep` the job stays in this thread's hand.
+    /// Puts a job into a place of the block. With `keep` this thread holds the job, otherwise it becomes ready.
     #[inline]
     pub(crate) fn spawn(&self, block: usize, job: u64, keep: bool) -> Spawned {
         let own = if keep { self.last_free() } else { None };
@@ -258,7 +257,7 @@ impl Hands {
         }
     }
 
-    /// Begins a job that was kept in hand. Does nothing in this form of the core.
+    /// Begins to run a job that this thread holds. Does nothing in this form of the core.
     #[inline]
     pub(crate) fn begin(&self, _job: &Job) {}
 
@@ -272,9 +271,9 @@ impl Hands {
     /// Takes the next job of a sweep over the places `wanted` of a block, as bits.
     ///
     /// A job that has become ready since the sweep of the block began may come before those at `wanted` places. A place
-    /// is wanted until the sweep has passed it, so that a job which is ready again and again keeps no other waiting.
-    /// A sweep takes all its jobs by one seat, unless that seat is in use: the library keeps for each seat where in a
-    /// block it looks next, so several seats would look at the same places several times.
+    /// is wanted until the sweep has passed it, so that a job which is ready again and again keeps no other waiting. A
+    /// sweep takes all its jobs by one seat, unless that seat is in use: the library keeps for each seat where in a
+    /// block it searches next, so several seats would search the same places several times.
     #[inline]
     pub(crate) fn take_next(&self, block: usize, wanted: &mut u64) -> Option<Job> {
         let seat = self.sweeping()?;
@@ -314,13 +313,13 @@ impl Hands {
         unsafe { arachne_exec_shown(self.any(), shard) }
     }
 
-    /// Does nothing, and returns true: the summary goes on showing an empty block until `Parking::park` clears its bit.
+    /// Does nothing, and returns true: an empty block keeps its bit in the summary until `Parking::park` clears it.
     #[inline]
     pub(crate) fn hide(&self, _block: usize) -> bool {
         true
     }
 
-    /// Gives a seat, with no job in hand, back to its owner.
+    /// Gives a seat, which holds no job, back to its owner.
     #[inline]
     fn is_free(&self, seat: u16) {
         let (owner, which) = owner(seat);
@@ -332,7 +331,7 @@ impl Hands {
         member.away.fetch_sub(1, Relaxed);
     }
 
-    /// Returns the seats with no job in hand. If there are none, collects those that other threads have given back.
+    /// Returns the seats that hold no job. If there are none, collects those that other threads have given back.
     #[inline]
     fn free(&self) -> u64 {
         match self.free.get() {
@@ -341,7 +340,7 @@ impl Hands {
         }
     }
 
-    /// Takes the seat of the last sweep or, if that seat has a job in hand, the first free one.
+    /// Takes the seat of the last sweep or, if that seat holds a job, the first free one.
     #[inline]
     fn sweeping(&self) -> Option<u16> {
         let free = self.free();
@@ -369,7 +368,7 @@ impl Hands {
         (self.me << 6 | which) as u16
     }
 
-    /// Makes a job in hand ready. Returns true if the caller must wake the worker of its shard.
+    /// Makes a job that this thread holds ready. Returns true if the caller must wake the worker of its shard.
     #[inline]
     pub(crate) fn rest_ready(&self, job: &Job) -> bool {
         // SAFETY: a handle.
@@ -381,7 +380,7 @@ impl Hands {
         told.unpark != ARACHNE_NOBODY
     }
 
-    /// Blocks a job in hand until a wake, unless a wake has come since the job was taken.
+    /// Blocks a job that this thread holds until a wake, unless a wake has come since the job was taken.
     #[inline]
     pub(crate) fn rest_blocked(&self, job: &Job) -> Rested {
         // SAFETY: a handle.
@@ -394,7 +393,7 @@ impl Hands {
         }
     }
 
-    /// Ends a job in hand. The job's place is then free, and its name is never used again.
+    /// Ends a job that this thread holds. The job's place is then free, and its name is never used again.
     #[inline]
     pub(crate) fn finish(&self, job: &Job) {
         // SAFETY: a handle.
@@ -405,7 +404,7 @@ impl Hands {
         self.is_free(job.seat);
     }
 
-    /// Wakes the job of this name. If the job waited and `keep` is true, takes it into this thread's hand.
+    /// Wakes the job of this name. If the job waited and `keep` is true, takes it, so that this thread holds it.
     #[inline]
     pub(crate) fn wake(&self, name: u64, keep: bool) -> Woken {
         let own = if keep { self.last_free() } else { None };
@@ -508,7 +507,7 @@ fn odd_number() -> u64 {
     })
 }
 
-/// The core's part of a lock: its holder, and the queue of waiters.
+/// A lock of the core, without its value: the core knows the holder and the queue of waiters.
 pub(crate) struct LockCore {
     set: usize,
     lock: usize,

@@ -1,4 +1,5 @@
-//! The core's steps on Rust's atomics: a stand-in for the proved library, for tests, ThreadSanitizer and comparison.
+//! A stand-in for the proved library in Rust with atomics, for builds without the archive, for tests and for
+//! ThreadSanitizer.
 //!
 //! A job is ready if its bit in the ready word of its block is set; the thread that clears the bit has the job. A
 //! place's mark is four times its generation, plus 1 if its job was woken since it was taken, plus 2 if it is blocked.
@@ -28,7 +29,7 @@ struct Table {
     summary: Box<[Line<AtomicU64>]>,
     idle: Line<AtomicU64>,
 }
-// SAFETY: only the seat that has a place in hand accesses the place's slot: the seat that cleared the place's bit in
+// SAFETY: only the seat that holds a place's job accesses the place's slot: the seat that cleared the place's bit in
 // the free or the ready word, or changed its mark from blocked. Those steps order the accesses.
 unsafe impl Sync for Table {}
 // SAFETY: as above; the numbers in the slots belong to no thread.
@@ -45,10 +46,10 @@ impl Table {
         &self.blocks[place / BLOCK].marks[place % BLOCK]
     }
 
-    /// Returns the slot of a place.
+    /// Returns the slot (the field for the job's number) of a place.
     ///
     /// # Safety
-    /// The slot may only be accessed while the caller's seat has the place in hand.
+    /// The slot may only be accessed while the caller holds the job at the place.
     #[inline]
     unsafe fn slot(&self, place: usize) -> *mut u64 {
         self.blocks[place / BLOCK].slots[place % BLOCK].get()
@@ -57,7 +58,7 @@ impl Table {
     /// Makes the job of a place ready. Returns true if the caller must wake the worker of the place's shard.
     ///
     /// If the ready word had a bit already, the thread that set the word's first bit does the remaining steps. Their
-    /// order closes the race with `park`: the ready bit, then the summary bit, then a look at the idle bit.
+    /// order closes the race with `park`: set the ready bit, then the summary bit, then read the idle bit.
     #[inline]
     fn publish(&self, place: usize) -> bool {
         let block = place / BLOCK;
@@ -135,7 +136,7 @@ impl Root {
         Some((0..threads).map(|_| Hands { table: self.0.clone(), _one_thread: Cell::new(()) }).collect())
     }
 
-    /// Takes a thread's access back, which must have no job in hand.
+    /// Takes a thread's access back, which must hold no job.
     pub(crate) fn join(&mut self, hands: Hands) {
         debug_assert!(Arc::ptr_eq(&self.0, &hands.table));
     }
@@ -146,10 +147,10 @@ impl Root {
 }
 
 impl Parking {
-    /// Sets the idle bit of this worker number, and then looks at all ready words of its shards. Returns true if all
-    /// these words were empty.
+    /// Sets the idle bit of this worker number, and then reads all ready words of its shards. Returns true if all these
+    /// words were empty.
     ///
-    /// The order of the two steps matters: a thread that publishes a job sets its ready bit before it looks at the idle
+    /// The order of the two steps matters: a thread that publishes a job sets its ready bit before it reads the idle
     /// bit.
     pub(crate) fn park(&self) -> bool {
         let table = &*self.table;
@@ -168,14 +169,14 @@ impl Parking {
         true
     }
 
-    /// Clears the idle bit of this worker number: the worker that looks after it is awake.
+    /// Clears the idle bit of this worker number: its worker is awake.
     pub(crate) fn wake_up(&self) {
         self.table.wake_up(self.number);
     }
 }
 
 impl Hands {
-    /// Puts a job into a place of the block. With `keep` the job stays in this thread's hand.
+    /// Puts a job into a place of the block. With `keep` this thread holds the job, otherwise it becomes ready.
     #[inline]
     pub(crate) fn spawn(&self, block: usize, job: u64, keep: bool) -> Spawned {
         let free = &self.table.blocks[block].free.0;
@@ -201,14 +202,14 @@ impl Hands {
         }
     }
 
-    /// Records that this thread has taken a job out of another thread's hand. Always returns true in this form of the
-    /// core.
+    /// Records that this thread has stolen a job from another thread. Always returns true in this form of the core.
     #[inline]
     pub(crate) fn gets(&self, _job: &Job, _of: usize) -> bool {
         true
     }
 
-    /// Begins a job that was kept in hand, and clears its mark: the poll that follows answers earlier wakes.
+    /// Begins to run a job that this thread holds, and clears the record of a wake: the poll that follows answers
+    /// earlier wakes.
     #[inline]
     pub(crate) fn begin(&self, job: &Job) {
         let mark = self.table.mark(job.place());
@@ -260,28 +261,28 @@ impl Hands {
         self.table.summary[shard].0.load(SeqCst)
     }
 
-    /// Hides an empty block, unless it has got jobs meanwhile. Always returns false in this form of the core: nothing
-    /// is left to hide.
+    /// Clears the summary bit of an empty block, unless it has got jobs meanwhile. Always returns false in this form of
+    /// the core.
     pub(crate) fn hide(&self, block: usize) -> bool {
         self.table.hide(block);
         false
     }
 
-    /// Makes a job in hand ready. Returns true if the caller must wake the worker of the job's shard.
+    /// Makes a job that this thread holds ready. Returns true if the caller must wake the worker of the job's shard.
     #[inline]
     pub(crate) fn rest_ready(&self, job: &Job) -> bool {
-        // SAFETY: the job is in this thread's hand.
+        // SAFETY: this thread holds the job.
         unsafe { *self.table.slot(job.place()) = job.job };
         self.table.publish(job.place())
     }
 
-    /// Blocks a job in hand until a wake, unless a wake has come since the job was taken or begun.
+    /// Blocks a job that this thread holds until a wake, unless a wake has come since the job was taken or begun.
     #[inline]
     pub(crate) fn rest_blocked(&self, job: &Job) -> Rested {
         let mark = self.table.mark(job.place());
         let quiet = job.name >> PLACE_BITS << 2;
         if mark.load(SeqCst) == quiet {
-            // SAFETY: the job is in this thread's hand.
+            // SAFETY: this thread holds the job.
             unsafe { *self.table.slot(job.place()) = job.job };
             if mark.compare_exchange(quiet, quiet | BLOCKED, SeqCst, SeqCst).is_ok() {
                 return Rested::Blocked;
@@ -290,7 +291,7 @@ impl Hands {
         Rested::InHand
     }
 
-    /// Ends a job in hand. The job's place is then free, and its name is never used again.
+    /// Ends a job that this thread holds. The job's place is then free, and its name is never used again.
     #[inline]
     pub(crate) fn finish(&self, job: &Job) {
         let next = (job.name >> PLACE_BITS) + 1;
@@ -300,7 +301,7 @@ impl Hands {
         }
     }
 
-    /// Wakes the job of this name. If the job waited and `keep` is true, takes it into this thread's hand.
+    /// Wakes the job of this name. If the job waited and `keep` is true, takes it, so that this thread holds it.
     #[inline]
     pub(crate) fn wake(&self, name: u64, keep: bool) -> Woken {
         let (place, generation) = (place_of(name), name >> PLACE_BITS);
@@ -334,7 +335,7 @@ const FREE: u8 = 0;
 const HELD: u8 = 1;
 const QUEUED: u8 = 2;
 
-/// The core's part of a lock: its holder, and the queue of waiters.
+/// A lock of the core, without its value: its holder, and the queue of waiters.
 #[derive(Default)]
 pub(crate) struct LockCore {
     /// `FREE`; `HELD`, with nobody waiting; or `QUEUED`: held, with waiters in `line`.

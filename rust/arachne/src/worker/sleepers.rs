@@ -5,18 +5,18 @@
 //! ms, each millisecond while tasks run, and takes the place of the worker of the epoll if that worker is stuck in a
 //! poll. So the events of sockets are seen as long as one worker is in no long poll.
 //!
-//! **Beside a long poll.** While any worker is awake, the worker in the epoll and the deputy look at the others, at
-//! most `LONG_REST` apart. If a worker is in the same poll at two looks, the worker that looks takes all jobs in that
-//! worker's hand, the next one too, fires its timers, and takes the ready jobs of its blocks. A worker that is woken
-//! again and again does the same once a millisecond, before it goes back to sleep (`looks_before_sleep`), and a busy
-//! worker does it as it looks out (`look_out`). So, as long as one worker is in no long poll, a ready job behind a long
-//! poll begins within about 4 ms plus the delays of the machine. Once all workers sleep, nobody looks. The first worker
-//! that runs a job after a sleep wakes another worker, which looks again (`goes_on`).
+//! **Beside a long poll.** While any worker is awake, the worker in the epoll and the deputy check the others, at most
+//! `LONG_REST` apart. If they find a worker in the same poll twice, they take all jobs in its local queues, the next
+//! one too, fire its timers, and take the ready jobs of its blocks. A worker that is woken again and again does the
+//! same once a millisecond, before it goes back to sleep (`looks_before_sleep`), and so does a busy worker in
+//! `look_out`. So, as long as one worker is in no long poll, a ready job behind a long poll begins within about 4 ms
+//! plus the delays of the machine. Once all workers sleep, nobody checks. The first worker that runs a job after a
+//! sleep wakes another worker, which checks again (`goes_on`).
 //!
 //! **Without a core.** While only the first worker has a core, the second one covers for it (`cover`): each millisecond
-//! the second worker looks if the first makes progress. If not, as the first is in a long poll or has lost its
+//! the second worker checks if the first makes progress. If not, since the first is in a long poll or has lost its
 //! processor, the second runs the waiting jobs, on any processor that it may use. Once nothing has run for a while the
-//! second worker looks less and less often, and `goes_on` makes it look each millisecond again.
+//! second worker checks less and less often, and `goes_on` makes it check each millisecond again.
 //!
 //! With the watcher, ready jobs also run if all workers are in long polls.
 
@@ -30,19 +30,18 @@ use crate::timer::{self, now};
 
 /// Rounds in which an idle worker searches for work before it sleeps.
 const SPINS: usize = 4;
-/// The most milliseconds between two looks at the other workers while one of them is awake. A worker that looks after
-/// the others and sleeps for longer is woken once tasks run again.
+/// The most milliseconds between two checks of the other workers while one of them is awake. A worker that checks the
+/// others and sleeps for longer is woken once tasks run again.
 const LONG_REST: i32 = 2;
-/// The milliseconds between two looks at the other workers while all workers sleep: some 17 minutes, so that nobody
-/// looks.
+/// The milliseconds between two checks of the other workers while all workers sleep: some 17 minutes, as good as never.
 const FOR_EVER: i32 = 1 << 20;
-/// Nanoseconds between two looks of the worker that covers for the first, while tasks run.
+/// Nanoseconds between two checks of the first worker by the one that covers for it, while tasks run.
 const COVER: u64 = 1_000_000;
-/// Nanoseconds between these looks once the last one found a task to run.
+/// Nanoseconds between these checks once the last one found a task to run.
 const COVER_SOON: u64 = 200_000;
-/// The most nanoseconds between these looks while the first worker is awake.
+/// The most nanoseconds between these checks while the first worker is awake.
 const COVER_LONG: u64 = 2_000_000;
-/// The most nanoseconds between these looks while the first worker sleeps.
+/// The most nanoseconds between these checks while the first worker sleeps.
 const COVER_MOST: u64 = 3_600_000_000_000;
 
 /// The reasons for which a wait of a worker without a core ends.
@@ -93,7 +92,8 @@ impl Shared {
         }
     }
 
-    /// Searches for something to run, for a short while. Returns true if there is something in hand or ready.
+    /// Searches for something to run, for a short while. Returns true if there is something in the worker's local
+    /// queues or ready.
     fn finds_work(&'static self, context: &Context, turn: &mut Turn) -> bool {
         turn.seen.iter_mut().zip(self.workers.iter()).for_each(|(seen, w)| *seen = w.0.polls.load(Relaxed));
         for spin in 0..SPINS {
@@ -109,14 +109,14 @@ impl Shared {
         false
     }
 
-    /// Returns true if a job seems ready in this worker's blocks, or in the blocks of the workers that it looks after.
+    /// Returns true if a job seems ready in this worker's blocks, or in those of the workers for which it stands in.
     pub(super) fn mine(&self, context: &Context) -> bool {
         let me = context.me;
         self.ready(&context.hands, me) != 0 || self.lodgers(me).any(|other| self.ready(&context.hands, other) != 0)
     }
 
-    /// Returns whether this worker may sleep. It asks the core so for its own shards, and for the shards of the workers
-    /// that it looks after.
+    /// Returns whether this worker may sleep. Asks the core about the worker's own shards, and about those of the
+    /// workers for which it stands in.
     fn may_park(&self, context: &Context) -> bool {
         std::iter::once(context.me).chain(self.lodgers(context.me)).all(|owner| {
             let parking = self.workers[owner].0.parking.lock().unwrap();
@@ -133,7 +133,7 @@ impl Shared {
         }
     }
 
-    /// Clears the idle bits of this worker, and of the workers that it looks after.
+    /// Clears the idle bits of this worker, and of the workers for which it stands in.
     fn wake_up(&self, context: &Context) {
         for owner in std::iter::once(context.me).chain(self.lodgers(context.me)) {
             let parking = self.workers[owner].0.parking.lock().unwrap();
@@ -224,10 +224,10 @@ impl Shared {
         }
     }
 
-    /// Looks after the other workers before a sleep, if the last time was `LONG_POLL` ago. Returns true if tasks of a
-    /// stuck worker need this one.
+    /// Calls `look_after` before a sleep, if the last call was `LONG_POLL` ago. Returns true if tasks of a stuck worker
+    /// need this one.
     ///
-    /// A worker that is woken again and again never sleeps for long enough to look after others within a sleep.
+    /// A worker that is woken again and again never sleeps for long enough to check the others within a sleep.
     fn looks_before_sleep(&self, context: &Context, turn: &mut Turn) -> bool {
         let now = context.looked.get();
         if self.workers.len() == 1 || now.saturating_sub(turn.looked) < LONG_POLL {
@@ -240,11 +240,12 @@ impl Shared {
         waits
     }
 
-    /// Takes the jobs in hand of workers that made no progress since the last look, and fires their timers.
+    /// Takes the jobs in the local queues of workers that have made no progress since the last call, and fires their
+    /// timers.
     ///
-    /// If a worker has not yet given back a core that it must give back, only its jobs are taken: its timers already
-    /// have another keeper. Returns two values: true if there is a stuck worker, and true if there are jobs or timers
-    /// of a stuck worker to run.
+    /// If a worker has not yet given back a core that it must give back, only its jobs are taken: another worker
+    /// already fires its timers. Returns two values: true if there is a stuck worker, and true if there are jobs or
+    /// timers of a stuck worker to run.
     fn look_after(&self, context: &Context, turn: &mut Turn) -> (bool, bool) {
         let (active, sleepers) = (self.active.0.load(SeqCst), self.sleepers.0.load(SeqCst));
         let (mut stands, mut waits) = (false, false);
@@ -289,7 +290,7 @@ impl Shared {
         self.covers.0.store(0, SeqCst);
     }
 
-    /// Runs the jobs that the first worker doesn't get to. Returns the nanoseconds until the next look.
+    /// Runs the jobs that the first worker doesn't get to. Returns the nanoseconds until the next check.
     fn look_at_first(&self, context: &Context, turn: &mut Turn, rested: u64) -> u64 {
         let polls = self.workers[0].0.polls.load(Relaxed);
         if std::mem::replace(&mut turn.seen[0], polls) != polls {
@@ -302,7 +303,7 @@ impl Shared {
         (2 * rested).clamp(COVER, COVER_MOST)
     }
 
-    /// Makes the worker that covers for the first look each millisecond again.
+    /// Makes the worker that covers for the first check it each millisecond again.
     fn call_cover(&self) {
         let gate = self.workers[1].0.given_back.0.lock().unwrap();
         self.covers.0.store(COVER, SeqCst);
@@ -344,10 +345,10 @@ impl Shared {
         ran != 0
     }
 
-    /// Returns for how many milliseconds a worker that looks after the others sleeps, and publishes this number.
+    /// Returns for how many milliseconds a worker that checks the others sleeps, and publishes this number.
     ///
-    /// The sleep is `least` while tasks run, and `times` as long after each look at which no task has run; at most
-    /// `LONG_REST` while any worker is awake.
+    /// The sleep is `least` while tasks run, and `times` as long after each check that finds that no task has run; at
+    /// most `LONG_REST` while any worker is awake.
     fn rests_of(&self, me: usize, turn: &mut Turn, least: i32, times: i32, told: &AtomicI32) -> i32 {
         let polls = self.workers.iter().map(|worker| worker.0.polls.load(Relaxed)).sum();
         let longer = turn.rests.saturating_mul(times).clamp(least, FOR_EVER);
@@ -368,11 +369,11 @@ impl Shared {
         self.workers.iter().enumerate().any(|(other, line)| sleepers >> other & 1 == 0 && !line.0.away.load(SeqCst))
     }
 
-    /// Wakes a worker that looks after this worker, which has woken and has something to do that may take long.
+    /// Wakes a worker that checks this one, which has woken and has something to do that may take long.
     ///
     /// If nobody waits in the epoll and there is no deputy, any sleeping worker is woken to wait there. If the workers
-    /// that look after the others sleep for longer than `LONG_REST`, one of them is woken, to look more often again; so
-    /// is the worker that covers for the first.
+    /// that check the others sleep for longer than `LONG_REST`, wakes one of them, to check more often again, and the
+    /// worker that covers for the first.
     pub(crate) fn goes_on(&self) {
         if self.covers.0.load(SeqCst) > COVER_LONG {
             self.call_cover();

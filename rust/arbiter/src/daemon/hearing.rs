@@ -1,4 +1,4 @@
-//! Connections: reads what has come on them before a decision, and does what each message asks for.
+//! Reads the messages of all connections before a decision, and carries out each of them.
 
 use super::{Arbiter, Client, Thread};
 use crate::means::Means;

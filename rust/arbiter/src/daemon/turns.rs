@@ -11,7 +11,7 @@ pub(super) struct Turns {
     /// The time between two turns; zero if there are none.
     every: Duration,
     looked: Instant,
-    /// The number of turns, added to the number of times that a client had no thread for the core of its turn.
+    /// A count that grows with each turn, and with each time that a client had no thread for the core of its turn.
     pub(super) count: u64,
     current: Option<Turn>,
 }
@@ -49,7 +49,7 @@ impl Arbiter {
         ids.into_iter().for_each(|id| self.tell(id));
     }
 
-    /// Returns when a turn may begin, if one may.
+    /// Returns the time at which the next turn may begin, if there are turns.
     pub(super) fn next_turn(&self) -> Option<Instant> {
         let Turns { every, looked, current, .. } = &self.turns;
         let may = self.clients.len() > 1 && current.is_none() && !every.is_zero();
@@ -108,7 +108,7 @@ impl Arbiter {
         Some(Turn { priority: client.priority, from, to, most })
     }
 
-    /// Ends the turn if the core has changed hands. Returns false if the turn goes on.
+    /// Ends the turn if the second client has the core now. Returns false if the turn goes on.
     pub(super) fn end_turn(&mut self) -> bool {
         let (from, to, most) = match &self.turns.current {
             Some(turn) => (turn.from, turn.to, turn.most[&turn.to]),

@@ -1,4 +1,4 @@
-//! A daemon for a test, and the calls of a client at its socket.
+//! Starts a daemon for a test, and talks to it as a client does.
 #![allow(dead_code)]
 
 use arbiter::protocol::*;
@@ -13,10 +13,10 @@ use std::sync::mpsc;
 use std::thread;
 use std::time::{Duration, Instant};
 
-/// The time within which everything that must happen does, also on a machine that has much else to do.
+/// The time within which everything that must happen does, also on a busy machine.
 const PATIENCE: Duration = Duration::from_secs(60);
 
-/// A daemon's socket, and the calls of a client there.
+/// The path of a daemon's socket, with the calls of a client.
 pub struct Socket(pub PathBuf);
 
 impl Socket {
@@ -34,7 +34,7 @@ impl Socket {
         (stream, answer)
     }
 
-    /// Begins a kernel thread that lives as long as this test, and returns its connection.
+    /// Starts a kernel thread that lives as long as this test, and returns its connection.
     pub fn thread(&self, client: u32, place: u32, floats: bool) -> UnixStream {
         let (sender, numbers) = mpsc::channel();
         thread::spawn(move || {
@@ -53,7 +53,7 @@ impl Socket {
         stream
     }
 
-    /// Begins a kernel thread that waits for a core, and returns its connection.
+    /// Starts a kernel thread that waits for a core, and returns its connection.
     pub fn waiting(&self, client: u32, place: u32) -> UnixStream {
         let mut stream = self.thread(client, place, false);
         send(&mut stream, [WAIT, 0, 0, 0]);
@@ -61,13 +61,13 @@ impl Socket {
     }
 }
 
-/// Returns the kernel's number of this thread.
+/// Returns this thread's id in the kernel.
 pub fn number() -> u32 {
     let link = fs::read_link("/proc/thread-self").unwrap();
     link.file_name().unwrap().to_str().unwrap().parse().unwrap()
 }
 
-/// The guardian, whose child is the daemon.
+/// The process that a test starts: a guardian, whose child is the daemon.
 pub struct Daemon {
     pub guardian: Child,
     pub socket: Socket,
@@ -90,7 +90,7 @@ impl Daemon {
         Daemon::begun(run(&path, words), path)
     }
 
-    /// Begins a daemon by this command, in which the path of its socket is `path`.
+    /// Starts a daemon by this command, in which the path of its socket is `path`.
     pub fn begun(mut command: Command, path: PathBuf) -> Daemon {
         let mut guardian = command.stdout(Stdio::piped()).spawn().unwrap();
         let mut line = [0; 6];
