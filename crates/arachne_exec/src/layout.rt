@@ -10,7 +10,7 @@ pub const PLACES_PER_BLOCK: usize = 64;
 
 pub const BLOCKS_PER_SHARD: usize = 64;
 
-/// The most workers. Worker `w` looks after the shards `w`, `w + 64`, `w + 128` and so on.
+/// The most workers. The blocks of worker `w` are those of the shards `w`, `w + 64`, `w + 128` and so on.
 pub const WORKERS: usize = 64;
 
 /// The most shards of an executor.
@@ -30,7 +30,7 @@ pub fn place_of(name: u64) -> usize
     (name % (1 << 20)) as usize
 }
 
-/// Returns the worker that looks after a place.
+/// Returns the worker whose shards have this place.
 pub fn worker_of_place(place: usize) -> usize
     ensures { result ≡ worker_of (place / 4096) }
 {

@@ -11,7 +11,7 @@ use crate::layout::summary_word;
 use crate::rounds::Round;
 use crate::seat::{ExecSeat, SeatInCall};
 
-/// Returns the number of shards that a worker looks after, of `shards` shards.
+/// Returns how many of `shards` shards are a worker's.
 fn shards_of(worker: usize, shards: usize) -> usize
     requires { worker < 64 }
     ensures all { (j : ℕ) → worker + 64 * j < shards → j < result }

@@ -1,4 +1,4 @@
-//! The handle by which C adds to ledgers: a pointer to a share and its ledgers, or null.
+//! The handle by which C adds to ledgers: a pointer to a share (a thread's right to add) with its ledgers, or null.
 ghost use Rattle.std.specs.Prelude.{◌≡◌, ◌↔◌, IfNone, IfSome, IsSome, IsTrue};
 ghost use Rattle.std.specs.Option.{option_flatten};
 ghost use Rattle.std.specs.declared.option.Option.{Option};

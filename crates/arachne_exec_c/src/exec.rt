@@ -22,7 +22,7 @@ use std::alloc::Global;
 
 /// Makes an executor of `shards` shards, and puts its first seat into an empty handle.
 ///
-/// Shard s has the blocks 64 s to 64 s + 63, each of 64 places; worker s % 64 looks after it. Returns DONE; REFUSED if
+/// Shard s has the blocks 64 s to 64 s + 63, each of 64 places; worker s % 64 runs its jobs. Returns DONE; REFUSED if
 /// the handle is in use, or if `shards` is greater than 256; NO_MEMORY.
 #[unsafe(no_mangle)]
 pub extern "C" fn arachne_exec_new(alloc: Global, exec: &mut ArachneExec, shards: usize) -> u32
@@ -240,7 +240,7 @@ pub extern "C" fn arachne_exec_ready(alloc: Global, exec: &mut ArachneExec, bloc
     told
 }
 
-/// Tries once to take a ready job of a block, so that the handle holds it. Any worker may look after the block.
+/// Tries once to take a ready job of a block, so that the handle holds it. The block may be any worker's.
 ///
 /// Returns RUN with the job's name and number; AGAIN if it took none; REFUSED if the handle is empty or holds a job, or
 /// if there is no such block.

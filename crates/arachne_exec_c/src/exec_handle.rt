@@ -1,4 +1,4 @@
-//! The handle by which C calls an executor: a pointer to a seat and its executor, or null.
+//! The handle by which C calls an executor: a pointer to a seat (a thread's right to call) with its executor, or null.
 ghost use Rattle.std.specs.Prelude.{◌≡◌, ◌↔◌, IfNone, IfSome, IsSome, IsTrue};
 ghost use Rattle.std.specs.Option.{option_flatten};
 ghost use Rattle.std.specs.declared.option.Option.{Option};

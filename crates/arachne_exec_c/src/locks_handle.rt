@@ -1,4 +1,4 @@
-//! The handle by which C calls a set of locks: a pointer to a seat and its locks, or null.
+//! The handle by which C calls a set of locks: a pointer to a seat (a thread's right to call) with its locks, or null.
 ghost use Rattle.std.specs.Prelude.{◌≡◌, ◌↔◌, IfNone, IfSome, IsSome, IsTrue};
 ghost use Rattle.std.specs.Option.{option_flatten};
 ghost use Rattle.std.specs.declared.option.Option.{Option};

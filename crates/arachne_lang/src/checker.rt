@@ -43,7 +43,7 @@ pub fn check(program: &Program) -> Result<(), CheckFault>
     Ok(())
 }
 
-/// Returns whether an expression has at most `levels` levels. Looks at no deeper level.
+/// Returns whether an expression has at most `levels` levels. Stops at deeper levels.
 #[tactic(auto, using(crate::proofs::NodesJudged::nesting_positive))]
 fn nests_within(expr: &Expr, levels: u32) -> bool
     ensures { IsTrue result ↔ (nesting (tree_of expr.now) ≤ levels) }

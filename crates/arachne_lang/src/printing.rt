@@ -1,4 +1,4 @@
-//! Turns a program into its text, which reading turns into the same program.
+//! Prints a program as text, from which `parse` reads the same program.
 
 ghost use Rattle.std.specs.Prelude.{◌≡◌, ◌^◌, ◌<◌, ◌≤◌, ◌++◌, ◌∷◌, [], codes, map, option_to_list, IfOk, OnOk};
 ghost use Rattle.std.specs.List.{AllByRecursion};
@@ -113,7 +113,7 @@ fn push_part(text: &mut Vec<u8>, part: &Expr) -> Result<(), AllocError>
     Ok(())
 }
 
-/// Appends a form that consists of a word and a number.
+/// Appends an expression in brackets that consists of a keyword and a number.
 fn push_leaf(text: &mut Vec<u8>, word: &[u8], number: u64) -> Result<(), AllocError>
     ensures { OnOk result (text.new.items ≡ text.old.items ++ bracketed word.now (numeral number ∷ [])) }
 {
@@ -122,7 +122,7 @@ fn push_leaf(text: &mut Vec<u8>, word: &[u8], number: u64) -> Result<(), AllocEr
     Ok(())
 }
 
-/// Appends a form that consists of a word, a number and a part.
+/// Appends an expression in brackets that consists of a keyword, a number and a subexpression.
 #[cycle(expression)]
 fn push_with_one(text: &mut Vec<u8>, word: &[u8], number: u64, a: &Expr) -> Result<(), AllocError>
     ensures text { OnOk result (text.new.items ≡ text.old.items ++ bracketed word.now (numeral number ∷ spelling (tree_of a.now) ∷ [])) }
@@ -134,7 +134,7 @@ fn push_with_one(text: &mut Vec<u8>, word: &[u8], number: u64, a: &Expr) -> Resu
     Ok(())
 }
 
-/// Appends a form that consists of a word, a number if it has one, and two parts.
+/// Appends an expression in brackets that consists of a keyword, a number if it has one, and two subexpressions.
 #[cycle(expression)]
 fn push_with_two(
     text: &mut Vec<u8>,
@@ -154,7 +154,7 @@ fn push_with_two(
     Ok(())
 }
 
-/// Appends a form that consists of a word, a number if it has one, and three parts.
+/// Appends an expression in brackets that consists of a keyword, a number if it has one, and three subexpressions.
 #[cycle(expression)]
 fn push_with_three(
     text: &mut Vec<u8>,
@@ -177,7 +177,7 @@ fn push_with_three(
     Ok(())
 }
 
-/// Appends a form that consists of a word and four parts.
+/// Appends an expression in brackets that consists of a keyword and four subexpressions.
 #[cycle(expression)]
 fn push_with_four(
     text: &mut Vec<u8>,
@@ -200,7 +200,7 @@ fn push_with_four(
     Ok(())
 }
 
-/// Appends the beginning of a form: a bracket, its word, and a number if it has one.
+/// Appends the beginning of an expression: a bracket, its keyword, and a number if it has one.
 fn push_opening(text: &mut Vec<u8>, word: &[u8], number: Option<u64>) -> Result<(), AllocError>
     ensures { OnOk result (text.new.items ≡ text.old.items ++ 40 ∷ word.now ++ after_spaces (map numeral (option_to_list number))) }
 {

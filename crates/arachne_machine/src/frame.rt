@@ -98,9 +98,10 @@ pub enum Frame<'p> {
         number: u64,
         left: Stretch<'p>,
     },
-    /// The value is a fold's first number. The fold's end, its first value and its body follow.
+    /// The value is a fold's first number. Next are the expressions of the fold's end, its first value and its body.
     FoldTo(&'p Expr, &'p Expr, &'p Expr),
-    /// The value is the end of a fold from this number on. The fold's first value and its body follow.
+    /// The value is the end of a fold from this number on. Next are the expressions of the fold's first value and its
+    /// body.
     FoldFirst(u64, &'p Expr, &'p Expr),
     /// The value is the first value of a fold from the first number to below the second, with this body.
     FoldStart(u64, u64, &'p Expr),
@@ -110,7 +111,7 @@ pub enum Frame<'p> {
         end: u64,
         body: &'p Expr,
     },
-    /// The value is a sweep's first number. The sweep's end and its body follow.
+    /// The value is a sweep's first number. Next are the expressions of the sweep's end and its body.
     SweepTo(Reduction, u64, &'p Expr, &'p Expr),
     /// The value is the end of a sweep from this number on, with this body.
     SweepStart(Reduction, u64, u64, &'p Expr),

@@ -17,7 +17,7 @@ use std::sync::{Arc, Wait};
 use std::thread::Threads;
 use std::time::Clock;
 
-/// The form of table that the server's pool uses.
+/// The type of context table that the server's pool uses.
 type Table = WordContexts<Spawned<Job>>;
 
 /// The number of places of a core.

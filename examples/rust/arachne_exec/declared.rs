@@ -181,7 +181,7 @@ pub struct ArachneSample {
 unsafe extern "C" {
     /// Makes an executor of `shards` shards, and puts its first seat into an empty handle.
     ///
-    /// Shard s has the blocks 64 s to 64 s + 63, each of 64 places; worker s % 64 looks after it. Returns DONE;
+    /// Shard s has the blocks 64 s to 64 s + 63, each of 64 places; worker s % 64 runs its jobs. Returns DONE;
     /// REFUSED if the handle is in use, or if `shards` is greater than 256; NO_MEMORY.
     ///
     /// Threads: safe beside calls with other handles; two at once with `exec` are undefined behaviour.
@@ -272,7 +272,7 @@ unsafe extern "C" {
     /// Threads: safe beside calls with other handles; two at once with `exec` are undefined behaviour.
     pub fn arachne_exec_ready(exec: *mut ArachneExec, block: usize) -> u64;
 
-    /// Tries once to take a ready job of a block, so that the handle holds it. Any worker may look after the block.
+    /// Tries once to take a ready job of a block, so that the handle holds it. The block may be any worker's.
     ///
     /// Returns RUN with the job's name and number; AGAIN if it took none; REFUSED if the handle is empty or holds a
     /// job, or if there is no such block.

@@ -274,7 +274,7 @@ impl Signal {
     /// Catches the signal of this number from now on; 15 is SIGTERM, 2 is SIGINT.
     ///
     /// The signal stays caught after this value is dropped. If an earlier `Signal` caught the same signal, only the new
-    /// one hears it from then on. Fails if `number` is no signal, or a signal that can't be caught, such as 9. Also
+    /// one receives it from then on. Fails if `number` is no signal, or a signal that can't be caught, such as 9. Also
     /// fails for 4, 7, 8 and 11 (SIGILL, SIGBUS, SIGFPE, SIGSEGV), since a real fault must end the process.
     ///
     /// ```
@@ -294,9 +294,9 @@ impl Signal {
 
     /// Waits until the signal comes, or returns at once if the signal has come since the last wait.
     ///
-    /// `recv` is the form for tasks; `wait` blocks its thread, and in `spawn_blocking` would delay the runtime's end.
-    /// If several tasks wait, one of them gets the signal. Like a socket, a `Signal` belongs to the runtime in which it
-    /// first waits; for a later runtime make a new one.
+    /// Tasks use `recv`; `wait` blocks its thread, and in `spawn_blocking` would delay the runtime's end. If several
+    /// tasks wait, one of them gets the signal. Like a socket, a `Signal` belongs to the runtime in which it first
+    /// waits; for a later runtime make a new one.
     ///
     /// ```
     /// # fn main() -> std::io::Result<()> {

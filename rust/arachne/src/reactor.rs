@@ -368,7 +368,7 @@ impl Reactor {
     }
 }
 
-/// The bell on which a worker sleeps while another worker waits in the epoll.
+/// A condition variable on which a worker sleeps while another worker waits in the epoll.
 #[derive(Default)]
 pub(crate) struct Bell {
     rung: Mutex<bool>,

@@ -350,8 +350,8 @@ impl Shared {
         (self.spawned() - background - ended).max(0) as u64
     }
 
-    /// Returns true if the runtime that was made at the count `turns` of the `Door` has ended, or is about to end:
-    /// nobody waits for its events any more.
+    /// Returns true if the runtime that began at the count `turns` of the `Door` has ended, or is about to end: nobody
+    /// waits for its events any more.
     ///
     /// Returns false in a poll of one of that runtime's own tasks: that task is dropped instead.
     pub(crate) fn has_ended(&self, turns: u64) -> bool {

@@ -1,6 +1,6 @@
 //! Atomics, locks and threads of the standard library, or of the explorer (a test). No other module names `std::sync`.
 //!
-//! In the explorer's form, which is only for tests, each step asks the explorer's scheduler which thread runs next.
+//! With the feature `explore`, which is only for tests, each step asks the explorer's scheduler which thread runs next.
 
 #[cfg(feature = "explore")]
 pub(crate) use explorer::{atomic, clock, thread, told, wait, Arc, Condvar, Instant, Mutex, MutexGuard, RwLock};

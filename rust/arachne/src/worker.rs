@@ -11,13 +11,13 @@
 //! the block's turn came, each of them once. At the end of a round all jobs in the worker's local queue run, in order.
 //! So a job that is ready again and again makes no other job wait for more than a round.
 //!
-//! **Looking out.** After `LOOK_OUT` polls of tasks, or by time if polls are long, a worker makes a *look*: it checks
-//! its timers, the epoll, and the workers that make no progress. From the ready words and the local queues of each such
-//! worker it takes up to two jobs. A look by time polls the epoll only if no other worker has polled it lately. If
-//! polls are long (fewer than `FEW` fit into `LOOK_TIME`), another worker counts as making no progress while it is in
-//! one poll. Then the worker takes more jobs only after the stolen jobs and one job of its own have run, and not while
-//! it runs its local queue, unless the other worker has been in its poll for `LONG_POLL`. At every `LONG`th look in a
-//! row that finds the same worker without progress, it fires that worker's timers too.
+//! **Looking out.** After `LOOK_OUT` polls of tasks, or by time if polls are long, a worker checks its timers, the
+//! epoll, and the workers that make no progress. From the ready words and the local queues of each such worker it takes
+//! up to two jobs. A check by time polls the epoll only if no other worker has polled it lately. If polls are long
+//! (fewer than `FEW` fit into `LOOK_TIME`), another worker counts as making no progress while it is in one poll. Then
+//! the worker takes more jobs only after the stolen jobs and one job of its own have run, and not while it runs its
+//! local queue, unless the other worker has been in its poll for `LONG_POLL`. At every `LONG`th check in a row that
+//! finds the same worker without progress, it fires that worker's timers too.
 //!
 //! **Helping.** Any free worker can take any ready job, also from another worker's local queues: first the job that
 //! would run first. An idle worker takes half of another worker's ready jobs or, at last, half of the jobs in that
@@ -47,14 +47,14 @@ const NEXTS: u32 = 128;
 /// workers, even if it has jobs to run. By time it skips the epoll if another worker has polled it within `LOOK_TIME`.
 const LOOK_OUT: u32 = 64;
 pub(crate) const LOOK_TIME: u64 = 100_000;
-/// The time between two looks of the only active worker: nobody else could run the jobs that a look finds. By time such
-/// a worker polls the epoll only after `LONELY_LOOK`, since the jobs that it finds run behind those in its local
-/// queues.
+/// The time between two checks of the epoll and the timers by the only active worker: nobody else could run the jobs
+/// that it finds. By time such a worker polls the epoll only after `LONELY_LOOK`, since the jobs that it finds run
+/// behind those in its local queues.
 const LONELY_TIME: u64 = 500_000;
 const LONELY_LOOK: u64 = 2_000_000;
 /// The worker that applies the core policy reads its clock after this many polls.
 const JUDGED: u32 = 8;
-/// After this many looks in a row that found another worker without progress, a worker fires that worker's timers.
+/// After this many checks in a row that found another worker without progress, a worker fires that worker's timers.
 const LONG: u32 = 8;
 /// Nanoseconds in one poll after which a busy worker also takes the job that would run next on the stuck worker.
 const LONG_POLL: u64 = 1_000_000;
@@ -68,8 +68,8 @@ const FEW: usize = 8;
 /// worker, of any kind (`HAND`).
 const KEPT: usize = 16;
 pub(crate) const HAND: usize = 48;
-/// If a look finds this many events and timers more than there is room for in the local queues, the worker wakes
-/// another to help.
+/// If a worker finds this many events and timers more than there is room for in its local queues, it wakes another to
+/// help.
 const MANY: usize = 4;
 
 /// The core policy counts at most this many ready jobs of a worker.
@@ -91,27 +91,28 @@ pub(crate) struct Turn {
     /// The number of empty blocks that a sweep has found, though the summary still shows them.
     stale: u32,
     chain: u32,
-    /// The number of polls since the last look or idle time.
+    /// The number of tasks polled since this worker last checked the epoll and the other workers, or was idle.
     polls: u32,
     /// The number of polls that take about `LOOK_TIME`.
     most: u32,
-    /// True if each look counts the ready jobs for the policy, and checks if the arbiter wants the core back.
+    /// True if each call of `look_out` counts the ready jobs for the policy, and checks if the arbiter wants the core
+    /// back.
     counts: bool,
-    /// For each other worker, the number of polls that it had made at this worker's last look.
+    /// For each other worker, the number of polls that it had made when this worker last checked it.
     seen: Vec<u64>,
-    /// For each other worker, the number of looks in a row at which it had made no progress, modulo `LONG`.
+    /// For each other worker, the number of checks in a row that found it without progress, modulo `LONG`.
     stood: Vec<u32>,
     /// For each worker, the time since which it has made no progress.
     since: Vec<u64>,
-    /// For each other worker, the number of polls that it had made at the last look before this worker slept.
+    /// For each other worker, the number of polls that it had made when this worker last checked it before a sleep.
     met: Vec<u64>,
-    /// The time of the last look before this worker slept.
+    /// The time of the last of these checks.
     looked: u64,
     /// Milliseconds between this worker's checks of the others while it sleeps.
     rests: i32,
     /// The number of polls of all workers at the last of these checks.
     watched: u64,
-    /// True if the last look left the worker with stolen jobs to run.
+    /// True if the last call of `look_at_others` left the worker with stolen jobs to run.
     helps: bool,
     /// True if the worker woke from a sleep by itself, and has neither run a job nor called `goes_on` since.
     unsaid: bool,
@@ -142,7 +143,7 @@ impl Turn {
         }
     }
 
-    /// Estimates how many polls take `LOOK_TIME`, from the polls since the last look. Starts the next measurement.
+    /// Estimates how many polls take `LOOK_TIME`, from the polls since the last call. Starts the next measurement.
     fn pace(&mut self, context: &Context, now: u64) {
         if self.polls != 0 {
             let fitting = self.polls as u64 * LOOK_TIME / now.saturating_sub(context.looked.get()).max(1);
@@ -152,8 +153,8 @@ impl Turn {
         context.looked.set(now);
     }
 
-    /// Returns true if the time for a look has come. Must only be called if polls are so long that the clock is worth
-    /// reading.
+    /// Returns true if it is time to check the epoll, the timers and the other workers. Must only be called if polls
+    /// are so long that the clock is worth reading.
     #[inline]
     fn is_over(&self, context: &Context, alone: bool) -> bool {
         let time = if alone { LONELY_TIME } else { LOOK_TIME };
@@ -161,7 +162,7 @@ impl Turn {
     }
 
     /// Returns how many jobs this worker keeps in its local queues while another worker is idle: those that run before
-    /// its next look.
+    /// it checks the other workers again.
     #[inline]
     fn few(&self) -> usize {
         FEW.min(self.most as usize)
@@ -231,8 +232,8 @@ impl Shared {
 
     /// Ends a worker's current sleep, or its next one.
     ///
-    /// The worker may start to wait in the epoll after `waits` was read by this call, and then misses the bell. The
-    /// worker still sees what the caller did before this call, since it registers as the one in the epoll before it
+    /// The worker may start to wait in the epoll after `waits` was read by this call, and then doesn't notice the bell.
+    /// The worker still sees what the caller did before this call, since it registers as the one in the epoll before it
     /// checks for work.
     pub(crate) fn ring(&self, worker: usize) {
         if self.waits.0.load(SeqCst) == worker {
@@ -395,7 +396,7 @@ impl Shared {
 
     // --------------------------------------------------------------------------------------- what is next
 
-    /// Takes the next job to run. Makes a look at the epoll, timers and other workers first if it is time for that.
+    /// Takes the next job to run. Checks the epoll, timers and other workers first if it is time for that.
     #[inline]
     fn pick(&'static self, context: &Context, turn: &mut Turn) -> Option<Job> {
         let is_over = |turn: &Turn| turn.most < LOOK_OUT && turn.polls >= 1 && turn.is_over(context, self.is_alone());
@@ -699,7 +700,7 @@ impl Shared {
         got != 0
     }
 
-    /// Returns how many of the tasks that a look wakes may go into this worker's local queues.
+    /// Returns how many tasks that events wake may go into this worker's local queues.
     fn room(&self, context: &Context, turn: &Turn) -> usize {
         let most = if self.is_alone() { HAND } else { turn.few() };
         most.saturating_sub(context.worker.hand.line.len())
@@ -848,7 +849,8 @@ impl Shared {
         }
         let heard = self.look_at_events(context, room);
         if heard != 0 && self.is_alone() {
-            // This worker's local queues may be full now: a look by time before these jobs have run would find no room.
+            // This worker's local queues may be full now: a check by time before these jobs have run would find no
+            // room.
             turn.pace(context, now());
             self.looked.0.store(context.looked.get(), Relaxed);
         }

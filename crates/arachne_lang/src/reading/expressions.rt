@@ -1,4 +1,4 @@
-//! Reads an expression, form by form.
+//! Reads an expression: a number, or a keyword with its parts in brackets.
 ghost use Rattle.arachne_lang.specs.declared.reading.heads.Head.TheVariants as head;
 ghost use Rattle.std.specs.Prelude.{ℕ, List};
 ghost use Rattle.arachne_program.specs.Tree.{Tree};
@@ -44,8 +44,8 @@ fn part<'t>(
     Ok((part, rest))
 }
 
-/// Returns the form whose opening bracket was just read, and the text behind its closing bracket. The parts of the form
-/// have at most `levels` levels.
+/// Returns the expression whose opening bracket was just read, and the text behind its closing bracket. Its parts have
+/// at most `levels` levels.
 #[cycle(expression)]
 #[tactic(auto, unfolding(crate::specs::Reading::form_at))]
 fn form(alloc: Global, levels: u8, text: &[u8]) -> Result<(Expr, &[u8]), Stop<'_>>

@@ -14,7 +14,8 @@
 //! - *Tables outlive wakers*: a runtime's table is never freed. A later runtime of the same shape uses the table again,
 //!   and its generations go on.
 //! - *An unpark is obeyed*: a worker sleeps in the epoll, whose event stays raised until a waiter has seen it, or on
-//!   its bell, which stays rung. The worker to wake is looked up after the call that returns `unpark`.
+//!   its condition variable (`Bell`), whose flag stays set. The worker to wake is looked up after the call that returns
+//!   `unpark`.
 //! - *No panic crosses a call of the library*: panics of tasks are caught, and a panic of a worker's loop aborts.
 //! - *No call from a signal handler or after a fork*: this crate makes none; a program must use no waker there.
 //! - *`malloc`, `realloc` and `free` are of one allocator*: the C library's; a program that replaces one must replace

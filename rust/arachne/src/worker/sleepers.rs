@@ -1,5 +1,5 @@
-//! Sleeping workers: one waits in the epoll, a deputy polls the epoll now and then, and the others wait for their
-//! bells.
+//! How workers sleep: one waits in the epoll, a *deputy* polls the epoll now and then, and the others wait on a
+//! condition variable each, their *bell*.
 //!
 //! The deputy stands in while the worker of the epoll runs tasks or has no processor. The deputy wakes after 1, 2, 4 ..
 //! ms, each millisecond while tasks run, and takes the place of the worker of the epoll if that worker is stuck in a

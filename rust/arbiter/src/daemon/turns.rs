@@ -1,22 +1,25 @@
-//! Turns: a core that is left over among the clients of a priority goes from one of them to the next.
+//! Shares a left-over core among the clients of one priority over time: a *turn* moves the core from one client to the
+//! next.
 
 use super::{Arbiter, Client};
 use std::collections::BTreeMap;
 use std::time::{Duration, Instant};
 
-/// The most clients that are tried for a turn at a time: each client that has no thread for the core costs a decision.
+/// The most clients that the daemon tries to move a core to at a time: each client that has no thread for the core
+/// costs a decision.
 const TRIED: usize = 8;
 
 pub(super) struct Turns {
-    /// The time between two turns; zero if there are none.
+    /// The time between two moves of a core from client to client; zero if there are none.
     every: Duration,
     looked: Instant,
-    /// A count that grows with each turn, and with each time that a client had no thread for the core of its turn.
+    /// A count that grows with each move, and with each time that a client had no thread for a core that was moved to
+    /// it.
     pub(super) count: u64,
     current: Option<Turn>,
 }
 
-/// A turn that is going on: a core goes from one client to another of its priority.
+/// A move of a core, which is in progress, from one client to another of its priority.
 struct Turn {
     priority: u32,
     from: u32,
@@ -49,7 +52,7 @@ impl Arbiter {
         ids.into_iter().for_each(|id| self.tell(id));
     }
 
-    /// Returns the time at which the next turn may begin, if there are turns.
+    /// Returns the time at which the next move may begin, if there are moves.
     pub(super) fn next_turn(&self) -> Option<Instant> {
         let Turns { every, looked, current, .. } = &self.turns;
         let may = self.clients.len() > 1 && current.is_none() && !every.is_zero();
@@ -67,8 +70,8 @@ impl Arbiter {
         }
     }
 
-    /// Begins a turn. Returns false if it is not yet time for a turn, or if no core can go from one client to another.
-    /// All earlier decisions must be carried out.
+    /// Begins to move a core from one client to another of its priority. Returns false if it is not yet time for that,
+    /// or if no core can be moved so. All earlier decisions must be carried out.
     pub(super) fn begin_turn(&mut self) -> bool {
         if !self.next_turn().map_or(false, |at| at <= Instant::now()) {
             return false;
@@ -90,9 +93,9 @@ impl Arbiter {
         false
     }
 
-    /// Returns the next turn. A turn moves a core between two clients of one priority: the taker asks for more; the
-    /// giver has more cores than the taker and than the giver's own reserve. Of such clients, the taker is the one that
-    /// has gone without a core for the longest, and the giver the one that has had its core for the longest.
+    /// Returns the next move of a core between two clients of one priority: the taker asks for more; the giver has more
+    /// cores than the taker and than the giver's own reserve. Of such clients, the taker is the one that has gone
+    /// without a core for the longest, and the giver the one that has had its core for the longest.
     fn find_turn(&self) -> Option<Turn> {
         let alike = |priority| self.clients.iter().filter(move |(_, it)| it.priority == priority);
         let giver = |to: &Client| {
