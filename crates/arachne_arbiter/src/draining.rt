@@ -41,7 +41,7 @@ impl Draining {
         self.settled = false;
     }
 
-    /// Removes a core that was opened, or on which no thread is left.
+    /// Removes a core that was opened, or that has no thread any more.
     pub(crate) fn stop(&mut self, core: u8)
         requires { core < vec_len self.old.waiting }
         ensures { self.new.waiting.items ≡ slice_set self.old.waiting.items core false }
@@ -102,7 +102,7 @@ impl<'a, H: Wait, T: Tagged, C: Contexts<T>> Cores<'a, H, T, C> {
     /// Moves the threads that no worker holds from a closed core to other cores. Returns whether the core was empty.
     ///
     /// A thread goes to the first other core, in ascending order, that has room, and that core is added to `receivers`.
-    /// A thread is left for a later call if a worker holds it, if it was not put at its place yet, if another step
+    /// A thread stays, for a later call, if a worker holds it, if it was not put at its place yet, if another call
     /// changed the place meanwhile, or if no core has room.
     pub(crate) fn move_away(&self, seat: &mut C::Seat, core: u8, receivers: &mut u64) -> bool
         requires seat { C.sits self.now.table.now seat.old }

@@ -1,4 +1,4 @@
-//! Parking of the kernel threads of closed cores until their core is granted again.
+//! Puts the kernel thread of a closed core to sleep until the core is opened again.
 ghost use Rattle.std.specs.Prelude.{◌≡◌, ◌<◌, IfOk};
 ghost use Rattle.arachne_contexts.specs.Out.{KeepsOut};
 ghost use Rattle.arachne_arbiter.specs.KernelThreads.{parked_cores};

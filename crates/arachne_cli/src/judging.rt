@@ -21,7 +21,8 @@ pub struct Settings {
     pub max: u8,
 }
 
-/// Returns the output for a text of samples. The whole text is read before any sample is judged.
+/// Parses the samples in a text and judges them. Returns the output of `policy`. The whole text is parsed before any
+/// sample is judged.
 pub fn judgement(alloc: Global, text: &[u8], settings: Settings) -> Result<String, Fault>
     requires within { length text.now ≤ input_limit }
     requires most { settings.max ≤ MAX_CORES }

@@ -16,7 +16,7 @@ pub enum Claimed<C> {
     /// The core takes no threads. The number is the core's occupancy word (which places are occupied, as bits).
     Closed(u64),
     /// The core's occupancy word (which places are occupied, as bits) changed between its reading and the claim. The
-    /// number is the word that was found instead.
+    /// number is the word that the call found instead.
     Lost(u64),
 }
 
@@ -45,7 +45,7 @@ pub enum Taken<T, H> {
     /// place.
     NotReady(u64),
     /// The mark word (the context's packed state) changed between its reading and the take. The number is the word that
-    /// was found instead.
+    /// the call found instead.
     Lost(u64),
 }
 
@@ -69,7 +69,7 @@ pub enum Woken {
     /// There is no thread with this id: it has ended, or there never was one.
     Gone,
     /// The mark word (the context's packed state) changed between its reading and the wake. The number is the word that
-    /// was found instead.
+    /// the call found instead.
     Lost(u64),
 }
 
@@ -100,6 +100,6 @@ pub enum Moved {
     Running,
     /// The thread's core is exclusive to it.
     Alone,
-    /// The place, the target core or the thread changed meanwhile. The number is the word that was found instead.
+    /// The place, the target core or the thread changed meanwhile. The number is the word that the call found instead.
     Lost(u64),
 }

@@ -117,8 +117,8 @@ impl Executor {
         }
     }
 
-    /// Joins `other` into `seat`, which gets the weight of `other` (at most the whole) and what `other` knows. `other`
-    /// must hold no job and have no worker number.
+    /// Joins `other` into `seat`, which gets the weight of `other` (at most the whole) and its record. `other` must
+    /// hold no job and have no worker number.
     pub fn join_seats(&self, seat: &mut ExecSeat, other: ExecSeat)
         requires own { (seat.old.table ≡ self.now.table) × (other.table ≡ self.now.table) }
         requires nothing_in_hand { other.known.hand ≡ [] }

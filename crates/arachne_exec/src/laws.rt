@@ -24,15 +24,15 @@ use crate::executor::Executor;
 use crate::seat::ExecSeat;
 
 /// An executor's state is reached by one atomic operation (*step*) after another. The state, a *board*, is the numbers
-/// in the atomic words with what each seat has recorded. Each step found what stood in its word, and kept the rule, the
-/// invariant of the table.
+/// in the atomic words with what each seat has recorded. Each step found the number that was in its word, and kept the
+/// rule, the invariant of the table.
 ///
 /// A seat records only the number that its step found in a word, or that its step put into a mark, and keeps what it
 /// has recorded. While its call must still set a bit of a summary word, a seat records nothing of summary words. A seat
 /// records each change of the worker numbers, each ready bit that it clears, and why it holds a job no more. So a
-/// number that was recorded did stand in its word, whatever kind of step recorded it. What a seat records of a worker's
-/// sleep is what the step did to the worker's idle bit. A seat that has claimed a place must spawn a job there before
-/// its call ends, after it has read the place's mark.
+/// number that was recorded was in its word, whatever kind of step recorded it. What a seat records of a worker's sleep
+/// is what the step did to the worker's idle bit. A seat that has claimed a place must spawn a job there before its
+/// call ends, after it has read the place's mark.
 pub fn boards_come_by_steps()
     ensures { (shards : ℕ) (b : Board) → IsLawful shards b → HasCome shards b }
 {}

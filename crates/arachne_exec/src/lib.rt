@@ -8,9 +8,10 @@
 //! worker that sleeps or is about to.
 //!
 //! A *seat* is one thread's right to call the executor. A seat *holds* a job from the call that takes it until a call
-//! puts it back or ends it, and no other thread can take it meanwhile; these calls concern its newest job, the one that
-//! it got last. After it has made a job ready, a call must still set the block's bit in the summary word, and then read
-//! the idle word for a worker to wake. Until it has done so, its seat *owes* that.
+//! puts it back or ends it, and no other thread can take it meanwhile. If a seat holds several jobs, only the *newest*,
+//! the one that it got last, can be put back or ended. After it has made a job ready, a call must still set the block's
+//! bit in the summary word, and then read the idle word for a worker to wake. Until it has done so, its seat *owes*
+//! that.
 #![tactic(auto)]
 
 mod answers;

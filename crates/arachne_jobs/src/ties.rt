@@ -13,7 +13,7 @@ pub struct Ties {
     pub(crate) parent: Option<ThreadId>,
 }
 
-/// The most boxes of ended jobs that are kept.
+/// The most boxes in the store.
 const MOST: usize = 64;
 
 /// The boxes of ended jobs, with the capacity of their lists, for new jobs.
@@ -67,7 +67,7 @@ impl SpareTies {
         Ok(ties)
     }
 
-    /// Keeps the box of an ended job, unless `MOST` are kept already.
+    /// Stores the box of an ended job, unless `MOST` are stored already.
     #[inline(always)]
     pub(crate) fn keep(&mut self, ties: Box<Ties>) {
         if self.ties.len() < MOST {

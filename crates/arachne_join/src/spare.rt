@@ -1,4 +1,4 @@
-//! Unused cells, which a worker keeps so that a later fork needs no memory for a new one.
+//! A store of unused cells, so that opening one seldom allocates.
 ghost use Rattle.std.specs.Prelude.{◌≡◌, IfOk};
 ghost use Rattle.arachne_join.specs.Openings.{awaited};
 
@@ -8,13 +8,13 @@ use crate::fits::Fits;
 use std::alloc::{AllocError, Global};
 use std::sync::Arc;
 
-/// The most unused cells that are kept. Further unused cells are dropped, so that a thread doesn't collect the cells
-/// that other threads create.
+/// The most unused cells in a store. `give` drops further ones, so that a thread doesn't collect the cells that other
+/// threads create.
 const MOST: usize = 4 * CELLS;
 
-/// Unused cells of one thread, which creates a new block of them if none is left.
+/// The unused cells of one thread. If there is none, `take` creates a new block of cells.
 ///
-/// A block is freed once none of its cells is in use or kept.
+/// A block is freed once none of its cells is in use or in a store.
 #[derive(Drop)]
 pub struct SpareCells<T: Fits<K>, K> {
     cells: Vec<UnusedCell<T, K>>,
@@ -28,7 +28,7 @@ impl<T: Fits<K> + Drop, K> SpareCells<T, K> {
         }
     }
 
-    /// Returns an unused cell. Takes memory, for a new block, only if no cell is kept.
+    /// Returns an unused cell. Allocates, a new block, only if the store is empty.
     pub fn take(&mut self, alloc: Global) -> Result<UnusedCell<T, K>, AllocError> {
         match self.cells.pop() {
             Some(cell) => Ok(cell),
@@ -36,14 +36,14 @@ impl<T: Fits<K> + Drop, K> SpareCells<T, K> {
         }
     }
 
-    /// Keeps a cell for the next opening, unless `MOST` are kept or memory for the cell is refused.
+    /// Adds a cell to the store, unless it has `MOST` cells or memory is refused.
     pub fn give(&mut self, cell: UnusedCell<T, K>) {
         if self.cells.len() < MOST {
             let _ = self.cells.push(cell);
         }
     }
 
-    /// Opens one of the cells for a value that fits the key. Returns the two ends of the opening.
+    /// Opens an unused cell for a value that fits the key. Returns its receiver and its sender.
     pub fn open(
         &mut self,
         alloc: Global,

@@ -30,7 +30,7 @@ impl<'p> State<'p> {
     /// Advances by at most `left` steps, until the thread pauses, and subtracts the steps that were made from `left`.
     ///
     /// If the current thread begins to await the newest child of `placed`, that child goes on in its place. Returns the
-    /// child if the thread pauses for a fork. If memory is refused, the thread is left before the step that was
+    /// child if the thread pauses for a fork. If memory is refused, the thread stays as it was before the step that was
     /// refused, which is not subtracted.
     pub fn advance_with<P: Placing>(
         &mut self,
@@ -87,7 +87,7 @@ impl<'p> State<'p> {
     /// Lets the newest child of `placed` go on in this thread's place, if the current thread awaits it. Returns whether
     /// the child goes on.
     ///
-    /// If memory is refused, the thread is left before the step in which it began to await the child.
+    /// If memory is refused, the thread stays as it was before the step in which it began to await the child.
     #[cold]
     #[inline(never)]
     fn take_newest(

@@ -5,7 +5,7 @@ use arachne_program::Program;
 use std::alloc::{AllocError, Global};
 use std::marker::Model;
 
-/// The maximum number of states of ended threads that are kept, and of boxes of outcomes that are kept.
+/// The maximum number of states in the store, and of boxes of outcomes.
 const MOST: usize = 64;
 
 /// The memory of ended threads that new threads of the same core reuse.
@@ -68,7 +68,7 @@ impl<'p> Spares<'p> {
         }
     }
 
-    /// Keeps the box of a joined outcome, or a box that was taken and not used, unless `MOST` are kept already.
+    /// Stores the box of a joined outcome, or a box that was taken and not used, unless `MOST` are stored already.
     #[inline(always)]
     pub fn keep_contents(&mut self, contents: Box<Contents>) {
         if self.contents.len() < self.most {
@@ -76,7 +76,7 @@ impl<'p> Spares<'p> {
         }
     }
 
-    /// Keeps the state of an ended thread, unless `MOST` are kept already.
+    /// Stores the state of an ended thread, unless `MOST` are stored already.
     #[inline(always)]
     pub(crate) fn keep(&mut self, state: Box<State<'p>>) {
         if self.states.len() < self.most {

@@ -195,8 +195,8 @@ impl<'p> State<'p> {
 
     /// Advances by at most `left` steps, until the thread pauses, and subtracts the steps that were made from `left`.
     ///
-    /// Returns the child if the thread pauses for a fork. If memory is refused, the thread is left before the step that
-    /// was refused, which is not subtracted.
+    /// Returns the child if the thread pauses for a fork. If memory is refused, the thread stays as it was before the
+    /// step that was refused, which is not subtracted.
     pub fn advance<P: Placing>(
         &mut self,
         left: &mut u32,
@@ -236,7 +236,7 @@ impl<'p> State<'p> {
         Ok(None)
     }
 
-    /// Returns the expression that is begun next, if the next action is to begin one.
+    /// Returns the next expression, if the next action is to begin one.
     #[inline(always)]
     fn beginning(&self) -> Option<&'p Expr>
         ensures current { current_in result self.now ≡ self.now }

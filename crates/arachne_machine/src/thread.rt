@@ -136,8 +136,8 @@ impl<'p> Thread<'p> {
 
     /// Advances by at most `budget` steps. Each node of an expression is a step, and each fork a pause.
     ///
-    /// If memory is refused, the thread is left before the step that was refused, and the same call goes on from this
-    /// step.
+    /// If memory is refused, the thread stays as it was before the step that was refused, and the same call can be made
+    /// again.
     pub fn advance(&mut self, budget: u32) -> Result<Pause<'p>, AllocError>
         requires not_paused { pending_in self.old ≡ None }
         requires some { 1 ≤ budget }
@@ -160,8 +160,8 @@ impl<'p> Thread<'p> {
     /// at least one at any other pause.
     ///
     /// If there is no place for the child of a fork, the fork is no pause: the child runs in this thread's place, once
-    /// it is awaited. Any other child reuses memory that ended threads have left. If memory is refused, the thread is
-    /// left before the step that was refused, as with `advance`.
+    /// it is awaited. Any other child reuses memory that ended threads have left. If memory is refused, the thread
+    /// stays as it was before the step that was refused, as with `advance`.
     pub fn advance_within<P: Placing>(
         &mut self,
         left: &mut u32,

@@ -68,7 +68,8 @@ struct State {
     streams: Vec<Arc<UnixStream>>,
     /// For each worker the thread id of its kernel thread, or 0 until that thread runs.
     threads: Vec<u32>,
-    /// The event that wakes the second worker, which covers for the first, while the second waits for a core.
+    /// The event that wakes the second worker while it waits for a core, so that it runs jobs that the first doesn't
+    /// get to.
     call: Option<File>,
     /// Processors that this process had before an arbiter moved threads.
     cpus: Vec<usize>,
@@ -122,7 +123,7 @@ impl Client {
         }
     }
 
-    /// Wakes the worker that covers for the first, if that worker waits for a core.
+    /// Wakes the second worker, if it waits for a core: it then runs jobs that the first doesn't get to.
     pub(crate) fn call(&self) {
         if let Some(call) = &self.state.lock().unwrap().call {
             sys::raise(call.as_raw_fd());
@@ -327,8 +328,9 @@ impl Shared {
         Ok(control)
     }
 
-    /// Goes on without an arbiter: from now on the policy decides, or else each worker has a core. Threads that were
-    /// kept on their cores by affinity may run everywhere again. Returns true if the arbiter has refused a thread.
+    /// Goes on without an arbiter: from now on the policy decides, or else each worker has a core. Lets threads that
+    /// the arbiter kept on their cores by affinity run everywhere again. Returns true if the arbiter has refused a
+    /// thread.
     fn part(&self, follows: bool) -> bool {
         let _order = self.arbiter.order.lock().unwrap();
         let was_up = self.arbiter.up.swap(false, SeqCst);

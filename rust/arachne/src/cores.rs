@@ -3,7 +3,8 @@
 //! The load is the number of ready tasks that a worker counts whenever it checks for events, averaged over time. The
 //! policy judges it at each of its intervals, and sooner after a request for a core. A worker that gives its core back
 //! waits; another worker runs the jobs of its blocks and fires its timers. While only the first worker has a core, the
-//! second one covers for it (`worker/sleepers.rs`). The limit is read each second while there is a policy.
+//! second one runs jobs that the first doesn't get to (`worker/sleepers.rs`). The limit is read each second while there
+//! is a policy.
 
 use crate::core::Estimator;
 use crate::shared::{Context, Shared, Worker};
@@ -273,7 +274,7 @@ impl Shared {
     /// Gives this worker's core back: makes all jobs in its local queues ready, and waits until the policy asks for the
     /// core again.
     ///
-    /// Meanwhile, if only the first worker has a core, the second covers for it.
+    /// Meanwhile, if only the first worker has a core, the second runs jobs that the first doesn't get to.
     pub(crate) fn give_back(&self, context: &Context, turn: &mut Turn) {
         self.lay_down(context, turn);
         let worker = context.worker;

@@ -14,10 +14,10 @@
 //! **Looking out.** After `LOOK_OUT` polls of tasks, or by time if polls are long, a worker checks its timers, the
 //! epoll, and the workers that make no progress. From the ready words and the local queues of each such worker it takes
 //! up to two jobs. A check by time polls the epoll only if no other worker has polled it lately. If polls are long
-//! (fewer than `FEW` fit into `LOOK_TIME`), another worker counts as making no progress while it is in one poll. Then
-//! the worker takes more jobs only after the stolen jobs and one job of its own have run, and not while it runs its
-//! local queue, unless the other worker has been in its poll for `LONG_POLL`. At every `LONG`th check in a row that
-//! finds the same worker without progress, it fires that worker's timers too.
+//! (fewer than `FEW` fit into `LOOK_TIME`), another worker counts as making no progress while it is in one poll. So
+//! that its own jobs run too, the worker then takes more jobs only after those that it has stolen and one of its own
+//! have run. It takes none while it runs its local queue, unless the other worker has been in its poll for `LONG_POLL`.
+//! At every `LONG`th check in a row that finds the same worker without progress, it fires that worker's timers too.
 //!
 //! **Helping.** Any free worker can take any ready job, also from another worker's local queues: first the job that
 //! would run first. An idle worker takes half of another worker's ready jobs or, at last, half of the jobs in that
@@ -191,8 +191,8 @@ impl Shared {
         self.published(job.name, unpark, false);
     }
 
-    /// Sets the job that runs next on this worker. A job that was next before is made ready, so that any worker can
-    /// take it.
+    /// Sets the job that runs next on this worker. Makes a job that was next before ready, so that any worker can take
+    /// it.
     #[inline]
     pub(crate) fn set_next(&self, context: &Context, job: Job) {
         if !context.worker.hand.next.put(job) {

@@ -7,16 +7,16 @@ pub const SIZE: usize = 16;
 /// From a client, first on its control connection: version, priority, least and most cores (`least << 16 | most`).
 pub const HELLO: u32 = 1;
 /// The first message on a connection of a kernel thread: the client's number, the thread's number, and its place in the
-/// client's order (`place << 1 | floats`). A thread that floats never waits: it is moved to a core and away from it
-/// while it runs.
+/// client's order (`place << 1 | floats`). A thread that floats never waits: the arbiter moves it to a core and away
+/// from it while it runs.
 pub const JOIN: u32 = 2;
 /// A message on a thread's connection: the thread gives its core back, if it has one, and waits for another core.
 pub const WAIT: u32 = 3;
 /// A message on the control connection: the number of cores that the client wants.
 pub const ASK: u32 = 4;
 
-/// The answer to a client, with the descriptor of its page: the client's number, the number of cores, and 1 if these
-/// are kept by cpusets.
+/// The answer to a client, with the descriptor of its page: the client's number, the number of cores, and 1 if the
+/// arbiter uses cpusets.
 pub const WELCOME: u32 = 5;
 /// A message to a thread that waits: the processor that it has now.
 pub const GRANT: u32 = 6;

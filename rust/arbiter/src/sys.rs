@@ -164,8 +164,8 @@ pub fn affinity_of(thread: u32) -> Vec<usize> {
     (0..PROCESSORS).filter(|cpu| mask[cpu / 64] >> (cpu % 64) & 1 == 1).collect()
 }
 
-/// Gives this process the lowest real-time priority: a decision takes microseconds, and others wait for it. Returns
-/// false if the system refuses that.
+/// Gives this process the lowest real-time priority, since clients wait for its decisions, which take microseconds.
+/// Returns false if the system refuses that.
 pub fn go_first() -> bool {
     // SAFETY: the priority lives through the call.
     unsafe { sched_setscheduler(0, 1 | 0x4000_0000, &1) == 0 }

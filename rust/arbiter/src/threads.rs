@@ -3,14 +3,15 @@
 use std::fs;
 use std::io::Read;
 
-/// The most threads of a process in a PID namespace of its own that are looked at as one of them joins.
+/// The most threads of a process with a PID namespace of its own that the daemon searches for the one that joins.
 const IN_A_NAMESPACE: usize = 128;
-/// The most processes of a family that are looked at.
+/// The most processes that `family` visits.
 const FAMILY: usize = 256;
-/// The most bytes that are read of the list of the processes that a thread has begun.
+/// The most bytes to read of the list of processes that a thread has started.
 const CHILDREN: usize = 4096;
 
-/// Threads that are found one after another, so that a step takes no longer if there are more of them.
+/// An iterator over thread ids, which reads /proc as it goes on, so that a step takes no longer if there are more
+/// threads.
 pub type Threads = Box<dyn Iterator<Item = u32>>;
 
 /// Returns the threads of a process.
@@ -19,7 +20,7 @@ pub fn threads_of(process: u32) -> Threads {
     Box::new(entries.filter_map(|entry| entry.file_name().to_str()?.parse().ok()))
 }
 
-/// Returns the threads of a process, of the processes that it has begun, and of all that these have begun.
+/// Returns the threads of a process, of the processes that it has started, and of all that these have started.
 pub fn family(process: u32) -> Threads {
     let (mut others, mut room) = (Vec::new(), FAMILY - 1);
     let (mut process, mut threads) = (process, threads_of(process));
@@ -36,7 +37,7 @@ pub fn family(process: u32) -> Threads {
     Box::new(std::iter::from_fn(next))
 }
 
-/// Returns the processes that a thread has begun: of many, the first ones.
+/// Returns the processes that a thread has started: of many, the first ones.
 fn begun_by(process: u32, thread: u32) -> Vec<u32> {
     let mut text = [0; CHILDREN];
     let file = fs::File::open(format!("/proc/{process}/task/{thread}/children"));
@@ -46,16 +47,17 @@ fn begun_by(process: u32, thread: u32) -> Vec<u32> {
     text.split_inclusive(' ').filter_map(|word| word.strip_suffix(' ')?.parse().ok()).collect()
 }
 
-/// Returns when a thread of a process began, in hundredths of a second since the machine did; None if it has ended.
+/// Returns the time at which a thread was started, in hundredths of a second since the machine was; None if it has
+/// ended.
 pub fn began(process: u32, thread: u32) -> Option<u64> {
     let text = fs::read_to_string(format!("/proc/{process}/task/{thread}/stat")).ok()?;
     // The thread's name is in brackets, and may have any letters.
     text.rsplit_once(')')?.1.split_whitespace().nth(19)?.parse().ok()
 }
 
-/// Returns the number of the thread that its process calls `thread`: the two numbers differ if the process is in a PID
-/// namespace of its own. Returns None if there is no such thread, or if the process is in no namespace below this
-/// one's.
+/// Returns the id, as this process sees it, of the thread that its own process knows as `thread`: the two differ if
+/// that process is in a PID namespace of its own. Returns None if there is no such thread, or if the process is in no
+/// namespace below this one's.
 pub fn thread_of(process: u32, thread: u32) -> Option<u32> {
     if names_of(process, process)?.len() <= 1 {
         return Some(thread);
@@ -64,7 +66,7 @@ pub fn thread_of(process: u32, thread: u32) -> Option<u32> {
     threads_of(process).take(IN_A_NAMESPACE).find(|&it| is_it(it))
 }
 
-/// Returns a thread's numbers in each PID namespace in which it is, from this process's on.
+/// Returns a thread's id in each PID namespace in which it is, from this process's on.
 fn names_of(process: u32, thread: u32) -> Option<Vec<u32>> {
     let text = fs::read_to_string(format!("/proc/{process}/task/{thread}/status")).ok()?;
     let line = text.lines().find_map(|line| line.strip_prefix("NSpid:")).unwrap_or("");

@@ -105,7 +105,7 @@ pub(crate) struct Hands {
     _one_thread: Cell<()>,
 }
 
-/// The right to park the shards of one worker number.
+/// The right to sleep as the worker of one worker number's shards.
 pub(crate) struct Parking {
     table: Arc<Table>,
     number: usize,
