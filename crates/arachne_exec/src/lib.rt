@@ -10,8 +10,8 @@
 //! A *seat* is one thread's right to call the executor. A seat *holds* a job from the call that takes it until a call
 //! puts it back or ends it, and no other thread can take it meanwhile. If a seat holds several jobs, only the *newest*,
 //! the one that it got last, can be put back or ended. After it has made a job ready, a call must still set the block's
-//! bit in the summary word, and then read the idle word for a worker to wake. Until it has done so, its seat *owes*
-//! that.
+//! bit in the summary word, and then read the idle word for a worker to wake. As long as these steps are missing, the
+//! seat *owes* them.
 #![tactic(auto)]
 
 mod answers;

@@ -24,8 +24,8 @@ pub fn threshold_is_of_last_add()
 
 /// The law that samples are judged one after another.
 ///
-/// A list of samples gets one advice for each: the advice on that sample, after all samples before it. If an estimator
-/// has judged a list and then judges one more sample by its thresholds, it has judged the list with that sample added.
+/// A list of samples gets one advice for each: the advice on that sample, after all samples before it. The advices on a
+/// list, followed by the advice on one more sample by the state after that list, are the advices on the longer list.
 pub fn advices_are_in_turn()
     ensures each_once { (settings : Settings) (samples : List Sample)
         → length (advices settings samples) ≡ length samples }
