@@ -226,8 +226,8 @@ pub trait Contexts<T: Tagged>: Seats {
     /// Closes the table. Returns the threads that were put into the table and not finished, each once, in the order of
     /// their contexts.
     ///
-    /// The seat must have the whole weight (no other seat is in use), and must have spent all that it claimed or took.
-    /// If memory is refused, returns the table and the seat as an error.
+    /// The seat must have the whole weight (no other seat is in use), no unused claim, and hold no thread. If memory is
+    /// refused, returns the table and the seat as an error.
     fn close<R: Wait>(
         self,
         rt: &R,

@@ -1,5 +1,5 @@
-//! The mark of a context: its state, without the number of the seat that has claimed or holds it, and without the
-//! thread's tag.
+//! The state of a context as its mark word shows it, without the seat that has claimed it or holds its thread, and
+//! without the thread's tag.
 
 /// The state of a context, as its mark word (state, place and generation, packed) shows it.
 #[derive(Clone, Copy, Debug, PartialEq, Eq)]

@@ -25,8 +25,8 @@ pub(crate) fn job_at(place: usize, mark: u64, job: u64) -> HeldJob
 }
 
 impl Executor {
-    /// Clears the record of a wake in the mark (an atomic word) of the newest place that the seat holds. Returns the
-    /// mark that it found.
+    /// Clears the record of a wake of the seat's newest job, if there is one. Returns the mark (an atomic word with
+    /// that record) from before.
     pub(crate) fn refresh(&self, seat: &mut SeatInCall, place: usize) -> u64
         requires own { seat.old.table ≡ self.now.table }
         requires place { place < 4096 * self.now.shards }
@@ -153,8 +153,8 @@ impl Executor {
         self.publish(&mut seat.at, place)
     }
 
-    /// Blocks the newest job that the seat holds, unless its mark records a wake. Returns true if the job is blocked
-    /// now.
+    /// Blocks the newest job that the seat holds, unless a wake of the job is recorded in its mark (an atomic word).
+    /// Returns true if the job is blocked now.
     fn try_block(&self, seat: &mut SeatInCall, place: usize) -> bool
         requires own { seat.old.table ≡ self.now.table }
         requires place { place < 4096 * self.now.shards }
@@ -171,7 +171,7 @@ impl Executor {
         self.put_blocked(seat, place, mark)
     }
 
-    /// Blocks the newest job that the seat holds, or makes it ready if its mark records a wake.
+    /// Blocks the newest job that the seat holds, or makes it ready if a wake of the job is recorded.
     pub fn rest_blocked(&self, seat: &mut ExecSeat, place: usize) -> JobRested
         requires own { seat.old.table ≡ self.now.table }
         requires place { place < 4096 * self.now.shards }

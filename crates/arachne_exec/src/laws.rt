@@ -37,9 +37,9 @@ pub fn boards_come_by_steps()
     ensures { (shards : ℕ) (b : Board) → IsLawful shards b → HasCome shards b }
 {}
 
-/// Each place has exactly one keeper: the free bit, the ready bit, the mark of a blocked job, or a seat that holds it.
-/// So a job that is neither blocked nor held by a seat has its bit set in its block's ready word. Whoever finds that
-/// word empty knows that each job of the block is blocked or held by a seat.
+/// Each place is exactly one of these: free, ready, blocked (or retired), or held by one seat. So a job that is neither
+/// blocked nor held by a seat has its bit set in its block's ready word. If that word is 0, each job of the block is
+/// blocked or held by a seat.
 pub fn ready_jobs_are_shown()
     ensures shown { (shards : ℕ) (b : Board) → IsLawful shards b → (place : ℕ) → place < 4096 * shards → IsReadyJob place b → is_ready b.words place ≡ 1 }
     ensures one_keeper { (shards : ℕ) (b : Board) → IsLawful shards b → (place : ℕ) → place < 4096 * shards
@@ -52,21 +52,21 @@ pub fn free_places_are_empty()
 {}
 
 /// For each job that was spawned at a place, the place was freed since, or isn't free. If a place isn't free, a job was
-/// spawned there since it was freed last, or a seat in the midst of a call must still spawn one. So each ready job was
-/// spawned, and a call that spawns none takes no free place, not even for a time.
+/// spawned there since it was freed last, or a call in progress must still spawn one. So each ready job was spawned,
+/// and a call that spawns none takes no free place, not even for a time.
 pub fn jobs_are_spawned()
     ensures { (shards : ℕ) (b : Board) → IsLawful shards b → (place : ℕ) → place < 4096 * shards
         → spawns_at place b + unspawned_by place b.views + is_free b.words place ≡ frees_at place b + 1 }
 {}
 
-/// A block whose ready word isn't empty has its bit in the summary word of its shard, or a seat in the midst of a call
-/// must still set that bit.
+/// If a block has a ready job (its ready word isn't 0), the block's bit in the summary word of its shard is set, or a
+/// call in progress must still set it.
 pub fn ready_blocks_are_shown()
     ensures { (shards : ℕ) (b : Board) → IsLawful shards b → (block : ℕ) → block < 64 * shards → HasReady block b → IsShownOrOwed block b }
 {}
 
-/// If a worker is parked and a ready word of its blocks isn't empty, then a seat in the midst of a call must still set
-/// the bit of that block, or read the idle word and wake the worker.
+/// If a parked worker has a block with a ready job, a call in progress must still set the block's bit in the summary
+/// word, or read the idle word and wake the worker.
 pub fn sleepers_are_woken()
     ensures { (shards : ℕ) (b : Board) → IsLawful shards b → (worker : ℕ) → IsParked shards worker b → AreOwedTo shards worker b }
 {}

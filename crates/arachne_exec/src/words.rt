@@ -29,8 +29,7 @@ impl Executor {
         self.table.shared.load::<LookAtWord>(&mut seat.seat, word)
     }
 
-    /// Stores `new` as the job number of the newest place that the seat holds. Returns the number that was stored
-    /// before.
+    /// Stores `new` as the job number of the seat's newest place. Returns the number that was stored before.
     pub(crate) fn lay(&self, seat: &mut SeatInCall, place: usize, new: u64) -> u64
         requires own { seat.old.table ≡ self.now.table }
         requires out { (old : ℕ) × (seat.old.slots ≡ (place, old) ∷ rest seat.old.slots) }
@@ -96,7 +95,7 @@ impl Executor {
         found >> index as u32 & 1 == 1
     }
 
-    /// Frees the newest place that the seat holds, whose job has ended.
+    /// Frees the seat's newest place, whose job has ended.
     pub(crate) fn put_free(&self, seat: &mut SeatInCall, place: usize)
         requires own { seat.old.table ≡ self.now.table }
         requires place { place < 4096 * self.now.shards }
@@ -139,7 +138,7 @@ impl Executor {
         shared.fetch_or::<PutSpawned>(&mut seat.seat, ready_word(place / 64), bit(place % 64)) == 0
     }
 
-    /// Begins a new job at the newest place that the seat holds, and keeps holding the place. Returns the place's mark.
+    /// Begins a new job at the seat's newest place, which the seat keeps. Returns the mark of the place.
     pub(crate) fn begin(&self, seat: &mut SeatInCall, place: usize, job: u64) -> u64
         requires own { seat.old.table ≡ self.now.table }
         requires place { place < 4096 * self.now.shards }
@@ -153,8 +152,8 @@ impl Executor {
             .load::<Begin>(&mut seat.seat, mark_word(place))
     }
 
-    /// Blocks the job at the newest place that the seat holds if the place's mark is `old`, which must record no wake.
-    /// Returns true if the mark was `old`.
+    /// Blocks the seat's newest job if its mark (an atomic word) is `old`, in which no wake may be recorded. Returns
+    /// true if the mark was `old`.
     pub(crate) fn put_blocked(&self, seat: &mut SeatInCall, place: usize, old: u64) -> bool
         requires own { seat.old.table ≡ self.now.table }
         requires place { place < 4096 * self.now.shards }
@@ -174,7 +173,7 @@ impl Executor {
         found == old
     }
 
-    /// Clears the record of a wake in the mark of the newest place that the seat holds.
+    /// Clears the record of a wake of the seat's newest job, which is in the job's mark.
     pub(crate) fn hear(&self, seat: &mut SeatInCall, place: usize)
         requires own { seat.old.table ≡ self.now.table }
         requires place { place < 4096 * self.now.shards }
@@ -186,8 +185,7 @@ impl Executor {
         shared.fetch_and::<Hear>(&mut seat.seat, mark_word(place), u64::MAX - 3);
     }
 
-    /// Ends the job at the newest place that the seat holds. The place's mark gets this generation, and records no
-    /// wake.
+    /// Ends the seat's newest job. The mark of its place gets this generation, and no wake is recorded in it.
     pub(crate) fn renew(&self, seat: &mut SeatInCall, place: usize, generation: u64)
         requires own { seat.old.table ≡ self.now.table }
         requires place { place < 4096 * self.now.shards }
@@ -200,7 +198,7 @@ impl Executor {
         shared.swap::<Renew>(&mut seat.seat, mark_word(place), 4 * generation);
     }
 
-    /// Blocks the newest place that the seat holds for ever: its job has ended, and no other job comes there.
+    /// Retires the seat's newest place, whose job has ended: no other job comes there.
     pub(crate) fn retire(&self, seat: &mut SeatInCall, place: usize)
         requires own { seat.old.table ≡ self.now.table }
         requires place { place < 4096 * self.now.shards }

@@ -7,8 +7,8 @@ use std::marker::Model;
 
 /// One thread's right to call a table whose state is behind a lock. The state knows the seat by a number, its carrier.
 ///
-/// Contracts see the seat's carrier (its number), its weight, and how many claims and threads it has not spent. A count
-/// that has reached 2^32 - 1 no longer changes.
+/// Contracts see the seat's carrier (its number), its weight, and the number of its unused claims and held threads. A
+/// count that has reached 2^32 - 1 no longer changes.
 #[derive(Debug, Drop)]
 pub struct LockedSeat {
     pub(crate) carrier: u32,
@@ -25,7 +25,7 @@ impl Model for LockedSeat {
 }
 
 impl LockedSeat {
-    /// Counts one more claim or thread that the seat must spend.
+    /// Counts one more claim or held thread.
     pub(crate) fn gain(&mut self)
         ensures { self.new ≡ record self.old { out = one_more self.old.out } }
     {
@@ -34,7 +34,7 @@ impl LockedSeat {
         }
     }
 
-    /// Counts one claim or thread as spent.
+    /// Counts one claim or held thread less, since the seat has used the claim, or put back or ended the thread.
     pub(crate) fn spend(&mut self)
         ensures { self.new ≡ record self.old { out = one_fewer self.old.out } }
     {

@@ -81,7 +81,7 @@ pub struct Record {
     pub after: u64,
 }
 
-/// The record of a seat: the contexts that it has claimed or holds, and what it has done.
+/// The record of a seat: the contexts that it has claimed, the threads that it holds, and what it has done.
 pub struct Known {
     /// The contexts that the seat has claimed, and those whose threads it holds.
     pub carried: LinkedList<Carried>,

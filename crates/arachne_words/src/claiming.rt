@@ -137,8 +137,8 @@ impl<T: Tagged + Drop> WordContexts<T> {
         }
     }
 
-    /// Frees a place: in one step subtracts the place's bit and 1 of the count from the core's occupancy word, and the
-    /// exclusive bit if `alone` is true.
+    /// Frees a place, by one atomic subtraction from the core's occupancy word: of the place's bit, of 1 in the field
+    /// of the count, and of the exclusive bit if `alone` is true.
     pub(crate) fn release(&self, seat: &mut CallSeat<T>, place: Place, alone: bool)
         requires own { seat.old.table ≡ self.now.table }
         requires claim { HasClaim self.now seat.old.known (record { place = place; alone = alone }) }

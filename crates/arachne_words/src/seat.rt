@@ -9,9 +9,8 @@ use std::marker::Model;
 
 /// A seat at a table, through which a kernel thread calls the table. The seat has a part of the table's whole weight.
 ///
-/// Contracts see the identity of the seat's table, the seat's weight, and the seat's record: the claims that it has not
-/// spent, the threads that it holds, the threads that it has posted and ended, and the atomic operations that it has
-/// made.
+/// Contracts see the identity of the seat's table, the seat's weight, and the seat's record: its unused claims, the
+/// threads that it holds, the threads that it has posted and ended, and the atomic operations that it has made.
 #[derive(Drop)]
 pub struct WordSeat<T> {
     pub(crate) at: CallSeat<T>,

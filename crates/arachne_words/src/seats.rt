@@ -148,7 +148,7 @@ impl<T: Tagged + Drop> WordContexts<T> {
         seat.weight.is_whole()
     }
 
-    /// Returns the number of claims that the seat has not spent and of threads that it holds.
+    /// Returns the number of the seat's unused claims and held threads.
     pub fn out(&self, seat: &WordSeat<T>) -> u32
         ensures { result ≡ length seat.now.known.carried }
     {

@@ -20,7 +20,7 @@ pub struct Request {
     pub taken: u64,
 }
 
-/// The answer to a request. The request's work began after the slow part, if the request has one.
+/// The answer to a request. The work of a slow request begins only after its timer.
 #[derive(Clone, Copy)]
 pub struct Answer {
     pub request: Request,
@@ -37,7 +37,7 @@ pub struct Answer {
 pub struct Job {
     request: Request,
     clock: HostRuntime,
-    /// If there is a slow part: the first time at which the work may begin, and the timer that wakes the job then.
+    /// For a slow request: the time before which its work may not begin, and the timer that wakes the job then.
     not_before: u64,
     timer: Option<Arc<Timer>>,
     ghost waits: { not_before ≡ earliest request },

@@ -162,7 +162,7 @@ impl Means {
         Ok(())
     }
 
-    /// Makes the moves that were put off.
+    /// Moves the threads that are still in `Sets::later` to their sets.
     pub fn carry_out(&mut self) {
         if let Means::Cpusets(sets) = self {
             for (thread, set) in std::mem::take(&mut sets.later) {
