@@ -296,7 +296,7 @@ fn stands() {
     stands_on(runtime(2 + choose(2)));
 }
 
-/// As in `stands`, but the worker is the only one with a core, and another worker covers for it.
+/// As in `stands`, but the worker is the only one with a core, and another worker stands in for it.
 fn covered() {
     let runtime = runtime(2 + choose(2));
     arachne::set_active(&runtime, 1);

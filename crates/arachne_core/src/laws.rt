@@ -116,12 +116,14 @@ pub fn mark_words_pack_as_read()
     ensures { (bits word : ℕ) → IsMarkWord bits word ↔ ((word < 2 ^ 64) × (word % 2 ^ 3 < 6) × (word / 2 ^ 4 % 2 ^ 6 < SLOTS)) }
 {}
 
-/// Setting the mark of a mark word keeps its `alone` bit, its place and its generation.
+/// Setting the mark (the state) in a mark word changes no other field: neither `alone` (the thread is exclusive) nor
+/// the place or the generation.
 pub fn setting_a_mark()
     ensures { (bits word : ℕ) (mark : Mark) → marked_of bits (with_mark word mark) ≡ record (marked_of bits word) { mark = mark } }
 {}
 
-/// Setting the place of a mark word keeps its mark, its `alone` bit and its generation.
+/// Setting the place in a mark word changes no other field: neither the mark (the state) nor `alone` (the thread is
+/// exclusive) or the generation.
 pub fn setting_a_place()
     ensures { (bits word : ℕ) (place : Place) → place.index < 2 ^ 6 → place.core < 2 ^ bits
         → marked_of bits (with_place bits word place) ≡ record (marked_of bits word) { place = place } }

@@ -28,8 +28,8 @@ const FIRST_GENERATION_SHIFT: u32 = CORE_SHIFT + FIRST_CORE_BITS;
 
 /// The state, place and generation of a context, packed into one word.
 ///
-/// The mark is in bits 0 to 2, `alone` in bit 3, the index in bits 4 to 9, the core in bits 10 to 15, and the
-/// generation in the bits above.
+/// The mark (the context's state) is in bits 0 to 2, `alone` (true if its thread is exclusive) in bit 3, the index in
+/// bits 4 to 9, the core in bits 10 to 15, and the generation in the bits above.
 #[derive(Clone, Copy, Debug, PartialEq, Eq)]
 pub struct MarkWord {
     word: u64,
@@ -138,7 +138,7 @@ impl MarkWord {
         self.word >> GENERATION_SHIFT
     }
 
-    /// Returns the word with another mark.
+    /// Returns the word with another mark (the context's state).
     pub fn with_mark(self, mark: Mark) -> Self
         ensures { result ≡ record self { mark = mark } }
     {

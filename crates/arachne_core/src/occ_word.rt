@@ -11,7 +11,7 @@ const COUNT_SHIFT: u32 = MASK_BITS as u32;
 /// The mask of a core whose indexes are all occupied.
 pub const FULL_MASK: u64 = (1 << COUNT_SHIFT) - 1;
 
-/// A count of one, in the count's field of a word.
+/// The number that, added to a word, adds one to the field of the count.
 pub const COUNT_ONE: u64 = 1 << COUNT_SHIFT;
 
 const COUNT_MASK: u64 = (1 << 6) - 1;

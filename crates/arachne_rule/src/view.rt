@@ -17,7 +17,7 @@ pub struct Carried {
     pub held: bool,
     /// The tag of the thread, if the seat holds one.
     pub tag: u64,
-    /// True if the context's core is exclusive.
+    /// True if the context's core is exclusive to its thread.
     pub alone: bool,
     /// True if the word of the context's place names the context.
     pub named: bool,

@@ -27,8 +27,8 @@ pub fn the_rule_holds_at_first()
 
 /// A compare-exchange of a lock's guard word from 0 to 1 keeps the invariant of the lock's table.
 ///
-/// If the exchange succeeds, the seat has the lock's state, whose history begins with each history that the seat's log
-/// has. If the exchange fails, the log has that the guard was taken.
+/// If the exchange succeeds, the seat has the lock's state, whose history extends each history in the seat's log. If
+/// the exchange fails, the log says that the guard was taken.
 pub fn a_try_keeps_the_rule()
     ensures { (number slots id weight : ℕ) (log : SeatLog)
         → Allows (IsKept number) slots id (idle weight log) guard_word (λ n. either (n == 0) 1 n) (Takes (idle weight log)) }
@@ -36,7 +36,7 @@ pub fn a_try_keeps_the_rule()
 
 /// A store of 0 to a lock's guard word keeps the invariant of the lock's table.
 ///
-/// The table has the lock's state again, with a history that begins with the history that the seat took.
+/// The table has the lock's state again, whose history extends the one that the seat took.
 pub fn giving_back_keeps_the_rule()
     ensures { (number slots id : ℕ) (me : Mine) (guarded : Guarded) (before : List LockEvent) → slots ≡ 1 → IsReturnable me guarded before
         → Allows (IsKept number) slots id me guard_word (λ _. 0) (λ _ after. GivesBack me after) }

@@ -29,7 +29,7 @@ impl<T: Tagged + Drop> WordContexts<T> {
         shared.load::<TakeSlot>(&mut seat.seat, self.name_word(place)) as usize
     }
 
-    /// Puts a thread's value into the empty slot that the seat has taken last.
+    /// Stores a thread's value in the slot (the field for it) that the seat has taken out of the table last.
     pub(crate) fn lay_in(&self, seat: &mut CallSeat<T>, context: usize, value: T)
         requires own { seat.old.table ≡ self.now.table }
         requires slot { seat.old.slots ≡ (context, None) ∷ rest seat.old.slots }

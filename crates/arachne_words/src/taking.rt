@@ -44,7 +44,7 @@ impl<T: Tagged + Drop> WordContexts<T> {
         Ok(())
     }
 
-    /// Takes the thread's value out of the slot that the seat has taken last.
+    /// Takes the thread's value out of the slot (the field for it) that the seat has taken out of the table last.
     fn take_out(&self, seat: &mut CallSeat<T>, context: usize) -> T
         requires own { seat.old.table ≡ self.now.table }
         requires value { (value : T) × HasLast seat.old.slots context (Some value) }

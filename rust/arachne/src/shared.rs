@@ -56,8 +56,7 @@ pub(crate) struct Shared {
     pub(crate) rests: AtomicI32,
     /// Milliseconds between two checks of the other workers by the worker that waits in the epoll.
     pub(crate) pauses: AtomicI32,
-    /// Nanoseconds between two checks of the first worker by the one that covers for it, if only the first has a core;
-    /// else 0.
+    /// Nanoseconds between two checks of the first worker by the second, if only the first has a core; else 0.
     pub(crate) covers: Line<AtomicU64>,
     /// For each shard, its blocks that may have a free place, as bits.
     pub(crate) roomy: Box<[Line<AtomicU64>]>,

@@ -389,8 +389,8 @@ fn the_watcher_runs_what_is_behind() {
     }
 }
 
-/// The only active worker is in a poll, and the one that covers for it too: the watcher runs the jobs in the blocks of
-/// the third, and fires its timers.
+/// The only active worker is in a poll, and the one that stands in for it too: the watcher runs the jobs in the blocks
+/// of the third, and fires its timers.
 #[test]
 fn the_watcher_looks_after_a_core_that_was_given_back() {
     let runtime = Builder::new(3).policy(Policy::default()).watch_polls(10 * MS, false).build().unwrap();

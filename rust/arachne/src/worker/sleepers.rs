@@ -13,10 +13,10 @@
 //! plus the delays of the machine. Once all workers sleep, nobody checks. The first worker that runs a job after a
 //! sleep wakes another worker, which checks again (`goes_on`).
 //!
-//! **Without a core.** While only the first worker has a core, the second one covers for it (`cover`): each millisecond
-//! the second worker checks if the first makes progress. If not, since the first is in a long poll or has lost its
-//! processor, the second runs the waiting jobs, on any processor that it may use. Once nothing has run for a while the
-//! second worker checks less and less often, and `goes_on` makes it check each millisecond again.
+//! **Without a core.** While only the first worker has a core, the second one stands in for it (`cover`): each
+//! millisecond the second worker checks if the first makes progress. If not, since the first is in a long poll or has
+//! lost its processor, the second runs the waiting jobs, on any processor that it may use. Once nothing has run for a
+//! while the second worker checks less and less often, and `goes_on` makes it check each millisecond again.
 //!
 //! With the watcher, ready jobs also run if all workers are in long polls.
 
@@ -35,7 +35,7 @@ const SPINS: usize = 4;
 const LONG_REST: i32 = 2;
 /// The milliseconds between two checks of the other workers while all workers sleep: some 17 minutes, as good as never.
 const FOR_EVER: i32 = 1 << 20;
-/// Nanoseconds between two checks of the first worker by the one that covers for it, while tasks run.
+/// While only the first worker has a core: nanoseconds between two checks of it by the second worker, while tasks run.
 const COVER: u64 = 1_000_000;
 /// Nanoseconds between these checks once the last one found a task to run.
 const COVER_SOON: u64 = 200_000;
@@ -269,8 +269,8 @@ impl Shared {
         (stands, waits)
     }
 
-    /// Waits for a core by `waits`, whose argument is the most nanoseconds. Meanwhile covers for the first worker, the
-    /// only worker that has a core.
+    /// Waits for a core by `waits`, whose argument is the most nanoseconds. Meanwhile runs jobs that the first worker,
+    /// the only one with a core, doesn't get to.
     pub(crate) fn cover(&self, context: &Context, turn: &mut Turn, mut waits: impl FnMut(u64) -> Ends) {
         let mut rests = COVER;
         loop {
@@ -303,7 +303,7 @@ impl Shared {
         (2 * rested).clamp(COVER, COVER_MOST)
     }
 
-    /// Makes the worker that covers for the first check it each millisecond again.
+    /// Makes the second worker check the first each millisecond again, while only the first has a core.
     fn call_cover(&self) {
         let gate = self.workers[1].0.given_back.0.lock().unwrap();
         self.covers.0.store(COVER, SeqCst);
@@ -373,7 +373,7 @@ impl Shared {
     ///
     /// If nobody waits in the epoll and there is no deputy, any sleeping worker is woken to wait there. If the workers
     /// that check the others sleep for longer than `LONG_REST`, wakes one of them, to check more often again, and the
-    /// worker that covers for the first.
+    /// second worker if only the first has a core.
     pub(crate) fn goes_on(&self) {
         if self.covers.0.load(SeqCst) > COVER_LONG {
             self.call_cover();
