@@ -218,7 +218,8 @@ impl SearchTurn {
         if first < count { first } else { 0 }
     }
 
-    /// Returns a search of the blocks with a bit in `shown`. It begins behind the block in which the last search ended.
+    /// Returns a search of the blocks with a bit in `shown`. In the shard of this turn's place it begins at the block
+    /// of that place, in any other at block 0.
     pub(crate) fn unsearched(&self, shard: usize, shown: u64) -> Unsearched
         ensures blocks { result.blocks ≡ shown }
         ensures turn { self.now.place / 4096 ≡ shard → result.from ≡ self.now.place / 64 % 64 }

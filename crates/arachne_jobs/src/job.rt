@@ -433,8 +433,8 @@ impl<'p> Job<'p> {
         }
     }
 
-    /// Takes the outcome or the waiting child out of the awaited child's cell, and drops the cell. If the cell has
-    /// neither, keeps it.
+    /// Takes the outcome or the waiting child out of the awaited child's cell, which the job then gives up. If the cell
+    /// has neither, the job keeps it.
     fn find(&mut self, spares: &mut JobSpares<'p>) -> Result<Found<'p>, JobFault>
         ensures same { self.new ≡ self.old }
         ensures found { IfOk result (IsFoundOf (program_of self.old.thread)) }
