@@ -230,7 +230,7 @@ uint64_t arachne_exec_take_many(arachne_exec *exec, size_t block, uint32_t most)
  * Threads: safe beside calls with other handles; two at once with `exec` are undefined behaviour. */
 arachne_exec_told arachne_exec_start(arachne_exec *exec);
 
-/* Takes the next ready job of the worker's blocks, or lets the worker park.
+/* Takes the next job of the worker's blocks that is ready, or lets the worker park.
  *
  * Returns RUN with the job's name and number; PARK if the worker must sleep; AGAIN if the caller must call
  * again; REFUSED if the handle is empty or holds a job, or if its seat is no worker.

@@ -300,7 +300,7 @@ pub extern "C" fn arachne_exec_start(alloc: Global, exec: &mut ArachneExec) -> A
     told
 }
 
-/// Takes the next ready job of the worker's blocks, or lets the worker park.
+/// Takes the next job of the worker's blocks that is ready, or lets the worker park.
 ///
 /// Returns RUN with the job's name and number; PARK if the worker must sleep; AGAIN if the caller must call again;
 /// REFUSED if the handle is empty or holds a job, or if its seat is no worker.
