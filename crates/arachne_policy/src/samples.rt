@@ -63,7 +63,7 @@ impl Advice {
 pub struct BadSample;
 
 impl Sample {
-    /// Returns whether the sample can be judged, if `max` is the most cores that may be had.
+    /// Returns whether the sample can be judged by an estimator for at most `max` cores.
     pub(crate) fn is_good(&self, max: u8) -> bool
         ensures { result ≡ is_good max self.now }
     {
