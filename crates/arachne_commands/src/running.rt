@@ -11,8 +11,8 @@ ghost use Rattle.arachne_commands.specs.Running.{IsRefusal, IsSetUpBy, MayRun, c
 
 use arachne_cli::RunSettings;
 use arachne_core::CORES;
-use arachne_lang::Program;
 use arachne_jobs::JobOf;
+use arachne_lang::Program;
 use arachne_run::{Gate, Job, OpenGate, Report, RunFault, Setup, run};
 use arachne_words::WordContexts;
 use rand_core::{Rng, SeedableRng};
