@@ -174,6 +174,8 @@ impl<'a, H: Wait, T: RunJob, C: Contexts<T>, R: Rng + Drop, G: Gate> RunSeat<'a,
 
 impl<'a, H: Wait + Clock, T: RunJob, C: Contexts<T>, R: Rng + Drop, G: Gate> Desk
     for RunSeat<'a, H, T, C, R, G> {
+    ghost largest_quantum = { λ seat. seat.quantum };
+
     #[inline(always)]
     fn take(&mut self, place: Place) -> Grip {
         let Place { core, index } = place;

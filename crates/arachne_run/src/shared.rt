@@ -5,7 +5,7 @@ ghost use Rattle.arachne_run.specs.Setups.{numbered};
 use crate::fault::WorkerFault;
 use arachne_jobs::Room;
 use arachne_spill::CAPACITY;
-use arachne_workers::{Halted, SharedWords};
+use arachne_workers::{Halt, SharedWords};
 use std::alloc::{AllocError, Global};
 use std::marker::Model;
 use std::snapshot::Snapshot;
@@ -78,10 +78,10 @@ impl SharedState {
     }
 
     /// Stops all workers for the error that ended the loop of one worker.
-    pub(crate) fn halt<H: Wait>(&self, rt: &H, halted: Halted) -> Failed
-        ensures { result.fault.value ≡ numbered halted.why }
+    pub(crate) fn halt<H: Wait>(&self, rt: &H, halt: Halt) -> Failed
+        ensures { result.fault.value ≡ numbered halt.why }
     {
-        self.fail(rt, WorkerFault::from(halted.halt()))
+        self.fail(rt, WorkerFault::from(halt))
     }
 
     /// Returns the fault that was recorded first.
