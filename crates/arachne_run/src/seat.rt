@@ -274,7 +274,7 @@ impl<'a, H: Wait + Clock, T: RunJob, C: Contexts<T>, R: Rng + Drop, G: Gate> Des
                 self.keep_or_count(before)?;
                 match parent {
                     Ok(None) => {
-                        self.machine.shared.stop();
+                        self.machine.shared.workers().stop();
                         Ok(None)
                     }
                     Ok(parent) => Ok(parent),

@@ -55,11 +55,6 @@ impl SharedState {
         &self.workers
     }
 
-    /// Stops all workers, also those that sleep or are parked.
-    pub(crate) fn stop(&self) {
-        self.workers.stop();
-    }
-
     /// Returns the words that are read before each fork.
     pub(crate) fn room(&self) -> &Room {
         &self.room
@@ -71,7 +66,7 @@ impl SharedState {
     {
         let mut first = self.first_fault.lock(rt);
         keep_first(&mut first, fault);
-        self.stop();
+        self.workers.stop();
         Failed {
             fault: Snapshot::of(&fault),
         }

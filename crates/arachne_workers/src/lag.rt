@@ -1,11 +1,14 @@
 //! The steps of a worker's threads between two looks of the worker at what it must heed.
-ghost use Rattle.std.specs.Prelude.{◌≡◌, ◌≤◌, ◌+◌, max};
+ghost use Rattle.std.specs.Prelude.{◌≡◌, ◌≤◌, ◌+◌, false, max};
 
 use crate::desk::Desk;
 use crate::shared::SharedWords;
 
-/// The numbers of steps that a worker's threads have made since the worker last read the stop word, and since it last
-/// carried out the orders that were due. Neither number is ever more than the largest quantum of the threads so far.
+/// The numbers of steps that a worker's threads have made since the worker last read in the stop word that it goes on,
+/// and since it last carried out the orders that were due.
+///
+/// Neither number is ever more than the largest quantum of the threads so far. Steps before a fault are not counted,
+/// since the fault ends the worker.
 #[derive(Drop)]
 pub(crate) struct Lag {
     unread: u32,
@@ -49,14 +52,18 @@ impl Lag {
         self.untended += steps;
     }
 
-    /// Reads the stop word. Returns whether all workers must stop.
+    /// Reads the stop word. Returns whether all workers must stop. If so, the threads may make no more steps than were
+    /// left before.
     #[inline(always)]
     pub(crate) fn is_stopped(&mut self, shared: &SharedWords) -> bool
-        ensures read { self.new.unread ≡ 0 }
+        ensures read { result ≡ false → self.new.unread ≡ 0 }
         ensures same { (self.new.untended ≡ self.old.untended) × (self.new.most ≡ self.old.most) }
     {
+        if shared.is_stopped() {
+            return true;
+        }
         self.unread = 0;
-        shared.is_stopped()
+        false
     }
 
     /// Carries out the orders that are due, if there are orders. Returns what `Desk::tend` returns.
