@@ -174,6 +174,8 @@ impl<'a, H: Wait, T: RunJob, C: Contexts<T>, R: Rng + Drop, G: Gate> RunSeat<'a,
 
 impl<'a, H: Wait + Clock, T: RunJob, C: Contexts<T>, R: Rng + Drop, G: Gate> Desk
     for RunSeat<'a, H, T, C, R, G> {
+    ghost largest_quantum = { λ seat. seat.quantum };
+
     #[inline(always)]
     fn take(&mut self, place: Place) -> Grip {
         let Place { core, index } = place;
@@ -272,7 +274,7 @@ impl<'a, H: Wait + Clock, T: RunJob, C: Contexts<T>, R: Rng + Drop, G: Gate> Des
                 self.keep_or_count(before)?;
                 match parent {
                     Ok(None) => {
-                        self.machine.shared.stop();
+                        self.machine.shared.workers().stop();
                         Ok(None)
                     }
                     Ok(parent) => Ok(parent),

@@ -5,7 +5,7 @@ ghost use Rattle.arachne_run.specs.Setups.{numbered};
 use crate::fault::WorkerFault;
 use arachne_jobs::Room;
 use arachne_spill::CAPACITY;
-use arachne_workers::{Halted, SharedWords};
+use arachne_workers::{Halt, SharedWords};
 use std::alloc::{AllocError, Global};
 use std::marker::Model;
 use std::snapshot::Snapshot;
@@ -55,11 +55,6 @@ impl SharedState {
         &self.workers
     }
 
-    /// Stops all workers, also those that sleep or are parked.
-    pub(crate) fn stop(&self) {
-        self.workers.stop();
-    }
-
     /// Returns the words that are read before each fork.
     pub(crate) fn room(&self) -> &Room {
         &self.room
@@ -71,17 +66,17 @@ impl SharedState {
     {
         let mut first = self.first_fault.lock(rt);
         keep_first(&mut first, fault);
-        self.stop();
+        self.workers.stop();
         Failed {
             fault: Snapshot::of(&fault),
         }
     }
 
     /// Stops all workers for the error that ended the loop of one worker.
-    pub(crate) fn halt<H: Wait>(&self, rt: &H, halted: Halted) -> Failed
-        ensures { result.fault.value ≡ numbered halted.why }
+    pub(crate) fn halt<H: Wait>(&self, rt: &H, halt: Halt) -> Failed
+        ensures { result.fault.value ≡ numbered halt.why }
     {
-        self.fail(rt, WorkerFault::from(halted.halt()))
+        self.fail(rt, WorkerFault::from(halt))
     }
 
     /// Returns the fault that was recorded first.

@@ -214,8 +214,8 @@ fn work_on<H: Wait + Clock, T: RunJob, C: Contexts<T>, R: Rng + Drop, G: Gate>(
         Err(fault) => return Err(machine.shared.fail(rt, fault)),
     };
     let mut worker = worker_on(rt, machine, core, Agenda::new(alloc, root), desk);
-    if let Err(halted) = worker.work() {
-        return Err(machine.shared.halt(rt, halted));
+    if let Err(halt) = worker.work() {
+        return Err(machine.shared.halt(rt, halt));
     }
     let CoreWorker { desk, .. } = worker;
     into_tokens(machine, desk)

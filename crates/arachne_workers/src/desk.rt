@@ -1,14 +1,13 @@
 //! The calls by which a worker uses its table and the thread that it has in hand, and their results.
 //!
 //! The worker's loop is written over this trait, and not over tables and jobs.
-ghost use Rattle.std.specs.Prelude.{◌≡◌, ◌≤◌, OnOk};
+ghost use Rattle.std.specs.Prelude.{◌≡◌, ◌≤◌, ℕ, OnOk};
 
 use crate::policy;
 use crate::queue::PostedThread;
 use arachne_arbiter::Pace;
 use arachne_contexts::Woken;
 use arachne_core::{MarkWord, OccWord, Place, Rest, SLOTS, ThreadId};
-use std::marker::Model;
 
 /// An error that ends a worker. Each implementation of `Desk` has a number for each cause.
 #[derive(Clone, Copy, Debug, PartialEq, Eq)]
@@ -16,50 +15,21 @@ pub struct Halt {
     pub why: u8,
 }
 
-/// The error that ended a worker's loop. The type is not `Drop`, so that the error must be handled.
-///
-/// Contracts see the cause.
-pub struct Halted {
-    halt: Halt,
-}
-
-impl Model for Halted {
-    ghost use Rattle.arachne_workers.specs.declared.desk.Halt.{Halt};
-
-    ghost Value = { Halt };
-
-    ghost view = { λ h. h.halt };
-}
-
-impl Halted {
-    #[inline(always)]
-    pub(crate) fn by(halt: Halt) -> Halted
-        ensures { result ≡ halt }
-    {
-        Halted { halt }
-    }
-
-    /// Returns the reason why the worker's loop has ended.
-    #[inline(always)]
-    pub fn halt(self) -> Halt
-        ensures { result ≡ self }
-    {
-        let Halted { halt } = self;
-        halt
-    }
-}
-
 /// A worker's access to its table and to the thread in hand.
 ///
 /// No call changes the table to which the worker's seat belongs. The trait has no associated types: over the types of a
 /// table and a job each proof of the loop takes far longer.
 pub trait Desk {
+    /// No thread has a larger quantum.
+    ghost largest_quantum: { Self → ℕ } = { λ _. 4294967295 };
+
     /// Takes the thread at a place, if it is ready and no thread is in hand yet, and reports that it was taken.
     fn take(&mut self, place: Place) -> Grip
         ensures { self.new ≡ self.old };
 
     /// Returns the most steps of a slice of the thread in hand.
-    fn quantum(&self) -> u32;
+    fn quantum(&self) -> u32
+        ensures { result ≤ largest_quantum self.now };
 
     /// Runs the thread in hand for at most `left` steps, and serves its requests.
     ///

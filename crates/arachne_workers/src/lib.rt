@@ -3,6 +3,7 @@
 
 mod desk;
 mod hints;
+mod lag;
 mod policy;
 mod queue;
 mod shared;
@@ -12,7 +13,7 @@ mod wake;
 mod worker;
 
 pub use desk::{
-    Cause, Desk, Grip, Halt, Halted, SliceEnd, ThreadStop, TicketResult, WorkerEvent, give_all_back,
+    Cause, Desk, Grip, Halt, SliceEnd, ThreadStop, TicketResult, WorkerEvent, give_all_back,
 };
 pub use hints::Hints;
 pub use policy::{is_drained, keeps_place, may_keep_places, may_take_ticket};

@@ -5,7 +5,7 @@
 ghost use Rattle.std.specs.Prelude.{◌≡◌, ◌≤◌, ◌<◌, ◌+◌, ◌-◌, ◌*◌, ◌^◌, ◌↔◌, ◌⊎◌, false, true, if◌then◌else◌, min, EachIndex, IsTrue, slice_index_or};
 ghost use Rattle.arachne_core.specs.Occupancy.{count_of};
 ghost use Rattle.arachne_workers.specs.Keeping.{MayKeepPlaces};
-ghost use Rattle.arachne_workers.specs.declared.policy.TheConstants.{STEPS_PAST_FREE, TOLD_AT_ONCE, LAST_SPIN, LAST_SPIN_ALONE, LAST_YIELD, MOST_SPINS, SHORT_SLEEP, LONG_SLEEP};
+ghost use Rattle.arachne_workers.specs.declared.policy.TheConstants.{STEPS_PAST_FREE, LAST_SPIN, LAST_SPIN_ALONE, LAST_YIELD, SHORT_SLEEP, LONG_SLEEP};
 
 use arachne_core::OccWord;
 
@@ -36,13 +36,6 @@ pub(crate) const PATIENCE: u32 = 500;
 ///
 /// When a run begins, the other cores have no work, so the first threads put there are signalled without delay.
 pub(crate) const TOLD_AT_ONCE: u32 = 32;
-
-/// Returns whether a worker that has put `posted` threads on other cores delays its next signal.
-pub(crate) fn keeps_back(posted: u32) -> bool
-    ensures { IsTrue result ↔ TOLD_AT_ONCE ≤ posted }
-{
-    posted >= TOLD_AT_ONCE
-}
 
 /// Returns whether workers may keep places for later children at all.
 ///
@@ -123,48 +116,23 @@ const LAST_SPIN: u32 = 6;
 /// The last round in which a worker that may not yield spins.
 const LAST_SPIN_ALONE: u32 = 10;
 
-/// The most times that the length of a spin doubles.
-pub(crate) const MOST_SPINS: u32 = LAST_SPIN_ALONE;
-
 /// The last round in which a worker that no longer spins yields, if it may. After this round the worker sleeps.
 const LAST_YIELD: u32 = 40;
-
-/// Returns the last round in which a worker spins.
-pub(crate) fn last_spin(may_yield: bool) -> u32
-    ensures { result ≡ (if may_yield then LAST_SPIN else LAST_SPIN_ALONE) }
-{
-    if may_yield {
-        LAST_SPIN
-    } else {
-        LAST_SPIN_ALONE
-    }
-}
-
-/// Returns the last round after which a worker does not sleep.
-pub(crate) fn last_awake(may_yield: bool) -> u32
-    ensures { result ≡ (if may_yield then LAST_YIELD else LAST_SPIN_ALONE) }
-{
-    if may_yield {
-        LAST_YIELD
-    } else {
-        LAST_SPIN_ALONE
-    }
-}
 
 /// Returns whether a worker still spins in this round.
 #[inline(always)]
 pub(crate) fn spins(round: u32, may_yield: bool) -> bool
     ensures { IsTrue result ↔ (round ≤ (if may_yield then LAST_SPIN else LAST_SPIN_ALONE)) }
 {
-    round <= last_spin(may_yield)
+    round <= if may_yield { LAST_SPIN } else { LAST_SPIN_ALONE }
 }
 
 /// Returns how often a spinning worker looks at its core's word in this round.
 #[inline(always)]
 pub(crate) fn spins_of(round: u32) -> u32
-    ensures { result ≡ 2 ^ min round MOST_SPINS }
+    ensures { result ≡ 2 ^ min round LAST_SPIN_ALONE }
 {
-    1 << round.min(MOST_SPINS)
+    1 << round.min(LAST_SPIN_ALONE)
 }
 
 /// Returns whether a worker sleeps after `idle` consecutive rounds that found nothing.
@@ -172,7 +140,7 @@ pub(crate) fn spins_of(round: u32) -> u32
 pub(crate) fn sleeps(idle: u32, may_yield: bool) -> bool
     ensures { IsTrue result ↔ ((if may_yield then LAST_YIELD else LAST_SPIN_ALONE) < idle) }
 {
-    idle > last_awake(may_yield)
+    idle > if may_yield { LAST_YIELD } else { LAST_SPIN_ALONE }
 }
 
 /// Returns whether a round that found nothing also scans all occupied indexes. The first of several rounds that find
@@ -182,15 +150,6 @@ pub(crate) fn looks_at_all(idle: u32, sleeps: bool) -> bool
     ensures { IsTrue result ↔ (idle ≡ 0) ⊎ (sleeps ≡ true) }
 {
     idle == 0 || sleeps
-}
-
-/// Returns whether a thread that holds a lock has used up its grace: the further steps that it gets since it holds a
-/// lock.
-#[inline(always)]
-pub(crate) fn is_grace_over(holds: bool, grace: u32) -> bool
-    ensures { IsTrue result ↔ (holds ≡ true) × (grace ≡ 0) }
-{
-    holds && grace == 0
 }
 
 /// Returns the grace (steps beyond the first slice for a thread that holds a lock) that is left after a further slice

@@ -10,6 +10,7 @@ ghost use Rattle.arachne_workers.specs.Lowest.{IsLowest};
 ghost use Rattle.arachne_workers.specs.Posts.{IsKeptBack};
 
 use crate::hints::bit_of;
+use crate::lag::Lag;
 use crate::policy;
 use arachne_core::{Place, SLOTS, ThreadId};
 use std::alloc::Global;
@@ -39,6 +40,8 @@ pub struct Agenda {
     posted: u32,
     /// The number of scans that have begun since the last scan of all occupied indexes.
     scans: u32,
+    /// The steps that the worker's threads have made since the worker last read the stop word and carried out orders.
+    pub(crate) lag: Lag,
 }
 
 impl Agenda {
@@ -49,6 +52,7 @@ impl Agenda {
         ensures rootless { root ≡ None → result.ready ≡ 0 }
         ensures posts { (result.posts.items ≡ []) × (result.posted ≡ 0) × (result.patience ≡ PATIENCE) }
         ensures scan { (result.scan ≡ 0) × (result.scans ≡ 0) × (result.next ≡ None) }
+        ensures lag { result.lag.most ≡ 0 }
     {
         Agenda {
             scan: 0,
@@ -61,6 +65,7 @@ impl Agenda {
             patience: policy::PATIENCE,
             posted: 0,
             scans: 0,
+            lag: Lag::none(),
         }
     }
 
@@ -155,7 +160,7 @@ impl Agenda {
     {
         let before = self.posted;
         self.posted = before.saturating_add(1);
-        if !policy::keeps_back(before) {
+        if before < policy::TOLD_AT_ONCE {
             return Some(post);
         }
         if self.posts.len() >= policy::MOST_KEPT_BACK || self.posts.try_reserve(1).is_err() {

@@ -1,5 +1,6 @@
 //! The turn of the thread in hand: its slices, and its end.
 ghost use Rattle.std.specs.Prelude.{◌≡◌, ◌≤◌, ◌<◌, ◌+◌, true, min, IfOk, IsTrue};
+ghost use Rattle.arachne_workers.specs.Agendas.{HasLooked, LooksWithin};
 
 use crate::desk::{Cause, Desk, Halt, SliceEnd, ThreadStop, WorkerEvent, thin_out};
 use crate::policy;
@@ -13,8 +14,10 @@ impl<'a, H: Wait + Clock, D: Desk> CoreWorker<'a, H, D> {
     /// Gives the thread in hand, which was taken at `place`, a slice, and more slices while it holds a lock or nothing
     /// else is ready. At the end of the turn puts the thread back or ends it. Returns whether the thread is blocked.
     pub(crate) fn turn(&mut self, place: Place) -> Result<bool, Halt>
+        requires { HasLooked self.old.agenda }
         ensures desk { self.new.desk ≡ self.old.desk }
         ensures scan { self.new.agenda.scan ≡ self.old.agenda.scan }
+        ensures heeds { LooksWithin (D.largest_quantum self.old.desk) self.old.agenda self.new.agenda }
     {
         let end = self.slices()?;
         if end == SliceEnd::Ended {
@@ -30,10 +33,13 @@ impl<'a, H: Wait + Clock, D: Desk> CoreWorker<'a, H, D> {
 
     /// Makes the slices of a turn. Returns how the last slice ended.
     fn slices(&mut self) -> Result<SliceEnd, Halt>
+        requires { HasLooked self.old.agenda }
         ensures desk { self.new.desk ≡ self.old.desk }
         ensures scan { self.new.agenda.scan ≡ self.old.agenda.scan }
+        ensures heeds { LooksWithin (D.largest_quantum self.old.desk) self.old.agenda self.new.agenda }
     {
         let quantum = self.desk.quantum();
+        self.agenda.lag.allow(quantum);
         // The number of further steps that the thread may make in this turn because it holds a lock.
         let mut grace = policy::STEPS_TO_FREE;
         let mut end = self.slice(quantum)?;
@@ -56,14 +62,16 @@ impl<'a, H: Wait + Clock, D: Desk> CoreWorker<'a, H, D> {
     /// ready on this core and no ticket can be taken.
     fn goes_on(&mut self, holds: bool, grace: u32) -> bool
         ensures desk { self.new.desk ≡ self.old.desk }
-        ensures same { (self.new.agenda ≡ self.old.agenda) × (self.new.slices ≡ self.old.slices) }
+        ensures same { (self.new.agenda ≡ record self.old.agenda { lag = self.new.agenda.lag }) × (self.new.slices ≡ self.old.slices) }
+        ensures reads { IsTrue result → self.new.agenda.lag.unread ≡ 0 }
+        ensures lag { (self.new.agenda.lag.untended ≡ self.old.agenda.lag.untended) × (self.new.agenda.lag.most ≡ self.old.agenda.lag.most) }
         ensures grace { IsTrue result → holds ≡ true → 0 < grace }
     {
-        if policy::is_grace_over(holds, grace) {
+        if holds && grace == 0 {
             return false;
         }
         let others = self.agenda.is_any() || self.shared.hints().is_any(self.core);
-        if others && !holds || self.shared.is_stopped() {
+        if self.agenda.lag.is_stopped(self.shared) || others && !holds {
             return false;
         }
         let takes_ticket = !holds && self.desk.may_take_ticket();
@@ -72,9 +80,11 @@ impl<'a, H: Wait + Clock, D: Desk> CoreWorker<'a, H, D> {
 
     /// Makes one slice of at most `most` steps. Returns how the slice ended.
     fn slice(&mut self, most: u32) -> Result<SliceEnd, Halt>
+        requires looked { HasLooked self.old.agenda }
+        requires most { most ≤ self.old.agenda.lag.most }
         ensures desk { self.new.desk ≡ self.old.desk }
         ensures number { self.new.slices ≡ min (self.old.slices + 1) u64.MAX }
-        ensures scan { self.new.agenda.scan ≡ self.old.agenda.scan }
+        ensures others { (self.new.agenda.scan ≡ self.old.agenda.scan) × (self.new.agenda.lag.most ≡ self.old.agenda.lag.most) }
     {
         let nth = self.slices;
         self.slices = nth.saturating_add(1);
@@ -89,9 +99,12 @@ impl<'a, H: Wait + Clock, D: Desk> CoreWorker<'a, H, D> {
     /// Makes the steps of a slice. Returns the number of steps, and how the slice ends. If all steps are used up, sends
     /// all delayed signals.
     fn spend(&mut self, most: u32) -> Result<(u32, SliceEnd), Halt>
+        requires looked { HasLooked self.old.agenda }
+        requires most { most ≤ self.old.agenda.lag.most }
         ensures desk { self.new.desk ≡ self.old.desk }
         ensures steps { IfOk result (λ spent. spent.0 ≤ most) }
-        ensures others { (self.new.slices ≡ self.old.slices) × (self.new.agenda.scan ≡ self.old.agenda.scan) }
+        ensures counted { IfOk result (λ spent. (self.new.agenda.lag.unread ≡ spent.0) × (self.new.agenda.lag.untended ≡ spent.0)) }
+        ensures others { (self.new.slices ≡ self.old.slices) × (self.new.agenda.scan ≡ self.old.agenda.scan) × (self.new.agenda.lag.most ≡ self.old.agenda.lag.most) }
     {
         self.agenda.begin_slice();
         let mut left = most;
@@ -106,6 +119,7 @@ impl<'a, H: Wait + Clock, D: Desk> CoreWorker<'a, H, D> {
             let steps = stretch - rest;
             left -= steps;
             made += steps;
+            self.agenda.lag.add(steps);
             // Before the stop is handled: the signal of a child that was posted by these steps is delayed for its full
             // time.
             if self.agenda.spend(steps) {
@@ -133,7 +147,7 @@ impl<'a, H: Wait + Clock, D: Desk> CoreWorker<'a, H, D> {
     /// Ends the thread in hand, and wakes its parent.
     fn end(&mut self) -> Result<(), Halt>
         ensures desk { self.new.desk ≡ self.old.desk }
-        ensures others { (self.new.slices ≡ self.old.slices) × (self.new.agenda.scan ≡ self.old.agenda.scan) × (self.new.agenda.posts ≡ self.old.agenda.posts) }
+        ensures others { (self.new.slices ≡ self.old.slices) × (self.new.agenda.scan ≡ self.old.agenda.scan) × (self.new.agenda.posts ≡ self.old.agenda.posts) × (self.new.agenda.lag ≡ self.old.agenda.lag) }
     {
         // Read while the thread has its place: the desk keeps the place for a later child if the core is full with it.
         let before = self.desk.look();

@@ -144,7 +144,7 @@ fn ready_place(mark: Option<MarkWord>, id: ThreadId) -> Option<Place>
 /// put on another core, or delays that signal.
 #[inline(always)]
 pub(crate) fn posted(agenda: &mut Agenda, shared: &SharedWords, core: u8, post: PostedThread)
-    ensures others { (agenda.new.scan ≡ agenda.old.scan) × (agenda.new.next ≡ agenda.old.next) }
+    ensures others { (agenda.new.scan ≡ agenda.old.scan) × (agenda.new.next ≡ agenda.old.next) × (agenda.new.lag ≡ agenda.old.lag) }
     ensures here { post.place.core ≡ core → agenda.new ≡ record agenda.old { ready = agenda.new.ready } }
     ensures noted { post.place.core ≡ core → post.place.index < SLOTS
         → agenda.new.ready ≡ bit_or agenda.old.ready (2 ^ post.place.index) }

@@ -1,7 +1,8 @@
 //! The worker of a core: its rounds, and the waits and orders between them.
 ghost use Rattle.std.specs.Prelude.{◌≡◌, IsOk};
+ghost use Rattle.arachne_workers.specs.Agendas.{LooksWithin};
 
-use crate::desk::{Desk, Grip, Halt, Halted, TicketResult, WorkerEvent, give_all_back, thin_out};
+use crate::desk::{Desk, Grip, Halt, TicketResult, WorkerEvent, give_all_back, thin_out};
 use crate::policy;
 use crate::queue::Agenda;
 use crate::shared::SharedWords;
@@ -32,19 +33,9 @@ pub struct CoreWorker<'a, H, D> {
 
 impl<'a, H: Wait + Clock, D: Desk> CoreWorker<'a, H, D> {
     /// Runs threads until all workers stop, and gives back the places that it keeps.
-    pub fn work(&mut self) -> Result<(), Halted>
-        ensures { self.new.desk ≡ self.old.desk }
-    {
-        match self.rounds() {
-            Ok(()) => Ok(()),
-            Err(halt) => Err(Halted::by(halt)),
-        }
-    }
-
-    /// Makes rounds until all workers stop.
-    #[inline(always)]
-    fn rounds(&mut self) -> Result<(), Halt>
-        ensures { self.new.desk ≡ self.old.desk }
+    pub fn work(&mut self) -> Result<(), Halt>
+        ensures desk { self.new.desk ≡ self.old.desk }
+        ensures heeds { LooksWithin (D.largest_quantum self.old.desk) self.old.agenda self.new.agenda }
     {
         // The number of consecutive rounds that have found nothing.
         let mut idle: u32 = 0;
@@ -66,7 +57,8 @@ impl<'a, H: Wait + Clock, D: Desk> CoreWorker<'a, H, D> {
     ///
     /// Returns whether there was anything to do. `idle` is the number of consecutive rounds that have found nothing.
     pub fn round(&mut self, idle: u32) -> Result<bool, Halt>
-        ensures { self.new.desk ≡ self.old.desk }
+        ensures desk { self.new.desk ≡ self.old.desk }
+        ensures heeds { LooksWithin (D.largest_quantum self.old.desk) self.old.agenda self.new.agenda }
     {
         let sleeps = policy::sleeps(idle, self.pace.may_yield());
         let looks = policy::looks_at_all(idle, sleeps);
@@ -87,7 +79,8 @@ impl<'a, H: Wait + Clock, D: Desk> CoreWorker<'a, H, D> {
     /// `idle` is the number of consecutive rounds that found nothing, without the last one.
     pub fn rest_for(&mut self, idle: u32)
         ensures desk { self.new.desk ≡ self.old.desk }
-        ensures same { (self.new.agenda ≡ self.old.agenda) × (self.new.slices ≡ self.old.slices) }
+        ensures same { (self.new.agenda ≡ record self.old.agenda { lag = self.new.agenda.lag }) × (self.new.slices ≡ self.old.slices) }
+        ensures lag { self.new.agenda.lag.most ≡ self.old.agenda.lag.most }
     {
         // Before each wait: nobody wakes this worker for an order that is due.
         self.tend();
@@ -105,6 +98,7 @@ impl<'a, H: Wait + Clock, D: Desk> CoreWorker<'a, H, D> {
     fn scan(&mut self) -> Result<bool, Halt>
         ensures desk { self.new.desk ≡ self.old.desk }
         ensures ended { IsOk result → self.new.agenda.scan ≡ 0 }
+        ensures heeds { LooksWithin (D.largest_quantum self.old.desk) self.old.agenda self.new.agenda }
     {
         thin_out(&mut self.desk, self.slots)?;
         let mut indexes = self.shared.hints().take(self.core);
@@ -122,6 +116,7 @@ impl<'a, H: Wait + Clock, D: Desk> CoreWorker<'a, H, D> {
     fn scan_all(&mut self) -> Result<bool, Halt>
         ensures desk { self.new.desk ≡ self.old.desk }
         ensures ended { IsOk result → self.new.agenda.scan ≡ 0 }
+        ensures heeds { LooksWithin (D.largest_quantum self.old.desk) self.old.agenda self.new.agenda }
     {
         let occupied = self.desk.look().mask();
         self.agenda.begin_scan(occupied);
@@ -145,6 +140,7 @@ impl<'a, H: Wait + Clock, D: Desk> CoreWorker<'a, H, D> {
     fn run_each(&mut self) -> Result<bool, Halt>
         ensures desk { self.new.desk ≡ self.old.desk }
         ensures ended { IsOk result → self.new.agenda.scan ≡ 0 }
+        ensures heeds { LooksWithin (D.largest_quantum self.old.desk) self.old.agenda self.new.agenda }
     {
         let mut found = false;
         while let Some(index) = self.agenda.next_index() {
@@ -160,6 +156,7 @@ impl<'a, H: Wait + Clock, D: Desk> CoreWorker<'a, H, D> {
     fn run_at(&mut self, index: u8) -> Result<bool, Halt>
         ensures desk { self.new.desk ≡ self.old.desk }
         ensures scan { self.new.agenda.scan ≡ self.old.agenda.scan }
+        ensures heeds { LooksWithin (D.largest_quantum self.old.desk) self.old.agenda self.new.agenda }
     {
         let mut place = Place {
             core: self.core,
@@ -167,7 +164,7 @@ impl<'a, H: Wait + Clock, D: Desk> CoreWorker<'a, H, D> {
         };
         let mut found = false;
         for _ in 0..policy::MOST_IN_TURN {
-            if self.shared.is_stopped() {
+            if self.agenda.lag.is_stopped(self.shared) {
                 break;
             }
             // Before each slice: an order may be due since the last slice ended.
@@ -195,7 +192,7 @@ impl<'a, H: Wait + Clock, D: Desk> CoreWorker<'a, H, D> {
     /// Takes a ticket, if the core has a place for the ticket's child. Returns whether there was a ticket.
     fn take_ticket(&mut self) -> Result<bool, Halt>
         ensures desk { self.new.desk ≡ self.old.desk }
-        ensures others { (self.new.agenda.scan ≡ self.old.agenda.scan) × (self.new.agenda.next ≡ self.old.agenda.next) × (self.new.slices ≡ self.old.slices) }
+        ensures others { (self.new.agenda.scan ≡ self.old.agenda.scan) × (self.new.agenda.next ≡ self.old.agenda.next) × (self.new.agenda.lag ≡ self.old.agenda.lag) × (self.new.slices ≡ self.old.slices) }
     {
         if !self.desk.may_take_ticket() {
             return Ok(false);
@@ -218,19 +215,18 @@ impl<'a, H: Wait + Clock, D: Desk> CoreWorker<'a, H, D> {
     #[inline(always)]
     pub fn tend(&mut self)
         ensures desk { self.new.desk ≡ self.old.desk }
-        ensures same { (self.new.agenda ≡ self.old.agenda) × (self.new.slices ≡ self.old.slices) }
+        ensures same { (self.new.agenda ≡ record self.old.agenda { lag = self.new.agenda.lag }) × (self.new.slices ≡ self.old.slices) }
+        ensures tended { self.new.agenda.lag.untended ≡ 0 }
+        ensures lag { (self.new.agenda.lag.unread ≡ self.old.agenda.lag.unread) × (self.new.agenda.lag.most ≡ self.old.agenda.lag.most) }
     {
-        if self.desk.has_orders() {
-            self.apply_orders();
+        let (applied, receivers) = self.agenda.lag.tend(&mut self.desk);
+        if applied.is_some() || receivers != 0 {
+            self.signal_orders(applied, receivers);
         }
     }
 
-    /// Carries out the orders to open or close cores that are due, and wakes the workers that they concern.
-    fn apply_orders(&mut self)
-        ensures desk { self.new.desk ≡ self.old.desk }
-        ensures same { (self.new.agenda ≡ self.old.agenda) × (self.new.slices ≡ self.old.slices) }
-    {
-        let (applied, receivers) = self.desk.tend();
+    /// Reports the orders that were carried out, and wakes the workers that they concern.
+    fn signal_orders(&self, applied: Option<usize>, receivers: u64) {
         if let Some(count) = applied {
             self.desk.told(WorkerEvent::Applied(count));
             // The worker of a core that was closed may sleep, and must look at its core.

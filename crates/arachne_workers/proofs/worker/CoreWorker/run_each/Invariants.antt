@@ -1,8 +1,11 @@
 use Rattle.std.proofs.Common.{◌≡◌}
+use Rattle.arachne_workers.specs.Agendas.{LooksWithin}
 use Rattle.arachne_workers.proofs.worker.CoreWorker.run_each.Given as goal
 
 abbrev pub invariant-loop-index : goal.invariant-loop-index
-invariant-loop-index g l = l.self.desk ≡ l.initial.self.desk
+invariant-loop-index g l =
+    (l.self.desk ≡ l.initial.self.desk)
+    × LooksWithin (g.D.Desk.largest_quantum l.initial.self.desk) l.initial.self.agenda l.self.agenda
 
 -- the indexes that are left of the scan, as a number
 abbrev pub decreases-loop-index : goal.decreases-loop-index

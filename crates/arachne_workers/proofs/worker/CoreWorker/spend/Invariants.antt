@@ -5,4 +5,5 @@ use Rattle.arachne_workers.proofs.worker.CoreWorker.spend.Given as goal
 abbrev pub invariant-loop : goal.invariant-loop
 invariant-loop g l =
     (l.self.desk ≡ l.initial.self.desk) × (l.left + l.made ≤ l.fn.most)
+    × (l.self.agenda.lag.unread ≡ l.made) × (l.self.agenda.lag.untended ≡ l.made) × (l.self.agenda.lag.most ≡ l.initial.self.agenda.lag.most)
     × (l.self.slices ≡ l.initial.self.slices) × (l.self.agenda.scan ≡ l.initial.self.agenda.scan)
