@@ -1,21 +1,17 @@
 //! Runs a program on the cores that the command line asks for.
-ghost use Rattle.std.specs.Prelude.{◌≡◌, ◌≤◌, true, IfOk, IfErr, IsOk, None, Some, Err, length, vec_len};
+ghost use Rattle.std.specs.Prelude.{◌≡◌, ◌≤◌, IfOk, IfErr, IsOk};
 ghost use Rattle.arachne_core.specs.declared.layout.TheConstants.{CORES};
 ghost use Rattle.arachne_lang.specs.Program.{source_of};
 ghost use Rattle.arachne_lang.specs.Meaning.{meaning_of};
 ghost use Rattle.arachne_lang.specs.Checked.{IsChecked};
-ghost use Rattle.arachne_policy.specs.Orders.{AreInOrder};
-ghost use Rattle.arachne_run.specs.Reports.{IsReportOf, meaning_in};
-ghost use Rattle.arachne_run.specs.Setups.{IsFirstOrderFault, IsSetupFault, is_of_setup, refusal_in};
+ghost use Rattle.arachne_run.specs.Reports.{meaning_in};
 ghost use Rattle.arachne_commands.specs.Running.{IsRefusal, IsSetUpBy, MayRun, choosers_of};
 
 use arachne_cli::RunSettings;
 use arachne_core::CORES;
-use arachne_jobs::JobOf;
 use arachne_lang::Program;
-use arachne_run::{Gate, Job, OpenGate, Report, RunFault, Setup, run};
-use arachne_words::WordContexts;
-use rand_core::{Rng, SeedableRng};
+use arachne_run::{Job, OpenGate, Report, RunFault, Setup, run_on_words};
+use rand_core::SeedableRng;
 use rand_xoshiro::Xoshiro256PlusPlus;
 use std::alloc::{AllocError, Global};
 use std::sync::Wait;
@@ -39,38 +35,6 @@ pub fn run_program<'p, R: Threads + Wait + Clock + Sync>(
     run_on_words::<R, Job<'p>, Xoshiro256PlusPlus, OpenGate>(
         rt, alloc, program, setup, choosers, &OpenGate,
     )
-}
-
-/// Runs a program as `run` does, over a table on atomic words.
-///
-/// This function names the type of the table, and its caller that of the jobs: a call of `run` that names both takes
-/// the prover more steps than it allows.
-fn run_on_words<
-    'p,
-    H: Threads + Wait + Clock + Sync,
-    T: JobOf<'p> + Send,
-    R: Rng + Drop + Send,
-    G: Gate + Sync,
->(
-    rt: &H,
-    alloc: Global,
-    program: &'p Program,
-    setup: Setup,
-    choosers: Vec<R>,
-    gate: &G,
-) -> Result<Report, RunFault>
-where
-    T::Child: Send,
-    T::Ticket: Send,
-    T::Spares: Send,
-    requires { IsChecked (source_of program.now) }
-    ensures report { IfOk result (IsReportOf program.now (length setup.orders.items)) }
-    ensures refused { (fault : RunFault) → refusal_in setup (vec_len choosers) ≡ Some fault → result ≡ Err fault }
-    ensures of_setup { IfErr result (λ fault. is_of_setup fault ≡ true → IsSetupFault setup.cores setup.quantum setup.slots (vec_len choosers) setup.orders.items fault) }
-    ensures in_order { IsOk result → AreInOrder setup.cores setup.orders.items }
-    ensures order_refused { refusal_in setup (vec_len choosers) ≡ None → (AreInOrder setup.cores setup.orders.items → ⊥) → IfErr result (IsFirstOrderFault setup.cores setup.orders.items) }
-{
-    run::<H, T, WordContexts<T>, R, G>(rt, alloc, program, setup, choosers, gate)
 }
 
 /// Returns the setup of a run with these settings, and the random generators of its cores.

@@ -26,5 +26,5 @@ pub use arachne_workers::{Cause, SliceEnd, WorkerEvent};
 pub use fault::{RunFault, WorkerFault};
 pub use gate::{Gate, OpenGate};
 pub use report::Report;
-pub use running::run;
+pub use running::{run, run_on_words};
 pub use setup::Setup;

@@ -17,6 +17,7 @@ use crate::workers::work_all;
 use arachne_contexts::Contexts;
 use arachne_jobs::{JobOf, RunSpares};
 use arachne_program::Program;
+use arachne_words::WordContexts;
 use rand_core::Rng;
 use std::alloc::Global;
 use std::sync::Wait;
@@ -75,4 +76,36 @@ where
     };
     let report = Report::of(alloc, outcome, remains, applied)?;
     Ok(report)
+}
+
+/// Runs a program as `run` does, over a table on atomic words.
+///
+/// Its caller names the type of the jobs only: a call of `run` that names both types takes the prover more steps than
+/// it allows.
+pub fn run_on_words<
+    'p,
+    H: Threads + Wait + Clock + Sync,
+    T: JobOf<'p> + Send,
+    R: Rng + Drop + Send,
+    G: Gate + Sync,
+>(
+    rt: &H,
+    alloc: Global,
+    program: &'p Program,
+    setup: Setup,
+    choosers: Vec<R>,
+    gate: &G,
+) -> Result<Report, RunFault>
+where
+    T::Child: Send,
+    T::Ticket: Send,
+    T::Spares: Send,
+    requires { IsChecked (source_of program.now) }
+    ensures report { IfOk result (IsReportOf program.now (length setup.orders.items)) }
+    ensures refused { (fault : RunFault) → refusal_in setup (vec_len choosers) ≡ Some fault → result ≡ Err fault }
+    ensures of_setup { IfErr result (λ fault. is_of_setup fault ≡ true → IsSetupFault setup.cores setup.quantum setup.slots (vec_len choosers) setup.orders.items fault) }
+    ensures in_order { IsOk result → AreInOrder setup.cores setup.orders.items }
+    ensures order_refused { refusal_in setup (vec_len choosers) ≡ None → (AreInOrder setup.cores setup.orders.items → ⊥) → IfErr result (IsFirstOrderFault setup.cores setup.orders.items) }
+{
+    run::<H, T, WordContexts<T>, R, G>(rt, alloc, program, setup, choosers, gate)
 }

@@ -1,11 +1,6 @@
 use Rattle.std.proofs.Common.{refl}
 use denote.Param.Send.{sendable}
-use Rattle.std.proofs.Crossing as std
 use Rattle.rand_xoshiro.proofs.xoshiro256.Xoshiro256PlusPlus.TheSendSync as chooser
-use Rattle.arachne_words.proofs.table.WordContexts.TheSendSync as table
-use Rattle.arachne_words.proofs.seat.WordSeat.TheSendSync as seat
-use Rattle.arachne_words.proofs.seat.WordClaim.TheSendSync as claim
-use Rattle.arachne_words.proofs.seat.WordHold.TheSendSync as hold
 use Rattle.arachne_machine.proofs.Crossing.{thread_send}
 use Rattle.arachne_jobs.proofs.Crossing.{job_send, spares_send, ticket_send}
 use Rattle.arachne_run.proofs.gate.OpenGate.TheSendSync as gate
